@@ -1,0 +1,4 @@
+mod MaskLemmas
+mod NameLemmas
+mod ParameterLemmas
+mod ResultNameLemmas

@@ -1,0 +1,12 @@
+pub mod Codes
+pub mod Formed
+pub mod Limits
+pub mod Mask
+pub mod Names
+pub mod Parameters
+pub mod Reads
+pub mod ResultNames
+pub mod Templates
+pub mod Workunit
+pub mod Words
+pub mod World

@@ -1,0 +1,33 @@
+-- The limits of this project's profile.
+use Rattle.std.specs.Prelude.{ℕ}
+
+-- 2099-12-31T23:59:59Z
+abbrev pub last_moment : ℕ
+last_moment = 4102444799
+
+-- the longest delay of a result, in seconds: 365 days
+abbrev pub longest_delay : ℕ
+longest_delay = 31536000
+
+-- the longest delay after the last moment
+abbrev pub last_deadline : ℕ
+last_deadline = 4133980799
+
+-- instances of one workunit
+abbrev pub most_instances : ℕ
+most_instances = 100
+
+-- the target of a workunit, which the validator may raise to one more than there can be instances
+abbrev pub highest_target : ℕ
+highest_target = 101
+
+-- workunits ever
+abbrev pub most_workunits : ℕ
+most_workunits = 1000000000
+
+-- bytes of an input and of an output
+abbrev pub longest_input : ℕ
+longest_input = 4096
+
+abbrev pub longest_output : ℕ
+longest_output = 4096

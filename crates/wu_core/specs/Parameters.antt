@@ -1,0 +1,44 @@
+-- The parameters of a workunit, and their ranges.
+use Rattle.std.specs.Prelude.{ℕ, ◌≤◌, nat_le, Bool, false, ◌&&◌, ℤ, pos, negsuc, List, [], ◌∷◌}
+
+pub record Parameters : Type 0 where
+  pub min_quorum : ℕ
+  pub target_nresults : ℕ
+  pub max_error_results : ℕ
+  pub max_total_results : ℕ
+  pub max_success_results : ℕ
+  pub delay_bound : ℕ
+  pub credit : ℕ
+
+-- the ranges of a workunit, whose target the validator may raise
+pub record IsParameters (p : Parameters) : Type 0 where
+  pub min_quorum : (1 ≤ p.min_quorum) × (p.min_quorum ≤ 20)
+  pub target_nresults : (p.min_quorum ≤ p.target_nresults) × (p.target_nresults ≤ 101)
+  pub max_error_results : p.max_error_results ≤ 100
+  pub max_total_results : (1 ≤ p.max_total_results) × (p.max_total_results ≤ 100)
+  pub max_success_results : p.max_success_results ≤ 100
+  pub delay_bound : (1 ≤ p.delay_bound) × (p.delay_bound ≤ 31536000)
+  pub credit : p.credit ≤ 1000000
+
+-- what a template that sets nothing gives
+abbrev pub default_parameters : Parameters
+default_parameters = record {
+  min_quorum = 2;
+  target_nresults = 2;
+  max_error_results = 3;
+  max_total_results = 10;
+  max_success_results = 6;
+  delay_bound = 604800;
+  credit = 1;
+}
+
+-- the values in the order of the fields
+abbrev pub values_of : Parameters → List ℤ
+values_of p =
+    pos p.min_quorum ∷ pos p.target_nresults ∷ pos p.max_error_results ∷ pos p.max_total_results ∷ pos p.max_success_results
+    ∷ pos p.delay_bound ∷ pos p.credit ∷ []
+
+-- both ends are in the range, and no negative number is
+abbrev pub is_between : ℕ → ℕ → ℤ → Bool
+is_between low high (pos n) = nat_le low n && nat_le n high
+is_between low high (negsuc n) = false

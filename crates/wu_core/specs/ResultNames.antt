@@ -1,0 +1,30 @@
+-- Texts that name an instance.
+use Rattle.std.specs.Prelude.{◌≡◌, ◌≤◌, ◌<◌, ◌+◌, ℕ, length, slice_index, ◌==◌, Bool, true, false, ◌&&◌, if◌then◌else◌, List, Option, Some, None, Result, Ok, Err}
+use Rattle.std.specs.List.{list_any, before_last, after_last}
+use Rattle.wu_core.specs.declared.fault.Fault.{Fault}
+use Rattle.wu_core.specs.declared.fault.Fault.TheVariants.{BadName}
+use Rattle.wu_core.specs.declared.name.ResultName.{ResultName}
+use Rattle.wu_core.specs.Names.{is_name, place_of}
+
+abbrev pub is_underscore : ℕ → Bool
+is_underscore byte = byte == 95
+
+-- the instance at a place, where there is one
+abbrev pub instance_of : List ℕ → Option ℕ → Result ResultName Fault
+instance_of name (Some n) = Ok (record { workunit = name; n = n })
+instance_of name None = Err BadName
+
+-- a workunit's name before the last '_', and a place after it
+abbrev pub result_name_of : List ℕ → Result ResultName Fault
+result_name_of text =
+    if list_any is_underscore text && is_name (before_last is_underscore text)
+    then instance_of (before_last is_underscore text) (place_of (after_last is_underscore text))
+    else Err BadName
+
+-- there is no '_' from this place on
+abbrev pub IsFreeFrom : List ℕ → ℕ → Type 0
+IsFreeFrom text from = (k : ℕ) → from ≤ k → k < length text → is_underscore (slice_index text k) ≡ false
+
+-- the last '_' is at this place
+abbrev pub IsLastUnderscore : List ℕ → ℕ → Type 0
+IsLastUnderscore text i = (i < length text) × (is_underscore (slice_index text i) ≡ true) × IsFreeFrom text (i + 1)

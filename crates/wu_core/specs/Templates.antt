@@ -1,0 +1,74 @@
+-- The values of a template, and the first of its keys that is at fault.
+use Rattle.std.specs.Prelude.{ℕ, Bool, false, not, ◌&&◌, ℤ, pos, unsigned_abs, List, [], ◌∷◌, get_or, find, Option, Some, None, Result, Ok, Err}
+use Rattle.wu_core.specs.declared.fault.Fault.{Fault}
+use Rattle.wu_core.specs.declared.fault.Fault.TheVariants.{BadTemplate}
+use Rattle.wu_core.specs.declared.fault.TemplateKey.{TemplateKey}
+use Rattle.wu_core.specs.declared.fault.TemplateKey.TheVariants as key
+use Rattle.wu_core.specs.Parameters.{Parameters, is_between}
+
+-- a whole number in the range
+abbrev pub is_whole_between : ℕ → ℕ → Option ℤ → Bool
+is_whole_between low high (Some value) = is_between low high value
+is_whole_between low high None = false
+
+-- a whole number without its sign
+abbrev pub number_of : Option ℤ → ℕ
+number_of (Some value) = unsigned_abs value
+number_of None = 0
+
+-- each key with whether its value is in the range of a template, in the order of the fields; the target is at least the quorum
+abbrev pub range_tests : (TemplateKey → Option ℤ) → List (TemplateKey × Bool)
+range_tests value =
+    (key.MinQuorum, is_whole_between 1 20 (value key.MinQuorum))
+    ∷ (key.TargetNresults, is_whole_between 1 20 (value key.TargetNresults) && is_whole_between (number_of (value key.MinQuorum)) 20 (value key.TargetNresults))
+    ∷ (key.MaxErrorResults, is_whole_between 0 100 (value key.MaxErrorResults))
+    ∷ (key.MaxTotalResults, is_whole_between 1 100 (value key.MaxTotalResults))
+    ∷ (key.MaxSuccessResults, is_whole_between 0 100 (value key.MaxSuccessResults))
+    ∷ (key.DelayBound, is_whole_between 1 31536000 (value key.DelayBound))
+    ∷ (key.Credit, is_whole_between 0 1000000 (value key.Credit))
+    ∷ []
+
+-- the parameters with these values
+abbrev pub parameters_of : (TemplateKey → Option ℤ) → Parameters
+parameters_of value = record {
+  min_quorum = number_of (value key.MinQuorum);
+  target_nresults = number_of (value key.TargetNresults);
+  max_error_results = number_of (value key.MaxErrorResults);
+  max_total_results = number_of (value key.MaxTotalResults);
+  max_success_results = number_of (value key.MaxSuccessResults);
+  delay_bound = number_of (value key.DelayBound);
+  credit = number_of (value key.Credit);
+}
+
+-- refused with the key of the first test that fails, if one does
+abbrev pub unless_failed : Option (TemplateKey × Bool) → Parameters → Result Parameters Fault
+unless_failed (Some failed) p = Err (BadTemplate failed.0)
+unless_failed None p = Ok p
+
+-- the parameters with a template's values, or the first key whose value is out of range or no whole number
+abbrev pub template_parameters : (TemplateKey → Option ℤ) → Result Parameters Fault
+template_parameters value = unless_failed (find (λ test. not test.1) (range_tests value)) (parameters_of value)
+
+-- values in the order of the fields, by their keys
+abbrev pub listed : List ℤ → TemplateKey → Option ℤ
+listed values key.MinQuorum = Some (get_or values 0 (pos 0))
+listed values key.TargetNresults = Some (get_or values 1 (pos 0))
+listed values key.MaxErrorResults = Some (get_or values 2 (pos 0))
+listed values key.MaxTotalResults = Some (get_or values 3 (pos 0))
+listed values key.MaxSuccessResults = Some (get_or values 4 (pos 0))
+listed values key.DelayBound = Some (get_or values 5 (pos 0))
+listed values key.Credit = Some (get_or values 6 (pos 0))
+listed values key.Document = None
+listed values key.Unknown = None
+
+-- values that may be no whole numbers, the same way
+abbrev pub whole_at : List (Option ℤ) → TemplateKey → Option ℤ
+whole_at values key.MinQuorum = get_or values 0 None
+whole_at values key.TargetNresults = get_or values 1 None
+whole_at values key.MaxErrorResults = get_or values 2 None
+whole_at values key.MaxTotalResults = get_or values 3 None
+whole_at values key.MaxSuccessResults = get_or values 4 None
+whole_at values key.DelayBound = get_or values 5 None
+whole_at values key.Credit = get_or values 6 None
+whole_at values key.Document = None
+whole_at values key.Unknown = None

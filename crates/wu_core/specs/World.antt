@@ -1,0 +1,32 @@
+-- The world: what a project holds, apart from any tables.
+use Rattle.std.specs.Prelude.{ℕ, List, []}
+use Rattle.wu_core.specs.declared.workunit.Workunit.{Workunit}
+use Rattle.wu_core.specs.declared.workunit.Grant.{Grant}
+use Rattle.wu_core.specs.declared.workunit.Archived.{Archived}
+use Rattle.wu_core.specs.declared.import.ImportKind.{ImportKind}
+
+-- what is kept for good of an imported file: its content, and its first answer
+pub record Import : Type 0 where
+  pub kind : ImportKind
+  pub name : List ℕ
+  pub template : List ℕ
+  pub content : List ℕ
+  -- the first number of a batch, 0 where it made no workunit
+  pub first_number : ℕ
+  -- one for each row: 0 where it was applied, else the number of the skip
+  pub verdicts : List ℕ
+
+-- workunits in order of number, grants and archived rows in order of their making, imports in order of their first coming
+pub record World : Type 0 where
+  pub workunits : List Workunit
+  pub grants : List Grant
+  pub archived : List Archived
+  pub imports : List Import
+  -- the number that the next workunit gets
+  pub next_number : ℕ
+  -- of the schema
+  pub version : ℕ
+
+-- before any command
+abbrev pub empty_world : World
+empty_world = record { workunits = []; grants = []; archived = []; imports = []; next_number = 1; version = 1 }

@@ -1,0 +1,33 @@
+//! What is imported: a batch of jobs, or a file of sends or of reports.
+
+ghost use Rattle.std.specs.Prelude.{◌≡◌};
+ghost use Rattle.wu_core.specs.Codes.{Decodes, import_kind_code};
+
+/// What an imported file holds.
+#[derive(Clone, Copy, Debug, PartialEq, Eq)]
+pub enum ImportKind {
+    Batch = 1,
+    Sent = 2,
+    Reported = 3,
+}
+
+impl ImportKind {
+    /// The number of this project, as a table stores it.
+    pub fn code(self) -> u32
+        ensures { result ≡ import_kind_code self }
+    {
+        self as u32
+    }
+
+    /// The kind of a stored number, if it is the number of one.
+    pub fn from_code(code: u32) -> Option<Self>
+        ensures { Decodes import_kind_code code result }
+    {
+        match code {
+            1 => Some(ImportKind::Batch),
+            2 => Some(ImportKind::Sent),
+            3 => Some(ImportKind::Reported),
+            _ => None,
+        }
+    }
+}

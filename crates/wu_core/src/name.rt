@@ -1,0 +1,198 @@
+//! Names of workunits, hosts and imports, and of instances.
+
+ghost use Rattle.std.specs.Prelude.{◌≡◌, ℕ, List, true, string_bytes, IfOk, IfSome, IfNone};
+ghost use Rattle.std.specs.List.{list_all};
+ghost use Rattle.wu_core.specs.Names.{is_name, is_name_byte, name_of, place_of};
+ghost use Rattle.wu_core.specs.Reads.{Gives};
+ghost use Rattle.wu_core.specs.ResultNames.{result_name_of, IsFreeFrom, IsLastUnderscore};
+
+use crate::fault::Fault;
+use std::alloc::{AllocError, Global};
+use std::marker::Model;
+
+/// A name of a workunit, a host or an import: 1 to 64 bytes, each an ASCII letter, a digit, `_`, `.` or `-`.
+#[derive(Debug, Drop)]
+pub struct Name {
+    text: String,
+}
+
+impl Model for Name {
+    ghost use Rattle.std.specs.Prelude.{◌≡◌, ℕ, List, true, string_bytes};
+    ghost use Rattle.wu_core.specs.Names.{is_name};
+
+    ghost Value = { List ℕ };
+
+    ghost view = { λ name. string_bytes name.text };
+
+    ghost invariant = { λ name. is_name (string_bytes name.text) ≡ true };
+}
+
+/// Whether the byte may stand in a name.
+fn may_stand_in_name(byte: u8) -> bool
+    ensures { result ≡ is_name_byte byte }
+{
+    byte.is_ascii_alphanumeric() || byte == b'_' || byte == b'.' || byte == b'-'
+}
+
+/// Whether each byte of the text may stand in a name.
+fn may_all_stand_in_name(text: &[u8]) -> bool
+    ensures { result ≡ list_all is_name_byte text.now }
+{
+    text.iter().all(|byte| may_stand_in_name(*byte))
+}
+
+/// Whether the text is a name.
+fn is_name(text: &[u8]) -> bool
+    ensures { result ≡ is_name text.now }
+{
+    1 <= text.len() && text.len() <= 64 && may_all_stand_in_name(text)
+}
+
+impl Name {
+    /// The text as a name. Any other text is `BadName`.
+    pub fn read(alloc: Global, text: &[u8]) -> Result<Self, Fault>
+        ensures { Gives result (name_of text.now) }
+    {
+        if !is_name(text) {
+            return Err(Fault::BadName);
+        }
+        let Ok(text) = std::str::from_utf8(text) else {
+            return Err(Fault::BadName);
+        };
+        match String::from_str(alloc, text) {
+            Ok(text) => Ok(Name { text }),
+            Err(_) => Err(Fault::Memory),
+        }
+    }
+
+    pub fn as_str(&self) -> &str
+        ensures { result.now ≡ self.now }
+    {
+        self.text.as_str()
+    }
+
+    /// The same name again.
+    pub fn copy(&self) -> Result<Self, AllocError>
+        ensures { IfOk result (λ name. name ≡ self.now) }
+    {
+        Ok(Name {
+            text: self.text.clone()?,
+        })
+    }
+}
+
+impl PartialEq for Name {
+    ghost use Rattle.std.specs.Prelude.{bytes_eq, ℕ, List};
+    ghost use Rattle.std.specs.Cmp.{partial_equiv_from_equiv};
+    ghost use Rattle.std.specs.Cmp.Lexicographic.{nat_list_eq_equiv};
+
+    ghost eq = { bytes_eq };
+
+    ghost laws = { partial_equiv_from_equiv nat_list_eq_equiv };
+
+    fn eq(&self, other: &Self) -> bool {
+        self.as_str() == other.as_str()
+    }
+}
+
+impl Eq for Name {
+    ghost use Rattle.std.specs.Cmp.Lexicographic.{nat_list_eq_equiv};
+
+    ghost laws = { nat_list_eq_equiv };
+}
+
+/// The name of an instance: that of its workunit, and its place among the workunit's instances, 0 to 99.
+#[derive(Debug, Drop)]
+pub struct ResultName {
+    pub workunit: Name,
+    pub n: u32,
+}
+
+/// The number that one digit writes, or two of which the first is not 0.
+fn place(digits: &[u8]) -> Option<u32>
+    ensures { result ≡ place_of digits.now }
+{
+    match digits {
+        [ones] if ones.is_ascii_digit() => Some(u32::from(*ones - b'0')),
+        [tens, ones] if tens.is_ascii_digit() && ones.is_ascii_digit() && *tens != b'0' => {
+            Some(10 * u32::from(*tens - b'0') + u32::from(*ones - b'0'))
+        }
+        _ => None,
+    }
+}
+
+/// Where the last `_` of the text is.
+fn last_underscore(text: &[u8]) -> Option<usize>
+    ensures none { IfNone result (IsFreeFrom text.now 0) }
+    ensures found { IfSome result (IsLastUnderscore text.now) }
+{
+    text.iter().rposition(|byte| *byte == b'_')
+}
+
+impl ResultName {
+    /// The text as a name of an instance: a workunit's name, `_` and the place in decimal, 0 to 99, without leading
+    /// zeros. Any other text is `BadName`.
+    pub fn read(alloc: Global, text: &[u8]) -> Result<Self, Fault>
+        ensures { Gives result (result_name_of text.now) }
+    {
+        let Some(cut) = last_underscore(text) else {
+            return Err(Fault::BadName);
+        };
+        let Some(n) = place(&text[cut + 1..]) else {
+            return Err(Fault::BadName);
+        };
+        let workunit = Name::read(alloc, &text[..cut])?;
+        Ok(ResultName { workunit, n })
+    }
+}
+
+#[cfg(test)]
+mod tests {
+    use super::*;
+    use std::test::Fail;
+
+    #[test]
+    fn reads_names_of_1_to_64_bytes(rt: HostRuntime) {
+        assert!(rt; Name::read(rt.alloc(), [b'a'; 64].as_slice()).is_ok());
+        assert_eq!(rt;
+            Name::read(rt.alloc(), [b'a'; 65].as_slice()).err(),
+            Some(Fault::BadName)
+        );
+        assert_eq!(rt; Name::read(rt.alloc(), b"").err(), Some(Fault::BadName));
+        assert_eq!(rt; Name::read(rt.alloc(), b"a/b").err(), Some(Fault::BadName));
+    }
+
+    #[test]
+    fn copies_a_name(rt: HostRuntime) -> Result<(), Fail> {
+        let name = Name::read(rt.alloc(), b"job_1.x-Z")?;
+        assert_eq!(rt; name.as_str(), "job_1.x-Z");
+        assert!(rt; name.copy()? == name);
+        Ok(())
+    }
+
+    #[test]
+    fn reads_a_name_and_a_place(rt: HostRuntime) {
+        let written: [(&str, &str, u32); 3] = [
+            ("job_1_0", "job_1", 0),
+            ("a__7", "a_", 7),
+            ("a_99", "a", 99),
+        ];
+        for (text, workunit, n) in written {
+            match ResultName::read(rt.alloc(), text.as_bytes()) {
+                Ok(name) => {
+                    assert_eq!(rt; name.workunit.as_str(), workunit);
+                    assert_eq!(rt; name.n, n);
+                }
+                Err(fault) => panic!(rt; "{text}: {fault:?}"),
+            }
+        }
+    }
+
+    #[test]
+    fn refuses_other_places(rt: HostRuntime) {
+        for text in ["job", "a_", "a_07", "a_100", "_3", ""] {
+            let fault = ResultName::read(rt.alloc(), text.as_bytes()).err();
+            assert_eq!(rt; fault, Some(Fault::BadName), "{text}");
+        }
+    }
+}

@@ -1,0 +1,252 @@
+//! The parameters of a workunit.
+
+ghost use Rattle.std.specs.Prelude.{◌≡◌, ◌≤◌, false, pos, IfSome, IfNone, IfOk, IfErr};
+ghost use Rattle.wu_core.specs.Parameters.{default_parameters, is_between, IsParameters, Parameters, values_of};
+ghost use Rattle.wu_core.specs.Templates.{is_whole_between, listed, template_parameters, whole_at};
+ghost use Rattle.wu_core.specs.declared.fault.Fault.TheVariants.{BadTemplate};
+
+use crate::fault::{Fault, TemplateKey};
+use std::marker::Model;
+
+/// How many results a workunit wants, how many it bears, how long each may take and what it is worth.
+///
+/// Each value is in the range of a template, but for the target, which the validator may raise to 101.
+#[derive(Clone, Copy, Debug, PartialEq, Eq)]
+pub struct Params {
+    min_quorum: u32,
+    target_nresults: u32,
+    max_error_results: u32,
+    max_total_results: u32,
+    max_success_results: u32,
+    delay_bound: u32,
+    credit: u32,
+}
+
+impl Model for Params {
+    ghost use Rattle.wu_core.specs.Parameters.{Parameters, IsParameters};
+
+    ghost Value = { Parameters };
+
+    ghost view = { λ p. record {
+      min_quorum = p.min_quorum;
+      target_nresults = p.target_nresults;
+      max_error_results = p.max_error_results;
+      max_total_results = p.max_total_results;
+      max_success_results = p.max_success_results;
+      delay_bound = p.delay_bound;
+      credit = p.credit;
+    } };
+
+    ghost invariant = { λ p. IsParameters (record {
+      min_quorum = p.min_quorum;
+      target_nresults = p.target_nresults;
+      max_error_results = p.max_error_results;
+      max_total_results = p.max_total_results;
+      max_success_results = p.max_success_results;
+      delay_bound = p.delay_bound;
+      credit = p.credit;
+    }) };
+
+    ghost inverse = { λ p. record {
+      min_quorum = p.min_quorum;
+      target_nresults = p.target_nresults;
+      max_error_results = p.max_error_results;
+      max_total_results = p.max_total_results;
+      max_success_results = p.max_success_results;
+      delay_bound = p.delay_bound;
+      credit = p.credit;
+    } };
+}
+
+/// The value, where it is in the range; both ends are.
+fn in_range(value: i64, low: u32, high: u32) -> Option<u32>
+    ensures within { IfSome result (λ n. (low ≤ n) × (n ≤ high) × (value ≡ pos n)) }
+    ensures outside { IfNone result (is_between low high value ≡ false) }
+{
+    match u32::try_from(value) {
+        Ok(number) if low <= number && number <= high => Some(number),
+        _ => None,
+    }
+}
+
+/// The value of a template's key, where it is a whole number in the range; else the key at fault.
+fn template_value(key: TemplateKey, value: Option<i64>, low: u32, high: u32) -> Result<u32, Fault>
+    ensures within { IfOk result (λ n. (low ≤ n) × (n ≤ high) × (value ≡ Some (pos n))) }
+    ensures outside { IfErr result (λ e. (e ≡ BadTemplate key) × (is_whole_between low high value ≡ false)) }
+{
+    match value {
+        Some(value) => in_range(value, low, high).ok_or(Fault::BadTemplate(key)),
+        None => Err(Fault::BadTemplate(key)),
+    }
+}
+
+impl Params {
+    /// The parameters with a template's values, in the order of the fields. The first value that is out of its range
+    /// is `BadTemplate` with its key; the target is at most 20 here, and at least the quorum.
+    pub fn checked(values: [i64; 7]) -> Result<Self, Fault>
+        ensures { result ≡ template_parameters (listed values) }
+    {
+        let [quorum, target, errors, total, successes, delay, credit] = values;
+        Params::from_template([
+            Some(quorum),
+            Some(target),
+            Some(errors),
+            Some(total),
+            Some(successes),
+            Some(delay),
+            Some(credit),
+        ])
+    }
+
+    /// The same of values that may be no whole numbers: `None` is one, and at fault as one that is out of its range.
+    pub fn from_template(values: [Option<i64>; 7]) -> Result<Self, Fault>
+        ensures { result ≡ template_parameters (whole_at values) }
+    {
+        let [quorum, target, errors, total, successes, delay, credit] = values;
+        let min_quorum = template_value(TemplateKey::MinQuorum, quorum, 1, 20)?;
+        Ok(Params {
+            min_quorum,
+            target_nresults: template_value(TemplateKey::TargetNresults, target, min_quorum, 20)?,
+            max_error_results: template_value(TemplateKey::MaxErrorResults, errors, 0, 100)?,
+            max_total_results: template_value(TemplateKey::MaxTotalResults, total, 1, 100)?,
+            max_success_results: template_value(TemplateKey::MaxSuccessResults, successes, 0, 100)?,
+            delay_bound: template_value(TemplateKey::DelayBound, delay, 1, 31_536_000)?,
+            credit: template_value(TemplateKey::Credit, credit, 0, 1_000_000)?,
+        })
+    }
+
+    /// The parameters of a workunit with these values, in the order of the fields, if each is in its range; the
+    /// target is at most 101 here, and at least the quorum.
+    pub fn from_values(values: [i64; 7]) -> Option<Self>
+        ensures found { (p : Parameters) → IsParameters p → values_of p ≡ values → result ≡ Some p }
+        ensures valued { IfSome result (λ p. values_of p ≡ values) }
+    {
+        let [quorum, target, errors, total, successes, delay, credit] = values;
+        let min_quorum = in_range(quorum, 1, 20)?;
+        Some(Params {
+            min_quorum,
+            target_nresults: in_range(target, min_quorum, 101)?,
+            max_error_results: in_range(errors, 0, 100)?,
+            max_total_results: in_range(total, 1, 100)?,
+            max_success_results: in_range(successes, 0, 100)?,
+            delay_bound: in_range(delay, 1, 31_536_000)?,
+            credit: in_range(credit, 0, 1_000_000)?,
+        })
+    }
+
+    /// Results that have to be there before the validator looks: 1 to 20.
+    pub fn min_quorum(self) -> u32
+        ensures value { result ≡ self.min_quorum }
+        ensures within { (1 ≤ result) × (result ≤ 20) }
+    {
+        self.min_quorum
+    }
+
+    /// Results that are wanted: at least the quorum, at most 101.
+    pub fn target_nresults(self) -> u32
+        ensures value { result ≡ self.target_nresults }
+        ensures within { (self.min_quorum ≤ result) × (result ≤ 101) }
+    {
+        self.target_nresults
+    }
+
+    /// Errors that the workunit bears: 0 to 100.
+    pub fn max_error_results(self) -> u32
+        ensures value { result ≡ self.max_error_results }
+        ensures within { result ≤ 100 }
+    {
+        self.max_error_results
+    }
+
+    /// Instances that may be made: 1 to 100.
+    pub fn max_total_results(self) -> u32
+        ensures value { result ≡ self.max_total_results }
+        ensures within { (1 ≤ result) × (result ≤ 100) }
+    {
+        self.max_total_results
+    }
+
+    /// Successes without a consensus that the workunit bears: 0 to 100.
+    pub fn max_success_results(self) -> u32
+        ensures value { result ≡ self.max_success_results }
+        ensures within { result ≤ 100 }
+    {
+        self.max_success_results
+    }
+
+    /// Seconds from the sending of an instance to its deadline: 1 to 31536000.
+    pub fn delay_bound(self) -> u32
+        ensures value { result ≡ self.delay_bound }
+        ensures within { (1 ≤ result) × (result ≤ 31536000) }
+    {
+        self.delay_bound
+    }
+
+    /// What a valid result is worth: 0 to 1000000.
+    pub fn credit(self) -> u32
+        ensures value { result ≡ self.credit }
+        ensures within { result ≤ 1000000 }
+    {
+        self.credit
+    }
+
+    /// The parameters with another target.
+    pub fn with_target(self, target_nresults: u32) -> Self
+        requires { (self.min_quorum ≤ target_nresults) × (target_nresults ≤ 101) }
+        ensures { result ≡ record self { target_nresults = target_nresults } }
+    {
+        Params {
+            target_nresults,
+            ..self
+        }
+    }
+}
+
+impl Default for Params {
+    ghost is_default = { λ p. p ≡ default_parameters };
+
+    fn default() -> Self {
+        Params {
+            min_quorum: 2,
+            target_nresults: 2,
+            max_error_results: 3,
+            max_total_results: 10,
+            max_success_results: 6,
+            delay_bound: 604800,
+            credit: 1,
+        }
+    }
+}
+
+#[cfg(test)]
+mod tests {
+    use super::*;
+
+    #[test]
+    fn checks_the_ends_of_each_range(rt: HostRuntime) {
+        let least = Params::checked([1, 1, 0, 1, 0, 1, 0]);
+        assert_eq!(rt; least.map(|params| params.delay_bound()), Ok(1));
+        let most = Params::checked([20, 20, 100, 100, 100, 31_536_000, 1_000_000]);
+        assert_eq!(rt; most.map(|params| params.credit()), Ok(1_000_000));
+        assert_eq!(rt;
+            Params::checked([2, 2, 3, 10, 6, 604_800, 1]),
+            Ok(Params::default())
+        );
+    }
+
+    #[test]
+    fn names_the_first_key_at_fault(rt: HostRuntime) {
+        let key = Params::checked([3, 2, -1, 10, 6, 604_800, 1_000_001]).err();
+        assert_eq!(rt; key, Some(Fault::BadTemplate(TemplateKey::TargetNresults)));
+        let key = Params::checked([2, 2, 3, 0, 101, 604_800, 1]).err();
+        assert_eq!(rt; key, Some(Fault::BadTemplate(TemplateKey::MaxTotalResults)));
+    }
+
+    #[test]
+    fn takes_a_raised_target_from_stored_values(rt: HostRuntime) {
+        let raised = Params::from_values([2, 101, 3, 10, 6, 604_800, 1]);
+        assert_eq!(rt; raised.map(|params| params.target_nresults()), Some(101));
+        assert_eq!(rt; Params::from_values([2, 102, 3, 10, 6, 604_800, 1]), None);
+        assert_eq!(rt; Params::from_values([3, 2, 3, 10, 6, 604_800, 1]), None);
+    }
+}

@@ -1,0 +1,235 @@
+//! BOINC's states of a workunit and of its instances, with BOINC's numbers and words.
+
+ghost use Rattle.std.specs.Prelude.{◌≡◌};
+ghost use Rattle.wu_core.specs.Words.{server_state_word, outcome_word, validate_state_word, assimilate_word, file_delete_word};
+ghost use Rattle.wu_core.specs.Codes.{Decodes, server_state_code, outcome_code, validate_state_code, assimilate_code, file_delete_code};
+
+/// Where an instance is on its way to a volunteer's machine and back.
+#[derive(Clone, Copy, Debug, PartialEq, Eq)]
+pub enum ServerState {
+    Inactive = 1,
+    Unsent = 2,
+    InProgress = 4,
+    Over = 5,
+}
+
+impl ServerState {
+    /// BOINC's number, as a table stores it. The number 3 is not used.
+    pub fn code(self) -> u32
+        ensures { result ≡ server_state_code self }
+    {
+        self as u32
+    }
+
+    /// The state of a stored number, if it is the number of one.
+    pub fn from_code(code: u32) -> Option<Self>
+        ensures { Decodes server_state_code code result }
+    {
+        match code {
+            1 => Some(ServerState::Inactive),
+            2 => Some(ServerState::Unsent),
+            4 => Some(ServerState::InProgress),
+            5 => Some(ServerState::Over),
+            _ => None,
+        }
+    }
+
+    /// The word that a view prints.
+    pub fn word(self) -> &'static str
+        ensures { result.now ≡ server_state_word self }
+    {
+        match self {
+            ServerState::Inactive => "INACTIVE",
+            ServerState::Unsent => "UNSENT",
+            ServerState::InProgress => "IN_PROGRESS",
+            ServerState::Over => "OVER",
+        }
+    }
+}
+
+/// How an instance ended.
+#[derive(Clone, Copy, Debug, PartialEq, Eq)]
+pub enum Outcome {
+    Init = 0,
+    Success = 1,
+    CouldntSend = 2,
+    ClientError = 3,
+    NoReply = 4,
+    DidntNeed = 5,
+    ValidateError = 6,
+    ClientDetached = 7,
+}
+
+impl Outcome {
+    /// BOINC's number, as a table stores it.
+    pub fn code(self) -> u32
+        ensures { result ≡ outcome_code self }
+    {
+        self as u32
+    }
+
+    /// The outcome of a stored number, if it is the number of one.
+    pub fn from_code(code: u32) -> Option<Self>
+        ensures { Decodes outcome_code code result }
+    {
+        match code {
+            0 => Some(Outcome::Init),
+            1 => Some(Outcome::Success),
+            2 => Some(Outcome::CouldntSend),
+            3 => Some(Outcome::ClientError),
+            4 => Some(Outcome::NoReply),
+            5 => Some(Outcome::DidntNeed),
+            6 => Some(Outcome::ValidateError),
+            7 => Some(Outcome::ClientDetached),
+            _ => None,
+        }
+    }
+
+    /// The word that a view prints.
+    pub fn word(self) -> &'static str
+        ensures { result.now ≡ outcome_word self }
+    {
+        match self {
+            Outcome::Init => "INIT",
+            Outcome::Success => "SUCCESS",
+            Outcome::CouldntSend => "COULDNT_SEND",
+            Outcome::ClientError => "CLIENT_ERROR",
+            Outcome::NoReply => "NO_REPLY",
+            Outcome::DidntNeed => "DIDNT_NEED",
+            Outcome::ValidateError => "VALIDATE_ERROR",
+            Outcome::ClientDetached => "CLIENT_DETACHED",
+        }
+    }
+}
+
+/// What the validator found of an instance.
+#[derive(Clone, Copy, Debug, PartialEq, Eq)]
+pub enum ValidateState {
+    Init = 0,
+    Valid = 1,
+    Invalid = 2,
+    NoCheck = 3,
+    Inconclusive = 4,
+    TooLate = 5,
+}
+
+impl ValidateState {
+    /// BOINC's number, as a table stores it.
+    pub fn code(self) -> u32
+        ensures { result ≡ validate_state_code self }
+    {
+        self as u32
+    }
+
+    /// The state of a stored number, if it is the number of one.
+    pub fn from_code(code: u32) -> Option<Self>
+        ensures { Decodes validate_state_code code result }
+    {
+        match code {
+            0 => Some(ValidateState::Init),
+            1 => Some(ValidateState::Valid),
+            2 => Some(ValidateState::Invalid),
+            3 => Some(ValidateState::NoCheck),
+            4 => Some(ValidateState::Inconclusive),
+            5 => Some(ValidateState::TooLate),
+            _ => None,
+        }
+    }
+
+    /// The word that a view prints.
+    pub fn word(self) -> &'static str
+        ensures { result.now ≡ validate_state_word self }
+    {
+        match self {
+            ValidateState::Init => "INIT",
+            ValidateState::Valid => "VALID",
+            ValidateState::Invalid => "INVALID",
+            ValidateState::NoCheck => "NO_CHECK",
+            ValidateState::Inconclusive => "INCONCLUSIVE",
+            ValidateState::TooLate => "TOO_LATE",
+        }
+    }
+}
+
+/// Whether a workunit waits for the assimilator.
+#[derive(Clone, Copy, Debug, PartialEq, Eq)]
+pub enum Assimilate {
+    Init = 0,
+    Ready = 1,
+    Done = 2,
+}
+
+impl Assimilate {
+    /// BOINC's number, as a table stores it.
+    pub fn code(self) -> u32
+        ensures { result ≡ assimilate_code self }
+    {
+        self as u32
+    }
+
+    /// The state of a stored number, if it is the number of one.
+    pub fn from_code(code: u32) -> Option<Self>
+        ensures { Decodes assimilate_code code result }
+    {
+        match code {
+            0 => Some(Assimilate::Init),
+            1 => Some(Assimilate::Ready),
+            2 => Some(Assimilate::Done),
+            _ => None,
+        }
+    }
+
+    /// The word that a view prints.
+    pub fn word(self) -> &'static str
+        ensures { result.now ≡ assimilate_word self }
+    {
+        match self {
+            Assimilate::Init => "INIT",
+            Assimilate::Ready => "READY",
+            Assimilate::Done => "DONE",
+        }
+    }
+}
+
+/// Whether an input or an output waits for the file deleter.
+#[derive(Clone, Copy, Debug, PartialEq, Eq)]
+pub enum FileDelete {
+    Init = 0,
+    Ready = 1,
+    Done = 2,
+    Error = 3,
+}
+
+impl FileDelete {
+    /// BOINC's number, as a table stores it.
+    pub fn code(self) -> u32
+        ensures { result ≡ file_delete_code self }
+    {
+        self as u32
+    }
+
+    /// The state of a stored number, if it is the number of one.
+    pub fn from_code(code: u32) -> Option<Self>
+        ensures { Decodes file_delete_code code result }
+    {
+        match code {
+            0 => Some(FileDelete::Init),
+            1 => Some(FileDelete::Ready),
+            2 => Some(FileDelete::Done),
+            3 => Some(FileDelete::Error),
+            _ => None,
+        }
+    }
+
+    /// The word that a view prints.
+    pub fn word(self) -> &'static str
+        ensures { result.now ≡ file_delete_word self }
+    {
+        match self {
+            FileDelete::Init => "INIT",
+            FileDelete::Ready => "READY",
+            FileDelete::Done => "DONE",
+            FileDelete::Error => "ERROR",
+        }
+    }
+}

@@ -1,0 +1,187 @@
+//! Workunits, their instances, grants of credit and archived rows.
+
+ghost use Rattle.std.specs.Prelude.{◌≡◌, ◌+◌, ◌≤◌, [], ◌++◌, length, replicate, vec_len, OnOk, OnErr};
+ghost use Rattle.wu_core.specs.Limits.{most_instances};
+ghost use Rattle.wu_core.specs.Workunit.{fresh};
+
+use crate::bytes::Bytes;
+use crate::mask::ErrorMask;
+use crate::moment::{Deadline, Moment};
+use crate::name::Name;
+use crate::params::Params;
+use crate::states::{Assimilate, FileDelete, Outcome, ServerState, ValidateState};
+use std::alloc::{AllocError, Global};
+use std::marker::Model;
+
+/// One copy of a workunit's job, for one host. Its place in the workunit's list is its number n.
+#[derive(Debug, Drop)]
+pub struct Instance {
+    pub server_state: ServerState,
+    pub outcome: Outcome,
+    pub validate_state: ValidateState,
+    /// Of the output.
+    pub file_delete: FileDelete,
+    /// Where it was sent.
+    pub host: Option<Name>,
+    pub sent_at: Option<Moment>,
+    pub deadline: Option<Deadline>,
+    /// When its result was reported.
+    pub received_at: Option<Moment>,
+    /// At most 4096 bytes.
+    pub output: Bytes,
+}
+
+impl Instance {
+    ghost use Rattle.wu_core.specs.Workunit.{fresh};
+
+    /// A new instance: UNSENT, with no host, no moments and no output. It takes no memory.
+    pub fn unsent(alloc: Global) -> Self
+        ensures { result ≡ fresh }
+    {
+        Instance {
+            server_state: ServerState::Unsent,
+            outcome: Outcome::Init,
+            validate_state: ValidateState::Init,
+            file_delete: FileDelete::Init,
+            host: None,
+            sent_at: None,
+            deadline: None,
+            received_at: None,
+            output: Bytes::new(alloc),
+        }
+    }
+}
+
+/// Appends so many new instances. For want of memory the list stays as it was.
+fn append_unsent(alloc: Global, items: &mut Vec<Instance>, count: usize) -> Result<(), AllocError>
+    ensures ok { OnOk result (items.new.items ≡ items.old.items ++ replicate count fresh) }
+    ensures err { OnErr result (items.new.items ≡ items.old.items) }
+{
+    let before = items.len();
+    for _made in 0..count {
+        if items.push(Instance::unsent(alloc)).is_err() {
+            items.truncate(before);
+            return Err(AllocError);
+        }
+    }
+    Ok(())
+}
+
+/// The instances of a workunit, at most 100, in order of their numbers.
+#[derive(Debug, Drop)]
+pub struct Instances {
+    items: Vec<Instance>,
+}
+
+impl Model for Instances {
+    ghost use Rattle.std.specs.Prelude.{List, length, ◌≤◌};
+    ghost use Rattle.wu_core.specs.declared.workunit.Instance.{Instance};
+    ghost use Rattle.wu_core.specs.Limits.{most_instances};
+
+    ghost Value = { List Instance };
+
+    ghost view = { λ instances. instances.items.items };
+
+    ghost invariant = { λ instances. length instances.items.items ≤ most_instances };
+}
+
+impl Instances {
+    ghost use Rattle.std.specs.Borrow.{sem};
+    ghost use Rattle.wu_core.specs.Workunit.{fresh, LendsAll};
+
+    /// No instances; it takes no memory.
+    pub fn new(alloc: Global) -> Self
+        ensures { result ≡ [] }
+    {
+        Instances {
+            items: Vec::new(alloc),
+        }
+    }
+
+    pub fn from_vec(items: Vec<Instance>) -> Self
+        requires { vec_len items ≤ most_instances }
+        ensures { result ≡ items.items }
+    {
+        Instances { items }
+    }
+
+    pub fn into_vec(self) -> Vec<Instance>
+        ensures items { result.items ≡ self }
+        ensures within { length self ≤ most_instances }
+    {
+        self.items
+    }
+
+    pub fn len(&self) -> usize
+        ensures len { result ≡ length self.now }
+        ensures within { result ≤ most_instances }
+    {
+        self.items.len()
+    }
+
+    pub fn as_slice(&self) -> &[Instance]
+        ensures items { result.now ≡ self.now }
+        ensures within { length self.now ≤ most_instances }
+    {
+        self.items.as_slice()
+    }
+
+    /// Appends so many new instances. For want of memory the list stays as it was.
+    pub fn add_unsent(&mut self, alloc: Global, count: usize) -> Result<(), AllocError>
+        requires { length self.old + count ≤ most_instances }
+        ensures ok { OnOk result (self.new ≡ self.old ++ replicate count fresh) }
+        ensures err { OnErr result (self.new ≡ self.old) }
+    {
+        append_unsent(alloc, &mut self.items, count)
+    }
+
+    /// The instances, for writing in place.
+    pub fn as_mut_slice(&mut self) -> &mut [Instance]
+        ensures* writes_back { sem 𝓛 (LendsAll self.entry result) }
+        ensures value { result.now ≡ self.old }
+        ensures within { length self.old ≤ most_instances }
+    {
+        self.items.as_mut_slice()
+    }
+}
+
+/// A job: its parameters and its input, how far it is, and its instances.
+#[derive(Debug, Drop)]
+pub struct Workunit {
+    /// From 1, never used again.
+    pub number: u64,
+    pub name: Name,
+    pub params: Params,
+    /// At most 4096 bytes; empty once it was deleted.
+    pub input: Bytes,
+    pub error_mask: ErrorMask,
+    /// The number of the canonical instance.
+    pub canonical: Option<u32>,
+    pub assimilate: Assimilate,
+    /// Of the input.
+    pub file_delete: FileDelete,
+    /// When it was assimilated.
+    pub done_at: Option<Moment>,
+    pub instances: Instances,
+}
+
+/// Credit for one valid result.
+#[derive(Debug, Drop, PartialEq, Eq)]
+pub struct Grant {
+    pub workunit: u64,
+    pub n: u32,
+    pub host: Name,
+    pub credit: u64,
+}
+
+/// What the assimilator keeps of a workunit for good.
+#[derive(Debug, Drop)]
+pub struct Archived {
+    pub number: u64,
+    pub name: Name,
+    pub error_mask: ErrorMask,
+    pub canonical: Option<u32>,
+    /// The canonical output, or no bytes where there is none.
+    pub output: Bytes,
+    pub done_at: Moment,
+}

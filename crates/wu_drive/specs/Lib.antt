@@ -1,0 +1,13 @@
+pub mod Batches
+pub mod Examples
+pub mod Files
+pub mod Imports
+pub mod Laws
+pub mod Machine
+pub mod Passes
+pub mod Requests
+pub mod Rows
+pub mod Sessions
+pub mod Sound
+pub mod Texts
+pub mod Worlds

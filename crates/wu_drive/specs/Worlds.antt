@@ -1,0 +1,21 @@
+-- What is found in a world, and what is put into one.
+use Rattle.std.specs.Prelude.{ℕ, if◌then◌else◌, List, map, find, filter, sum_by, bytes_eq, slice_set, Option}
+use Rattle.wu_core.specs.declared.workunit.Instance.{Instance}
+use Rattle.wu_core.specs.declared.workunit.Workunit.{Workunit}
+use Rattle.wu_core.specs.World.{World}
+
+-- the workunit of this name, if it is present
+abbrev pub workunit_named : World → List ℕ → Option Workunit
+workunit_named world name = find (λ w. bytes_eq w.name name) world.workunits
+
+-- each workunit of this name changed, each other as it was
+abbrev pub with_named : World → List ℕ → (Workunit → Workunit) → World
+with_named world name change = record world { workunits = map (λ w. if bytes_eq w.name name then change w else w) world.workunits }
+
+-- the instance of this number changed
+abbrev pub with_instance : Workunit → ℕ → Instance → Workunit
+with_instance w n instance = record w { instances = slice_set w.instances n instance }
+
+-- the credit of a host: the sum over its grants
+abbrev pub total : World → List ℕ → ℕ
+total world host = sum_by (λ grant. grant.credit) (filter (λ grant. bytes_eq grant.host host) world.grants)

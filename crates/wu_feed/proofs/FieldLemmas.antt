@@ -1,0 +1,32 @@
+-- The fields of a row, place by place.
+use Rattle.std.proofs.Common.{◌≡◌, ℕ, true, false, List, [], ◌∷◌, Option, Some, None, option_map, is_some, refl}
+use Rattle.csv.specs.Records.{field_at}
+use Rattle.wu_feed.specs.Rows.{two_of}
+
+pub no_first : (fields : List (List ℕ)) → None ≡ field_at fields 0 → None ≡ two_of fields
+unfolding field_at
+no_first [] h = refl
+no_first (a ∷ more) h = cc h
+
+pub no_second : (fields : List (List ℕ)) → None ≡ field_at fields 1 → None ≡ two_of fields
+unfolding field_at
+no_second [] h = refl
+no_second (a ∷ []) h = refl
+no_second (a ∷ b ∷ more) h = cc h
+
+pub a_third : {X : Type 0} (f : X → List ℕ) (o : Option X) (fields : List (List ℕ)) → is_some o ≡ true → option_map f o ≡ field_at fields 2 → None ≡ two_of fields
+unfolding field_at
+a_third f None fields is h = cc is
+a_third f (Some x) [] is h = refl
+a_third f (Some x) (a ∷ []) is h = refl
+a_third f (Some x) (a ∷ b ∷ []) is h = cc h
+a_third f (Some x) (a ∷ b ∷ c ∷ more) is h = refl
+
+pub two_found : {X : Type 0} (f : X → List ℕ) (o : Option X) (a b : List ℕ) (fields : List (List ℕ)) → Some a ≡ field_at fields 0 → Some b ≡ field_at fields 1
+    → is_some o ≡ false → option_map f o ≡ field_at fields 2 → Some (a, b) ≡ two_of fields
+unfolding field_at
+two_found f (Some x) a b fields first second is h = cc is
+two_found f None a b [] first second is h = cc first
+two_found f None a b (c ∷ []) first second is h = cc second
+two_found f None a b (c ∷ d ∷ []) first second is h = cc (first, second)
+two_found f None a b (c ∷ d ∷ e ∷ more) first second is h = cc h

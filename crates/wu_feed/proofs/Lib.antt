@@ -1,0 +1,5 @@
+mod FieldLemmas
+mod JobLemmas
+mod MomentLemmas
+mod RecordLemmas
+mod TemplateLemmas

@@ -1,0 +1,60 @@
+-- Templates, as `toml` reads their documents.
+use Rattle.std.specs.Prelude.{ℕ, nat_le, Bool, true, ◌&&◌, ◌||◌, if◌then◌else◌, ℤ, pos, bytes_eq, codes, List, length, Option, Some, None, Result, Err}
+use Rattle.std.specs.Str.{is_utf8}
+use Rattle.toml.specs.Data.{Data, Members, no_members, member, as_integer, get_member}
+use Rattle.toml.specs.Parse.{parse_document}
+use Rattle.wu_core.specs.Parameters.{Parameters, default_parameters}
+use Rattle.wu_core.specs.Templates.{template_parameters}
+use Rattle.wu_core.specs.declared.fault.Fault.{Fault}
+use Rattle.wu_core.specs.declared.fault.Fault.TheVariants.{BadTemplate}
+use Rattle.wu_core.specs.declared.fault.TemplateKey.{TemplateKey}
+use Rattle.wu_core.specs.declared.fault.TemplateKey.TheVariants as key
+
+-- bytes of a template
+abbrev pub longest_template : ℕ
+longest_template = 65536
+
+-- the document that a text is
+abbrev pub document_of : List ℕ → Option Members
+document_of text = if nat_le (length text) longest_template && is_utf8 text then parse_document text else None
+
+-- a key that a template may have
+abbrev pub is_key : List ℕ → Bool
+is_key text =
+    bytes_eq text (codes "min_quorum") || bytes_eq text (codes "target_nresults") || bytes_eq text (codes "max_error_results")
+    || bytes_eq text (codes "max_total_results") || bytes_eq text (codes "max_success_results") || bytes_eq text (codes "delay_bound")
+    || bytes_eq text (codes "credit")
+
+-- the document has no other key
+abbrev pub has_only_keys : Members → Bool
+has_only_keys no_members = true
+has_only_keys (member key value more) = is_key key && has_only_keys more
+
+-- the value of a key, if it is a whole number, or the default where the key is absent
+abbrev pub value_or : ℕ → Option Data → Option ℤ
+value_or default None = Some (pos default)
+value_or default (Some value) = as_integer value
+
+-- the value of each key
+abbrev pub value_in : Members → TemplateKey → Option ℤ
+value_in document key.MinQuorum = value_or default_parameters.min_quorum (get_member (codes "min_quorum") document)
+value_in document key.TargetNresults = value_or default_parameters.target_nresults (get_member (codes "target_nresults") document)
+value_in document key.MaxErrorResults = value_or default_parameters.max_error_results (get_member (codes "max_error_results") document)
+value_in document key.MaxTotalResults = value_or default_parameters.max_total_results (get_member (codes "max_total_results") document)
+value_in document key.MaxSuccessResults = value_or default_parameters.max_success_results (get_member (codes "max_success_results") document)
+value_in document key.DelayBound = value_or default_parameters.delay_bound (get_member (codes "delay_bound") document)
+value_in document key.Credit = value_or default_parameters.credit (get_member (codes "credit") document)
+value_in document key.Document = None
+value_in document key.Unknown = None
+
+-- the parameters that a document sets
+abbrev pub document_parameters : Members → Result Parameters Fault
+document_parameters document = if has_only_keys document then template_parameters (value_in document) else Err (BadTemplate key.Unknown)
+
+abbrev pub parameters_if : Option Members → Result Parameters Fault
+parameters_if (Some document) = document_parameters document
+parameters_if None = Err (BadTemplate key.Document)
+
+-- the parameters that a template sets
+abbrev pub template_of : List ℕ → Result Parameters Fault
+template_of text = parameters_if (document_of text)

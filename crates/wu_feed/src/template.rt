@@ -1,0 +1,151 @@
+//! Templates: TOML documents that set the parameters of a batch's workunits.
+
+ghost use Rattle.std.specs.Prelude.{◌≡◌, ◌⊎◌, Some, None, string_bytes, IfOk, IfErr};
+ghost use Rattle.std.specs.BTreeMap.{keys};
+ghost use Rattle.std.specs.List.{list_all};
+ghost use Rattle.toml.specs.Data.{get_member};
+ghost use Rattle.toml.specs.View.{table_view};
+ghost use Rattle.wu_core.specs.Reads.{Gives};
+ghost use Rattle.wu_core.specs.declared.fault.Fault.TheVariants.{BadTemplate, Memory};
+ghost use Rattle.wu_core.specs.declared.fault.TemplateKey.TheVariants.{Document};
+ghost use Rattle.wu_feed.specs.Templates.{document_of, document_parameters, is_key, template_of, value_or};
+
+use std::alloc::Global;
+use toml::Table;
+use wu_core::{Fault, Params, TemplateKey};
+
+/// The longest template, in bytes.
+const LONGEST_TEMPLATE: usize = 65_536;
+
+/// The document that the text is. Any other text is `BadTemplate`.
+fn read_document(alloc: Global, text: &[u8]) -> Result<Table, Fault>
+    ensures read { IfOk result (λ table. document_of text.now ≡ Some (table_view table)) }
+    ensures refused { IfErr result (λ fault. (fault ≡ Memory) ⊎ ((fault ≡ BadTemplate Document) × (document_of text.now ≡ None))) }
+{
+    if text.len() > LONGEST_TEMPLATE {
+        return Err(Fault::BadTemplate(TemplateKey::Document));
+    }
+    match toml::table_from_slice(alloc, text) {
+        Ok(table) => Ok(table),
+        Err(error) if error.is_memory() => Err(Fault::Memory),
+        Err(_) => Err(Fault::BadTemplate(TemplateKey::Document)),
+    }
+}
+
+/// Whether a template may have the key.
+fn is_key(text: &str) -> bool
+    ensures { result ≡ is_key text.now }
+{
+    match text {
+        "min_quorum" | "target_nresults" | "max_error_results" | "max_total_results" => true,
+        "max_success_results" | "delay_bound" | "credit" => true,
+        _ => false,
+    }
+}
+
+/// Whether the document has no other key.
+fn has_only_keys(table: &Table) -> bool
+    ensures { result ≡ list_all (λ key. is_key (string_bytes key)) (keys table.now) }
+{
+    table.keys().all(|key| is_key(key.as_str()))
+}
+
+/// The value of the key, if it is a whole number, or the default where the key is absent.
+fn value_or(table: &Table, key: &str, default: u32) -> Option<i64>
+    ensures { result ≡ value_or default (get_member key.now (table_view table.now)) }
+{
+    match table.get(key) {
+        Some(value) => value.as_integer(),
+        None => Some(i64::from(default)),
+    }
+}
+
+/// The parameters that the document sets.
+fn read_table(table: &Table) -> Result<Params, Fault>
+    ensures { result ≡ document_parameters (table_view table.now) }
+{
+    if !has_only_keys(table) {
+        return Err(Fault::BadTemplate(TemplateKey::Unknown));
+    }
+    let default = Params::default();
+    Params::from_template([
+        value_or(table, "min_quorum", default.min_quorum()),
+        value_or(table, "target_nresults", default.target_nresults()),
+        value_or(table, "max_error_results", default.max_error_results()),
+        value_or(table, "max_total_results", default.max_total_results()),
+        value_or(table, "max_success_results", default.max_success_results()),
+        value_or(table, "delay_bound", default.delay_bound()),
+        value_or(table, "credit", default.credit()),
+    ])
+}
+
+/// The parameters that a template of at most 65,536 bytes sets; absent keys have their defaults. `BadTemplate` has the
+/// first of: `Document`, for a text that is too long or no TOML document; `Unknown`, for one with a key that no template
+/// has; the first key, in the order of the fields of `Params`, whose value is no whole number or out of its range.
+pub fn read_template(alloc: Global, text: &[u8]) -> Result<Params, Fault>
+    ensures { Gives result (template_of text.now) }
+{
+    let table = read_document(alloc, text)?;
+    read_table(&table)
+}
+
+#[cfg(test)]
+mod tests {
+    use super::*;
+
+    #[test]
+    fn takes_the_defaults(rt: HostRuntime) {
+        let empty = read_template(rt.alloc(), b"");
+        assert_eq!(rt; empty, Ok(Params::default()));
+        let text = b"credit = 0\ndelay_bound = 31536000";
+        let params = read_template(rt.alloc(), text.as_slice()).expect(&rt, "a template");
+        assert_eq!(rt;
+            params,
+            Params::checked([2, 2, 3, 10, 6, 31_536_000, 0]).expect(&rt, "parameters")
+        );
+    }
+
+    #[test]
+    fn tells_the_first_key_at_fault(rt: HostRuntime) {
+        let faults: [(&str, TemplateKey); 11] = [
+            ("min_quorum = 3", TemplateKey::TargetNresults),
+            ("quorum = 3", TemplateKey::Unknown),
+            ("min_quorum =", TemplateKey::Document),
+            ("credit = 1000001", TemplateKey::Credit),
+            ("credit = \"1\"", TemplateKey::Credit),
+            ("credit = 1.0", TemplateKey::Credit),
+            ("credit = -1\nmin_quorum = true", TemplateKey::MinQuorum),
+            ("zeal = 1\nmin_quorum = 0", TemplateKey::Unknown),
+            (
+                "max_success_results = 101\nmax_total_results = 0",
+                TemplateKey::MaxTotalResults,
+            ),
+            (
+                "max_error_results = []\ndelay_bound = 0",
+                TemplateKey::MaxErrorResults,
+            ),
+            ("[min_quorum]\nof = 1", TemplateKey::MinQuorum),
+        ];
+        for (text, key) in faults {
+            let fault = read_template(rt.alloc(), text.as_bytes()).err();
+            assert_eq!(rt; fault, Some(Fault::BadTemplate(key)), "{text}");
+        }
+    }
+
+    #[test]
+    fn refuses_long_texts_and_other_bytes(rt: HostRuntime) {
+        let mut text = Vec::new(rt.alloc());
+        for _ in 0..65_536 {
+            text.push(b'\n').expect(&rt, "memory");
+        }
+        assert_eq!(rt;
+            read_template(rt.alloc(), text.as_slice()),
+            Ok(Params::default())
+        );
+        text.push(b'\n').expect(&rt, "memory");
+        let fault = read_template(rt.alloc(), text.as_slice()).err();
+        assert_eq!(rt; fault, Some(Fault::BadTemplate(TemplateKey::Document)));
+        let fault = read_template(rt.alloc(), b"# \xff\n").err();
+        assert_eq!(rt; fault, Some(Fault::BadTemplate(TemplateKey::Document)));
+    }
+}

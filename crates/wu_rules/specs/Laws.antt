@@ -1,0 +1,114 @@
+-- What the rules mean, in the words of the field.
+use Rattle.std.specs.Prelude.{◌≡◌, ◌≢◌, ◌↔◌, ℕ, ◌+◌, ◌/◌, ◌<◌, ◌≤◌, length, true, false, if◌then◌else◌, [], List, map, Option, Some, None, option_map, slice_get, IsSomeAnd}
+use Rattle.std.specs.List.{enumerate_from, All, AllPairs}
+use Rattle.wu_core.specs.declared.workunit.Workunit.{Workunit}
+use Rattle.wu_core.specs.Formed.{IsWorkunit}
+use Rattle.wu_core.specs.declared.workunit.Grant.{Grant}
+use Rattle.wu_core.specs.declared.workunit.Instance.{Instance}
+use Rattle.wu_core.specs.declared.states.ValidateState.TheVariants as validate
+use Rattle.wu_rules.specs.Instances.{is_viable, is_open_verdict, is_ready_assimilate, is_ready_file}
+use Rattle.wu_rules.specs.Assimilation.{assimilated, archived, emptied, is_to_delete, is_purgeable}
+use Rattle.wu_rules.specs.Cancelling.{cancelled}
+use Rattle.wu_rules.specs.Counts.{viable, agreeing, is_agreed, consensus}
+use Rattle.wu_rules.specs.Transition.{transitioned}
+use Rattle.wu_rules.specs.Validation.{is_to_validate, validated, grants}
+use Rattle.wu_rules.specs.Waking.{wake}
+
+-- a second transition at the same moment changes nothing
+abbrev pub TransitionsOnce : Type 0
+TransitionsOnce = (w : Workunit) (now : ℕ) → transitioned (transitioned w now) now ≡ transitioned w now
+
+-- the moment of waking is there and not after now exactly where the transition now changes the workunit
+abbrev pub WakesInTime : Type 0
+WakesInTime = (w : Workunit) (now : ℕ) → IsSomeAnd (wake w) (λ moment. moment ≤ now) ↔ (transitioned w now ≢ w)
+
+-- the validator looks exactly where it changes something
+abbrev pub LooksWhereItChanges : Type 0
+LooksWhereItChanges = (w : Workunit) → (is_to_validate w ≡ true) ↔ (validated w ≢ w)
+
+-- a verdict that is final stays
+abbrev pub KeepsFinalVerdicts : Type 0
+KeepsFinalVerdicts =
+    (w : Workunit) (n : ℕ) (i : Instance) → slice_get w.instances n ≡ Some i → is_open_verdict i.validate_state ≡ false
+    → option_map (λ j. j.validate_state) (slice_get (validated w).instances n) ≡ Some i.validate_state
+
+-- the assimilator changes exactly what is ready for it
+abbrev pub AssimilatesWhatIsReady : Type 0
+AssimilatesWhatIsReady = (w : Workunit) (now : ℕ) → (is_ready_assimilate w.assimilate ≡ true) ↔ (assimilated w now ≢ w)
+
+-- what is archived is the canonical output as it was read the moment before
+abbrev pub ArchivesWhatWasRead : Type 0
+ArchivesWhatWasRead =
+    (w : Workunit) (now n : ℕ) (i : Instance) → w.canonical ≡ Some n → slice_get w.instances n ≡ Some i
+    → option_map (λ row. row.output) (archived w now) ≡ (if is_ready_assimilate w.assimilate then Some i.output else None)
+
+-- the file deleter is wanted exactly where it changes something
+abbrev pub DeletesWhereItChanges : Type 0
+DeletesWhereItChanges = (w : Workunit) → (is_to_delete w ≡ true) ↔ (emptied w ≢ w)
+
+-- of an input or output that was ready for deletion no byte is held, and each other output stays
+pub record HoldsNothingReady (w : Workunit) : Type 0 where
+  pub nothing_ready : is_to_delete (emptied w) ≡ false
+  pub input : is_ready_file w.file_delete ≡ true → (emptied w).input ≡ []
+  pub outputs : (n : ℕ) (i : Instance) → slice_get w.instances n ≡ Some i → is_ready_file i.file_delete ≡ true → option_map (λ j. j.output) (slice_get (emptied w).instances n) ≡ Some []
+  pub others : (n : ℕ) (i : Instance) → slice_get w.instances n ≡ Some i → is_ready_file i.file_delete ≡ false → slice_get (emptied w).instances n ≡ Some i
+
+-- neither the assimilator nor the file deleter would change a workunit that may be purged
+abbrev pub PurgesWhatIsThrough : Type 0
+PurgesWhatIsThrough =
+    (w : Workunit) (now min_age : ℕ) → is_purgeable w now min_age ≡ true
+    → ((moment : ℕ) → assimilated w moment ≡ w) × (emptied w ≡ w)
+
+-- what may be purged at a moment may be at each later one
+abbrev pub StaysPurgeable : Type 0
+StaysPurgeable =
+    (w : Workunit) (now later min_age : ℕ) → now ≤ later → is_purgeable w now min_age ≡ true
+    → is_purgeable w later min_age ≡ true
+
+-- how a canonical result is chosen: a viable success that agrees byte for byte with at least half of the quorum plus one, itself included, and the first such
+pub record IsChosen (w : Workunit) (n : ℕ) : Type 0 where
+  pub chosen : Instance
+  pub stands : slice_get w.instances n ≡ Some chosen
+  pub is_viable : is_viable chosen ≡ true
+  pub enough : w.params.min_quorum / 2 + 1 ≤ length (agreeing chosen.output (viable w))
+  pub first : (k : ℕ) (other : Instance) → k < n → slice_get w.instances k ≡ Some other → is_agreed w other ≡ false
+
+abbrev pub ChoosesByAgreement : Type 0
+ChoosesByAgreement = (w : Workunit) (n : ℕ) → consensus w ≡ Some n → IsChosen w n
+
+-- the same workunit, with other hosts
+abbrev pub rehosted : (ℕ → Instance → Option (List ℕ)) → Workunit → Workunit
+rehosted hosts w = record w { instances = map (λ p. record p.1 { host = hosts p.0 p.1 }) (enumerate_from 0 w.instances) }
+
+-- hosts have no part in the choice
+abbrev pub ChoosesWithoutHosts : Type 0
+ChoosesWithoutHosts = (hosts : ℕ → Instance → Option (List ℕ)) (w : Workunit) → consensus (rehosted hosts w) ≡ consensus w
+
+-- a grant is of an instance that had no final verdict and is VALID now, for its host, with its workunit's credit
+pub record IsRightGrantIn (old new : Workunit) (g : Grant) : Type 0 where
+  pub instance : Instance
+  pub stands : slice_get old.instances g.n ≡ Some instance
+  pub open_before : is_open_verdict instance.validate_state ≡ true
+  pub valid_after : option_map (λ j. j.validate_state) (slice_get new.instances g.n) ≡ Some validate.Valid
+  pub host : instance.host ≡ Some g.host
+  pub workunit : g.workunit ≡ old.number
+  pub credit : g.credit ≡ old.params.credit
+
+-- no instance gets credit without becoming VALID, and none that had its verdict before
+abbrev pub GrantsToTheValid : Type 0
+GrantsToTheValid = (w : Workunit) → All (IsRightGrantIn w (validated w)) (grants w)
+
+-- no instance gets two grants
+abbrev pub GrantsOnce : Type 0
+GrantsOnce = (w : Workunit) → AllPairs (λ earlier later. earlier.n < later.n) (grants w)
+
+-- each rule gives a well-formed workunit
+pub record KeepsFormed (w : Workunit) : Type 0 where
+  pub transitioned : (now : ℕ) → IsWorkunit (transitioned w now)
+  pub validated : IsWorkunit (validated w)
+  pub assimilated : (now : ℕ) → IsWorkunit (assimilated w now)
+  pub emptied : IsWorkunit (emptied w)
+  pub cancelled : IsWorkunit (cancelled w)
+
+abbrev pub KeepsWorkunitsFormed : Type 0
+KeepsWorkunitsFormed = (w : Workunit) → IsWorkunit w → KeepsFormed w

@@ -1,0 +1,9 @@
+pub mod Assimilation
+pub mod Cancelling
+pub mod Counts
+pub mod Instances
+pub mod Laws
+pub mod Rows
+pub mod Transition
+pub mod Validation
+pub mod Waking

@@ -1,0 +1,129 @@
+-- The validator.
+use Rattle.std.specs.Prelude.{ℕ, ◌+◌, nat_lt, nat_le, Bool, true, false, ◌&&◌, if◌then◌else◌, is_none, List, [], map, length, bytes_eq, slice_get, Option, Some, None, option_map}
+use Rattle.std.specs.List.{filter_map, enumerate_from}
+use Rattle.std.specs.Option.{option_map_or}
+use Rattle.wu_core.specs.declared.workunit.Instance.{Instance}
+use Rattle.wu_core.specs.declared.workunit.Workunit.{Workunit}
+use Rattle.wu_core.specs.declared.workunit.Grant.{Grant}
+use Rattle.wu_core.specs.declared.states.ValidateState.{ValidateState}
+use Rattle.wu_core.specs.declared.states.ValidateState.TheVariants as validate
+use Rattle.wu_core.specs.Parameters.{Parameters}
+use Rattle.wu_rules.specs.Instances.{is_viable, is_new, is_deleted_file, closed, readied_assimilate}
+use Rattle.wu_rules.specs.Counts.{viable, has_new_success, is_clear, consensus}
+
+-- the validator looks at a workunit without error that has a new success, and that has a canonical result already or viable successes enough for the quorum
+abbrev pub is_to_validate : Workunit → Bool
+is_to_validate w =
+    is_clear w.error_mask
+    && has_new_success w
+    && (if is_none w.canonical then nat_le w.params.min_quorum (length (viable w)) else true)
+
+-- the output of the instance of this number, or no bytes where there is none
+abbrev pub output_at : List Instance → ℕ → List ℕ
+output_at instances n = option_map_or (λ i. i.output) (slice_get instances n) []
+
+-- the output of the instance of this number was deleted
+abbrev pub is_deleted_at : List Instance → ℕ → Bool
+is_deleted_at instances n = option_map_or (λ i. is_deleted_file i.file_delete) (slice_get instances n) false
+
+-- equal bytes are right, others are not
+abbrev pub verdict : Bool → ValidateState
+verdict is_equal = if is_equal then validate.Valid else validate.Invalid
+
+-- once there is a canonical output: each viable success has its verdict, and unsent instances are closed
+abbrev pub judged : Bool → Instance → Instance
+judged is_equal i = if is_viable i then record i { validate_state = verdict is_equal } else closed i
+
+abbrev pub judged_by : List ℕ → Instance → Instance
+judged_by output i = judged (bytes_eq i.output output) i
+
+-- the canonical result is that of this number
+abbrev pub agreed_on : Workunit → ℕ → Workunit
+agreed_on w n = record w {
+  canonical = Some n;
+  assimilate = readied_assimilate w.assimilate;
+  instances = map (judged_by (output_at w.instances n)) w.instances;
+}
+
+-- without a consensus each viable success is inconclusive
+abbrev pub doubted : Instance → Instance
+doubted i = if is_viable i then record i { validate_state = validate.Inconclusive } else i
+
+-- and, where the workunit is given up for it, unsent instances are closed
+abbrev pub doubted_or_closed : Instance → Instance
+doubted_or_closed i = if is_viable i then record i { validate_state = validate.Inconclusive } else closed i
+
+-- a target that the viable successes have reached without a consensus is raised to one more
+abbrev pub raised_target : Parameters → ℕ → ℕ
+raised_target p successes = if nat_le p.target_nresults successes then successes + 1 else p.target_nresults
+
+-- no consensus: more successes than are borne end the workunit, and otherwise one more may be wanted
+abbrev pub left_open : Workunit → Workunit
+left_open w =
+    if nat_lt w.params.max_success_results (length (viable w))
+    then record w {
+      error_mask = record w.error_mask { too_many_success_results = true };
+      instances = map doubted_or_closed w.instances;
+    }
+    else record w {
+      params = record w.params { target_nresults = raised_target w.params (length (viable w)) };
+      instances = map doubted w.instances;
+    }
+
+-- a new success after the decision: too late where the canonical output is gone, else judged by it
+abbrev pub late_verdict : Bool → Bool → ValidateState
+late_verdict is_gone is_equal = if is_gone then validate.TooLate else verdict is_equal
+
+abbrev pub judged_late : Bool → Bool → Instance → Instance
+judged_late is_gone is_equal i = if is_new i then record i { validate_state = late_verdict is_gone is_equal } else i
+
+abbrev pub judged_late_by : Bool → List ℕ → Instance → Instance
+judged_late_by is_gone output i = judged_late is_gone (bytes_eq i.output output) i
+
+abbrev pub judged_after : Workunit → ℕ → Workunit
+judged_after w n = record w {
+  instances = map (judged_late_by (is_deleted_at w.instances n) (output_at w.instances n)) w.instances;
+}
+
+abbrev pub decided : Workunit → Option ℕ → Workunit
+decided w (Some n) = agreed_on w n
+decided w None = left_open w
+
+abbrev pub validated_by : Workunit → Option ℕ → Workunit
+validated_by w (Some n) = judged_after w n
+validated_by w None = decided w (consensus w)
+
+-- what the validator makes of a workunit
+unfoldable pub validated : Workunit → Workunit
+validated w = if is_to_validate w then validated_by w w.canonical else w
+
+-- the credit of an instance for its host
+abbrev pub grant_of : Workunit → ℕ → Instance → Option Grant
+grant_of w n i = option_map (λ host. record { workunit = w.number; n = n; host = host; credit = w.params.credit }) i.host
+
+-- before the decision the validator judges viable successes, after it new ones
+abbrev pub is_judged : Workunit → Instance → Bool
+is_judged w i = if is_none w.canonical then is_viable i else is_new i
+
+-- the credit of an instance that is made VALID by this output
+abbrev pub granted_to : Workunit → List ℕ → ℕ → Instance → Option Grant
+granted_to w output n i = if is_judged w i && bytes_eq i.output output then grant_of w n i else None
+
+-- one grant for each instance that is made VALID by this output, in order of their numbers
+abbrev pub grants_by : Workunit → List ℕ → List Grant
+grants_by w output = filter_map (λ p. granted_to w output p.0 p.1) (enumerate_from 0 w.instances)
+
+abbrev pub grants_decided : Workunit → Option ℕ → List Grant
+grants_decided w (Some n) = grants_by w (output_at w.instances n)
+grants_decided w None = []
+
+abbrev pub grants_after : Workunit → ℕ → List Grant
+grants_after w n = if is_deleted_at w.instances n then [] else grants_by w (output_at w.instances n)
+
+abbrev pub granted_by : Workunit → Option ℕ → List Grant
+granted_by w (Some n) = grants_after w n
+granted_by w None = grants_decided w (consensus w)
+
+-- what the validator grants
+unfoldable pub grants : Workunit → List Grant
+grants w = if is_to_validate w then granted_by w w.canonical else []

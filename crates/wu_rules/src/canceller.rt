@@ -1,0 +1,23 @@
+//! Cancelling a workunit.
+
+ghost use Rattle.std.specs.Prelude.{◌≡◌, true, false, IfOk, IfErr};
+ghost use Rattle.wu_rules.specs.Cancelling.{cancelled};
+ghost use Rattle.wu_rules.specs.Counts.{is_undecided};
+
+use crate::change::close_all;
+use crate::count::is_undecided;
+use wu_core::{Fault, Workunit};
+
+/// Gives an undecided workunit up and closes what was not sent yet. Any other is refused and stays as it was.
+#[tactic(auto, unfolding(crate::specs::Cancelling::cancelled))]
+pub fn cancel(workunit: &mut Workunit) -> Result<(), Fault>
+    ensures ok { IfOk result (λ _. (is_undecided workunit.old ≡ true) × (workunit.new ≡ cancelled workunit.old)) }
+    ensures err { IfErr result (λ fault. (fault ≡ Fault.NotOpenToCancel) × (is_undecided workunit.old ≡ false) × (workunit.new ≡ workunit.old)) }
+{
+    if !is_undecided(workunit) {
+        return Err(Fault::NotOpenToCancel);
+    }
+    workunit.error_mask.cancelled = true;
+    close_all(&mut workunit.instances);
+    Ok(())
+}

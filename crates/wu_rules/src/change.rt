@@ -1,0 +1,71 @@
+//! Changes of instances in place.
+
+ghost use Rattle.std.specs.Prelude.{◌≡◌, map};
+ghost use Rattle.wu_rules.specs.Instances.{timed_out, closed, given_up, readied_assimilate};
+
+use crate::instance::{is_overdue, is_unsent, is_viable};
+use wu_core::{Assimilate, Instance, Instances, Outcome, ServerState, ValidateState};
+
+/// Ends an instance that waits to be sent, since it is not needed.
+pub fn close(instance: &mut Instance)
+    ensures { instance.new ≡ closed instance.old }
+{
+    if is_unsent(instance) {
+        instance.server_state = ServerState::Over;
+        instance.outcome = Outcome::DidntNeed;
+    }
+}
+
+pub fn close_all(instances: &mut Instances)
+    ensures { instances.new ≡ map closed instances.old }
+{
+    'each: for instance in instances.as_mut_slice() {
+        close(instance);
+    }
+}
+
+/// Ends an instance whose deadline has passed.
+pub fn time_out(instance: &mut Instance, now: u64)
+    ensures { instance.new ≡ timed_out now instance.old }
+{
+    if is_overdue(instance, now) {
+        instance.server_state = ServerState::Over;
+        instance.outcome = Outcome::NoReply;
+    }
+}
+
+pub fn time_out_all(instances: &mut Instances, now: u64)
+    ensures { instances.new ≡ map (timed_out now) instances.old }
+{
+    'each: for instance in instances.as_mut_slice() {
+        time_out(instance, now);
+    }
+}
+
+/// Ends what a workunit that is given up still waits for.
+pub fn give_up(instance: &mut Instance)
+    ensures { instance.new ≡ given_up instance.old }
+{
+    if is_viable(instance) {
+        instance.validate_state = ValidateState::NoCheck;
+    } else {
+        close(instance);
+    }
+}
+
+pub fn give_up_all(instances: &mut Instances)
+    ensures { instances.new ≡ map given_up instances.old }
+{
+    'each: for instance in instances.as_mut_slice() {
+        give_up(instance);
+    }
+}
+
+/// Readies a workunit that waited for a decision for the assimilator.
+pub fn ready_assimilate(assimilate: &mut Assimilate)
+    ensures { assimilate.new ≡ readied_assimilate assimilate.old }
+{
+    if *assimilate == Assimilate::Init {
+        *assimilate = Assimilate::Ready;
+    }
+}

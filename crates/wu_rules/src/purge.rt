@@ -1,0 +1,49 @@
+//! What may be purged.
+
+ghost use Rattle.std.specs.Prelude.{◌≡◌, ◌+◌, ◌≤◌, nat_le, false};
+ghost use Rattle.std.specs.List.{list_all};
+ghost use Rattle.std.specs.Option.{option_map_or};
+ghost use Rattle.wu_rules.specs.Assimilation.{is_spent, is_purgeable};
+
+use crate::instance::is_over;
+use wu_core::{Assimilate, FileDelete, Instance, Instances, Moment, Workunit};
+
+/// Whether the instance is over and its output gone.
+fn is_spent(instance: &Instance) -> bool
+    ensures { result ≡ is_spent instance.now }
+{
+    is_over(instance) && instance.file_delete == FileDelete::Done
+}
+
+fn is_all_spent(instances: &Instances) -> bool
+    ensures { result ≡ list_all is_spent instances.now }
+{
+    instances
+        .as_slice()
+        .iter()
+        .all(|instance| is_spent(instance))
+}
+
+/// Whether a moment so many seconds after this one has come.
+fn has_aged(done_at: Option<Moment>, now: Moment, min_age: u64) -> bool
+    requires { min_age ≤ 31536000 }
+    ensures { result ≡ option_map_or (λ moment. nat_le (moment + min_age) now) done_at false }
+{
+    match done_at {
+        Some(moment) => moment.seconds() + min_age <= now.seconds(),
+        None => false,
+    }
+}
+
+/// Whether the workunit may be purged: it was assimilated at least so many seconds ago, all its instances are over, and its
+/// input and outputs are deleted.
+#[tactic(auto, unfolding(crate::specs::Assimilation::is_purgeable))]
+pub fn purgeable(workunit: &Workunit, now: Moment, min_age: u64) -> bool
+    requires { min_age ≤ 31536000 }
+    ensures { result ≡ is_purgeable workunit.now now min_age }
+{
+    workunit.assimilate == Assimilate::Done
+        && workunit.file_delete == FileDelete::Done
+        && is_all_spent(&workunit.instances)
+        && has_aged(workunit.done_at, now, min_age)
+}

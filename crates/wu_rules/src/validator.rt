@@ -1,0 +1,324 @@
+//! The validator.
+
+ghost use Rattle.std.specs.Prelude.{◌≡◌, ◌≤◌, ◌<◌, ◌++◌, length, filter, bytes_eq, map, IfOk, IfErr, IfSome, OnOk, OnErr};
+ghost use Rattle.std.specs.Option.{option_to_list};
+ghost use Rattle.wu_core.specs.declared.fault.Fault.TheVariants.{Memory};
+ghost use Rattle.wu_rules.specs.Instances.{is_viable};
+ghost use Rattle.wu_rules.specs.Counts.{agreeing, is_agreed, consensus};
+ghost use Rattle.wu_rules.specs.Validation.{output_at, is_deleted_at, verdict, judged, judged_by, agreed_on, doubted, doubted_or_closed, left_open, judged_late, judged_late_by, judged_after, decided, validated_by, validated, grant_of, granted_to, is_judged, grants_by, grants_decided, grants_after, granted_by, grants};
+
+use crate::change::{close, ready_assimilate};
+use crate::count::{viable_count, wants_validation};
+use crate::instance::{is_new, is_viable};
+use std::alloc::{AllocError, Global};
+use wu_core::{Fault, FileDelete, Grant, Instance, Instances, ValidateState, Workunit};
+
+/// Whether the output of the instance is this one, byte for byte.
+fn agrees(instance: &Instance, output: &[u8]) -> bool
+    ensures { result ≡ bytes_eq instance.now.output output.now }
+{
+    instance.output.as_slice() == output
+}
+
+/// How many viable successes have this output.
+fn agreeing_count(instances: &[Instance], output: &[u8]) -> usize
+    ensures { result ≡ length (agreeing output.now (filter is_viable instances.now)) }
+{
+    instances
+        .iter()
+        .filter(|instance| is_viable(instance))
+        .filter(|instance| agrees(instance, output))
+        .count()
+}
+
+/// Whether enough viable successes agree with this one.
+fn is_agreed(workunit: &Workunit, instance: &Instance) -> bool
+    ensures { result ≡ is_agreed workunit.now instance.now }
+{
+    let needed = workunit.params.min_quorum() as usize / 2 + 1;
+    is_viable(instance)
+        && agreeing_count(workunit.instances.as_slice(), instance.output.as_slice()) >= needed
+}
+
+/// The number of the first viable success on which enough agree.
+fn consensus(workunit: &Workunit) -> Option<usize>
+    ensures value { result ≡ consensus workunit.now }
+    ensures within { IfSome result (λ n. n < 100) }
+{
+    workunit
+        .instances
+        .as_slice()
+        .iter()
+        .position(|instance| is_agreed(workunit, instance))
+}
+
+/// The output of the instance of this number, or no bytes where there is none.
+pub fn output_at(instances: &[Instance], n: usize) -> &[u8]
+    ensures { result.now ≡ output_at instances.now n }
+{
+    match instances.get(n) {
+        Some(instance) => instance.output.as_slice(),
+        None => &[],
+    }
+}
+
+/// Whether the output of the instance of this number was deleted.
+fn is_deleted_at(instances: &[Instance], n: usize) -> bool
+    ensures { result ≡ is_deleted_at instances.now n }
+{
+    match instances.get(n) {
+        Some(instance) => instance.file_delete == FileDelete::Done,
+        None => false,
+    }
+}
+
+/// Whether the validator judges the instance: a viable success before the decision, a new one after it.
+fn is_judged(workunit: &Workunit, instance: &Instance) -> bool
+    ensures { result ≡ is_judged workunit.now instance.now }
+{
+    if workunit.canonical.is_none() {
+        is_viable(instance)
+    } else {
+        is_new(instance)
+    }
+}
+
+/// The credit of an instance for its host, if it has one.
+fn grant_of(workunit: &Workunit, n: usize, instance: &Instance) -> Result<Option<Grant>, AllocError>
+    requires { n < 100 }
+    ensures { IfOk result (λ grant. grant ≡ grant_of workunit.now n instance.now) }
+{
+    match &instance.host {
+        Some(host) => Ok(Some(Grant {
+            workunit: workunit.number,
+            n: n as u32,
+            host: host.copy()?,
+            credit: u64::from(workunit.params.credit()),
+        })),
+        None => Ok(None),
+    }
+}
+
+/// The credit of an instance that is made VALID by this output.
+fn granted_to(
+    workunit: &Workunit,
+    output: &[u8],
+    n: usize,
+    instance: &Instance,
+) -> Result<Option<Grant>, AllocError>
+    requires { n < 100 }
+    ensures { IfOk result (λ grant. grant ≡ granted_to workunit.now output.now n instance.now) }
+{
+    if is_judged(workunit, instance) && agrees(instance, output) {
+        grant_of(workunit, n, instance)
+    } else {
+        Ok(None)
+    }
+}
+
+/// Appends a grant, if there is one.
+fn push_some(list: &mut Vec<Grant>, grant: Option<Grant>) -> Result<(), AllocError>
+    ensures { OnOk result (list.new.items ≡ list.old.items ++ option_to_list grant) }
+{
+    if let Some(grant) = grant {
+        list.push(grant)?;
+    }
+    Ok(())
+}
+
+/// The grants of the instances that are made VALID by this output.
+fn grants_by(alloc: Global, workunit: &Workunit, output: &[u8]) -> Result<Vec<Grant>, AllocError>
+    ensures { IfOk result (λ list. list.items ≡ grants_by workunit.now output.now) }
+{
+    let mut list = Vec::new(alloc);
+    'each: for (n, instance) in workunit.instances.as_slice().iter().enumerate() {
+        let grant = granted_to(workunit, output, n, instance)?;
+        push_some(&mut list, grant)?;
+    }
+    Ok(list)
+}
+
+/// The verdict on an output that equals the canonical one, or does not.
+fn verdict(is_equal: bool) -> ValidateState
+    ensures { result ≡ verdict is_equal }
+{
+    if is_equal {
+        ValidateState::Valid
+    } else {
+        ValidateState::Invalid
+    }
+}
+
+/// Judges a viable success, and closes what waits to be sent.
+fn judge(instance: &mut Instance, is_equal: bool)
+    ensures { instance.new ≡ judged is_equal instance.old }
+{
+    if is_viable(instance) {
+        instance.validate_state = verdict(is_equal);
+    } else {
+        close(instance);
+    }
+}
+
+/// Judges a success that came after the decision.
+fn judge_late(instance: &mut Instance, is_gone: bool, is_equal: bool)
+    ensures { instance.new ≡ judged_late is_gone is_equal instance.old }
+{
+    if is_new(instance) {
+        instance.validate_state = if is_gone {
+            ValidateState::TooLate
+        } else {
+            verdict(is_equal)
+        };
+    }
+}
+
+/// Whether the outputs of two instances are equal, byte for byte.
+fn agrees_at(instances: &[Instance], k: usize, n: usize) -> bool
+    ensures { result ≡ bytes_eq (output_at instances.now k) (output_at instances.now n) }
+{
+    output_at(instances, k) == output_at(instances, n)
+}
+
+/// Judges all viable successes by the output of one instance.
+fn judge_all(instances: &mut Instances, n: usize)
+    ensures { instances.new ≡ map (judged_by (output_at instances.old n)) instances.old }
+{
+    let slice = instances.as_mut_slice();
+    'each: for k in 0..slice.len() {
+        let is_equal = agrees_at(slice, k, n);
+        judge(&mut slice[k], is_equal);
+    }
+}
+
+/// Judges all successes that came after the decision by the output of one instance, or finds that it is gone.
+fn judge_all_late(instances: &mut Instances, n: usize, is_gone: bool)
+    ensures { instances.new ≡ map (judged_late_by is_gone (output_at instances.old n)) instances.old }
+{
+    let slice = instances.as_mut_slice();
+    'each: for k in 0..slice.len() {
+        let is_equal = agrees_at(slice, k, n);
+        judge_late(&mut slice[k], is_gone, is_equal);
+    }
+}
+
+/// Finds a viable success inconclusive.
+fn doubt(instance: &mut Instance)
+    ensures { instance.new ≡ doubted instance.old }
+{
+    if is_viable(instance) {
+        instance.validate_state = ValidateState::Inconclusive;
+    }
+}
+
+fn doubt_all(instances: &mut Instances)
+    ensures { instances.new ≡ map doubted instances.old }
+{
+    'each: for instance in instances.as_mut_slice() {
+        doubt(instance);
+    }
+}
+
+/// Finds a viable success inconclusive, and closes what waits to be sent.
+fn doubt_or_close(waiting: &mut Instance)
+    ensures { waiting.new ≡ doubted_or_closed waiting.old }
+{
+    if is_viable(waiting) {
+        waiting.validate_state = ValidateState::Inconclusive;
+    } else {
+        close(waiting);
+    }
+}
+
+fn doubt_or_close_all(instances: &mut Instances)
+    ensures { instances.new ≡ map doubted_or_closed instances.old }
+{
+    'each: for instance in instances.as_mut_slice() {
+        doubt_or_close(instance);
+    }
+}
+
+/// Makes the result of this number the canonical one.
+fn agree_on(workunit: &mut Workunit, n: usize)
+    requires { n < 100 }
+    ensures { workunit.new ≡ agreed_on workunit.old n }
+{
+    workunit.canonical = Some(n as u32);
+    ready_assimilate(&mut workunit.assimilate);
+    judge_all(&mut workunit.instances, n);
+}
+
+/// Leaves the viable successes without a decision: gives the workunit up where they are more than it bears, and wants one
+/// more where they have reached its target.
+fn leave_open(workunit: &mut Workunit)
+    ensures { workunit.new ≡ left_open workunit.old }
+{
+    let successes = viable_count(workunit);
+    if successes > workunit.params.max_success_results() as usize {
+        workunit.error_mask.too_many_success_results = true;
+        doubt_or_close_all(&mut workunit.instances);
+        return;
+    }
+    if successes >= workunit.params.target_nresults() as usize {
+        workunit.params = workunit.params.with_target(successes as u32 + 1);
+    }
+    doubt_all(&mut workunit.instances);
+}
+
+/// Judges what came after the decision for this canonical result.
+fn judge_after(alloc: Global, workunit: &mut Workunit, n: usize) -> Result<Vec<Grant>, AllocError>
+    ensures image { OnOk result (workunit.new ≡ judged_after workunit.old n) }
+    ensures grants { IfOk result (λ list. list.items ≡ grants_after workunit.old n) }
+    ensures err { OnErr result (workunit.new ≡ workunit.old) }
+{
+    let instances = workunit.instances.as_slice();
+    let is_gone = is_deleted_at(instances, n);
+    let list = if is_gone {
+        Vec::new(alloc)
+    } else {
+        grants_by(alloc, workunit, output_at(instances, n))?
+    };
+    judge_all_late(&mut workunit.instances, n, is_gone);
+    Ok(list)
+}
+
+/// Decides, or leaves the workunit open.
+fn decide(alloc: Global, workunit: &mut Workunit) -> Result<Vec<Grant>, AllocError>
+    ensures image { OnOk result (workunit.new ≡ decided workunit.old (consensus workunit.old)) }
+    ensures grants { IfOk result (λ list. list.items ≡ grants_decided workunit.old (consensus workunit.old)) }
+    ensures err { OnErr result (workunit.new ≡ workunit.old) }
+{
+    match consensus(workunit) {
+        Some(n) => {
+            let list = grants_by(alloc, workunit, output_at(workunit.instances.as_slice(), n))?;
+            agree_on(workunit, n);
+            Ok(list)
+        }
+        None => {
+            leave_open(workunit);
+            Ok(Vec::new(alloc))
+        }
+    }
+}
+
+/// Looks for a consensus among the results of an undecided workunit, or judges what came after the decision, and grants
+/// credit to each result that is found valid. Where there is nothing to look at nothing changes, and nothing does for want
+/// of memory.
+#[tactic(auto, unfolding(crate::specs::Validation::validated, crate::specs::Validation::grants))]
+pub fn validate(alloc: Global, workunit: &mut Workunit) -> Result<Vec<Grant>, Fault>
+    ensures image { OnOk result (workunit.new ≡ validated workunit.old) }
+    ensures grants { IfOk result (λ list. list.items ≡ grants workunit.old) }
+    ensures err { IfErr result (λ fault. (fault ≡ Memory) × (workunit.new ≡ workunit.old)) }
+{
+    if !wants_validation(workunit) {
+        return Ok(Vec::new(alloc));
+    }
+    let granted = match workunit.canonical {
+        Some(n) => judge_after(alloc, workunit, n as usize),
+        None => decide(alloc, workunit),
+    };
+    match granted {
+        Ok(list) => Ok(list),
+        Err(_) => Err(Fault::Memory),
+    }
+}

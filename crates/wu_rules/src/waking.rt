@@ -1,0 +1,120 @@
+//! When the transitioner has something to do.
+
+ghost use Rattle.std.specs.Prelude.{◌≡◌, ◌≤◌, min};
+ghost use Rattle.std.specs.List.{filter_map, reduce, list_any};
+ghost use Rattle.wu_rules.specs.Instances.{is_unsent, is_viable};
+ghost use Rattle.wu_rules.specs.Waking.{is_unsettled, has_files_to_ready, is_due, overdue_from, wake, is_output_to_ready, has_output_to_ready};
+
+use crate::count::is_clear;
+use crate::instance::{is_in_progress, is_unsent, is_viable};
+use crate::transitioner::{is_all_finished, is_all_over, may_output_go, plan_at_once};
+use wu_core::{Assimilate, FileDelete, Instance, Instances, Workunit};
+
+fn has_unsent(instances: &Instances) -> bool
+    ensures { result ≡ list_any is_unsent instances.now }
+{
+    instances
+        .as_slice()
+        .iter()
+        .any(|instance| is_unsent(instance))
+}
+
+fn has_viable(instances: &Instances) -> bool
+    ensures { result ≡ list_any is_viable instances.now }
+{
+    instances
+        .as_slice()
+        .iter()
+        .any(|instance| is_viable(instance))
+}
+
+/// Whether something is not settled yet under a mask.
+fn is_unsettled(workunit: &Workunit) -> bool
+    ensures { result ≡ is_unsettled workunit.now }
+{
+    !is_clear(workunit.error_mask)
+        && (workunit.assimilate == Assimilate::Init
+            || has_unsent(&workunit.instances)
+            || has_viable(&workunit.instances))
+}
+
+/// Whether the output of this instance may go and was not yet named for deletion.
+fn is_output_to_ready(
+    canonical: Option<u32>,
+    is_all_finished: bool,
+    n: usize,
+    instance: &Instance,
+) -> bool
+    ensures { result ≡ is_output_to_ready canonical is_all_finished n instance.now }
+{
+    may_output_go(canonical, is_all_finished, n, instance)
+        && instance.file_delete == FileDelete::Init
+}
+
+/// Whether an output may go that was not yet named for deletion.
+fn has_output_to_ready(instances: &Instances, canonical: Option<u32>) -> bool
+    ensures { result ≡ has_output_to_ready canonical instances.now }
+{
+    let is_all_finished = is_all_finished(instances);
+    'each: for (n, instance) in instances.as_slice().iter().enumerate() {
+        let is_to_ready = is_output_to_ready(canonical, is_all_finished, n, instance);
+        if is_to_ready {
+            return true;
+        }
+    }
+    false
+}
+
+/// Whether something may go, after assimilation, that was not yet named for deletion.
+fn has_files_to_ready(workunit: &Workunit) -> bool
+    ensures { result ≡ has_files_to_ready workunit.now }
+{
+    workunit.assimilate == Assimilate::Done
+        && ((is_all_over(&workunit.instances) && workunit.file_delete == FileDelete::Init)
+            || has_output_to_ready(&workunit.instances, workunit.canonical))
+}
+
+/// Whether the transitioner has something to do whatever the moment.
+fn is_due(workunit: &Workunit) -> bool
+    ensures { result ≡ is_due workunit.now }
+{
+    let plan = plan_at_once(workunit);
+    plan.has_too_many_errors
+        || plan.added > 0
+        || plan.has_too_many_total
+        || is_unsettled(workunit)
+        || has_files_to_ready(workunit)
+}
+
+/// The first second after the deadline of an instance in progress.
+fn overdue_from(instance: &Instance) -> Option<u64>
+    ensures { result ≡ overdue_from instance.now }
+{
+    match instance.deadline {
+        Some(deadline) if is_in_progress(instance) => Some(deadline.seconds() + 1),
+        _ => None,
+    }
+}
+
+/// The first second after the first deadline of an instance in progress.
+fn first_overdue(instances: &[Instance]) -> Option<u64>
+    ensures { result ≡ reduce min (filter_map overdue_from instances.now) }
+{
+    instances
+        .iter()
+        .filter_map(|instance| overdue_from(instance))
+        .min()
+}
+
+/// The first moment at which the transitioner has something to do with the workunit: 0 where it has at once, else when the
+/// first deadline has passed. None where it waits for nothing.
+#[tactic(auto, unfolding(crate::specs::Waking::wake))]
+pub fn wake_of(workunit: &Workunit) -> Option<u64>
+    ensures { result ≡ wake workunit.now }
+{
+    if is_due(workunit) {
+        Some(0)
+    } else {
+        first_overdue(workunit.instances.as_slice())
+    }
+}

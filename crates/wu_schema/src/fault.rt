@@ -1,0 +1,55 @@
+//! An error of the store as a fault.
+
+ghost use Rattle.std.specs.Prelude.{◌≡◌, false};
+ghost use Rattle.wu_schema.specs.Faults.{fault_of, commit_fault_of};
+
+use sqlite::{Alter, Connection, Error, ErrorCode};
+use sqlite_resolve::CompileError;
+use sqlite_syntax::error::ParseError;
+use wu_core::Fault;
+
+/// Want of memory is `Memory`, a failure of the disk or of size is `Broken`, and any other refusal is `NotAProject`.
+pub fn fault_of(error: &Error) -> Fault
+    ensures { result ≡ fault_of error.now }
+{
+    match error {
+        Error::SqliteFailure(ErrorCode::OutOfMemory)
+        | Error::SqlInputError(
+            CompileError::OutOfMemory | CompileError::Parse(ParseError::OutOfMemory),
+        ) => Fault::Memory,
+        Error::SqliteFailure(
+            ErrorCode::SystemIoFailure
+            | ErrorCode::DatabaseCorrupt
+            | ErrorCode::DiskFull
+            | ErrorCode::Closed
+            | ErrorCode::TooBig,
+        ) => Fault::Broken,
+        _ => Fault::NotAProject,
+    }
+}
+
+/// A commit or a rollback that failed is `Memory` or `Broken`: what it left is not known.
+pub fn commit_fault_of(error: &Error) -> Fault
+    ensures { result ≡ commit_fault_of error.now }
+{
+    match fault_of(error) {
+        Fault::NotAProject => Fault::Broken,
+        fault => fault,
+    }
+}
+
+/// The fault of a statement that was refused inside a transaction, which was then rolled back.
+///
+/// `NotAProject` says that the connection still serves, outside any transaction; after any other fault it may not.
+pub fn fault_after<S: Alter>(conn: &mut Connection<S>, error: &Error) -> Fault
+    ensures mode { conn.old.in_transaction ≡ false → conn.new.in_transaction ≡ false }
+    ensures kind { result ≡ Fault.NotAProject → fault_of error.now ≡ Fault.NotAProject }
+{
+    match fault_of(error) {
+        Fault::NotAProject => match conn.prepare("SELECT 1") {
+            Ok(_) => Fault::NotAProject,
+            Err(error) => commit_fault_of(&error),
+        },
+        fault => fault,
+    }
+}

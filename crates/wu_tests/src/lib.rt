@@ -1,0 +1,11 @@
+//! Tests over whole projects: the worked examples of a batch, and what stands in a database that is adopted.
+#![tactic(auto)]
+
+#[cfg(test)]
+mod adoption;
+#[cfg(test)]
+mod batches;
+#[cfg(test)]
+mod setting;
+#[cfg(test)]
+mod writers;
