@@ -1,5 +1,5 @@
 -- The seven values of a list.
-use Rattle.std.proofs.Common.{◌≡◌, ℕ, List, [], ◌∷◌, length, get_or, ℤ, pos, arith, refl}
+use Rattle.std.proofs.Common.{◌≡◌, List, [], ◌∷◌, length, get_or, ℤ, arith, refl}
 
 -- a list of seven is the list of its elements
 pub seven : (xs : List ℤ) (d : ℤ) → length xs ≡ 7

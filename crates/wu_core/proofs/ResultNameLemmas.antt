@@ -1,5 +1,5 @@
 -- The last '_' of a text parts the workunit's name from the place.
-use Rattle.std.proofs.Common.{◌≡◌, ◌≤◌, ◌<◌, ◌+◌, ◌-◌, ℕ, Bool, true, false, not, List, [], ◌∷◌, length, get_or, take, drop, zero, suc, if◌then◌else◌, Result, Err, arith, refl, slice_index, ◌||◌, ◌⊎◌, inl, inr, Option, Some, None, Ok, sym, ◌∙◌}
+use Rattle.std.proofs.Common.{◌≡◌, ◌<◌, ◌+◌, ◌-◌, ℕ, Bool, true, false, not, List, [], ◌∷◌, length, take, drop, zero, suc, if◌then◌else◌, Err, arith, refl, slice_index, ◌||◌, inl, inr, Option, Some, None, Ok, ◌∙◌}
 use Rattle.std.proofs.lemmas.List.Sums.{suffix_len_is}
 use Rattle.std.proofs.lemmas.List.{length-drop, take_all}
 use Rattle.std.specs.List.{list_any, before_last, after_last, suffix_len}

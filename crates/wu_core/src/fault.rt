@@ -1,6 +1,6 @@
 //! Why a call was refused.
 
-ghost use Rattle.std.specs.Prelude.{◌≡◌};
+ghost use Rattle.std.specs.Prelude.{◌≡◌, Some};
 ghost use Rattle.wu_core.specs.Words.{template_key_word, file_cause_word};
 
 use std::fmt;
@@ -42,8 +42,10 @@ impl TemplateKey {
 }
 
 impl fmt::Display for TemplateKey {
+    ghost output = { λ key. Some (template_key_word key) };
+
     fn fmt<W: fmt::Write>(&self, f: &mut fmt::Formatter<W>) -> fmt::Result {
-        f.write_str(self.word())
+        f.write_str(TemplateKey::word(*self))
     }
 }
 
@@ -88,8 +90,10 @@ impl FileCause {
 }
 
 impl fmt::Display for FileCause {
+    ghost output = { λ cause. Some (file_cause_word cause) };
+
     fn fmt<W: fmt::Write>(&self, f: &mut fmt::Formatter<W>) -> fmt::Result {
-        f.write_str(self.word())
+        f.write_str(FileCause::word(*self))
     }
 }
 

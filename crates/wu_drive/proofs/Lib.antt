@@ -1,1 +1,13 @@
+mod AnswerLemmas
+mod DayLemmas
+mod DigitLemmas
 mod ImportLemmas
+mod ChangingLemmas
+mod PlanLemmas
+mod BatchLemmas
+mod AskLemmas
+mod LineLemmas
+mod WritingLemmas
+mod StandingLemmas
+mod DrivingLemmas
+mod ViewLemmas

@@ -2,11 +2,12 @@
 use Rattle.std.specs.Prelude.{ℕ, List, [], ◌∷◌, Some, codes, map}
 use Rattle.wu_core.specs.declared.workunit.Instance.{Instance}
 use Rattle.wu_core.specs.declared.workunit.Workunit.{Workunit}
+use Rattle.wu_core.specs.declared.workunit.Archived.{Archived}
 use Rattle.wu_core.specs.Parameters.{default_parameters}
 use Rattle.wu_core.specs.Workunit.{fresh}
 use Rattle.wu_core.specs.World.{World, empty_world}
 use Rattle.wu_feed.specs.declared.jobs.Job.{Job}
-use Rattle.wu_rules.specs.Rows.{job, out, aa, h1, masked, cancelled_mask, unneeded}
+use Rattle.wu_rules.specs.Rows.{credit, h2, job, out, aa, h1, masked, cancelled_mask, too_many_errors, unneeded}
 use Rattle.wu_rules.specs.Assimilation.{archived_row}
 use Rattle.wu_drive.specs.Rows.{SendRow, ReportRow, Succeeded}
 
@@ -56,3 +57,15 @@ one_archived = record empty_world {
 
 abbrev pub one_job : List Job
 one_job = record { name = job_1; input = 0 ∷ 255 ∷ [] } ∷ []
+
+-- a workunit as a batch adds it
+abbrev pub new_job : Workunit
+new_job = job default_parameters []
+
+-- the archived row of a workunit that had too many errors, assimilated on 2026-03-02 at midnight
+abbrev pub given_up : Archived
+given_up = archived_row (masked too_many_errors new_job) 1772409600
+
+-- three credits of two hosts
+abbrev pub three_grants : World
+three_grants = record empty_world { grants = credit 0 h2 ∷ credit 1 h1 ∷ credit 2 h2 ∷ [] }

@@ -11,3 +11,9 @@ pub mod Sessions
 pub mod Sound
 pub mod Texts
 pub mod Worlds
+pub mod Changing
+pub mod Planning
+pub mod Writing
+pub mod Standing
+pub mod Driving
+pub mod Views

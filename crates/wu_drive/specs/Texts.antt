@@ -36,11 +36,11 @@ abbrev pub four_digits : ℕ → List ℕ
 four_digits n = two_digits (n / 100) ++ two_digits (n % 100)
 
 -- the year of a day that is counted from the start of 1970: the last one that has begun
-abbrev pub year_of_day : ℕ → ℕ
+unfoldable pub year_of_day : ℕ → ℕ
 year_of_day day = 1969 + count_by (λ year. int_le (days_from_civil (pos year) 1 1) (pos day)) (range_with_len 1970 131)
 
 -- its month: the last one of the year that has begun
-abbrev pub month_of_day : ℕ → ℕ → ℕ
+unfoldable pub month_of_day : ℕ → ℕ → ℕ
 month_of_day year day = count_by (λ month. int_le (days_from_civil (pos year) month 1) (pos day)) (range_with_len 1 12)
 
 -- its day of the month
@@ -59,7 +59,7 @@ abbrev pub clock_text : ℕ → List ℕ
 clock_text second = two_digits (second / 3600) ++ codes ":" ++ two_digits (second / 60 % 60) ++ codes ":" ++ two_digits (second % 60)
 
 -- a moment or a deadline, as YYYY-MM-DDTHH:MM:SSZ
-abbrev pub moment_text : ℕ → List ℕ
+unfoldable pub moment_text : ℕ → List ℕ
 moment_text seconds = date_text (seconds / 86400) ++ codes "T" ++ clock_text (seconds % 86400) ++ codes "Z"
 
 -- the line of a fault, without its end

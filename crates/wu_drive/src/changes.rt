@@ -1,6 +1,11 @@
 //! What a command changes, in one transaction.
 
-ghost use Rattle.std.specs.Prelude.{◌≡◌, false};
+ghost use Rattle.std.specs.Prelude.{◌≡◌, [], ◌∷◌, false, IfErr, OnOk, OnErr};
+ghost use Rattle.sqlite.specs.State.{HasCleanDisk, Survives};
+ghost use Rattle.sqlite.specs.Held.{state};
+ghost use Rattle.wu_schema.specs.Calls.{IsPart, IsRefused, IsUndone};
+ghost use Rattle.wu_schema.specs.Faults.{IsTold};
+ghost use Rattle.wu_drive.specs.Changing.{AreDone, IsAfter, MakesAll};
 
 use sqlite::{Alter, Connection, Error, Transaction};
 use std::alloc::Global;
@@ -33,6 +38,8 @@ pub enum Change {
 
 fn keep<S: Alter>(tx: &mut Transaction<'_, S>, import: &Import) -> Result<(), Error>
     ensures same_reference { tx.new.conn.ghost_name ≡ tx.old.conn.ghost_name }
+    ensures part { IsPart (state S.Store tx.old.conn.now) (state S.Store tx.new.conn.now) }
+    ensures ok { HasCleanDisk (state S.Store tx.new.conn.now) → OnOk result (MakesAll (Change.Keep import.now ∷ []) (state S.Store tx.old.conn.now) (state S.Store tx.new.conn.now)) }
 {
     insert_import(
         tx,
@@ -47,6 +54,8 @@ fn keep<S: Alter>(tx: &mut Transaction<'_, S>, import: &Import) -> Result<(), Er
 
 fn make<S: Alter>(tx: &mut Transaction<'_, S>, change: &Change) -> Result<(), Error>
     ensures same_reference { tx.new.conn.ghost_name ≡ tx.old.conn.ghost_name }
+    ensures part { IsPart (state S.Store tx.old.conn.now) (state S.Store tx.new.conn.now) }
+    ensures ok { HasCleanDisk (state S.Store tx.new.conn.now) → OnOk result (MakesAll (change.now ∷ []) (state S.Store tx.old.conn.now) (state S.Store tx.new.conn.now)) }
 {
     match change {
         Change::Add(workunit) => insert_workunit(tx, workunit),
@@ -57,6 +66,8 @@ fn make<S: Alter>(tx: &mut Transaction<'_, S>, change: &Change) -> Result<(), Er
 
 fn apply<S: Alter>(tx: &mut Transaction<'_, S>, changes: &[Change]) -> Result<(), Error>
     ensures same_reference { tx.new.conn.ghost_name ≡ tx.old.conn.ghost_name }
+    ensures part { IsPart (state S.Store tx.old.conn.now) (state S.Store tx.new.conn.now) }
+    ensures ok { HasCleanDisk (state S.Store tx.new.conn.now) → OnOk result (MakesAll changes.now (state S.Store tx.old.conn.now) (state S.Store tx.new.conn.now)) }
 {
     for change in changes {
         make(tx, change)?;
@@ -73,10 +84,18 @@ enum Stopped {
 fn apply_and_commit<S: Alter>(conn: &mut Connection<S>, changes: &[Change]) -> Result<(), Stopped>
     requires { conn.old.in_transaction ≡ false }
     ensures mode { conn.new.in_transaction ≡ false }
+    ensures done { HasCleanDisk (state S.Store conn.new) → OnOk result (AreDone changes.now (state S.Store conn.old) (state S.Store conn.new)) }
+    ensures undone { HasCleanDisk (state S.Store conn.new) → OnErr result (IsUndone (state S.Store conn.old) (state S.Store conn.new)) }
+    ensures crash { Survives (state S.Store conn.old) (state S.Store conn.new) (IsAfter changes.now (state S.Store conn.old).now) }
 {
     let mut tx = conn.transaction();
-    apply(&mut tx, changes).map_err(Stopped::Statement)?;
-    tx.commit().map_err(Stopped::Commit)
+    if let Err(error) = apply(&mut tx, changes) {
+        return Err(Stopped::Statement(error));
+    }
+    match tx.commit() {
+        Ok(()) => Ok(()),
+        Err(error) => Err(Stopped::Commit(error)),
+    }
 }
 
 /// Makes all changes in one transaction.
@@ -86,6 +105,11 @@ fn apply_and_commit<S: Alter>(conn: &mut Connection<S>, changes: &[Change]) -> R
 pub fn change_all<S: Alter>(conn: &mut Connection<S>, changes: &[Change]) -> Result<(), Fault>
     requires { conn.old.in_transaction ≡ false }
     ensures mode { conn.new.in_transaction ≡ false }
+    ensures done { HasCleanDisk (state S.Store conn.new) → OnOk result (AreDone changes.now (state S.Store conn.old) (state S.Store conn.new)) }
+    ensures refused { HasCleanDisk (state S.Store conn.new) → IfErr result (λ fault. fault ≡ Fault.NotAProject → IsRefused (state S.Store conn.old) (state S.Store conn.new)) }
+    ensures told { IfErr result IsTold }
+    ensures undone { HasCleanDisk (state S.Store conn.new) → OnErr result (IsUndone (state S.Store conn.old) (state S.Store conn.new)) }
+    ensures crash { Survives (state S.Store conn.old) (state S.Store conn.new) (IsAfter changes.now (state S.Store conn.old).now) }
 {
     match apply_and_commit(conn, changes) {
         Ok(()) => Ok(()),

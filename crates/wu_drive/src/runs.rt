@@ -1,8 +1,18 @@
 //! Lists of commands, and the demonstration.
 
-use crate::command::{Answer, Command};
-use crate::output::{Piece, flush, write_pieces};
+ghost use Rattle.std.specs.Prelude.{◌≡◌, ◌≤◌, false, List, length};
+ghost use Rattle.sqlite.specs.State.{HasCleanDisk};
+ghost use Rattle.sqlite.specs.Held.{state};
+ghost use Rattle.wu_core.specs.World.{World};
+ghost use Rattle.wu_drive.specs.Driving.{Drives};
+ghost use Rattle.wu_drive.specs.Planning.{IsProject};
+ghost use Rattle.wu_drive.specs.Standing.{GoesOn};
+ghost use Rattle.wu_drive.specs.declared.command.Answer.{Answer};
+ghost use Rattle.wu_drive.specs.Writing.{WritesAnswers};
+
+use crate::command::Command;
 use crate::project::Project;
+use crate::replies::write_answer;
 use crate::views::{View, show};
 use sqlite::{Alter, Connection};
 use std::alloc::Global;
@@ -18,44 +28,19 @@ pub struct Run {
     pub end: Option<Fault>,
 }
 
-/// The number, or None for 0.
-fn unless_zero(number: u64) -> Option<u32> {
-    match u32::try_from(number) {
-        Ok(0) | Err(_) => None,
-        Ok(number) => Some(number),
-    }
-}
-
-/// Writes the text of an answer, and flushes.
-fn write_answer<W: Write>(out: &mut W, answer: &Answer) -> Result<(), Fault> {
-    let Answer::Imported {
-        kind: _,
-        name,
-        first,
-        verdicts,
-    } = answer;
-    write_pieces(
-        out,
-        &[
-            Piece::Text("batch "),
-            Piece::Text(name.as_str()),
-            Piece::Text(": "),
-            Piece::Number(verdicts.len() as u64),
-            Piece::Text(" added, first "),
-            Piece::Place(unless_zero(*first)),
-            Piece::Text("\n"),
-        ],
-    )?;
-    flush(out)
-}
-
 /// Runs the commands in order and writes the text of each answer, up to the first fault.
+///
+/// An acknowledged command is one that was answered, also where its text could not be written.
 pub fn drive<S: Alter, W: Write>(
     alloc: Global,
     project: &mut Project<S>,
     commands: &[Command],
     out: &mut W,
-) -> Run {
+) -> Run
+    ensures answers { (answers : List Answer) × WritesAnswers (W.contents out.old) (W.contents out.new) answers result × (project.old.has_ended ≡ false → HasCleanDisk (state S.Store project.new.conn) → (world : World) → IsProject world → GoesOn (state S.Store project.old.conn) world → Drives world commands.now answers result project.new.has_ended (state S.Store project.new.conn)) }
+    ensures count { result.acknowledged ≤ length commands.now }
+    ensures all { result.end ≡ None → result.acknowledged ≡ length commands.now }
+{
     let mut acknowledged = 0;
     for command in commands {
         let answer = match project.run(alloc, command) {

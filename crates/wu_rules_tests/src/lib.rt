@@ -3,6 +3,10 @@
 #![tactic(auto)]
 
 #[cfg(test)]
+mod facts;
+#[cfg(test)]
 mod life;
+#[cfg(test)]
+mod script;
 #[cfg(test)]
 mod tests;

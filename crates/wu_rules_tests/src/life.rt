@@ -1,7 +1,6 @@
 //! What other programs do with a workunit.
 
-use std::alloc::Global;
-use std::test::Fail;
+use std::process::Abort;
 use wu_core::{
     Assimilate, Bytes, Deadline, ErrorMask, FileDelete, Grant, Instance, Instances, Moment, Name,
     Outcome, Params, ServerState, ValidateState, Workunit,
@@ -11,99 +10,95 @@ use wu_core::{
 pub const NOON: u64 = 1772366400;
 
 /// The moment so many seconds after the start of 1970.
-pub fn at(seconds: u64) -> Result<Moment, Fail> {
-    Ok(Moment::new(seconds).ok_or("a moment")?)
+pub fn at(rt: &impl Abort, seconds: u64) -> Moment {
+    Moment::new(seconds).expect(rt, "a moment")
 }
 
-pub fn name(alloc: Global, text: &str) -> Result<Name, Fail> {
-    Ok(Name::read(alloc, text.as_bytes())?)
+pub fn name(rt: &(impl Abort + AllocGlobal), text: &str) -> Name {
+    Name::read(rt.alloc(), text.as_bytes()).expect(rt, "a name")
+}
+
+pub fn bytes(rt: &(impl Abort + AllocGlobal), items: &[u8]) -> Bytes {
+    Bytes::from_vec(Vec::from_slice(rt.alloc(), items).expect(rt, "memory"))
 }
 
 /// A new workunit without instances.
-pub fn job(alloc: Global, params: Params) -> Result<Workunit, Fail> {
-    Ok(Workunit {
+pub fn job(rt: &(impl Abort + AllocGlobal), params: Params) -> Workunit {
+    Workunit {
         number: 1,
-        name: name(alloc, "job_1")?,
+        name: name(rt, "job_1"),
         params,
-        input: Bytes::from_vec(Vec::from_slice(alloc, &[0, 255])?),
+        input: bytes(rt, &[0, 255]),
         error_mask: ErrorMask::none(),
         canonical: None,
         assimilate: Assimilate::Init,
         file_delete: FileDelete::Init,
         done_at: None,
-        instances: Instances::new(alloc),
-    })
+        instances: Instances::new(rt.alloc()),
+    }
+}
+
+/// The host of the instance of this number: h1 of the first, h2 of the second.
+pub fn host(rt: &(impl Abort + AllocGlobal), n: u32) -> Name {
+    let number = n.checked_add(1).expect(rt, "a small number");
+    let text = format!(in rt.alloc(); "h{number}").expect(rt, "memory");
+    name(rt, text.as_str())
 }
 
 /// The instance of this number.
-pub fn instance_at(workunit: &Workunit, n: usize) -> Result<&Instance, Fail> {
-    Ok(workunit.instances.as_slice().get(n).ok_or("an instance")?)
+pub fn instance_at<'a>(rt: &impl Abort, workunit: &'a Workunit, n: u32) -> &'a Instance {
+    workunit
+        .instances
+        .as_slice()
+        .get(n as usize)
+        .expect(rt, "an instance")
 }
 
-/// Sends an instance to a host at 13:00, with a deadline a week later.
-pub fn send(alloc: Global, workunit: &mut Workunit, n: usize, host: &str) -> Result<(), Fail> {
-    let host = name(alloc, host)?;
-    let sent_at = at(NOON + 3600)?;
-    let deadline = Deadline::new(NOON + 3600 + 604800).ok_or("a deadline")?;
+/// Sends an instance to its host at 13:00, with a deadline a week later.
+pub fn send(rt: &(impl Abort + AllocGlobal), workunit: &mut Workunit, n: u32) {
+    let host = host(rt, n);
+    let sent_at = at(rt, NOON + 3600);
+    let deadline = Deadline::new(NOON + 3600 + 604800).expect(rt, "a deadline");
     let instance = workunit
         .instances
         .as_mut_slice()
-        .get_mut(n)
-        .ok_or("an instance")?;
+        .get_mut(n as usize)
+        .expect(rt, "an instance");
     instance.server_state = ServerState::InProgress;
     instance.host = Some(host);
     instance.sent_at = Some(sent_at);
     instance.deadline = Some(deadline);
-    Ok(())
 }
 
 /// Reports an instance.
 pub fn report(
-    alloc: Global,
+    rt: &(impl Abort + AllocGlobal),
     workunit: &mut Workunit,
-    n: usize,
+    n: u32,
     outcome: Outcome,
     output: &[u8],
-) -> Result<(), Fail> {
-    let output = Bytes::from_vec(Vec::from_slice(alloc, output)?);
-    let received_at = at(NOON + 7200)?;
+) {
+    let output = bytes(rt, output);
+    let received_at = at(rt, NOON + 7200);
     let instance = workunit
         .instances
         .as_mut_slice()
-        .get_mut(n)
-        .ok_or("an instance")?;
+        .get_mut(n as usize)
+        .expect(rt, "an instance");
     instance.server_state = ServerState::Over;
     instance.outcome = outcome;
     instance.validate_state = ValidateState::Init;
     instance.file_delete = FileDelete::Init;
     instance.received_at = Some(received_at);
     instance.output = output;
-    Ok(())
 }
 
-/// How an instance stands.
-pub fn states(
-    workunit: &Workunit,
-    n: usize,
-) -> Result<(ServerState, Outcome, ValidateState), Fail> {
-    let instance = instance_at(workunit, n)?;
-    Ok((
-        instance.server_state,
-        instance.outcome,
-        instance.validate_state,
-    ))
-}
-
-/// The state of deletion of an instance's output.
-pub fn deletion(workunit: &Workunit, n: usize) -> Result<FileDelete, Fail> {
-    Ok(instance_at(workunit, n)?.file_delete)
-}
-
-pub fn grant(alloc: Global, n: u32, host: &str) -> Result<Grant, Fail> {
-    Ok(Grant {
+/// The credit of an instance for its host.
+pub fn grant(rt: &(impl Abort + AllocGlobal), n: u32) -> Grant {
+    Grant {
         workunit: 1,
         n,
-        host: name(alloc, host)?,
+        host: host(rt, n),
         credit: 1,
-    })
+    }
 }

@@ -1,315 +1,338 @@
 //! Workunits through their lives.
 
-use crate::life::{NOON, at, deletion, grant, instance_at, job, report, send, states};
-use std::alloc::Global;
-use std::test::Fail;
-use wu_core::{
-    Assimilate, Fault, FileDelete, Outcome, Params, ServerState, ValidateState, Workunit,
-};
-use wu_rules::{
-    assimilate, cancel, delete_files, purgeable, transition, validate, wake_of, wants_deletion,
-    wants_validation,
-};
+use crate::facts::Fact::*;
+use crate::facts::{FAILED, LOST, OUT, UNNEEDED, UNSENT};
+use crate::life::{NOON, job};
+use crate::script::Deed::*;
+use crate::script::Step::{Do, See};
+use crate::script::{DONE, follow};
+use std::process::Abort;
+use wu_core::{Assimilate, FileDelete, Params, ValidateState};
+use wu_rules::wake_of;
 
-/// 2026-03-02T00:00:00Z.
-const DONE: u64 = 1772409600;
+/// The last second at which an instance that was sent is not late.
+const DEADLINE: u64 = 1772974800;
 
-const UNSENT: (ServerState, Outcome, ValidateState) = (
-    ServerState::Unsent,
-    Outcome::Init,
-    ValidateState::Init,
-);
+/// Later than that.
+const LATER: u64 = 1773014400;
 
-const LOST: (ServerState, Outcome, ValidateState) = (
-    ServerState::Over,
-    Outcome::NoReply,
-    ValidateState::Init,
-);
-
-const UNNEEDED: (ServerState, Outcome, ValidateState) = (
-    ServerState::Over,
-    Outcome::DidntNeed,
-    ValidateState::Init,
-);
-
-fn success(verdict: ValidateState) -> (ServerState, Outcome, ValidateState) {
-    (ServerState::Over, Outcome::Success, verdict)
+/// The parameters of a quorum: as many instances are made at once, and the rest is by default.
+fn quorum(rt: &impl Abort, count: i64) -> Params {
+    Params::from_values([count, count, 3, 10, 6, 604_800, 1]).expect(rt, "parameters")
 }
 
 #[test]
-fn makes_two_instances_once(rt: HostRuntime) -> Result<(), Fail> {
-    let alloc = rt.alloc();
-    let mut workunit = job(alloc, Params::default())?;
-    assert_eq!(rt; wake_of(&workunit), Some(0));
-    transition(alloc, &mut workunit, at(NOON)?)?;
-    assert_eq!(rt; workunit.instances.len(), 2);
-    assert_eq!(rt; states(&workunit, 0)?, UNSENT);
-    assert_eq!(rt; states(&workunit, 1)?, UNSENT);
-    assert_eq!(rt; wake_of(&workunit), None);
-    transition(alloc, &mut workunit, at(NOON)?)?;
-    assert_eq!(rt; workunit.instances.len(), 2);
-    Ok(())
+fn makes_two_instances_once(rt: HostRuntime) {
+    let script = [
+        See(Wake(Some(0))),
+        Do(Transition(NOON)),
+        See(Count(2)),
+        See(Stands(0, UNSENT)),
+        See(Stands(1, UNSENT)),
+        See(Wake(None)),
+        Do(Transition(NOON)),
+        See(Count(2)),
+    ];
+    follow(&rt, Params::default(), &script);
 }
 
 #[test]
-fn times_out_after_the_deadline(rt: HostRuntime) -> Result<(), Fail> {
-    let alloc = rt.alloc();
-    let mut workunit = job(alloc, Params::default())?;
-    transition(alloc, &mut workunit, at(NOON)?)?;
-    send(alloc, &mut workunit, 0, "h1")?;
-    assert_eq!(rt; wake_of(&workunit), Some(1772974801));
-    transition(alloc, &mut workunit, at(1772974800)?)?;
-    assert_eq!(rt; workunit.instances.len(), 2);
-    assert_eq!(rt;
-        states(&workunit, 0)?,
-        (ServerState::InProgress, Outcome::Init, ValidateState::Init)
-    );
-    transition(alloc, &mut workunit, at(1772974801)?)?;
-    assert_eq!(rt; workunit.instances.len(), 3);
-    assert_eq!(rt; states(&workunit, 0)?, LOST);
-    assert_eq!(rt; states(&workunit, 1)?, UNSENT);
-    assert_eq!(rt; states(&workunit, 2)?, UNSENT);
-    Ok(())
+fn times_out_after_the_deadline(rt: HostRuntime) {
+    let script = [
+        Do(Transition(NOON)),
+        Do(Send(0)),
+        See(Wake(Some(DEADLINE + 1))),
+        Do(Transition(DEADLINE)),
+        See(Count(2)),
+        See(Stands(0, OUT)),
+        Do(Transition(DEADLINE + 1)),
+        See(Count(3)),
+        See(Stands(0, LOST)),
+        See(Stands(1, UNSENT)),
+        See(Stands(2, UNSENT)),
+    ];
+    follow(&rt, Params::default(), &script);
 }
 
 #[test]
-fn wakes_at_once_after_an_error(rt: HostRuntime) -> Result<(), Fail> {
-    let alloc = rt.alloc();
-    let mut workunit = job(alloc, Params::default())?;
-    transition(alloc, &mut workunit, at(NOON)?)?;
-    send(alloc, &mut workunit, 0, "h1")?;
-    report(alloc, &mut workunit, 0, Outcome::ClientError, &[])?;
-    assert_eq!(rt; wake_of(&workunit), Some(0));
-    let mut given_up = job(alloc, Params::default())?;
+fn wakes_at_once_after_an_error(rt: HostRuntime) {
+    let script = [
+        Do(Transition(NOON)),
+        Do(Send(0)),
+        Do(Fail(0)),
+        See(Wake(Some(0))),
+    ];
+    follow(&rt, Params::default(), &script);
+    let mut given_up = job(&rt, Params::default());
     given_up.error_mask.cancelled = true;
     assert_eq!(rt; wake_of(&given_up), Some(0));
-    Ok(())
 }
 
-/// Two results are there and differ.
-fn two_that_differ(alloc: Global) -> Result<Workunit, Fail> {
-    let mut workunit = job(alloc, Params::default())?;
-    transition(alloc, &mut workunit, at(NOON)?)?;
-    send(alloc, &mut workunit, 0, "h1")?;
-    send(alloc, &mut workunit, 1, "h2")?;
-    report(alloc, &mut workunit, 0, Outcome::Success, &[0xaa])?;
-    report(alloc, &mut workunit, 1, Outcome::Success, &[0xab])?;
-    Ok(workunit)
+/// Two results are there and differ: a third is wanted, and decides.
+#[test]
+fn decides_by_a_third_result(rt: HostRuntime) {
+    let script = [
+        Do(Transition(NOON)),
+        Do(SendEach(2)),
+        Do(Return(0, &[0xaa])),
+        Do(Return(1, &[0xab])),
+        See(WantsValidation(true)),
+        Do(Validate(&[])),
+        See(Verdict(0, ValidateState::Inconclusive)),
+        See(Verdict(1, ValidateState::Inconclusive)),
+        See(Target(3)),
+        See(WantsValidation(false)),
+        Do(Transition(NOON)),
+        See(Count(3)),
+        Do(Send(2)),
+        Do(Return(2, &[0xab])),
+        Do(Validate(&[1, 2])),
+        See(Canonical(Some(1))),
+        See(Verdict(0, ValidateState::Invalid)),
+        See(Verdict(1, ValidateState::Valid)),
+        See(Verdict(2, ValidateState::Valid)),
+        See(Assimilation(Assimilate::Ready)),
+    ];
+    follow(&rt, Params::default(), &script);
 }
 
 #[test]
-fn asks_for_a_third_result(rt: HostRuntime) -> Result<(), Fail> {
-    let alloc = rt.alloc();
-    let mut workunit = two_that_differ(alloc)?;
-    assert!(rt; wants_validation(&workunit));
-    assert_eq!(rt; validate(alloc, &mut workunit)?.len(), 0);
-    assert_eq!(rt; states(&workunit, 0)?, success(ValidateState::Inconclusive));
-    assert_eq!(rt; states(&workunit, 1)?, success(ValidateState::Inconclusive));
-    assert_eq!(rt; workunit.params.target_nresults(), 3);
-    assert!(rt; !wants_validation(&workunit));
-    transition(alloc, &mut workunit, at(NOON)?)?;
-    assert_eq!(rt; workunit.instances.len(), 3);
-    Ok(())
+fn ends_by_errors(rt: HostRuntime) {
+    let script = [
+        Do(Transition(NOON)),
+        See(Count(5)),
+        Do(SendEach(5)),
+        Do(Return(0, &[])),
+        Do(Fail(1)),
+        Do(Fail(2)),
+        Do(Fail(3)),
+        Do(Fail(4)),
+        See(WantsValidation(false)),
+        Do(Transition(NOON)),
+        See(Mask(2)),
+        See(Count(5)),
+        See(Verdict(0, ValidateState::NoCheck)),
+        See(Assimilation(Assimilate::Ready)),
+    ];
+    follow(&rt, Params::default().with_target(5), &script);
+}
+
+/// The first of two instances fails and the second is lost, and no third is allowed.
+#[test]
+fn ends_by_the_total(rt: HostRuntime) {
+    let script = [
+        Do(Transition(NOON)),
+        Do(SendEach(2)),
+        Do(Fail(0)),
+        Do(Transition(DEADLINE)),
+        See(Count(2)),
+        See(Stands(0, FAILED)),
+        See(Stands(1, OUT)),
+        See(Mask(0)),
+        See(Assimilation(Assimilate::Init)),
+        Do(Transition(DEADLINE + 1)),
+        See(Count(2)),
+        See(Stands(0, FAILED)),
+        See(Stands(1, LOST)),
+        See(Mask(8)),
+        See(Assimilation(Assimilate::Ready)),
+    ];
+    let params = Params::from_values([2, 2, 3, 2, 6, 604_800, 1]);
+    follow(&rt, params.expect(&rt, "parameters"), &script);
 }
 
 #[test]
-fn decides_by_the_third_result(rt: HostRuntime) -> Result<(), Fail> {
-    let alloc = rt.alloc();
-    let mut workunit = two_that_differ(alloc)?;
-    validate(alloc, &mut workunit)?;
-    transition(alloc, &mut workunit, at(NOON)?)?;
-    send(alloc, &mut workunit, 2, "h3")?;
-    report(alloc, &mut workunit, 2, Outcome::Success, &[0xab])?;
-    let granted = validate(alloc, &mut workunit)?;
-    assert_eq!(rt;
-        granted.as_slice(),
-        [grant(alloc, 1, "h2")?, grant(alloc, 2, "h3")?].as_slice()
-    );
-    assert_eq!(rt; workunit.canonical, Some(1));
-    assert_eq!(rt; states(&workunit, 0)?, success(ValidateState::Invalid));
-    assert_eq!(rt; states(&workunit, 1)?, success(ValidateState::Valid));
-    assert_eq!(rt; states(&workunit, 2)?, success(ValidateState::Valid));
-    assert_eq!(rt; workunit.assimilate, Assimilate::Ready);
-    Ok(())
+fn ends_by_successes(rt: HostRuntime) {
+    let script = [
+        Do(Transition(NOON)),
+        Do(SendEach(7)),
+        Do(Return(0, &[0])),
+        Do(Return(1, &[1])),
+        Do(Return(2, &[2])),
+        Do(Return(3, &[3])),
+        Do(Return(4, &[4])),
+        Do(Return(5, &[5])),
+        Do(Return(6, &[6])),
+        Do(Validate(&[])),
+        See(Mask(4)),
+        See(Target(8)),
+        See(Verdicts(7, ValidateState::Inconclusive)),
+        See(Stands(7, UNNEEDED)),
+        Do(Transition(NOON)),
+        See(Verdicts(7, ValidateState::NoCheck)),
+        See(Assimilation(Assimilate::Ready)),
+    ];
+    follow(&rt, Params::default().with_target(8), &script);
+}
+
+/// Two of three results agree, and are decided by before the third is back.
+#[test]
+fn decides_by_two_of_three(rt: HostRuntime) {
+    let script = [
+        Do(Transition(NOON)),
+        Do(SendEach(3)),
+        Do(Return(0, &[0xaa])),
+        Do(Return(1, &[0xaa])),
+        Do(Validate(&[0, 1])),
+        See(Canonical(Some(0))),
+        Do(Archive(0, Some(0), &[0xaa])),
+        Do(Transition(DONE)),
+        See(Output(0, FileDelete::Init)),
+        See(Output(1, FileDelete::Ready)),
+        See(Input(FileDelete::Init)),
+        See(WantsDeletion(true)),
+        Do(Delete),
+        See(WantsDeletion(false)),
+        Do(Transition(DEADLINE + 1)),
+        See(Stands(2, LOST)),
+        See(Input(FileDelete::Ready)),
+        See(Output(0, FileDelete::Ready)),
+        See(Output(1, FileDelete::Done)),
+        See(Output(2, FileDelete::Ready)),
+    ];
+    follow(&rt, Params::default().with_target(3), &script);
+}
+
+/// The third result comes after all that it could be compared with was deleted.
+#[test]
+fn comes_too_late(rt: HostRuntime) {
+    let script = [
+        Do(Transition(NOON)),
+        Do(SendEach(3)),
+        Do(Return(0, &[0xaa])),
+        Do(Return(1, &[0xaa])),
+        Do(Validate(&[0, 1])),
+        Do(Archive(0, Some(0), &[0xaa])),
+        Do(Transition(DONE)),
+        Do(Delete),
+        Do(Transition(DEADLINE + 1)),
+        Do(Delete),
+        See(OutputLen(0, 0)),
+        Do(Return(2, &[0xaa])),
+        See(Purgeable(LATER, 0, false)),
+        See(WantsValidation(true)),
+        Do(Validate(&[])),
+        See(Verdict(2, ValidateState::TooLate)),
+        See(Purgeable(LATER, 0, false)),
+        Do(Transition(LATER)),
+        Do(Delete),
+        See(Purgeable(LATER, 0, true)),
+    ];
+    follow(&rt, Params::default().with_target(3), &script);
+}
+
+/// A quorum of two, and three new results, of which the one between is wrong.
+#[test]
+fn takes_the_first_that_another_agrees_with(rt: HostRuntime) {
+    let script = [
+        Do(Transition(NOON)),
+        Do(SendEach(3)),
+        Do(Return(0, &[0xaa])),
+        Do(Return(1, &[0xab])),
+        Do(Return(2, &[0xaa])),
+        Do(Validate(&[0, 2])),
+        See(Canonical(Some(0))),
+        See(Verdict(0, ValidateState::Valid)),
+        See(Verdict(1, ValidateState::Invalid)),
+        See(Verdict(2, ValidateState::Valid)),
+    ];
+    follow(&rt, Params::default().with_target(3), &script);
+}
+
+/// A quorum of three: two agree at the ends, and the one between them is wrong.
+#[test]
+fn grants_no_credit_to_the_odd_one(rt: HostRuntime) {
+    let script = [
+        Do(Transition(NOON)),
+        Do(SendEach(3)),
+        Do(Return(0, &[0xaa])),
+        Do(Return(1, &[0xbb])),
+        Do(Return(2, &[0xaa])),
+        Do(Validate(&[0, 2])),
+        See(Canonical(Some(0))),
+        See(Verdict(0, ValidateState::Valid)),
+        See(Verdict(1, ValidateState::Invalid)),
+        See(Verdict(2, ValidateState::Valid)),
+    ];
+    follow(&rt, quorum(&rt, 3), &script);
 }
 
 #[test]
-fn ends_by_errors(rt: HostRuntime) -> Result<(), Fail> {
-    let alloc = rt.alloc();
-    let mut workunit = job(alloc, Params::default().with_target(5))?;
-    transition(alloc, &mut workunit, at(NOON)?)?;
-    assert_eq!(rt; workunit.instances.len(), 5);
-    for n in 0..5 {
-        send(alloc, &mut workunit, n, "h1")?;
-        report(
-            alloc,
-            &mut workunit,
-            n,
-            if n == 0 {
-                Outcome::Success
-            } else {
-                Outcome::ClientError
-            },
-            &[],
-        )?;
-    }
-    assert!(rt; !wants_validation(&workunit));
-    transition(alloc, &mut workunit, at(NOON)?)?;
-    assert_eq!(rt; workunit.error_mask.code(), 2);
-    assert_eq!(rt; workunit.instances.len(), 5);
-    assert_eq!(rt; states(&workunit, 0)?, success(ValidateState::NoCheck));
-    assert_eq!(rt; workunit.assimilate, Assimilate::Ready);
-    Ok(())
+fn two_of_four_are_too_few(rt: HostRuntime) {
+    let script = [
+        Do(Transition(NOON)),
+        Do(SendEach(4)),
+        Do(Return(0, &[0xaa])),
+        Do(Return(1, &[0xbb])),
+        Do(Return(2, &[0xbb])),
+        Do(Return(3, &[0xaa])),
+        Do(Validate(&[])),
+        See(Canonical(None)),
+        See(Verdicts(4, ValidateState::Inconclusive)),
+        See(Target(5)),
+    ];
+    follow(&rt, quorum(&rt, 4), &script);
 }
 
 #[test]
-fn archives_once(rt: HostRuntime) -> Result<(), Fail> {
-    let alloc = rt.alloc();
-    let mut workunit = job(alloc, Params::default())?;
-    cancel(&mut workunit)?;
-    transition(alloc, &mut workunit, at(NOON)?)?;
-    let archived = assimilate(alloc, &mut workunit, at(DONE)?)?.ok_or("a row")?;
-    assert_eq!(rt; archived.number, 1);
-    assert_eq!(rt; archived.name.as_str(), "job_1");
-    assert_eq!(rt; archived.error_mask.code(), 16);
-    assert_eq!(rt; archived.canonical, None);
-    assert_eq!(rt; archived.output.len(), 0);
-    assert_eq!(rt; archived.done_at.seconds(), DONE);
-    assert!(rt; assimilate(alloc, &mut workunit, at(DONE)?)?.is_none());
-    Ok(())
+fn three_of_four_are_enough(rt: HostRuntime) {
+    let script = [
+        Do(Transition(NOON)),
+        Do(SendEach(4)),
+        Do(Return(0, &[0xaa])),
+        Do(Return(1, &[0xaa])),
+        Do(Return(2, &[0xaa])),
+        Do(Return(3, &[0xbb])),
+        Do(Validate(&[0, 1, 2])),
+        See(Canonical(Some(0))),
+        See(Verdicts(3, ValidateState::Valid)),
+        See(Verdict(3, ValidateState::Invalid)),
+    ];
+    follow(&rt, quorum(&rt, 4), &script);
+}
+
+/// The one result has no bytes.
+#[test]
+fn one_result_is_a_quorum_of_one(rt: HostRuntime) {
+    let script = [
+        Do(Transition(NOON)),
+        See(Count(1)),
+        Do(SendEach(1)),
+        Do(Return(0, &[])),
+        Do(Validate(&[0])),
+        See(Canonical(Some(0))),
+        See(Verdict(0, ValidateState::Valid)),
+    ];
+    follow(&rt, quorum(&rt, 1), &script);
 }
 
 #[test]
-fn ends_by_successes(rt: HostRuntime) -> Result<(), Fail> {
-    let alloc = rt.alloc();
-    let mut workunit = job(alloc, Params::default().with_target(8))?;
-    transition(alloc, &mut workunit, at(NOON)?)?;
-    for (n, output) in [0, 1, 2, 3, 4, 5, 6].into_iter().enumerate() {
-        send(alloc, &mut workunit, n, "h1")?;
-        report(alloc, &mut workunit, n, Outcome::Success, &[output])?;
-    }
-    assert_eq!(rt; validate(alloc, &mut workunit)?.len(), 0);
-    assert_eq!(rt; workunit.error_mask.code(), 4);
-    assert_eq!(rt; workunit.params.target_nresults(), 8);
-    for n in 0..7 {
-        assert_eq!(rt; states(&workunit, n)?, success(ValidateState::Inconclusive));
-    }
-    assert_eq!(rt; states(&workunit, 7)?, UNNEEDED);
-    transition(alloc, &mut workunit, at(NOON)?)?;
-    for n in 0..7 {
-        assert_eq!(rt; states(&workunit, n)?, success(ValidateState::NoCheck));
-    }
-    assert_eq!(rt; workunit.assimilate, Assimilate::Ready);
-    Ok(())
-}
-
-/// Two of three results are there and agree; the third is still out.
-fn two_of_three(alloc: Global) -> Result<Workunit, Fail> {
-    let mut workunit = job(alloc, Params::default().with_target(3))?;
-    transition(alloc, &mut workunit, at(NOON)?)?;
-    send(alloc, &mut workunit, 0, "h1")?;
-    send(alloc, &mut workunit, 1, "h2")?;
-    send(alloc, &mut workunit, 2, "h3")?;
-    report(alloc, &mut workunit, 0, Outcome::Success, &[0xaa])?;
-    report(alloc, &mut workunit, 1, Outcome::Success, &[0xaa])?;
-    Ok(workunit)
-}
-
-/// The workunit above, validated, assimilated and ready for the file deleter.
-fn two_assimilated(alloc: Global) -> Result<Workunit, Fail> {
-    let mut workunit = two_of_three(alloc)?;
-    validate(alloc, &mut workunit)?;
-    assimilate(alloc, &mut workunit, at(DONE)?)?;
-    transition(alloc, &mut workunit, at(DONE)?)?;
-    Ok(workunit)
-}
-
-/// The workunit above, emptied before and after its third instance was lost.
-fn two_deleted(alloc: Global) -> Result<Workunit, Fail> {
-    let mut workunit = two_assimilated(alloc)?;
-    delete_files(&mut workunit);
-    transition(alloc, &mut workunit, at(1772974801)?)?;
-    delete_files(&mut workunit);
-    Ok(workunit)
+fn cancels_and_archives_once(rt: HostRuntime) {
+    let script = [
+        Do(Cancel),
+        Do(Transition(NOON)),
+        Do(Archive(16, None, &[])),
+        Do(ArchiveNothing),
+    ];
+    follow(&rt, Params::default(), &script);
 }
 
 #[test]
-fn decides_by_two_of_three(rt: HostRuntime) -> Result<(), Fail> {
-    let alloc = rt.alloc();
-    let mut workunit = two_of_three(alloc)?;
-    let granted = validate(alloc, &mut workunit)?;
-    assert_eq!(rt;
-        granted.as_slice(),
-        [grant(alloc, 0, "h1")?, grant(alloc, 1, "h2")?].as_slice()
-    );
-    assert_eq!(rt; workunit.canonical, Some(0));
-    let archived = assimilate(alloc, &mut workunit, at(DONE)?)?.ok_or("a row")?;
-    assert_eq!(rt; archived.output.as_slice(), [0xaa].as_slice());
-    Ok(())
-}
-
-#[test]
-fn keeps_the_canonical_output_while_one_is_out(rt: HostRuntime) -> Result<(), Fail> {
-    let alloc = rt.alloc();
-    let mut workunit = two_assimilated(alloc)?;
-    assert_eq!(rt; deletion(&workunit, 0)?, FileDelete::Init);
-    assert_eq!(rt; deletion(&workunit, 1)?, FileDelete::Ready);
-    assert_eq!(rt; workunit.file_delete, FileDelete::Init);
-    assert!(rt; wants_deletion(&workunit));
-    delete_files(&mut workunit);
-    assert!(rt; !wants_deletion(&workunit));
-    transition(alloc, &mut workunit, at(1772974801)?)?;
-    assert_eq!(rt; states(&workunit, 2)?, LOST);
-    assert_eq!(rt; workunit.file_delete, FileDelete::Ready);
-    assert_eq!(rt; deletion(&workunit, 0)?, FileDelete::Ready);
-    assert_eq!(rt; deletion(&workunit, 1)?, FileDelete::Done);
-    assert_eq!(rt; deletion(&workunit, 2)?, FileDelete::Ready);
-    Ok(())
-}
-
-#[test]
-fn comes_too_late(rt: HostRuntime) -> Result<(), Fail> {
-    let alloc = rt.alloc();
-    let mut workunit = two_deleted(alloc)?;
-    assert_eq!(rt; instance_at(&workunit, 0)?.output.len(), 0);
-    report(alloc, &mut workunit, 2, Outcome::Success, &[0xaa])?;
-    let later = at(1773014400)?;
-    assert!(rt; !purgeable(&workunit, later, 0));
-    assert!(rt; wants_validation(&workunit));
-    assert_eq!(rt; validate(alloc, &mut workunit)?.len(), 0);
-    assert_eq!(rt; states(&workunit, 2)?, success(ValidateState::TooLate));
-    assert!(rt; !purgeable(&workunit, later, 0));
-    transition(alloc, &mut workunit, later)?;
-    delete_files(&mut workunit);
-    assert!(rt; purgeable(&workunit, later, 0));
-    Ok(())
-}
-
-#[test]
-fn cancels_once(rt: HostRuntime) -> Result<(), Fail> {
-    let alloc = rt.alloc();
-    let mut workunit = job(alloc, Params::default())?;
-    transition(alloc, &mut workunit, at(NOON)?)?;
-    cancel(&mut workunit)?;
-    assert_eq!(rt; workunit.error_mask.code(), 16);
-    assert_eq!(rt; states(&workunit, 0)?, UNNEEDED);
-    assert_eq!(rt; cancel(&mut workunit), Err(Fault::NotOpenToCancel));
-    Ok(())
-}
-
-#[test]
-fn purges_what_was_cancelled(rt: HostRuntime) -> Result<(), Fail> {
-    let alloc = rt.alloc();
-    let mut workunit = job(alloc, Params::default())?;
-    transition(alloc, &mut workunit, at(NOON)?)?;
-    cancel(&mut workunit)?;
-    transition(alloc, &mut workunit, at(NOON)?)?;
-    assimilate(alloc, &mut workunit, at(DONE)?)?;
-    transition(alloc, &mut workunit, at(DONE)?)?;
-    assert_eq!(rt; workunit.file_delete, FileDelete::Ready);
-    delete_files(&mut workunit);
-    assert_eq!(rt; workunit.input.len(), 0);
-    assert!(rt; !purgeable(&workunit, at(DONE + 3599)?, 3600));
-    assert!(rt; purgeable(&workunit, at(DONE + 3600)?, 3600));
-    Ok(())
+fn purges_what_was_cancelled(rt: HostRuntime) {
+    let script = [
+        Do(Transition(NOON)),
+        Do(Cancel),
+        See(Mask(16)),
+        See(Stands(0, UNNEEDED)),
+        Do(CancelInVain),
+        Do(Transition(NOON)),
+        Do(Archive(16, None, &[])),
+        Do(Transition(DONE)),
+        See(Input(FileDelete::Ready)),
+        Do(Delete),
+        See(InputLen(0)),
+        See(Purgeable(DONE + 3599, 3600, false)),
+        See(Purgeable(DONE + 3600, 3600, true)),
+    ];
+    follow(&rt, Params::default(), &script);
 }

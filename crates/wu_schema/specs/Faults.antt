@@ -1,4 +1,5 @@
 -- What an error of the store is told as.
+use Rattle.std.specs.Prelude.{◌≡◌, ◌⊎◌}
 use Rattle.sqlite.specs.declared.error.Error.{Error}
 use Rattle.sqlite.specs.declared.error.Error.TheVariants.{SqliteFailure, SqlInputError}
 use Rattle.sqlite.specs.declared.error.ErrorCode.TheVariants as code
@@ -26,3 +27,11 @@ unless_known fault = fault
 -- of a commit or a rollback
 abbrev pub commit_fault_of : Error → Fault
 commit_fault_of error = unless_known (fault_of error)
+
+-- an error of the store is told as one of these three
+abbrev pub IsTold : Fault → Type 0
+IsTold fault = (fault ≡ NotAProject) ⊎ ((fault ≡ Memory) ⊎ (fault ≡ Broken))
+
+-- memory, disk or size failed
+abbrev pub IsFailure : Fault → Type 0
+IsFailure fault = (fault ≡ Memory) ⊎ (fault ≡ Broken)

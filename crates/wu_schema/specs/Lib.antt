@@ -1,1 +1,11 @@
 pub mod Faults
+pub mod Stored
+pub mod Pipeline
+pub mod Tables
+pub mod StandsFor
+pub mod Changes
+pub mod Calls
+pub mod Reading
+pub mod Answers
+pub mod Made
+pub mod Versions

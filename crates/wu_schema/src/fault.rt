@@ -1,7 +1,10 @@
 //! An error of the store as a fault.
 
 ghost use Rattle.std.specs.Prelude.{◌≡◌, false};
-ghost use Rattle.wu_schema.specs.Faults.{fault_of, commit_fault_of};
+ghost use Rattle.sqlite.specs.State.{HasCleanDisk, IsUnchanged, Survives};
+ghost use Rattle.sqlite.specs.Held.{state};
+ghost use Rattle.wu_schema.specs.Faults.{fault_of, commit_fault_of, IsTold};
+ghost use Rattle.wu_schema.specs.Calls.{IsBack};
 
 use sqlite::{Alter, Connection, Error, ErrorCode};
 use sqlite_resolve::CompileError;
@@ -38,18 +41,33 @@ pub fn commit_fault_of(error: &Error) -> Fault
     }
 }
 
+/// Whether the connection still serves, as a fault: the answer `NotAProject` says so.
+fn probe<S: Alter>(conn: &mut Connection<S>) -> Fault
+    ensures mode { conn.old.in_transaction ≡ false → conn.new.in_transaction ≡ false }
+    ensures kind { IsTold result }
+    ensures serves { HasCleanDisk (state S.Store conn.new) → result ≡ Fault.NotAProject → IsUnchanged (state S.Store conn.old) (state S.Store conn.new) }
+    ensures back { HasCleanDisk (state S.Store conn.new) → IsBack (state S.Store conn.old) (state S.Store conn.new) }
+    ensures crash { Survives (state S.Store conn.old) (state S.Store conn.new) (λ _. ⊥) }
+{
+    if let Err(error) = conn.prepare("SELECT 1") {
+        return commit_fault_of(&error);
+    }
+    Fault::NotAProject
+}
+
 /// The fault of a statement that was refused inside a transaction, which was then rolled back.
 ///
 /// `NotAProject` says that the connection still serves, outside any transaction; after any other fault it may not.
 pub fn fault_after<S: Alter>(conn: &mut Connection<S>, error: &Error) -> Fault
     ensures mode { conn.old.in_transaction ≡ false → conn.new.in_transaction ≡ false }
     ensures kind { result ≡ Fault.NotAProject → fault_of error.now ≡ Fault.NotAProject }
+    ensures told { IsTold result }
+    ensures serves { HasCleanDisk (state S.Store conn.new) → result ≡ Fault.NotAProject → IsUnchanged (state S.Store conn.old) (state S.Store conn.new) }
+    ensures back { HasCleanDisk (state S.Store conn.new) → IsBack (state S.Store conn.old) (state S.Store conn.new) }
+    ensures crash { Survives (state S.Store conn.old) (state S.Store conn.new) (λ _. ⊥) }
 {
     match fault_of(error) {
-        Fault::NotAProject => match conn.prepare("SELECT 1") {
-            Ok(_) => Fault::NotAProject,
-            Err(error) => commit_fault_of(&error),
-        },
+        Fault::NotAProject => probe(conn),
         fault => fault,
     }
 }

@@ -10,7 +10,7 @@ mod version;
 
 pub use creation::create;
 pub use fault::{commit_fault_of, fault_after, fault_of};
-pub use rows::{StoredImport, import_from, next_number_from, workunit_from};
+pub use rows::{StoredImport, import_from, instance_from, next_number_from, workunit_from};
 pub use statements::{
     has_archived, has_workunit, import_rows, insert_import, insert_workunit, next_number_row,
     set_next_number, workunit_rows,

@@ -1,13 +1,35 @@
 //! The statements that a batch and the view of workunits run, each text in one function.
 
-ghost use Rattle.std.specs.Prelude.{◌≡◌, false};
+ghost use Rattle.std.specs.Prelude.{◌≡◌, ◌<◌, ◌^◌, [], ◌∷◌, false, pos, map, option_map, None, IsTrue, IfOk, IfErr, OnOk, OnErr};
+ghost use Rattle.sqlite.specs.State.{HasCleanDisk, IsUnchanged, Survives};
+ghost use Rattle.sqlite.specs.Held.{state};
+ghost use Rattle.wu_core.specs.World.{World, Import};
+ghost use Rattle.wu_schema.specs.Stored.{number, verdict_digits, workunit_row};
+ghost use Rattle.wu_schema.specs.StandsFor.{StandsFor};
+ghost use Rattle.wu_schema.specs.Changes.{with_workunit, with_import, with_next, IsAbove};
+ghost use Rattle.wu_schema.specs.Calls.{IsPart, IsBack};
+ghost use Rattle.wu_schema.specs.Faults.{fault_of, IsFailure};
+ghost use Rattle.wu_schema.specs.Answers.{has_name, was_archived, kept_of};
 
 use sqlite::{Alter, Connection, Error, Row, Transaction, params};
-use wu_core::{ImportKind, Name, Workunit};
+use wu_core::{ImportKind, Moment, Name, Workunit};
 
 /// A number of the schema, none of which is above a signed 64-bit number's range.
-fn signed(number: u64) -> Result<i64, Error> {
+fn signed(number: u64) -> Result<i64, Error>
+    ensures value { IfOk result (λ n. n ≡ pos number) }
+    ensures within { IfOk result (λ _. number < 2 ^ 63) }
+{
     i64::try_from(number).map_err(|_| Error::IntegralValueOutOfRange(0))
+}
+
+/// The seconds of a moment.
+fn seconds_of(moment: Option<Moment>) -> Option<i64>
+    ensures { result ≡ option_map pos moment }
+{
+    match moment {
+        Some(moment) => Some(moment.seconds() as i64),
+        None => None,
+    }
 }
 
 /// The row of the import of this kind and name, or none.
@@ -17,6 +39,11 @@ pub fn import_rows<S: Alter>(
     name: &Name,
 ) -> Result<Vec<Row>, Error>
     ensures mode { conn.old.in_transaction ≡ false → conn.new.in_transaction ≡ false }
+    ensures unchanged { HasCleanDisk (state S.Store conn.new) → OnOk result (IsUnchanged (state S.Store conn.old) (state S.Store conn.new)) }
+    ensures back { HasCleanDisk (state S.Store conn.new) → OnErr result (IsBack (state S.Store conn.old) (state S.Store conn.new)) }
+    ensures crash { Survives (state S.Store conn.old) (state S.Store conn.new) (λ _. ⊥) }
+    ensures answers { HasCleanDisk (state S.Store conn.new) → IfOk result (λ rows. (world : World) → StandsFor (state S.Store conn.old).now world → rows.items ≡ kept_of kind name.now world) }
+    ensures told { HasCleanDisk (state S.Store conn.new) → IfErr result (λ e. (world : World) → StandsFor (state S.Store conn.old).now world → conn.old.step_limit ≡ None → IsFailure (fault_of e)) }
 {
     conn.query_all(
         "SELECT template, content, first_number, verdicts FROM import WHERE kind = ?1 AND name = ?2",
@@ -27,6 +54,11 @@ pub fn import_rows<S: Alter>(
 /// Whether a workunit of this name is present.
 pub fn has_workunit<S: Alter>(conn: &mut Connection<S>, name: &Name) -> Result<bool, Error>
     ensures mode { conn.old.in_transaction ≡ false → conn.new.in_transaction ≡ false }
+    ensures unchanged { HasCleanDisk (state S.Store conn.new) → OnOk result (IsUnchanged (state S.Store conn.old) (state S.Store conn.new)) }
+    ensures back { HasCleanDisk (state S.Store conn.new) → OnErr result (IsBack (state S.Store conn.old) (state S.Store conn.new)) }
+    ensures crash { Survives (state S.Store conn.old) (state S.Store conn.new) (λ _. ⊥) }
+    ensures answers { HasCleanDisk (state S.Store conn.new) → IfOk result (λ found. (world : World) → StandsFor (state S.Store conn.old).now world → found ≡ has_name name.now world) }
+    ensures told { HasCleanDisk (state S.Store conn.new) → IfErr result (λ e. (world : World) → StandsFor (state S.Store conn.old).now world → conn.old.step_limit ≡ None → IsFailure (fault_of e)) }
 {
     let rows = conn.query_all(
         "SELECT number FROM workunit WHERE name = ?1",
@@ -38,6 +70,11 @@ pub fn has_workunit<S: Alter>(conn: &mut Connection<S>, name: &Name) -> Result<b
 /// Whether a workunit of this name was archived.
 pub fn has_archived<S: Alter>(conn: &mut Connection<S>, name: &Name) -> Result<bool, Error>
     ensures mode { conn.old.in_transaction ≡ false → conn.new.in_transaction ≡ false }
+    ensures unchanged { HasCleanDisk (state S.Store conn.new) → OnOk result (IsUnchanged (state S.Store conn.old) (state S.Store conn.new)) }
+    ensures back { HasCleanDisk (state S.Store conn.new) → OnErr result (IsBack (state S.Store conn.old) (state S.Store conn.new)) }
+    ensures crash { Survives (state S.Store conn.old) (state S.Store conn.new) (λ _. ⊥) }
+    ensures answers { HasCleanDisk (state S.Store conn.new) → IfOk result (λ found. (world : World) → StandsFor (state S.Store conn.old).now world → found ≡ was_archived name.now world) }
+    ensures told { HasCleanDisk (state S.Store conn.new) → IfErr result (λ e. (world : World) → StandsFor (state S.Store conn.old).now world → conn.old.step_limit ≡ None → IsFailure (fault_of e)) }
 {
     let rows = conn.query_all(
         "SELECT number FROM archived WHERE name = ?1",
@@ -49,6 +86,11 @@ pub fn has_archived<S: Alter>(conn: &mut Connection<S>, name: &Name) -> Result<b
 /// The row of the project's next number.
 pub fn next_number_row<S: Alter>(conn: &mut Connection<S>) -> Result<Row, Error>
     ensures mode { conn.old.in_transaction ≡ false → conn.new.in_transaction ≡ false }
+    ensures unchanged { HasCleanDisk (state S.Store conn.new) → OnOk result (IsUnchanged (state S.Store conn.old) (state S.Store conn.new)) }
+    ensures back { HasCleanDisk (state S.Store conn.new) → OnErr result (IsBack (state S.Store conn.old) (state S.Store conn.new)) }
+    ensures crash { Survives (state S.Store conn.old) (state S.Store conn.new) (λ _. ⊥) }
+    ensures answers { HasCleanDisk (state S.Store conn.new) → IfOk result (λ row. (world : World) → StandsFor (state S.Store conn.old).now world → row ≡ number world.next_number ∷ []) }
+    ensures told { HasCleanDisk (state S.Store conn.new) → IfErr result (λ e. (world : World) → StandsFor (state S.Store conn.old).now world → conn.old.step_limit ≡ None → IsFailure (fault_of e)) }
 {
     conn.query_row("SELECT next_number FROM project", &[])
 }
@@ -56,6 +98,11 @@ pub fn next_number_row<S: Alter>(conn: &mut Connection<S>) -> Result<Row, Error>
 /// The rows of all workunits, in order of number.
 pub fn workunit_rows<S: Alter>(conn: &mut Connection<S>) -> Result<Vec<Row>, Error>
     ensures mode { conn.old.in_transaction ≡ false → conn.new.in_transaction ≡ false }
+    ensures unchanged { HasCleanDisk (state S.Store conn.new) → OnOk result (IsUnchanged (state S.Store conn.old) (state S.Store conn.new)) }
+    ensures back { HasCleanDisk (state S.Store conn.new) → OnErr result (IsBack (state S.Store conn.old) (state S.Store conn.new)) }
+    ensures crash { Survives (state S.Store conn.old) (state S.Store conn.new) (λ _. ⊥) }
+    ensures answers { HasCleanDisk (state S.Store conn.new) → IfOk result (λ rows. (world : World) → StandsFor (state S.Store conn.old).now world → rows.items ≡ map workunit_row world.workunits) }
+    ensures told { HasCleanDisk (state S.Store conn.new) → IfErr result (λ e. (world : World) → StandsFor (state S.Store conn.old).now world → conn.old.step_limit ≡ None → IsFailure (fault_of e)) }
 {
     conn.query_all(
         "SELECT number, name, min_quorum, target_nresults, max_error_results, max_total_results, max_success_results, delay_bound, credit, input, error_mask, canonical, assimilate, file_delete, done_at FROM workunit ORDER BY number",
@@ -69,13 +116,13 @@ pub fn insert_workunit<S: Alter>(
     workunit: &Workunit,
 ) -> Result<(), Error>
     ensures same_reference { tx.new.conn.ghost_name ≡ tx.old.conn.ghost_name }
+    ensures part { IsPart (state S.Store tx.old.conn.now) (state S.Store tx.new.conn.now) }
+    ensures inside { HasCleanDisk (state S.Store tx.new.conn.now) → OnOk result (IsTrue (state S.Store tx.new.conn.now).in_transaction) }
+    ensures puts { HasCleanDisk (state S.Store tx.new.conn.now) → OnOk result ((world : World) → StandsFor (state S.Store tx.old.conn.now).now world → IsAbove workunit.now.number world.workunits → workunit.now.instances ≡ [] → StandsFor (state S.Store tx.new.conn.now).now (with_workunit workunit.now world)) }
 {
     let params = workunit.params;
     let number = signed(workunit.number)?;
-    let done_at = match workunit.done_at {
-        Some(moment) => Some(moment.seconds() as i64),
-        None => None,
-    };
+    let done_at = seconds_of(workunit.done_at);
     tx.execute(
         "INSERT INTO workunit (number, name, min_quorum, target_nresults, max_error_results, max_total_results, max_success_results, delay_bound, credit, input, error_mask, canonical, assimilate, file_delete, done_at) VALUES (?1, ?2, ?3, ?4, ?5, ?6, ?7, ?8, ?9, ?10, ?11, ?12, ?13, ?14, ?15)",
         params![
@@ -110,6 +157,9 @@ pub fn insert_import<S: Alter>(
     verdicts: &str,
 ) -> Result<(), Error>
     ensures same_reference { tx.new.conn.ghost_name ≡ tx.old.conn.ghost_name }
+    ensures part { IsPart (state S.Store tx.old.conn.now) (state S.Store tx.new.conn.now) }
+    ensures inside { HasCleanDisk (state S.Store tx.new.conn.now) → OnOk result (IsTrue (state S.Store tx.new.conn.now).in_transaction) }
+    ensures puts { HasCleanDisk (state S.Store tx.new.conn.now) → OnOk result ((world : World) (import : Import) → StandsFor (state S.Store tx.old.conn.now).now world → import.kind ≡ kind → import.name ≡ name.now → import.template ≡ template.now → import.content ≡ content.now → import.first_number ≡ first_number → verdict_digits import.verdicts ≡ verdicts.now → StandsFor (state S.Store tx.new.conn.now).now (with_import import world)) }
 {
     tx.execute(
         "INSERT INTO import (kind, name, template, content, first_number, verdicts) VALUES (?1, ?2, ?3, ?4, ?5, ?6)",
@@ -128,6 +178,9 @@ pub fn insert_import<S: Alter>(
 /// Sets the project's next number.
 pub fn set_next_number<S: Alter>(tx: &mut Transaction<'_, S>, next_number: u64) -> Result<(), Error>
     ensures same_reference { tx.new.conn.ghost_name ≡ tx.old.conn.ghost_name }
+    ensures part { IsPart (state S.Store tx.old.conn.now) (state S.Store tx.new.conn.now) }
+    ensures inside { HasCleanDisk (state S.Store tx.new.conn.now) → OnOk result (IsTrue (state S.Store tx.new.conn.now).in_transaction) }
+    ensures sets { HasCleanDisk (state S.Store tx.new.conn.now) → OnOk result ((world : World) → StandsFor (state S.Store tx.old.conn.now).now world → StandsFor (state S.Store tx.new.conn.now).now (with_next next_number world)) }
 {
     tx.execute(
         "UPDATE project SET next_number = ?1",

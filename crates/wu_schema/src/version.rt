@@ -1,8 +1,18 @@
 //! Which version a project has.
 
-ghost use Rattle.std.specs.Prelude.{◌≡◌, false};
+ghost use Rattle.std.specs.Prelude.{◌≡◌, ◌⊎◌, ◌≤◌, ℕ, false, codes, None, Some, Ok, IfSome, IfOk, IfErr, OnOk, OnErr};
+ghost use Rattle.sqlite.specs.State.{HasCleanDisk, IsUnchanged, Survives};
+ghost use Rattle.sqlite.specs.Held.{state};
+ghost use Rattle.wu_core.specs.declared.fault.Fault.TheVariants.{Memory, NotAProject};
+ghost use Rattle.wu_core.specs.Reads.{Gives};
+ghost use Rattle.wu_core.specs.World.{World};
+ghost use Rattle.wu_schema.specs.StandsFor.{StandsFor, IsFree};
+ghost use Rattle.wu_schema.specs.Calls.{IsBack};
+ghost use Rattle.wu_schema.specs.Faults.{fault_of, IsFailure, IsTold};
+ghost use Rattle.wu_schema.specs.Versions.{AreOfVersion, HasProject, LacksProject, TellsMissing};
 
 use crate::fault::fault_of;
+use crate::rows::version_from;
 use sqlite::{Alter, Connection, Error, Row};
 use sqlite_resolve::CompileError;
 use wu_core::Fault;
@@ -13,18 +23,40 @@ pub const PRESENT_VERSION: u64 = 1;
 /// The rows of the table `project`.
 fn project_rows<S: Alter>(conn: &mut Connection<S>) -> Result<Vec<Row>, Error>
     ensures mode { conn.old.in_transaction ≡ false → conn.new.in_transaction ≡ false }
+    ensures unchanged { HasCleanDisk (state S.Store conn.new) → OnOk result (IsUnchanged (state S.Store conn.old) (state S.Store conn.new)) }
+    ensures serves { HasCleanDisk (state S.Store conn.new) → IfErr result (λ e. fault_of e ≡ NotAProject → IsUnchanged (state S.Store conn.old) (state S.Store conn.new)) }
+    ensures back { HasCleanDisk (state S.Store conn.new) → OnErr result (IsBack (state S.Store conn.old) (state S.Store conn.new)) }
+    ensures crash { Survives (state S.Store conn.old) (state S.Store conn.new) (λ _. ⊥) }
+    ensures answers { HasCleanDisk (state S.Store conn.new) → IfOk result (λ rows. (world : World) → StandsFor (state S.Store conn.old).now world → AreOfVersion rows.items world.version) }
+    ensures told { HasCleanDisk (state S.Store conn.new) → IfErr result (λ e. (world : World) → StandsFor (state S.Store conn.old).now world → conn.old.step_limit ≡ None → IsFailure (fault_of e)) }
+    ensures there { HasCleanDisk (state S.Store conn.new) → OnOk result (¬ IsFree (state S.Store conn.old).now.schema (codes "project")) }
+    ensures absent { HasCleanDisk (state S.Store conn.new) → IfErr result (λ e. IsFree (state S.Store conn.old).now.schema (codes "project") → TellsMissing e ⊎ IsFailure (fault_of e)) }
+    ensures missing { HasCleanDisk (state S.Store conn.new) → IfErr result (λ e. TellsMissing e → LacksProject (state S.Store conn.old).now.schema) }
 {
     conn.query_all("SELECT one, version, next_number FROM project", &[])
 }
 
-/// The version of the row of a project, from 1.
-fn version_from(row: &Row) -> Result<u64, Error> {
-    let one: u64 = row.get(0)?;
-    let version: u64 = row.get(1)?;
-    if one != 1 || version == 0 {
-        return Err(Error::IntegralValueOutOfRange(0));
+/// The version in the rows of a table `project`.
+fn version_in(rows: &[Row]) -> Result<Option<u64>, Fault>
+    ensures value { IfOk result (λ found. (version : ℕ) × (found ≡ Some version) × (1 ≤ version) × AreOfVersion rows.now version) }
+    ensures found { (version : ℕ) → 1 ≤ version → AreOfVersion rows.now version → Gives result (Ok (Some version)) }
+    ensures refused { IfErr result (λ fault. (fault ≡ Memory) ⊎ (fault ≡ NotAProject)) }
+{
+    match rows {
+        [row] => Ok(Some(version_from(row)?)),
+        _ => Err(Fault::NotAProject),
     }
-    Ok(version)
+}
+
+/// No version where the table or a column is not there, and else the fault.
+fn version_after(error: &Error) -> Result<Option<u64>, Fault>
+    ensures none { IfOk result (λ found. (found ≡ None) × TellsMissing error.now) }
+    ensures fault { IfErr result (λ fault. (fault ≡ fault_of error.now) × (¬ TellsMissing error.now)) }
+{
+    match error {
+        Error::SqlInputError(CompileError::NoSuchTable | CompileError::NoSuchColumn) => Ok(None),
+        _ => Err(fault_of(error)),
+    }
 }
 
 /// The version of the project in the database, or None where no table `project` with its columns is there.
@@ -32,16 +64,21 @@ fn version_from(row: &Row) -> Result<u64, Error> {
 /// A table of that form with other than one row, or with a row of no project, is `NotAProject`.
 pub fn version_of<S: Alter>(conn: &mut Connection<S>) -> Result<Option<u64>, Fault>
     ensures mode { conn.old.in_transaction ≡ false → conn.new.in_transaction ≡ false }
+    ensures unchanged { HasCleanDisk (state S.Store conn.new) → OnOk result (IsUnchanged (state S.Store conn.old) (state S.Store conn.new)) }
+    ensures serves { HasCleanDisk (state S.Store conn.new) → IfErr result (λ fault. fault ≡ NotAProject → IsUnchanged (state S.Store conn.old) (state S.Store conn.new)) }
+    ensures back { HasCleanDisk (state S.Store conn.new) → OnErr result (IsBack (state S.Store conn.old) (state S.Store conn.new)) }
+    ensures crash { Survives (state S.Store conn.old) (state S.Store conn.new) (λ _. ⊥) }
+    ensures told { IfErr result IsTold }
+    ensures positive { IfOk result (λ found. IfSome found (λ version. 1 ≤ version)) }
+    ensures stored { HasCleanDisk (state S.Store conn.new) → IfOk result (λ found. (world : World) → StandsFor (state S.Store conn.old).now world → found ≡ Some world.version) }
+    ensures refused { HasCleanDisk (state S.Store conn.new) → IfErr result (λ fault. (world : World) → StandsFor (state S.Store conn.old).now world → 1 ≤ world.version → conn.old.step_limit ≡ None → IsFailure fault) }
+    ensures absent { HasCleanDisk (state S.Store conn.new) → IfOk result (λ found. IsFree (state S.Store conn.old).now.schema (codes "project") → found ≡ None) }
+    ensures failed { HasCleanDisk (state S.Store conn.new) → IfErr result (λ fault. IsFree (state S.Store conn.old).now.schema (codes "project") → IsFailure fault) }
+    ensures none { HasCleanDisk (state S.Store conn.new) → IfOk result (λ found. found ≡ None → LacksProject (state S.Store conn.old).now.schema) }
+    ensures sure { HasCleanDisk (state S.Store conn.new) → IfOk result (λ found. found ≡ None → ¬ HasProject (state S.Store conn.old).now.schema) }
 {
-    let rows = match project_rows(conn) {
-        Ok(rows) => rows,
-        Err(Error::SqlInputError(CompileError::NoSuchTable | CompileError::NoSuchColumn)) => {
-            return Ok(None);
-        }
-        Err(error) => return Err(fault_of(&error)),
-    };
-    match rows.as_slice() {
-        [row] => Ok(Some(version_from(row).map_err(|error| fault_of(&error))?)),
-        _ => Err(Fault::NotAProject),
+    match project_rows(conn) {
+        Ok(rows) => version_in(rows.as_slice()),
+        Err(error) => version_after(&error),
     }
 }

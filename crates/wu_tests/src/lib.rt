@@ -1,4 +1,4 @@
-//! Tests over whole projects: the worked examples of a batch, and what stands in a database that is adopted.
+//! Tests over whole projects: the worked examples of a batch, and what stands in a database that is adopted, and what a stop of a file's calls leaves.
 #![tactic(auto)]
 
 #[cfg(test)]
@@ -7,5 +7,7 @@ mod adoption;
 mod batches;
 #[cfg(test)]
 mod setting;
+#[cfg(test)]
+mod stops;
 #[cfg(test)]
 mod writers;

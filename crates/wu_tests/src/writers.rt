@@ -1,12 +1,13 @@
 //! Writers that fail.
 
-use crate::setting::{ONE_JOB, ONE_WORKUNIT, batch, fresh, workunits};
+use crate::setting::{ONE_JOB, ONE_WORKUNIT, batch, fresh, imports, shows};
+use sqlite::MemStore;
 use std::alloc::Global;
 use std::io;
 use std::io::Write;
-use std::test::Fail;
+use std::process::Abort;
 use wu_core::Fault;
-use wu_drive::{Run, View, drive, show};
+use wu_drive::{Project, Run, View, drive, show};
 
 /// A writer that takes so many bytes, and then fails or takes none.
 #[derive(Drop)]
@@ -44,50 +45,52 @@ impl Write for Narrow {
     }
 }
 
-#[test]
-fn a_command_counts_though_its_text_is_cut(rt: HostRuntime) -> Result<(), Fail> {
-    let alloc = rt.alloc();
-    for fails in [true, false] {
-        let mut project = fresh(alloc)?;
-        let mut out = Narrow::new(alloc, 10, fails);
-        let commands = [
-            batch(alloc, "b1", b"", ONE_JOB)?,
-            batch(alloc, "b2", b"", b"name,input\njob_2,\n")?,
-        ];
-        let run = drive(alloc, &mut project, &commands, &mut out);
-        assert_eq!(rt;
-            run,
-            Run {
-                acknowledged: 1,
-                end: Some(Fault::Output)
-            }
-        );
-        assert_eq!(rt; out.taken.as_slice(), b"batch b1: ".as_slice());
-        assert_eq!(rt; workunits(alloc, &mut project)?.as_str(), ONE_WORKUNIT);
-        assert!(rt; !project.ended());
-    }
-    Ok(())
+/// Sees that the commands after the one whose text is cut are not run, and that it counts.
+fn cuts_a_text(rt: &(impl Abort + AllocGlobal), fails: bool) {
+    let mut project = fresh(rt);
+    let mut out = Narrow::new(rt.alloc(), 10, fails);
+    let commands = [
+        batch(rt, "b1", b"", ONE_JOB),
+        batch(rt, "b2", b"", b"name,input\njob_2,\n"),
+    ];
+    let run = drive(rt.alloc(), &mut project, &commands, &mut out);
+    assert_eq!(rt;
+        run,
+        Run {
+            acknowledged: 1,
+            end: Some(Fault::Output)
+        }
+    );
+    assert_eq!(rt; out.taken.as_slice(), b"batch b1: ".as_slice());
+    shows(rt, &mut project, ONE_WORKUNIT);
+    assert!(rt; !project.ended());
 }
 
 #[test]
-fn a_view_into_a_narrow_writer_is_its_beginning(rt: HostRuntime) -> Result<(), Fail> {
-    let alloc = rt.alloc();
-    let mut project = fresh(alloc)?;
-    let mut text = Vec::new(alloc);
-    let _run = drive(
-        alloc,
+fn a_command_counts_though_its_text_is_cut(rt: HostRuntime) {
+    cuts_a_text(&rt, true);
+    cuts_a_text(&rt, false);
+}
+
+/// Sees that a view is cut where the writer has no more room.
+fn cuts_a_view(rt: &(impl Abort + AllocGlobal), project: &mut Project<MemStore>, fails: bool) {
+    let mut out = Narrow::new(rt.alloc(), 17, fails);
+    let end = show(rt.alloc(), project, View::Workunits, &mut out);
+    assert_eq!(rt; end, Err(Fault::Output));
+    assert_eq!(rt; out.taken.as_slice(), b"1 job_1 input=2 q".as_slice());
+}
+
+#[test]
+fn a_view_into_a_narrow_writer_is_its_beginning(rt: HostRuntime) {
+    let mut project = fresh(&rt);
+    imports(
+        &rt,
         &mut project,
-        &[batch(alloc, "b1", b"", ONE_JOB)?],
-        &mut text,
+        "b1",
+        ONE_JOB,
+        "batch b1: 1 added, first 1\n",
     );
-    for fails in [true, false] {
-        let mut out = Narrow::new(alloc, 17, fails);
-        assert_eq!(rt;
-            show(alloc, &mut project, View::Workunits, &mut out),
-            Err(Fault::Output)
-        );
-        assert_eq!(rt; out.taken.as_slice(), b"1 job_1 input=2 q".as_slice());
-    }
-    assert_eq!(rt; workunits(alloc, &mut project)?.as_str(), ONE_WORKUNIT);
-    Ok(())
+    cuts_a_view(&rt, &mut project, true);
+    cuts_a_view(&rt, &mut project, false);
+    shows(&rt, &mut project, ONE_WORKUNIT);
 }

@@ -1,4 +1,4 @@
-use Rattle.std.proofs.Common.{◌≡◌, inl, Err, arith, rules}
+use Rattle.std.proofs.Common.{◌≡◌, Err, rules}
 use Rattle.wu_core.proofs.ResultNameLemmas.{result_name_of-none, result_name_of-no_place, result_name_of-no_name, result_name_of-both}
 use Rattle.wu_core.proofs.name.ResultName.read.Goals as goal
 

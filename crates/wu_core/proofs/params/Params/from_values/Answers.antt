@@ -1,4 +1,4 @@
-use Rattle.std.proofs.Common.{◌≡◌, ◌∙◌, length, get_or, pos, rules}
+use Rattle.std.proofs.Common.{◌≡◌, length, get_or, pos, rules}
 use Rattle.wu_core.proofs.ParameterLemmas.{seven}
 use Rattle.wu_core.proofs.params.Params.from_values.Goals as goal
 

@@ -1,0 +1,77 @@
+-- From command to command of a list.
+use Rattle.std.proofs.Common.{◌≡◌, ℕ, ◌+◌, ◌<◌, ◌≤◌, Bool, true, false, List, [], ◌∷◌, ◌++◌, length, get_or, map, take, Some, Ok, Err, refl, sym, ap, subst, ◌∙◌, arith}
+use Rattle.std.proofs.lemmas.List.{map-append, take_more}
+use Rattle.std.proofs.lemmas.Option.{slice_get-get_or}
+use Rattle.std.specs.Prelude.{slice_get}
+use Rattle.sqlite.specs.State.{State}
+use Rattle.wu_core.specs.declared.fault.Fault.{Fault}
+use Rattle.wu_core.specs.World.{World}
+use Rattle.wu_drive.specs.declared.command.Answer.{Answer}
+use Rattle.wu_drive.specs.declared.command.Command.{Command}
+use Rattle.wu_drive.specs.declared.command.Command.TheVariants as command
+use Rattle.wu_drive.specs.declared.runs.Run.{Run}
+use Rattle.wu_drive.specs.Driving.{AnswerAll, Drives, IsDriving, world_after}
+use Rattle.wu_drive.specs.Machine.{fold_steps, reply, step}
+use Rattle.wu_drive.specs.Planning.{IsProject, request_of}
+use Rattle.wu_drive.specs.Requests.{Request}
+use Rattle.wu_drive.specs.Standing.{GoesOn, Runs, Stands}
+use Rattle.wu_drive.specs.Writing.{reply_of_answer}
+use Rattle.wu_drive.proofs.BatchLemmas.{keeps_project}
+
+fold_more : (world : World) (requests : List Request) (one : Request) → fold_steps world (requests ++ one ∷ []) ≡ step (fold_steps world requests) one
+fold_more world [] one = refl
+fold_more world (first ∷ more) one = fold_more (step world first) more one
+
+answer_more : (world : World) (commands : List Command) (answers : List Answer) (command : Command) (answer : Answer) → AnswerAll world commands answers
+    → reply (fold_steps world (map request_of commands)) (request_of command) ≡ Ok (reply_of_answer answer) → AnswerAll world (commands ++ command ∷ []) (answers ++ answer ∷ [])
+answer_more world [] [] command answer all is = (is, tt)
+answer_more world [] (a ∷ answers) command answer all is = absurd all
+answer_more world (c ∷ commands) [] command answer all is = absurd all
+answer_more world (c ∷ commands) (a ∷ answers) command answer all is = (all.0, answer_more (step world (request_of c)) commands answers command answer all.1 is)
+
+next_world : (world : World) (commands : List Command) (i : ℕ) (command d : Command) → i < length commands → get_or commands i d ≡ command
+    → world_after world commands (i + 1) ≡ step (world_after world commands i) (request_of command)
+next_world world commands i command d low there =
+    ap (λ cs. fold_steps world (map request_of cs)) (take_more commands i d low ∙ ap (λ c. take i commands ++ c ∷ []) there)
+    ∙ ap (λ rs. fold_steps world rs) (map-append request_of (take i commands) (command ∷ [])) ∙ fold_more world (map request_of (take i commands)) (request_of command)
+
+keeps_by : (world : World) (command : Command) → IsProject world → IsProject (step world (request_of command))
+keeps_by world (command.Batch name template file) project = keeps_project world project name template file
+
+there_is : {X : Type 0} (xs : List X) (i : ℕ) (x d : X) → i < length xs → get_or xs i d ≡ x → slice_get xs i ≡ Some x
+there_is xs i x d low there = slice_get-get_or xs i d low ∙ ap (λ y. Some y) there
+
+pub driving_none : (world : World) (commands : List Command) (has_ended : Bool) (s : State) → has_ended ≡ false → IsProject world → GoesOn s world → IsDriving world commands [] 0 has_ended s
+driving_none world commands has_ended s going project goes = record { going = going; answered = tt; goes = goes; project = project }
+
+module _ (world : World) (commands : List Command) (answers : List Answer) (i : ℕ) (was : Bool) (old : State) (driving : IsDriving world commands answers i was old)
+    (command d : Command) (low : i < length commands) (there : get_or commands i d ≡ command) where
+  pub driving_more : (answer : Answer) (is : Bool) (new : State) → Runs (world_after world commands i) (request_of command) is new (Ok answer) → IsDriving world commands (answers ++ answer ∷ []) (i + 1) is new
+  driving_more answer is new (answered, going, goes) =
+      let next = next_world world commands i command d low there in
+      record {
+        going = going;
+        answered = subst (λ cs. AnswerAll world cs (answers ++ answer ∷ [])) (sym (take_more commands i d low ∙ ap (λ c. take i commands ++ c ∷ []) there))
+            (answer_more world (take i commands) answers command answer driving.answered answered);
+        goes = subst (λ w. GoesOn new w) (sym next) goes;
+        project = subst (λ w. IsProject w) (sym next) (keeps_by (world_after world commands i) command driving.project);
+      }
+
+  pub drives_cut : (fault : Fault) (is : Bool) (new : State) (run : Run) → run.acknowledged ≡ i → Runs (world_after world commands i) (request_of command) is new (Err fault)
+      → Drives world commands answers run is new
+  drives_cut fault is new run count (told, stands) = subst (λ k. Drives world commands answers (record run { acknowledged = k }) is new) (sym count) (record {
+    within = omega (arith, low);
+    answered = driving.answered;
+    goes = λ going. subst (λ b. Stands b new (world_after world commands i) (request_of command)) going stands;
+    ended = λ ended. (command, there_is commands i command d low there, subst (λ b. Stands b new (world_after world commands i) (request_of command)) ended stands);
+  })
+
+-- between two commands
+pub drives_so_far : (world : World) (commands : List Command) (answers : List Answer) (i : ℕ) (is : Bool) (s : State) (run : Run) → i ≤ length commands → run.acknowledged ≡ i
+    → IsDriving world commands answers i is s → Drives world commands answers run is s
+drives_so_far world commands answers i is s run within count driving = subst (λ k. Drives world commands answers (record run { acknowledged = k }) is s) (sym count) (record {
+  within = within;
+  answered = driving.answered;
+  goes = λ going. driving.goes;
+  ended = λ ended. absurd (let no : false ≡ true = sym driving.going ∙ ended in cc);
+})

@@ -1,0 +1,7 @@
+use Rattle.std.proofs.Common.{refl}
+use Rattle.std.specs.Fmt.{digits}
+use Rattle.wu_drive.proofs.examples.prints_faults.Goals as goal
+
+pub returns-clause-rows : goal.returns-clause-rows
+unfolding digits
+returns-clause-rows c = refl

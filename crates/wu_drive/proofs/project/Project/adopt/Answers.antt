@@ -1,0 +1,13 @@
+use Rattle.sqlite.specs.Held.{state}
+use Rattle.wu_drive.specs.Standing.{GoesOn}
+use Rattle.wu_drive.proofs.project.Project.adopt.Goals as goal
+
+pub returns-in-Ok-clause-found : goal.returns-in-Ok-clause-found
+returns-in-Ok-clause-found g c world first goes clean =
+    let limited : GoesOn (state g.S.Store c.set_step_limit.new.self) world = rw c.set_step_limit.ensures (record { stands = goes.stands; left = goes.left }) in
+    c.in-Ok.ensures.found clean world first limited
+
+pub returns-in-Err-clause-found : goal.returns-in-Err-clause-found
+returns-in-Err-clause-found g c world first goes clean =
+    let limited : GoesOn (state g.S.Store c.set_step_limit.new.self) world = rw c.set_step_limit.ensures (record { stands = goes.stands; left = goes.left }) in
+    c.in-Err.ensures.found clean world first limited

@@ -1,0 +1,66 @@
+use Rattle.std.proofs.Common.{rules, ◌≡◌, ◌+◌, [], ◌∷◌, ◌++◌, length, Some, ap, sym, ◌∙◌, subst, arith, length-append, refl}
+use Rattle.std.specs.Io.KnownBytes.{Appends}
+use Rattle.std.proofs.KnownBytes.{Appends-trans}
+use Rattle.sqlite.specs.State.{HasCleanDisk}
+use Rattle.sqlite.specs.Held.{state}
+use Rattle.wu_drive.proofs.AnswerLemmas.{all_written, answers_text-more, last_cut}
+use Rattle.wu_drive.proofs.DrivingLemmas.{driving_more, driving_none, drives_cut, drives_so_far}
+use Rattle.wu_drive.specs.Writing.{answers_text}
+use Rattle.wu_drive.proofs.runs.drive.Goals as goal
+
+pub returns-in-Err-clause-answers : goal.returns-in-Err-clause-answers
+returns-in-Err-clause-answers g c =
+    let (index, (answers, counted, whole, driving)) = c.loop-command.invariant in (
+      answers,
+      all_written _ _ answers _ counted whole,
+      λ going clean world project goes.
+          let before : HasCleanDisk (state g.S.Store c.loop-command.project.conn) = omega (arith, c.run.ensures.clean) in
+          let so_far = driving going before world project goes in
+          drives_cut world c.args.commands.now answers c.loop-command.command-index _ _ so_far c.command-item.result c.command-item.result c.loop-command-test.true (sym c.command-item.is) c.in-Err.fault _ _ _ index
+          (c.in-Err.ensures.runs so_far.going clean _ so_far.project so_far.goes),
+    )
+
+pub returns-in-Err-write_answer-clause-answers : goal.returns-in-Err-write_answer-clause-answers
+returns-in-Err-write_answer-clause-answers g c =
+    let (index, (answers, counted, whole, driving)) = c.loop-command.invariant in
+    let answer = c.in-Ok.answer in (
+      answers ++ answer ∷ [],
+      last_cut _ _ (g.W.Write.contents c.write_answer.new.out) answers answer _ (omega arith) (ap Some c.in-Err-write_answer.ensures.fault) whole c.in-Err-write_answer.ensures.bytes,
+      λ going clean world project goes.
+          let before : HasCleanDisk (state g.S.Store c.loop-command.project.conn) = omega (arith, c.run.ensures.clean) in
+          let so_far = driving going before world project goes in
+          drives_so_far world c.args.commands.now (answers ++ answer ∷ []) (c.loop-command.command-index + 1) _ _ _ (omega (arith, c.loop-command-test.true)) (ap (λ k. k + 1) index)
+          (driving_more world c.args.commands.now answers c.loop-command.command-index _ _ so_far c.command-item.result c.command-item.result c.loop-command-test.true (sym c.command-item.is) answer _ _
+          (c.in-Ok.ensures.runs so_far.going clean _ so_far.project so_far.goes)),
+    )
+
+pub loop-command-init : goal.loop-command-init
+loop-command-init g c = (refl, ([], refl, search rules, λ going clean world project goes. driving_none world c.args.commands.now _ _ going project goes))
+
+pub loop-command-preserved : goal.loop-command-preserved
+loop-command-preserved g c =
+    let (index, (answers, counted, whole, driving)) = c.loop-command.invariant in
+    let answer = c.in-Ok.answer in
+    let longer : length (answers ++ answer ∷ []) ≡ c.loop-command.acknowledged + 1 = length-append answers (answer ∷ []) ∙ omega arith in
+    let more = Appends-trans _ _ _ (answers_text answers) _ whole c.in_default.ensures.bytes in (
+      ap (λ k. k + 1) index,
+      (
+        answers ++ answer ∷ [],
+        longer,
+        subst (Appends _ _) (sym (answers_text-more answers answer)) more,
+        λ going clean world project goes.
+            let before : HasCleanDisk (state g.S.Store c.loop-command.project.conn) = omega (arith, c.run.ensures.clean) in
+            let so_far = driving going before world project goes in
+            driving_more world c.args.commands.now answers c.loop-command.command-index _ _ so_far c.command-item.result c.command-item.result c.loop-command-test.true (sym c.command-item.is) answer _ _
+            (c.in-Ok.ensures.runs so_far.going clean _ so_far.project so_far.goes),
+      ),
+    )
+
+pub returns-clause-answers : goal.returns-clause-answers
+returns-clause-answers g c =
+    let (index, (answers, counted, whole, driving)) = c.loop-command.invariant in (
+      answers,
+      all_written _ _ answers _ counted whole,
+      λ going clean world project goes.
+          drives_so_far world c.args.commands.now answers c.loop-command.command-index _ _ _ c.loop-command.auto.command-index-end index (driving going clean world project goes),
+    )

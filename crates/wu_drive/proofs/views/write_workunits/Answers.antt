@@ -1,0 +1,15 @@
+use Rattle.wu_drive.proofs.ViewLemmas.{line_at, shown_before, shown_cut, shown_next}
+use Rattle.wu_drive.proofs.views.write_workunits.Goals as goal
+
+pub returns-in-Err-clause-text : goal.returns-in-Err-clause-text
+returns-in-Err-clause-text g c workunits are = shown_before _ _ workunits c.loop-row.row-index (c.loop-row.invariant workunits are)
+
+pub returns-in-Err-write_workunit-clause-text : goal.returns-in-Err-write_workunit-clause-text
+returns-in-Err-write_workunit-clause-text g c workunits are =
+    let at = line_at c.args.rows.now workunits c.loop-row.row-index c.row-item.result c.in-Ok.workunit are c.loop-row-test.true c.row-item.is c.in-Ok.ensures.value.0 in
+    shown_cut _ _ _ workunits c.loop-row.row-index at.0 _ at.1 at.2 at.3 (c.loop-row.invariant workunits are) c.in-Err-write_workunit.ensures.bytes
+
+pub loop-row-preserved : goal.loop-row-preserved
+loop-row-preserved g c workunits are =
+    let at = line_at c.args.rows.now workunits c.loop-row.row-index c.row-item.result c.in-Ok.workunit are c.loop-row-test.true c.row-item.is c.in-Ok.ensures.value.0 in
+    shown_next _ _ _ workunits c.loop-row.row-index at.0 _ at.1 at.2 at.3 (c.loop-row.invariant workunits are) c.in-Ok-write_workunit.ensures.bytes

@@ -1,0 +1,38 @@
+-- A list of commands over a session: what was answered, and what the tables then stand for.
+use Rattle.std.specs.Prelude.{◌≡◌, ◌≤◌, ℕ, Bool, true, false, List, [], ◌∷◌, length, map, take, slice_get, Some, Ok, ⊤}
+use Rattle.sqlite.specs.State.{State}
+use Rattle.wu_core.specs.World.{World}
+use Rattle.wu_drive.specs.Machine.{fold_steps, reply, step}
+use Rattle.wu_drive.specs.Planning.{IsProject, request_of}
+use Rattle.wu_drive.specs.Standing.{GoesOn, HasEnded}
+use Rattle.wu_drive.specs.Writing.{reply_of_answer}
+use Rattle.wu_drive.specs.declared.command.Answer.{Answer}
+use Rattle.wu_drive.specs.declared.command.Command.{Command}
+use Rattle.wu_drive.specs.declared.runs.Run.{Run}
+
+-- the answers are the machine's replies, one after another
+abbrev pub AnswerAll : World → List Command → List Answer → Type 0
+AnswerAll world [] [] = ⊤
+AnswerAll world [] (answer ∷ answers) = ⊥
+AnswerAll world (command ∷ commands) [] = ⊥
+AnswerAll world (command ∷ commands) (answer ∷ answers) =
+    (reply world (request_of command) ≡ Ok (reply_of_answer answer)) × AnswerAll (step world (request_of command)) commands answers
+
+-- the machine's world after the first so many commands
+abbrev pub world_after : World → List Command → ℕ → World
+world_after world commands count = fold_steps world (map request_of (take count commands))
+
+-- A run acknowledges a beginning of the list, each with the machine's reply. The tables then stand for the world after
+-- that beginning; where the session ended, a stop may also leave the world after the next command, which was cut.
+pub record Drives (world : World) (commands : List Command) (answers : List Answer) (run : Run) (has_ended : Bool) (new : State) : Type 0 where
+  pub within : run.acknowledged ≤ length commands
+  pub answered : AnswerAll world (take run.acknowledged commands) answers
+  pub goes : has_ended ≡ false → GoesOn new (world_after world commands run.acknowledged)
+  pub ended : has_ended ≡ true → (cut : Command) × (slice_get commands run.acknowledged ≡ Some cut) × HasEnded new (world_after world commands run.acknowledged) (request_of cut)
+
+-- so it is on the way, after so many commands
+pub record IsDriving (world : World) (commands : List Command) (answers : List Answer) (count : ℕ) (has_ended : Bool) (new : State) : Type 0 where
+  pub going : has_ended ≡ false
+  pub answered : AnswerAll world (take count commands) answers
+  pub goes : GoesOn new (world_after world commands count)
+  pub project : IsProject (world_after world commands count)

@@ -1,0 +1,38 @@
+-- Which rows a query on one table answers.
+use Rattle.std.proofs.Common.{◌≡◌, ℕ, ◌^◌, nat_le, List, [], ◌∷◌, ◌++◌, map, filter, true, false, if◌then◌else◌, cond, refl, sym, ap, subst, ◌∙◌}
+use Rattle.std.specs.List.{list_all, flat_map}
+use Rattle.std.specs.List.Sorted.{IsPermutation}
+use Rattle.std.proofs.lemmas.List.Sorted.{IsPermutation-map}
+use Rattle.sqlite.specs.declared.types.Value.TheVariants.{Null}
+use Rattle.sqlite.specs.Order.{Row}
+use Rattle.sqlite.specs.Term.{Term, eval_all, holds}
+use Rattle.sqlite.specs.Query.{IsAnswerAs, Output, output}
+use Rattle.sqlite.specs.Program.{overlay}
+use Rattle.sqlite.specs.Effect.{Database, Answers}
+use Rattle.wu_schema.proofs.QueryLemmas.{plain_query, alone}
+
+-- the rows that meet the condition, as the query shows them
+abbrev pub meeting : List Term → Row → List Row → List Row
+meeting test params = filter (λ r. list_all (holds (params ∷ r ∷ [])) test)
+
+abbrev pub showing : List Term → Row → List Row → List Row
+showing project params = map (λ r. eval_all project (params ∷ r ∷ []))
+
+module _ (tree : ℕ) (test project : List Term) (params : Row) where
+  scanned : (rows : List Row) → map (λ (o : Output). o.1) (map (output (plain_query tree test project)) (flat_map (λ r. if list_all (holds (params ∷ r ∷ [])) test then (params ∷ r ∷ []) ∷ [] else []) rows)) ≡ showing project params (meeting test params rows)
+  scanned [] = refl
+  scanned (r ∷ rows) = elim (list_all (holds (params ∷ r ∷ [])) test) as
+      (λ b. map (λ (o : Output). o.1) (map (output (plain_query tree test project)) ((if b then (params ∷ r ∷ []) ∷ [] else []) ++ flat_map (λ s. if list_all (holds (params ∷ s ∷ [])) test then (params ∷ s ∷ []) ∷ [] else []) rows)) ≡ showing project params (cond b (r ∷ meeting test params rows) (meeting test params rows))) [
+        | true ↦ ap (λ all. eval_all project (params ∷ r ∷ []) ∷ all) (scanned rows)
+        | false ↦ scanned rows
+      ]
+
+  -- the rows of the answer are those that meet the condition, in some order
+  pub answers_are : (db : Database) (rows : List Row) → nat_le (2 ^ 31) tree ≡ false → Answers db (alone (plain_query tree test project)) params rows → IsPermutation (showing project params (meeting test params (db.trees tree))) rows
+  answers_are db rows low h =
+      let a : IsAnswerAs Null (plain_query tree test project) (overlay db.trees []) params rows = h.answer Null in
+      let base : overlay db.trees [] tree ≡ db.trees tree = rw low in
+      let all = IsPermutation-map (λ (o : Output). o.1) a.kept a.ordered a.same in
+      let first : map (λ (o : Output). o.1) a.kept ≡ showing project params (meeting test params (db.trees tree)) =
+      ap (map (λ (o : Output). o.1)) (a.distinct ∙ ap (map (output (plain_query tree test project))) a.grouped) ∙ scanned (overlay db.trees [] tree) ∙ ap (λ rs. showing project params (meeting test params rs)) base in
+      subst (λ xs. IsPermutation xs rows) first (subst (IsPermutation (map (λ (o : Output). o.1) a.kept)) (sym a.shown) all)

@@ -1,0 +1,136 @@
+-- From call to call inside a transaction.
+use Rattle.std.proofs.Common.{◌≢◌, ◌≡◌, ℕ, true, false, List, Result, Ok, Err, OnOk, OnErr, IfErr, IsTrue, refl, sym, ap, subst, ◌∙◌, inl, inr, arith}
+use Rattle.std.proofs.lemmas.Bool.{cases_Bool}
+use Rattle.sqlite.specs.Tree.{Trees}
+use Rattle.sqlite.specs.Order.{Row}
+use Rattle.sqlite.specs.Store.{Ghosts}
+use Rattle.sqlite.specs.declared.error.Error.{Error}
+use Rattle.sqlite.specs.Effect.{Database}
+use Rattle.sqlite.specs.State.{State, HasCleanDisk, Survives, IsUnchanged, IsRolledBack, ExecutesInside}
+use Rattle.sqlite.specs.Held.{Held, state}
+use Rattle.sqlite.proofs.StateLemmas.{survives_then}
+use Rattle.sqlite.proofs.InsideLemmas.{inside_keeps, unchanged_keeps, keeps_then}
+use Rattle.sqlite.proofs.Callers.{survives_begin}
+use Rattle.sqlite.specs.State.{IsNotRun}
+use Rattle.sqlite_trees.specs.declared.error.StoreError.{StoreError}
+use Rattle.sqlite_trees.specs.declared.error.StoreError.TheVariants as kind
+use Rattle.sqlite.specs.State.{store_error}
+use Rattle.wu_core.specs.declared.fault.Fault.TheVariants.{NotAProject}
+use Rattle.wu_schema.specs.Faults.{fault_of}
+use Rattle.wu_schema.specs.Calls.{LeavesOnly, IsUndone, IsRefused, IsBack, IsPart}
+
+pub part_then : (a b c : State) → IsPart a b → IsPart b c → IsPart a c
+part_then a b c one two = record {
+  survives = survives_then a b c _ _ (λ _. ⊥) (λ _ db none. none) (λ _ db none. none) one.survives two.survives;
+  keeps = λ clean. keeps_then a b c (one.keeps (omega (arith, two.survives.clean))) (two.keeps clean);
+}
+
+pub part_none : (a : State) → IsPart a a
+part_none a = record {
+  survives = record { clean = omega arith; shield = λ s. s; counts = omega arith; limit = refl; closes = λ _ still. inl still; crash = λ _ db h. inl h };
+  keeps = λ _. record { was_open = λ h. h; committed = λ _. refl };
+}
+
+-- a statement inside, whatever it answers
+pub part_of : {S : Type 0} (g : Ghosts S) (old new : Held S) (sql : List ℕ) (params : Row) (e : Error) (r : Result ℕ Error)
+    → (old.in_transaction ≡ false → (r ≡ Err e) × (new ≡ old)) → (HasCleanDisk (state g new) → IsTrue old.in_transaction → ExecutesInside 0 sql params (state g old) (state g new) r)
+    → Survives (state g old) (state g new) (λ _. ⊥) → IsPart (state g old) (state g new)
+part_of g old new sql params e r ended runs survives = elim (cases_Bool old.in_transaction) [
+  | inl within ↦ record { survives = survives; keeps = λ clean. inside_keeps (state g old) (state g new) 0 false sql params r (runs clean within) }
+  | inr outside ↦ subst (λ h. IsPart (state g old) (state g h)) (sym (ended outside).1) (part_none (state g old))
+]
+
+-- at Ok it ran
+pub ran_inside : {S : Type 0} (g : Ghosts S) (old new : Held S) (sql : List ℕ) (params : Row) (e : Error) (count : ℕ) (r : Result ℕ Error) → r ≡ Ok count
+    → (old.in_transaction ≡ false → (r ≡ Err e) × (new ≡ old)) → (HasCleanDisk (state g new) → IsTrue old.in_transaction → ExecutesInside 0 sql params (state g old) (state g new) r)
+    → HasCleanDisk (state g new) → ExecutesInside 0 sql params (state g old) (state g new) (Ok count)
+ran_inside g old new sql params e count r is ended runs clean = elim (cases_Bool old.in_transaction) [
+  | inl within ↦ subst (ExecutesInside 0 sql params (state g old) (state g new)) is (runs clean within)
+  | inr outside ↦ absurd (let no = (ended outside).0 in cc)
+]
+
+pub part_undone : (a b : State) → Survives a b (λ _. ⊥) → (HasCleanDisk b → IsRolledBack a b) → IsPart a b
+part_undone a b survives undone = record { survives = survives; keeps = λ clean. unchanged_keeps a b (inr (undone clean)) }
+
+-- a transaction begins with the state as it was
+pub begun_part : {S : Type 0} (g : Ghosts S) (h : Held S) (new : State) → IsPart (state g (record h { in_transaction = true })) new → IsPart (state g h) new
+begun_part g h new part = record {
+  survives = survives_begin g h new _ part.survives;
+  keeps = λ clean. record { was_open = (part.keeps clean).was_open; committed = (part.keeps clean).committed };
+}
+
+module _ {S : Type 0} (g : Ghosts S) (settled : (s : S) (db : Trees) → IsTrue (g.view s).is_open → g.recovers s db → db ≡ (g.view s).committed) (stays : (s : S) → IsTrue (g.view s).is_open → g.recovers s (g.view s).committed) where
+  pub leaves_only : (h : Held S) → IsTrue (state g h).is_open → LeavesOnly (state g h) (state g h).committed.trees
+  leaves_only h is_open = record { only = λ db may. settled h.store db is_open may; stays = stays h.store is_open }
+
+  pub undone_after : (old mid : State) (h : Held S) (P : Trees → Type 0) → HasCleanDisk (state g h) → IsPart old mid → Survives mid (state g h) P → IsRolledBack mid (state g h) → IsUndone old (state g h)
+  undone_after old mid h P clean part survives back =
+      let keeps = part.keeps (omega (arith, survives.clean)) in
+      let same : IsTrue (state g h).is_open → mid.committed ≡ old.committed = λ is_open. keeps.committed (back.was_open is_open) in
+      record {
+        was_open = λ is_open. keeps.was_open (back.was_open is_open);
+        now = λ is_open. ((back.undone is_open).0 ∙ same is_open, (back.undone is_open).1 ∙ same is_open);
+        left = λ is_open. rw (← same is_open, ← (back.undone is_open).1) (leaves_only h is_open);
+      }
+
+  pub undone_back : (old mid : State) (h : Held S) → IsUndone old mid → IsBack mid (state g h) → IsUndone old (state g h)
+  undone_back old mid h undone back =
+      let was = λ (is_open : IsTrue (state g h).is_open). undone.now (back.was_open is_open) in
+      let committed : IsTrue (state g h).is_open → (state g h).committed ≡ old.committed = λ is_open. back.committed is_open ∙ (was is_open).1 in
+      record {
+        was_open = λ is_open. undone.was_open (back.was_open is_open);
+        now = λ is_open. (elim (back.now is_open) [ inl same ↦ same ∙ (was is_open).0 | inr last ↦ last ∙ (was is_open).1 ], committed is_open);
+        left = λ is_open. subst (λ (d : Database). LeavesOnly (state g h) d.trees) (committed is_open) (leaves_only h is_open);
+      }
+
+  pub refused_after : (old mid : State) (h : Held S) → IsUndone old mid → IsUnchanged mid (state g h) → IsRefused old (state g h)
+  refused_after old mid h undone same =
+      let back = undone.now same.0.was_open in
+      let committed : (state g h).committed ≡ old.committed = same.0.committed_is ∙ back.1 in
+      record {
+        is_open = same.0.is_open;
+        now = same.0.now_is ∙ back.0;
+        committed = committed;
+        left = subst (λ (d : Database). LeavesOnly (state g h) d.trees) committed (leaves_only h same.0.is_open);
+      }
+
+pub back_none : (s : State) → IsBack s s
+back_none s = record { was_open = λ h. h; now = λ _. inl refl; committed = λ _. refl }
+
+pub back_unchanged : (old new : State) → IsUnchanged old new → IsBack old new
+back_unchanged old new same = record { was_open = λ _. same.0.was_open; now = λ _. inl same.0.now_is; committed = λ _. same.0.committed_is }
+
+pub back_not_run : (old new : State) (sql : List ℕ) (params : Row) (e : Error) → IsNotRun old new sql params e → IsBack old new
+unfolding IsNotRun
+back_not_run old new sql params e (inl refused) = back_unchanged old new refused.1
+back_not_run old new sql params e (inr failed) = let back = failed.3 in record { was_open = back.was_open; now = λ h. inr (back.undone h).0; committed = λ h. (back.undone h).1 }
+
+never_refused : (cause : StoreError) → fault_of (store_error cause) ≢ NotAProject
+never_refused kind.OutOfMemory is = absurd cc
+never_refused kind.Io is = absurd cc
+never_refused kind.Corrupt is = absurd cc
+never_refused kind.Full is = absurd cc
+never_refused kind.Broken is = absurd cc
+never_refused kind.Unstorable is = absurd cc
+
+-- a refusal that is no failure of the store leaves the connection open
+pub serves_after : (old new : State) (sql : List ℕ) (params : Row) (e : Error) → IsNotRun old new sql params e → fault_of e ≡ NotAProject → IsUnchanged old new
+unfolding IsNotRun
+serves_after old new sql params e (inl refused) is = refused.1
+serves_after old new sql params e (inr failed) is = absurd (never_refused failed.0 (ap fault_of (sym failed.1) ∙ is))
+
+pub on_err : {T E : Type 0} (r : Result T E) (P : Type 0) → P → OnErr r P
+on_err (Ok x) P p = tt
+on_err (Err e) P p = p
+
+pub err_on : {T E : Type 0} (r : Result T E) (P : E → Type 0) (Q : Type 0) → ((e : E) → P e → Q) → IfErr r P → OnErr r Q
+err_on (Ok x) P Q f h = tt
+err_on (Err e) P Q f h = f e h
+
+pub ok_on : {T E : Type 0} (r : Result T E) (P Q : Type 0) → (P → Q) → OnOk r P → OnOk r Q
+ok_on (Ok x) P Q f h = f h
+ok_on (Err e) P Q f h = tt
+
+pub err_also : {T E : Type 0} (r : Result T E) (P Q : Type 0) → (P → Q) → OnErr r P → OnErr r Q
+err_also (Ok x) P Q f h = tt
+err_also (Err e) P Q f h = f h

@@ -1,0 +1,56 @@
+-- The seven texts make the seven tables.
+use Rattle.std.proofs.Common.{ℕ, List, codes, refl}
+use Rattle.sqlite_resolve.specs.Compile.{first}
+use Rattle.sqlite_tied.specs.Compute.{everything}
+use Rattle.wu_schema.specs.Tables.{project_at, workunit_at, result_at, grant_at, host_at, archived_at, import_at}
+use Rattle.wu_schema.proofs.CreateLemmas.{def_by, or_empty}
+use Rattle.wu_schema.proofs.CreateEffect.{Defines}
+
+abbrev pub project_text : List ℕ
+project_text = codes "CREATE TABLE project (\n  one INTEGER PRIMARY KEY CHECK (one = 1),\n  version INTEGER NOT NULL,\n  next_number INTEGER NOT NULL) STRICT"
+
+abbrev pub workunit_text : List ℕ
+workunit_text = codes "CREATE TABLE workunit (\n  number INTEGER PRIMARY KEY,\n  name TEXT NOT NULL UNIQUE,\n  min_quorum INTEGER NOT NULL,\n  target_nresults INTEGER NOT NULL,\n  max_error_results INTEGER NOT NULL,\n  max_total_results INTEGER NOT NULL,\n  max_success_results INTEGER NOT NULL,\n  delay_bound INTEGER NOT NULL,\n  credit INTEGER NOT NULL,\n  input BLOB NOT NULL,\n  error_mask INTEGER NOT NULL,\n  canonical INTEGER,\n  assimilate INTEGER NOT NULL,\n  file_delete INTEGER NOT NULL,\n  done_at INTEGER) STRICT"
+
+abbrev pub result_text : List ℕ
+result_text = codes "CREATE TABLE result (\n  workunit INTEGER NOT NULL REFERENCES workunit (number) ON DELETE CASCADE,\n  n INTEGER NOT NULL,\n  server_state INTEGER NOT NULL,\n  outcome INTEGER NOT NULL,\n  validate_state INTEGER NOT NULL,\n  file_delete INTEGER NOT NULL,\n  host TEXT,\n  sent_at INTEGER,\n  deadline INTEGER,\n  received_at INTEGER,\n  output BLOB NOT NULL,\n  PRIMARY KEY (workunit, n)) STRICT"
+
+abbrev pub grant_text : List ℕ
+grant_text = codes "CREATE TABLE credit_grant (\n  seq INTEGER PRIMARY KEY,\n  workunit INTEGER NOT NULL,\n  n INTEGER NOT NULL,\n  host TEXT NOT NULL,\n  credit INTEGER NOT NULL,\n  UNIQUE (workunit, n)) STRICT"
+
+abbrev pub host_text : List ℕ
+host_text = codes "CREATE TABLE host (\n  name TEXT PRIMARY KEY NOT NULL,\n  total INTEGER NOT NULL,\n  grants INTEGER NOT NULL) STRICT"
+
+abbrev pub archived_text : List ℕ
+archived_text = codes "CREATE TABLE archived (\n  seq INTEGER PRIMARY KEY,\n  number INTEGER NOT NULL UNIQUE,\n  name TEXT NOT NULL UNIQUE,\n  error_mask INTEGER NOT NULL,\n  canonical INTEGER,\n  output BLOB NOT NULL,\n  done_at INTEGER NOT NULL) STRICT"
+
+abbrev pub import_text : List ℕ
+import_text = codes "CREATE TABLE import (\n  kind INTEGER NOT NULL,\n  name TEXT NOT NULL,\n  template BLOB NOT NULL,\n  content BLOB NOT NULL,\n  first_number INTEGER NOT NULL,\n  verdicts TEXT NOT NULL,\n  PRIMARY KEY (kind, name)) STRICT"
+
+pub project_made : Defines project_text (codes "project") project_at
+unfolding everything
+project_made = record { parsed = or_empty (first project_text); def = def_by (or_empty (first project_text)).statement; read = refl; is = refl; nameless = refl; plain = refl; new = refl; called = refl; unreserved = refl; made = refl; placed = λ tree. refl; whole = refl; text_is = refl; named = λ tree. refl }
+
+pub workunit_made : Defines workunit_text (codes "workunit") workunit_at
+unfolding everything
+workunit_made = record { parsed = or_empty (first workunit_text); def = def_by (or_empty (first workunit_text)).statement; read = refl; is = refl; nameless = refl; plain = refl; new = refl; called = refl; unreserved = refl; made = refl; placed = λ tree. refl; whole = refl; text_is = refl; named = λ tree. refl }
+
+pub result_made : Defines result_text (codes "result") result_at
+unfolding everything
+result_made = record { parsed = or_empty (first result_text); def = def_by (or_empty (first result_text)).statement; read = refl; is = refl; nameless = refl; plain = refl; new = refl; called = refl; unreserved = refl; made = refl; placed = λ tree. refl; whole = refl; text_is = refl; named = λ tree. refl }
+
+pub grant_made : Defines grant_text (codes "credit_grant") grant_at
+unfolding everything
+grant_made = record { parsed = or_empty (first grant_text); def = def_by (or_empty (first grant_text)).statement; read = refl; is = refl; nameless = refl; plain = refl; new = refl; called = refl; unreserved = refl; made = refl; placed = λ tree. refl; whole = refl; text_is = refl; named = λ tree. refl }
+
+pub host_made : Defines host_text (codes "host") host_at
+unfolding everything
+host_made = record { parsed = or_empty (first host_text); def = def_by (or_empty (first host_text)).statement; read = refl; is = refl; nameless = refl; plain = refl; new = refl; called = refl; unreserved = refl; made = refl; placed = λ tree. refl; whole = refl; text_is = refl; named = λ tree. refl }
+
+pub archived_made : Defines archived_text (codes "archived") archived_at
+unfolding everything
+archived_made = record { parsed = or_empty (first archived_text); def = def_by (or_empty (first archived_text)).statement; read = refl; is = refl; nameless = refl; plain = refl; new = refl; called = refl; unreserved = refl; made = refl; placed = λ tree. refl; whole = refl; text_is = refl; named = λ tree. refl }
+
+pub import_made : Defines import_text (codes "import") import_at
+unfolding everything
+import_made = record { parsed = or_empty (first import_text); def = def_by (or_empty (first import_text)).statement; read = refl; is = refl; nameless = refl; plain = refl; new = refl; called = refl; unreserved = refl; made = refl; placed = λ tree. refl; whole = refl; text_is = refl; named = λ tree. refl }

@@ -1,0 +1,55 @@
+-- What a column, a parameter and a comparison lower to, over any schema.
+use Rattle.std.proofs.Common.{◌≡◌, ℕ, suc, ◌-◌, nat_lt, List, [], ◌∷◌, Bool, true, Some, None, Ok, slice_get, refl}
+use Rattle.sqlite.specs.Term.{Term, col, op2}
+use Rattle.sqlite.specs.Schema.{Schema}
+use Rattle.sqlite_schema.specs.declared.schema.Table.{Table}
+use Rattle.sqlite_schema.specs.declared.schema.Column.{Column}
+use Rattle.sqlite_schema.specs.Names.{column_named, place_of}
+use Rattle.sqlite_sql.specs.declared.ops.BinaryOp.TheVariants as by
+use Rattle.sqlite_sql.specs.declared.ops.CompareOp.TheVariants as compare
+use Rattle.sqlite_value.specs.declared.keys.Collation.TheVariants.{Binary}
+use Rattle.sqlite_ast.specs.declared.Expr.{Expr, roll-Expr}
+use Rattle.sqlite_ast.specs.declared.Expr.TheOpen.{Expr-F}
+use Rattle.sqlite_ast.specs.declared.Binary.TheVariants as binary
+use Rattle.sqlite_resolve.specs.declared.state.State.{State}
+use Rattle.sqlite_resolve.specs.declared.state.Carried.{Carried}
+use Rattle.sqlite_resolve.specs.declared.scope.Output.{Output}
+use Rattle.sqlite_resolve.specs.Lowering.{nothing}
+use Rattle.sqlite_resolve.specs.Scope.{Name, Context, declared}
+use Rattle.sqlite_resolve.specs.Expr.{lower_to, node}
+use Rattle.wu_schema.specs.Pipeline.{pipeline}
+use Rattle.wu_schema.specs.Tables.{HasTable}
+
+abbrev pub column : Name → Expr
+column name = roll-Expr (Expr-F.Column None name)
+
+abbrev pub parameter : ℕ → Expr
+parameter n = roll-Expr (Expr-F.Parameter n)
+
+abbrev pub equals : Expr → Expr → Expr
+equals a b = roll-Expr (Expr-F.Binary binary.Eq a b)
+
+-- one table stands in FROM, in slot 1
+abbrev pub scope : Schema → Name → ℕ → List Output → Bool → Bool → Context
+scope schema name at shown may_aggregate may_alias =
+    record { schema = schema; levels = record { tables = record { name = name; table = at; slot = 1; shared = [] } ∷ []; shown = shown } ∷ []; may_aggregate = may_aggregate; may_alias = may_alias }
+
+abbrev pub so_far : ℕ → ℕ → Carried → State
+so_far next budget last = record { next = next; steps = []; aggregates = []; budget = budget; written = None; last = last }
+
+module _ (d : ℕ) (schema : Schema) (title : Name) (at : ℕ) (table : Table) (shown : List Output) (may_aggregate may_alias : Bool) (next budget : ℕ) (last : Carried) (has : HasTable schema title at table) (enough : nat_lt 1 budget ≡ true) where
+  pub column_lowers : (name : Name) (k : ℕ) (c : Column) → column_named table name ≡ Some k → slice_get table.columns k ≡ Some c
+      → lower_to (suc d) (scope schema title at shown may_aggregate may_alias) (column name) (so_far next budget last) ≡ Ok (col 1 (place_of table k), so_far next (budget - 1) (declared table k c))
+  unfolding pipeline lower_to
+  column_lowers name k c named there = rw (enough, has.there, named, has.there, there)
+
+  pub parameter_lowers : (n : ℕ) → lower_to (suc d) (scope schema title at shown may_aggregate may_alias) (parameter n) (so_far next budget last) ≡ Ok (col 0 (n - 1), so_far next (budget - 1) nothing)
+  unfolding pipeline lower_to
+  parameter_lowers n = rw enough
+
+pub lower_step : (d : ℕ) (cx : Context) (e : Expr) (s : State) → lower_to (suc d) cx e s ≡ node (lower_to d) cx e s
+unfolding lower_to
+lower_step d cx e s = refl
+
+abbrev pub same : Term → Term → Term
+same = op2 (by.Compare compare.Eq Binary)

@@ -1,0 +1,141 @@
+-- What a SELECT does to a connection, whatever the schema.
+use Rattle.std.proofs.Common.{◌≡◌, inl, inr, ℕ, List, [], Bool, true, false, if◌then◌else◌, None, IsSome, Ok, Err, Result, IfOk, IfErr, OnOk, OnErr, IsErrAnd, refl, sym, ap, subst}
+use Rattle.std.proofs.lemmas.Bool.{cases_Bool}
+use Rattle.sqlite.specs.Order.{Row}
+use Rattle.sqlite.specs.Schema.{Schema}
+use Rattle.sqlite.specs.Command.{Command}
+use Rattle.sqlite.specs.declared.error.Error.{Error}
+use Rattle.sqlite_ast.specs.declared.Select.{Select}
+use Rattle.sqlite_ast.specs.declared.Statement.TheVariants as written
+use Rattle.sqlite_syntax.specs.declared.statement.Parsed.{Parsed}
+use Rattle.sqlite_resolve.specs.declared.compiled.Compiled.{Compiled}
+use Rattle.sqlite_resolve.specs.declared.error.CompileError.{CompileError}
+use Rattle.sqlite_resolve.specs.declared.error.CompileError.TheVariants.{NoSuchTable}
+use Rattle.sqlite_resolve.specs.Lowering.{Checked, and_then}
+use Rattle.sqlite_resolve.specs.Scope.{Name}
+use Rattle.sqlite_resolve.specs.Compile.{first, compiled, planned, meaning, returning, with_command}
+use Rattle.sqlite.specs.Clock.{timed}
+use Rattle.sqlite.specs.Listing.{understood, reads_listing, if_select, is_select}
+use Rattle.sqlite.specs.State.{State, IsUnchanged, Shown, ShowsRows, QueriesRow, FailsToQuery, FailsToShow, CommitsShowing, Survives}
+use Rattle.wu_schema.proofs.SelectTexts.{import_text, import_parsed, import_select, import_first, workunit_text, workunit_parsed, workunit_select, workunit_first, archived_text, archived_parsed, archived_select, archived_first, next_text, next_parsed, next_select, next_first, all_text, all_parsed, all_select, all_first}
+use Rattle.wu_schema.specs.Calls.{IsBack}
+use Rattle.wu_schema.proofs.CallLemmas.{back_not_run, back_unchanged}
+
+-- the text is a SELECT
+pub record IsSelect (text : List ℕ) : Type 0 where
+  pub parsed : Parsed
+  pub select : Select
+  pub read : first text ≡ Ok parsed
+  pub is : parsed.statement ≡ written.Select select
+
+same_ok : {X E : Type 0} {a b : X} → ◌≡◌ {A = Result X E} (Ok a) (Ok b) → a ≡ b
+same_ok e = cc
+
+none_shown : (p : Parsed) (r : Checked Command) (formats : List Name) (c : Compiled) → and_then (and_then (and_then r (λ k. Ok (k, None))) (λ found. Ok (formats, found))) (λ plan. Ok (with_command p plan)) ≡ Ok c → c.returning ≡ None
+none_shown p (Ok k) formats c h = ap (λ (d : Compiled). d.returning) (sym (same_ok h))
+none_shown p (Err e) formats c h = absurd (cc)
+
+compiled_shows_none : (schema : Schema) (text : List ℕ) (it : IsSelect text) (c : Compiled) → compiled schema text ≡ Ok c → c.returning ≡ None
+unfolding compiled planned meaning returning
+compiled_shows_none schema text it c h = none_shown it.parsed _ _ c (rw (it.read, it.is) at h)
+
+if_same : (r : Result Compiled CompileError) (c : Compiled) → if_select r ≡ Ok c → r ≡ Ok c
+if_same (Ok d) c h = go (is_select d.command) h
+  where
+    go : (b : Bool) → ◌≡◌ {A = Result Compiled CompileError} (if b then Ok d else Err NoSuchTable) (Ok c) → ◌≡◌ {A = Result Compiled CompileError} (Ok d) (Ok c)
+    go true e = e
+    go false e = absurd (cc)
+if_same (Err e) c h = absurd (cc)
+
+pub shows_none : (schema : Schema) (text : List ℕ) → IsSelect text → (c : Compiled) → understood schema text ≡ Ok c → c.returning ≡ None
+unfolding understood
+shows_none schema text it c h = elim (cases_Bool (reads_listing schema text)) [
+  | inl lists ↦ compiled_shows_none _ text it c (if_same _ c (rw lists at h))
+  | inr other ↦ compiled_shows_none schema text it c (rw other at h)
+]
+
+module _ (text : List ℕ) (it : IsSelect text) (params : Row) (old new : State) where
+  pub shown_unchanged : (rows : List Row) → Shown text params old new rows → IsUnchanged old new
+  unfolding Shown
+  shown_unchanged rows h =
+      let none = shows_none old.now.schema text it h.0 h.1.is in
+      let read = subst (λ r. ShowsRows old new text h.0 (timed params h.0.formats h.1.now) rows r) none h.2 in
+      read.3
+
+  pub row_unchanged : (row : Row) → QueriesRow text params old new (Ok row) → IsUnchanged old new
+  unfolding QueriesRow
+  row_unchanged row (inl h) = h.1
+  row_unchanged row (inr h) = shown_unchanged h.0 h.1
+
+  pub failed_back : (e : Error) → FailsToQuery text params old new e → IsBack old new
+  unfolding FailsToQuery
+  failed_back e (inl h) = back_not_run old new text params e h
+  failed_back e (inr h) =
+      let none = shows_none old.now.schema text it h.0 h.1.is in
+      let failed = subst (λ r. FailsToShow old new text h.0 (timed params h.0.formats h.1.now) e r) none h.2 in
+      back_unchanged old new failed.3
+
+  pub row_failed_back : (e : Error) → QueriesRow text params old new (Err e) → IsBack old new
+  unfolding QueriesRow
+  row_failed_back e (inl h) = failed_back e h
+  row_failed_back e (inr h) = back_unchanged old new (shown_unchanged [] h.1)
+
+  -- nothing is committed
+  pub reads_survive : Survives old new (CommitsShowing text params old) → Survives old new (λ _. ⊥)
+  unfolding CommitsShowing
+  reads_survive s = record {
+    clean = s.clean;
+    shield = s.shield;
+    counts = s.counts;
+    limit = s.limit;
+    closes = s.closes;
+    crash = λ clean db may. elim (s.crash clean db may) [ inl before ↦ inl before | inr made ↦ absurd (let none = shows_none old.now.schema text it made.0 made.1.is in let some = subst IsSome none made.2 in cc) ];
+  }
+
+-- ---- our SELECTs
+
+pub import_selects : IsSelect import_text
+import_selects = record { parsed = import_parsed; select = import_select; read = import_first; is = refl }
+
+pub workunit_selects : IsSelect workunit_text
+workunit_selects = record { parsed = workunit_parsed; select = workunit_select; read = workunit_first; is = refl }
+
+pub archived_selects : IsSelect archived_text
+archived_selects = record { parsed = archived_parsed; select = archived_select; read = archived_first; is = refl }
+
+pub next_selects : IsSelect next_text
+next_selects = record { parsed = next_parsed; select = next_select; read = next_first; is = refl }
+
+pub all_selects : IsSelect all_text
+all_selects = record { parsed = all_parsed; select = all_select; read = all_first; is = refl }
+
+-- ---- through a result
+
+pub if_ok : {T E : Type 0} (r : Result T E) (P Q : T → Type 0) → ((x : T) → P x → Q x) → IfOk r P → IfOk r Q
+if_ok (Ok x) P Q f h = f x h
+if_ok (Err e) P Q f h = tt
+
+pub on_ok : {T E : Type 0} (r : Result T E) (P : T → Type 0) (Q : Type 0) → ((x : T) → P x → Q) → IfOk r P → OnOk r Q
+on_ok (Ok x) P Q f h = f x h
+on_ok (Err e) P Q f h = tt
+
+pub if_err : {T E : Type 0} (r : Result T E) (P Q : E → Type 0) → ((e : E) → P e → Q e) → IfErr r P → IfErr r Q
+if_err (Ok x) P Q f h = tt
+if_err (Err e) P Q f h = f e h
+
+pub row_ok : (text : List ℕ) (params : Row) (old new : State) (r : Result Row Error) (Q : Row → Type 0) → ((row : Row) → QueriesRow text params old new (Ok row) → Q row) → QueriesRow text params old new r → IfOk r Q
+row_ok text params old new (Ok row) Q f h = f row h
+row_ok text params old new (Err e) Q f h = tt
+
+pub row_err : (text : List ℕ) (params : Row) (old new : State) (r : Result Row Error) (Q : Error → Type 0) → ((e : Error) → QueriesRow text params old new (Err e) → Q e) → QueriesRow text params old new r → IfErr r Q
+row_err text params old new (Ok row) Q f h = tt
+row_err text params old new (Err e) Q f h = f e h
+
+-- an error that a `?` hands on
+pub err_same : {T E : Type 0} (r : Result T E) (P : E → Type 0) (e : E) → IsErrAnd r (λ x. x ≡ e) → P e → IfErr r P
+err_same (Ok x) P e h p = tt
+err_same (Err d) P e h p = subst P (sym h) p
+
+pub err_on_same : {T E : Type 0} (r : Result T E) (P : Type 0) → P → OnErr r P
+err_on_same (Ok x) P p = tt
+err_on_same (Err d) P p = p

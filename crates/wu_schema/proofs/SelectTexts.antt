@@ -1,0 +1,420 @@
+-- What the SELECTs compile to, over any schema.
+use Rattle.std.proofs.Common.{◌≡◌, ℕ, pos, negsuc, List, [], ◌∷◌, codes, length, true, false, Some, None, Ok, refl, sym, ap, subst}
+use Rattle.sqlite.specs.Term.{Term, lit, col, op2}
+use Rattle.sqlite.specs.Query.{Query}
+use Rattle.sqlite.specs.declared.types.Value.TheVariants.{Int}
+use Rattle.sqlite.specs.Schema.{Schema}
+use Rattle.sqlite.specs.Command.{Command}
+use Rattle.sqlite.specs.Command.TheVariants as command
+use Rattle.sqlite.specs.Kind.TheVariants as Kind
+use Rattle.sqlite_value.specs.declared.keys.Key.{Key}
+use Rattle.sqlite_value.specs.declared.keys.Collation.TheVariants.{Binary}
+use Rattle.sqlite_sql.specs.declared.ops.BinaryOp.TheVariants as by
+use Rattle.sqlite_ast.specs.declared.Expr.{roll-Expr}
+use Rattle.sqlite_ast.specs.declared.Expr.TheOpen.{Expr-F}
+use Rattle.sqlite_ast.specs.declared.Binary.TheVariants as binary
+use Rattle.sqlite_ast.specs.declared.Core.{Core, roll-Core}
+use Rattle.sqlite_ast.specs.declared.Sort.{roll-Sort}
+use Rattle.sqlite_ast.specs.declared.Select.{Select, roll-Select}
+use Rattle.sqlite_ast.specs.declared.Statement.TheVariants as written
+use Rattle.sqlite_syntax.specs.declared.statement.Parsed.{Parsed}
+use Rattle.sqlite_draft.specs.declared.join.Step.TheVariants.{Inner}
+use Rattle.sqlite_draft.specs.declared.query.Draft.{Draft}
+use Rattle.sqlite_resolve.specs.declared.scope.Output.{Output}
+use Rattle.sqlite_resolve.specs.Lowering.{nothing}
+use Rattle.sqlite_resolve.specs.Scope.{Name, declared}
+use Rattle.sqlite_resolve.specs.Expr.{lower_to}
+use Rattle.sqlite_resolve.specs.Compile.{first, planned, compiled, with_command}
+use Rattle.sqlite_resolve.specs.Write.{simple}
+use Rattle.sqlite_resolve.specs.Select.{named}
+use Rattle.sqlite_resolve.specs.Program.{program, query, query_to}
+use Rattle.sqlite.specs.Listing.{understood, reads_listing}
+use Rattle.sqlite.proofs.Callers.{IsPlain, command_of}
+use Rattle.sqlite_tied.specs.Compute.{everything}
+use Rattle.wu_schema.specs.Pipeline.{pipeline}
+use Rattle.wu_schema.specs.Tables.{HasTable, project_at, workunit_at, archived_at, import_at, needs, may}
+use Rattle.wu_schema.proofs.CompileLemmas.{understood_is, compiled_is}
+use Rattle.wu_schema.proofs.ExprLemmas.{column, parameter, equals, scope, so_far, same, lower_step, column_lowers, parameter_lowers}
+use Rattle.wu_schema.proofs.QueryLemmas.{plain_query, alone, viewing_is, query_step, one, from_table, output}
+
+-- what is known of a text over a schema, once it compiles
+pub record CompilesTo (schema : Schema) (text : List ℕ) (p : Parsed) (command : Command) : Type 0 where
+  pub known : understood schema text ≡ Ok (with_command p ([], (command, None)))
+  pub is : command_of (understood schema text) ≡ command
+  pub plain : IsPlain (understood schema text)
+  pub unlisted : reads_listing schema text ≡ false
+
+pub compiles_to : (schema : Schema) (text : List ℕ) (p : Parsed) (command : Command) → first text ≡ Ok p → planned schema p ≡ Ok ([], (command, None)) → CompilesTo schema text p command
+compiles_to schema text p command read plan =
+    let it = understood_is schema text _ (compiled_is schema text p _ read plan) in
+    record { known = it.0; is = ap command_of it.0; plain = subst IsPlain (sym it.0) (refl, refl); unlisted = it.1 }
+
+-- by the key, from the least on
+abbrev pub rising_by : List (Term × Key)
+rising_by = (col 1 0, record { collation = Binary; descending = false }) ∷ []
+
+-- ---- the import of a kind and a name
+
+abbrev pub import_text : List ℕ
+import_text = codes "SELECT template, content, first_number, verdicts FROM import WHERE kind = ?1 AND name = ?2"
+
+abbrev import_core : Core
+import_core = roll-Core (record { distinct = false; shown = one (codes "template") ∷ one (codes "content") ∷ one (codes "first_number") ∷ one (codes "verdicts") ∷ []; from = from_table (codes "import") ∷ []; filter = Some (roll-Expr (Expr-F.Binary binary.And (equals (column (codes "kind")) (parameter 1)) (equals (column (codes "name")) (parameter 2)))); group = []; having = None })
+
+abbrev pub import_select : Select
+import_select = roll-Select (record { with = []; first = import_core; others = []; order = []; limit = None; offset = None })
+
+abbrev pub import_parsed : Parsed
+import_parsed = record { statement = written.Select import_select; names = codes "?1" ∷ codes "?2" ∷ []; formats = []; start = 0; end = length import_text; tail = length import_text }
+
+pub import_first : first import_text ≡ Ok import_parsed
+unfolding everything
+import_first = refl
+
+abbrev pub import_tests : List Term
+import_tests = same (col 1 1) (col 0 0) ∷ same (col 1 2) (col 0 1) ∷ []
+
+abbrev pub import_shows : List Term
+import_shows = col 1 3 ∷ col 1 4 ∷ col 1 5 ∷ col 1 6 ∷ []
+
+abbrev pub import_names : List Name
+import_names = codes "template" ∷ codes "content" ∷ codes "first_number" ∷ codes "verdicts" ∷ []
+
+abbrev import_draft : ℕ → Draft
+import_draft tree = simple (Inner tree ∷ []) import_tests import_shows
+
+abbrev pub import_query : ℕ → Query
+import_query tree = plain_query tree import_tests import_shows
+
+abbrev import_outputs : ℕ → List Output
+import_outputs tree = output (import_at tree) 2 (needs (codes "template") Kind.Blob) ∷ output (import_at tree) 3 (needs (codes "content") Kind.Blob) ∷ output (import_at tree) 4 (needs (codes "first_number") Kind.Integer) ∷ output (import_at tree) 5 (needs (codes "verdicts") Kind.Text) ∷ []
+
+module _ (schema : Schema) (at tree : ℕ) (has : HasTable schema (codes "import") at (import_at tree)) where
+  import_by_kind : lower_to 699 (scope schema (codes "import") at (import_outputs tree) false true) (equals (column (codes "kind")) (parameter 1)) (so_far 2 99995 nothing) ≡ Ok (same (col 1 1) (col 0 0), so_far 2 99992 nothing)
+  unfolding pipeline
+  import_by_kind = rw (
+    lower_step 698 (scope schema (codes "import") at (import_outputs tree) false true) (equals (column (codes "kind")) (parameter 1)) (so_far 2 99995 nothing),
+    column_lowers 697 schema (codes "import") at (import_at tree) (import_outputs tree) false true 2 99994 nothing has refl (codes "kind") 0 (needs (codes "kind") Kind.Integer) refl refl,
+    parameter_lowers 697 schema (codes "import") at (import_at tree) (import_outputs tree) false true 2 99993 (declared (import_at tree) 0 (needs (codes "kind") Kind.Integer)) has refl 1,
+    has.there,
+  )
+
+  import_by_name : lower_to 699 (scope schema (codes "import") at (import_outputs tree) false true) (equals (column (codes "name")) (parameter 2)) (so_far 2 99992 nothing) ≡ Ok (same (col 1 2) (col 0 1), so_far 2 99989 nothing)
+  unfolding pipeline
+  import_by_name = rw (
+    lower_step 698 (scope schema (codes "import") at (import_outputs tree) false true) (equals (column (codes "name")) (parameter 2)) (so_far 2 99992 nothing),
+    column_lowers 697 schema (codes "import") at (import_at tree) (import_outputs tree) false true 2 99991 nothing has refl (codes "name") 1 (needs (codes "name") Kind.Text) refl refl,
+    parameter_lowers 697 schema (codes "import") at (import_at tree) (import_outputs tree) false true 2 99990 (declared (import_at tree) 1 (needs (codes "name") Kind.Text)) has refl 2,
+    has.there,
+  )
+
+  import_by_both : lower_to 700 (scope schema (codes "import") at (import_outputs tree) false true) (roll-Expr (Expr-F.Binary binary.And (equals (column (codes "kind")) (parameter 1)) (equals (column (codes "name")) (parameter 2)))) (so_far 2 99996 (declared (import_at tree) 5 (needs (codes "verdicts") Kind.Text))) ≡ Ok (op2 by.And (same (col 1 1) (col 0 0)) (same (col 1 2) (col 0 1)), so_far 2 99989 nothing)
+  unfolding pipeline
+  import_by_both = rw (lower_step 699 (scope schema (codes "import") at (import_outputs tree) false true) (roll-Expr (Expr-F.Binary binary.And (equals (column (codes "kind")) (parameter 1)) (equals (column (codes "name")) (parameter 2)))) (so_far 2 99996 (declared (import_at tree) 5 (needs (codes "verdicts") Kind.Text))), import_by_kind, import_by_name)
+
+  import_named : named schema import_core ([]) (lit (Int (negsuc 0)), lit (Int (pos 0))) ≡ Ok (import_draft tree, import_names, Some Binary ∷ Some Binary ∷ Some Binary ∷ Some Binary ∷ [])
+  unfolding pipeline
+  import_named = rw (
+    has.named,
+    column_lowers 699 schema (codes "import") at (import_at tree) [] true true 2 100000 nothing has refl (codes "template") 2 (needs (codes "template") Kind.Blob) refl refl,
+    column_lowers 699 schema (codes "import") at (import_at tree) [] true true 2 99999 (declared (import_at tree) 2 (needs (codes "template") Kind.Blob)) has refl (codes "content") 3 (needs (codes "content") Kind.Blob) refl refl,
+    column_lowers 699 schema (codes "import") at (import_at tree) [] true true 2 99998 (declared (import_at tree) 3 (needs (codes "content") Kind.Blob)) has refl (codes "first_number") 4 (needs (codes "first_number") Kind.Integer) refl refl,
+    column_lowers 699 schema (codes "import") at (import_at tree) [] true true 2 99997 (declared (import_at tree) 4 (needs (codes "first_number") Kind.Integer)) has refl (codes "verdicts") 5 (needs (codes "verdicts") Kind.Text) refl refl,
+    has.there,
+    has.there,
+    import_by_both,
+  )
+
+  import_queried : query schema import_select ≡ Ok ((import_draft tree, import_names, Some Binary ∷ Some Binary ∷ Some Binary ∷ Some Binary ∷ []), [])
+  unfolding pipeline
+  import_queried = rw (query_step 15 schema import_select [], viewing_is (query_to 15) schema schema import_core ([]) (lit (Int (negsuc 0)), lit (Int (pos 0))) _ 63 [] import_named)
+
+  import_program : program schema [] (import_draft tree) ≡ Ok (alone (import_query tree))
+  unfolding pipeline
+  import_program = rw (has.low, has.stands)
+
+  import_planned : planned schema import_parsed ≡ Ok ([], (command.Select (alone (import_query tree)) import_names, None))
+  unfolding Rattle.sqlite_resolve.specs.Compile.planned Rattle.sqlite_resolve.specs.Compile.meaning Rattle.sqlite_resolve.specs.Compile.returning Rattle.sqlite_resolve.specs.Compile.command Rattle.sqlite_resolve.specs.Compile.read Rattle.sqlite_resolve.specs.Compile.timed
+  import_planned = rw (import_queried, import_program)
+
+  pub import_reads : CompilesTo schema import_text import_parsed (command.Select (alone (import_query tree)) import_names)
+  import_reads = compiles_to schema import_text import_parsed _ import_first import_planned
+
+-- ---- the workunit of a name
+
+abbrev pub workunit_text : List ℕ
+workunit_text = codes "SELECT number FROM workunit WHERE name = ?1"
+
+abbrev workunit_core : Core
+workunit_core = roll-Core (record { distinct = false; shown = one (codes "number") ∷ []; from = from_table (codes "workunit") ∷ []; filter = Some (equals (column (codes "name")) (parameter 1)); group = []; having = None })
+
+abbrev pub workunit_select : Select
+workunit_select = roll-Select (record { with = []; first = workunit_core; others = []; order = []; limit = None; offset = None })
+
+abbrev pub workunit_parsed : Parsed
+workunit_parsed = record { statement = written.Select workunit_select; names = codes "?1" ∷ []; formats = []; start = 0; end = length workunit_text; tail = length workunit_text }
+
+pub workunit_first : first workunit_text ≡ Ok workunit_parsed
+unfolding everything
+workunit_first = refl
+
+abbrev pub workunit_tests : List Term
+workunit_tests = same (col 1 2) (col 0 0) ∷ []
+
+abbrev pub workunit_shows : List Term
+workunit_shows = col 1 0 ∷ []
+
+abbrev pub workunit_names : List Name
+workunit_names = codes "number" ∷ []
+
+abbrev workunit_draft : ℕ → Draft
+workunit_draft tree = simple (Inner tree ∷ []) workunit_tests workunit_shows
+
+abbrev pub workunit_query : ℕ → Query
+workunit_query tree = plain_query tree workunit_tests workunit_shows
+
+abbrev workunit_outputs : ℕ → List Output
+workunit_outputs tree = output (workunit_at tree) 0 (may (codes "number") Kind.Integer) ∷ []
+
+module _ (schema : Schema) (at tree : ℕ) (has : HasTable schema (codes "workunit") at (workunit_at tree)) where
+  workunit_by_name : lower_to 700 (scope schema (codes "workunit") at (workunit_outputs tree) false true) (equals (column (codes "name")) (parameter 1)) (so_far 2 99999 nothing) ≡ Ok (same (col 1 2) (col 0 0), so_far 2 99996 nothing)
+  unfolding pipeline
+  workunit_by_name = rw (
+    lower_step 699 (scope schema (codes "workunit") at (workunit_outputs tree) false true) (equals (column (codes "name")) (parameter 1)) (so_far 2 99999 nothing),
+    column_lowers 698 schema (codes "workunit") at (workunit_at tree) (workunit_outputs tree) false true 2 99998 nothing has refl (codes "name") 1 (needs (codes "name") Kind.Text) refl refl,
+    parameter_lowers 698 schema (codes "workunit") at (workunit_at tree) (workunit_outputs tree) false true 2 99997 (declared (workunit_at tree) 1 (needs (codes "name") Kind.Text)) has refl 1,
+    has.there,
+  )
+
+  workunit_named : named schema workunit_core ([]) (lit (Int (negsuc 0)), lit (Int (pos 0))) ≡ Ok (workunit_draft tree, workunit_names, None ∷ [])
+  unfolding pipeline
+  workunit_named = rw (
+    has.named,
+    column_lowers 699 schema (codes "workunit") at (workunit_at tree) [] true true 2 100000 nothing has refl (codes "number") 0 (may (codes "number") Kind.Integer) refl refl,
+    has.there,
+    has.there,
+    workunit_by_name,
+  )
+
+  workunit_queried : query schema workunit_select ≡ Ok ((workunit_draft tree, workunit_names, None ∷ []), [])
+  unfolding pipeline
+  workunit_queried = rw (query_step 15 schema workunit_select [], viewing_is (query_to 15) schema schema workunit_core ([]) (lit (Int (negsuc 0)), lit (Int (pos 0))) _ 63 [] workunit_named)
+
+  workunit_program : program schema [] (workunit_draft tree) ≡ Ok (alone (workunit_query tree))
+  unfolding pipeline
+  workunit_program = rw (has.low, has.stands)
+
+  workunit_planned : planned schema workunit_parsed ≡ Ok ([], (command.Select (alone (workunit_query tree)) workunit_names, None))
+  unfolding Rattle.sqlite_resolve.specs.Compile.planned Rattle.sqlite_resolve.specs.Compile.meaning Rattle.sqlite_resolve.specs.Compile.returning Rattle.sqlite_resolve.specs.Compile.command Rattle.sqlite_resolve.specs.Compile.read Rattle.sqlite_resolve.specs.Compile.timed
+  workunit_planned = rw (workunit_queried, workunit_program)
+
+  pub workunit_reads : CompilesTo schema workunit_text workunit_parsed (command.Select (alone (workunit_query tree)) workunit_names)
+  workunit_reads = compiles_to schema workunit_text workunit_parsed _ workunit_first workunit_planned
+
+-- ---- the archived workunit of a name
+
+abbrev pub archived_text : List ℕ
+archived_text = codes "SELECT number FROM archived WHERE name = ?1"
+
+abbrev archived_core : Core
+archived_core = roll-Core (record { distinct = false; shown = one (codes "number") ∷ []; from = from_table (codes "archived") ∷ []; filter = Some (equals (column (codes "name")) (parameter 1)); group = []; having = None })
+
+abbrev pub archived_select : Select
+archived_select = roll-Select (record { with = []; first = archived_core; others = []; order = []; limit = None; offset = None })
+
+abbrev pub archived_parsed : Parsed
+archived_parsed = record { statement = written.Select archived_select; names = codes "?1" ∷ []; formats = []; start = 0; end = length archived_text; tail = length archived_text }
+
+pub archived_first : first archived_text ≡ Ok archived_parsed
+unfolding everything
+archived_first = refl
+
+abbrev pub archived_tests : List Term
+archived_tests = same (col 1 3) (col 0 0) ∷ []
+
+abbrev pub archived_shows : List Term
+archived_shows = col 1 2 ∷ []
+
+abbrev pub archived_names : List Name
+archived_names = codes "number" ∷ []
+
+abbrev archived_draft : ℕ → Draft
+archived_draft tree = simple (Inner tree ∷ []) archived_tests archived_shows
+
+abbrev pub archived_query : ℕ → Query
+archived_query tree = plain_query tree archived_tests archived_shows
+
+abbrev archived_outputs : ℕ → List Output
+archived_outputs tree = output (archived_at tree) 1 (needs (codes "number") Kind.Integer) ∷ []
+
+module _ (schema : Schema) (at tree : ℕ) (has : HasTable schema (codes "archived") at (archived_at tree)) where
+  archived_by_name : lower_to 700 (scope schema (codes "archived") at (archived_outputs tree) false true) (equals (column (codes "name")) (parameter 1)) (so_far 2 99999 (declared (archived_at tree) 1 (needs (codes "number") Kind.Integer))) ≡ Ok (same (col 1 3) (col 0 0), so_far 2 99996 nothing)
+  unfolding pipeline
+  archived_by_name = rw (
+    lower_step 699 (scope schema (codes "archived") at (archived_outputs tree) false true) (equals (column (codes "name")) (parameter 1)) (so_far 2 99999 (declared (archived_at tree) 1 (needs (codes "number") Kind.Integer))),
+    column_lowers 698 schema (codes "archived") at (archived_at tree) (archived_outputs tree) false true 2 99998 nothing has refl (codes "name") 2 (needs (codes "name") Kind.Text) refl refl,
+    parameter_lowers 698 schema (codes "archived") at (archived_at tree) (archived_outputs tree) false true 2 99997 (declared (archived_at tree) 2 (needs (codes "name") Kind.Text)) has refl 1,
+    has.there,
+  )
+
+  archived_named : named schema archived_core ([]) (lit (Int (negsuc 0)), lit (Int (pos 0))) ≡ Ok (archived_draft tree, archived_names, Some Binary ∷ [])
+  unfolding pipeline
+  archived_named = rw (
+    has.named,
+    column_lowers 699 schema (codes "archived") at (archived_at tree) [] true true 2 100000 nothing has refl (codes "number") 1 (needs (codes "number") Kind.Integer) refl refl,
+    has.there,
+    has.there,
+    archived_by_name,
+  )
+
+  archived_queried : query schema archived_select ≡ Ok ((archived_draft tree, archived_names, Some Binary ∷ []), [])
+  unfolding pipeline
+  archived_queried = rw (query_step 15 schema archived_select [], viewing_is (query_to 15) schema schema archived_core ([]) (lit (Int (negsuc 0)), lit (Int (pos 0))) _ 63 [] archived_named)
+
+  archived_program : program schema [] (archived_draft tree) ≡ Ok (alone (archived_query tree))
+  unfolding pipeline
+  archived_program = rw (has.low, has.stands)
+
+  archived_planned : planned schema archived_parsed ≡ Ok ([], (command.Select (alone (archived_query tree)) archived_names, None))
+  unfolding Rattle.sqlite_resolve.specs.Compile.planned Rattle.sqlite_resolve.specs.Compile.meaning Rattle.sqlite_resolve.specs.Compile.returning Rattle.sqlite_resolve.specs.Compile.command Rattle.sqlite_resolve.specs.Compile.read Rattle.sqlite_resolve.specs.Compile.timed
+  archived_planned = rw (archived_queried, archived_program)
+
+  pub archived_reads : CompilesTo schema archived_text archived_parsed (command.Select (alone (archived_query tree)) archived_names)
+  archived_reads = compiles_to schema archived_text archived_parsed _ archived_first archived_planned
+
+-- ---- the next number
+
+abbrev pub next_text : List ℕ
+next_text = codes "SELECT next_number FROM project"
+
+abbrev next_core : Core
+next_core = roll-Core (record { distinct = false; shown = one (codes "next_number") ∷ []; from = from_table (codes "project") ∷ []; filter = None; group = []; having = None })
+
+abbrev pub next_select : Select
+next_select = roll-Select (record { with = []; first = next_core; others = []; order = []; limit = None; offset = None })
+
+abbrev pub next_parsed : Parsed
+next_parsed = record { statement = written.Select next_select; names = []; formats = []; start = 0; end = length next_text; tail = length next_text }
+
+pub next_first : first next_text ≡ Ok next_parsed
+unfolding everything
+next_first = refl
+
+abbrev pub next_tests : List Term
+next_tests = []
+
+abbrev pub next_shows : List Term
+next_shows = col 1 3 ∷ []
+
+abbrev pub next_names : List Name
+next_names = codes "next_number" ∷ []
+
+abbrev next_draft : ℕ → Draft
+next_draft tree = simple (Inner tree ∷ []) next_tests next_shows
+
+abbrev pub next_query : ℕ → Query
+next_query tree = plain_query tree next_tests next_shows
+
+abbrev next_outputs : ℕ → List Output
+next_outputs tree = output (project_at tree) 2 (needs (codes "next_number") Kind.Integer) ∷ []
+
+module _ (schema : Schema) (at tree : ℕ) (has : HasTable schema (codes "project") at (project_at tree)) where
+  next_named : named schema next_core ([]) (lit (Int (negsuc 0)), lit (Int (pos 0))) ≡ Ok (next_draft tree, next_names, Some Binary ∷ [])
+  unfolding pipeline
+  next_named = rw (
+    has.named,
+    column_lowers 699 schema (codes "project") at (project_at tree) [] true true 2 100000 nothing has refl (codes "next_number") 2 (needs (codes "next_number") Kind.Integer) refl refl,
+    has.there,
+    has.there,
+  )
+
+  next_queried : query schema next_select ≡ Ok ((next_draft tree, next_names, Some Binary ∷ []), [])
+  unfolding pipeline
+  next_queried = rw (query_step 15 schema next_select [], viewing_is (query_to 15) schema schema next_core ([]) (lit (Int (negsuc 0)), lit (Int (pos 0))) _ 63 [] next_named)
+
+  next_program : program schema [] (next_draft tree) ≡ Ok (alone (next_query tree))
+  unfolding pipeline
+  next_program = rw (has.low, has.stands)
+
+  next_planned : planned schema next_parsed ≡ Ok ([], (command.Select (alone (next_query tree)) next_names, None))
+  unfolding Rattle.sqlite_resolve.specs.Compile.planned Rattle.sqlite_resolve.specs.Compile.meaning Rattle.sqlite_resolve.specs.Compile.returning Rattle.sqlite_resolve.specs.Compile.command Rattle.sqlite_resolve.specs.Compile.read Rattle.sqlite_resolve.specs.Compile.timed
+  next_planned = rw (next_queried, next_program)
+
+  pub next_reads : CompilesTo schema next_text next_parsed (command.Select (alone (next_query tree)) next_names)
+  next_reads = compiles_to schema next_text next_parsed _ next_first next_planned
+
+-- ---- all workunits, in order of number
+
+abbrev pub all_text : List ℕ
+all_text = codes "SELECT number, name, min_quorum, target_nresults, max_error_results, max_total_results, max_success_results, delay_bound, credit, input, error_mask, canonical, assimilate, file_delete, done_at FROM workunit ORDER BY number"
+
+abbrev all_core : Core
+all_core = roll-Core (record { distinct = false; shown = one (codes "number") ∷ one (codes "name") ∷ one (codes "min_quorum") ∷ one (codes "target_nresults") ∷ one (codes "max_error_results") ∷ one (codes "max_total_results") ∷ one (codes "max_success_results") ∷ one (codes "delay_bound") ∷ one (codes "credit") ∷ one (codes "input") ∷ one (codes "error_mask") ∷ one (codes "canonical") ∷ one (codes "assimilate") ∷ one (codes "file_delete") ∷ one (codes "done_at") ∷ []; from = from_table (codes "workunit") ∷ []; filter = None; group = []; having = None })
+
+abbrev pub all_select : Select
+all_select = roll-Select (record { with = []; first = all_core; others = []; order = roll-Sort (record { key = column (codes "number"); descending = false; nulls_first = None }) ∷ []; limit = None; offset = None })
+
+abbrev pub all_parsed : Parsed
+all_parsed = record { statement = written.Select all_select; names = []; formats = []; start = 0; end = length all_text; tail = length all_text }
+
+pub all_first : first all_text ≡ Ok all_parsed
+unfolding everything
+all_first = refl
+
+abbrev pub all_tests : List Term
+all_tests = []
+
+abbrev pub all_shows : List Term
+all_shows = col 1 0 ∷ col 1 2 ∷ col 1 3 ∷ col 1 4 ∷ col 1 5 ∷ col 1 6 ∷ col 1 7 ∷ col 1 8 ∷ col 1 9 ∷ col 1 10 ∷ col 1 11 ∷ col 1 12 ∷ col 1 13 ∷ col 1 14 ∷ col 1 15 ∷ []
+
+abbrev pub all_names : List Name
+all_names = codes "number" ∷ codes "name" ∷ codes "min_quorum" ∷ codes "target_nresults" ∷ codes "max_error_results" ∷ codes "max_total_results" ∷ codes "max_success_results" ∷ codes "delay_bound" ∷ codes "credit" ∷ codes "input" ∷ codes "error_mask" ∷ codes "canonical" ∷ codes "assimilate" ∷ codes "file_delete" ∷ codes "done_at" ∷ []
+
+abbrev all_draft : ℕ → Draft
+all_draft tree = record (simple (Inner tree ∷ []) all_tests all_shows) { order = rising_by }
+
+abbrev pub all_query : ℕ → Query
+all_query tree = record (plain_query tree all_tests all_shows) { order = rising_by }
+
+abbrev all_outputs : ℕ → List Output
+all_outputs tree = output (workunit_at tree) 0 (may (codes "number") Kind.Integer) ∷ output (workunit_at tree) 1 (needs (codes "name") Kind.Text) ∷ output (workunit_at tree) 2 (needs (codes "min_quorum") Kind.Integer) ∷ output (workunit_at tree) 3 (needs (codes "target_nresults") Kind.Integer) ∷ output (workunit_at tree) 4 (needs (codes "max_error_results") Kind.Integer) ∷ output (workunit_at tree) 5 (needs (codes "max_total_results") Kind.Integer) ∷ output (workunit_at tree) 6 (needs (codes "max_success_results") Kind.Integer) ∷ output (workunit_at tree) 7 (needs (codes "delay_bound") Kind.Integer) ∷ output (workunit_at tree) 8 (needs (codes "credit") Kind.Integer) ∷ output (workunit_at tree) 9 (needs (codes "input") Kind.Blob) ∷ output (workunit_at tree) 10 (needs (codes "error_mask") Kind.Integer) ∷ output (workunit_at tree) 11 (may (codes "canonical") Kind.Integer) ∷ output (workunit_at tree) 12 (needs (codes "assimilate") Kind.Integer) ∷ output (workunit_at tree) 13 (needs (codes "file_delete") Kind.Integer) ∷ output (workunit_at tree) 14 (may (codes "done_at") Kind.Integer) ∷ []
+
+module _ (schema : Schema) (at tree : ℕ) (has : HasTable schema (codes "workunit") at (workunit_at tree)) where
+  all_named : named schema all_core (roll-Sort (record { key = column (codes "number"); descending = false; nulls_first = None }) ∷ []) (lit (Int (negsuc 0)), lit (Int (pos 0))) ≡ Ok (all_draft tree, all_names, None ∷ Some Binary ∷ Some Binary ∷ Some Binary ∷ Some Binary ∷ Some Binary ∷ Some Binary ∷ Some Binary ∷ Some Binary ∷ Some Binary ∷ Some Binary ∷ Some Binary ∷ Some Binary ∷ Some Binary ∷ Some Binary ∷ [])
+  unfolding pipeline
+  all_named = rw (
+    has.named,
+    column_lowers 699 schema (codes "workunit") at (workunit_at tree) [] true true 2 100000 nothing has refl (codes "number") 0 (may (codes "number") Kind.Integer) refl refl,
+    column_lowers 699 schema (codes "workunit") at (workunit_at tree) [] true true 2 99999 nothing has refl (codes "name") 1 (needs (codes "name") Kind.Text) refl refl,
+    column_lowers 699 schema (codes "workunit") at (workunit_at tree) [] true true 2 99998 (declared (workunit_at tree) 1 (needs (codes "name") Kind.Text)) has refl (codes "min_quorum") 2 (needs (codes "min_quorum") Kind.Integer) refl refl,
+    column_lowers 699 schema (codes "workunit") at (workunit_at tree) [] true true 2 99997 (declared (workunit_at tree) 2 (needs (codes "min_quorum") Kind.Integer)) has refl (codes "target_nresults") 3 (needs (codes "target_nresults") Kind.Integer) refl refl,
+    column_lowers 699 schema (codes "workunit") at (workunit_at tree) [] true true 2 99996 (declared (workunit_at tree) 3 (needs (codes "target_nresults") Kind.Integer)) has refl (codes "max_error_results") 4 (needs (codes "max_error_results") Kind.Integer) refl refl,
+    column_lowers 699 schema (codes "workunit") at (workunit_at tree) [] true true 2 99995 (declared (workunit_at tree) 4 (needs (codes "max_error_results") Kind.Integer)) has refl (codes "max_total_results") 5 (needs (codes "max_total_results") Kind.Integer) refl refl,
+    column_lowers 699 schema (codes "workunit") at (workunit_at tree) [] true true 2 99994 (declared (workunit_at tree) 5 (needs (codes "max_total_results") Kind.Integer)) has refl (codes "max_success_results") 6 (needs (codes "max_success_results") Kind.Integer) refl refl,
+    column_lowers 699 schema (codes "workunit") at (workunit_at tree) [] true true 2 99993 (declared (workunit_at tree) 6 (needs (codes "max_success_results") Kind.Integer)) has refl (codes "delay_bound") 7 (needs (codes "delay_bound") Kind.Integer) refl refl,
+    column_lowers 699 schema (codes "workunit") at (workunit_at tree) [] true true 2 99992 (declared (workunit_at tree) 7 (needs (codes "delay_bound") Kind.Integer)) has refl (codes "credit") 8 (needs (codes "credit") Kind.Integer) refl refl,
+    column_lowers 699 schema (codes "workunit") at (workunit_at tree) [] true true 2 99991 (declared (workunit_at tree) 8 (needs (codes "credit") Kind.Integer)) has refl (codes "input") 9 (needs (codes "input") Kind.Blob) refl refl,
+    column_lowers 699 schema (codes "workunit") at (workunit_at tree) [] true true 2 99990 (declared (workunit_at tree) 9 (needs (codes "input") Kind.Blob)) has refl (codes "error_mask") 10 (needs (codes "error_mask") Kind.Integer) refl refl,
+    column_lowers 699 schema (codes "workunit") at (workunit_at tree) [] true true 2 99989 (declared (workunit_at tree) 10 (needs (codes "error_mask") Kind.Integer)) has refl (codes "canonical") 11 (may (codes "canonical") Kind.Integer) refl refl,
+    column_lowers 699 schema (codes "workunit") at (workunit_at tree) [] true true 2 99988 (declared (workunit_at tree) 11 (may (codes "canonical") Kind.Integer)) has refl (codes "assimilate") 12 (needs (codes "assimilate") Kind.Integer) refl refl,
+    column_lowers 699 schema (codes "workunit") at (workunit_at tree) [] true true 2 99987 (declared (workunit_at tree) 12 (needs (codes "assimilate") Kind.Integer)) has refl (codes "file_delete") 13 (needs (codes "file_delete") Kind.Integer) refl refl,
+    column_lowers 699 schema (codes "workunit") at (workunit_at tree) [] true true 2 99986 (declared (workunit_at tree) 13 (needs (codes "file_delete") Kind.Integer)) has refl (codes "done_at") 14 (may (codes "done_at") Kind.Integer) refl refl,
+    has.there,
+    has.there,
+    column_lowers 699 schema (codes "workunit") at (workunit_at tree) (all_outputs tree) false true 2 99985 (declared (workunit_at tree) 14 (may (codes "done_at") Kind.Integer)) has refl (codes "number") 0 (may (codes "number") Kind.Integer) refl refl,
+  )
+
+  all_queried : query schema all_select ≡ Ok ((all_draft tree, all_names, None ∷ Some Binary ∷ Some Binary ∷ Some Binary ∷ Some Binary ∷ Some Binary ∷ Some Binary ∷ Some Binary ∷ Some Binary ∷ Some Binary ∷ Some Binary ∷ Some Binary ∷ Some Binary ∷ Some Binary ∷ Some Binary ∷ []), [])
+  unfolding pipeline
+  all_queried = rw (query_step 15 schema all_select [], viewing_is (query_to 15) schema schema all_core (roll-Sort (record { key = column (codes "number"); descending = false; nulls_first = None }) ∷ []) (lit (Int (negsuc 0)), lit (Int (pos 0))) _ 63 [] all_named)
+
+  all_program : program schema [] (all_draft tree) ≡ Ok (alone (all_query tree))
+  unfolding pipeline
+  all_program = rw (has.low, has.stands)
+
+  all_planned : planned schema all_parsed ≡ Ok ([], (command.Select (alone (all_query tree)) all_names, None))
+  unfolding Rattle.sqlite_resolve.specs.Compile.planned Rattle.sqlite_resolve.specs.Compile.meaning Rattle.sqlite_resolve.specs.Compile.returning Rattle.sqlite_resolve.specs.Compile.command Rattle.sqlite_resolve.specs.Compile.read Rattle.sqlite_resolve.specs.Compile.timed
+  all_planned = rw (all_queried, all_program)
+
+  pub all_reads : CompilesTo schema all_text all_parsed (command.Select (alone (all_query tree)) all_names)
+  all_reads = compiles_to schema all_text all_parsed _ all_first all_planned

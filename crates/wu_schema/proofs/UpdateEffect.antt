@@ -1,0 +1,164 @@
+-- What UPDATE does to the rows, over any schema.
+use Rattle.std.proofs.Common.{◌≡◌, ◌≢◌, inl, inr, ℕ, ℤ, pos, List, [], ◌∷◌, length, map, codes, slice_get, Option, Some, None, Ok, refl, sym, ap, subst, ◌∙◌}
+use Rattle.std.specs.List.Sorted.{IsPermutation}
+use Rattle.sqlite.specs.declared.types.Value.TheVariants.{Null, Int}
+use Rattle.sqlite.specs.Order.{Row}
+use Rattle.sqlite.specs.Term.{Term}
+use Rattle.sqlite.specs.Table.{Table}
+use Rattle.sqlite.specs.Schema.{Schema}
+use Rattle.sqlite.specs.Tree.{IsAscending}
+use Rattle.sqlite_trees.specs.Tree.{Trees, rowid}
+use Rattle.std.proofs.lemmas.Cmp.{tied_itself}
+use Rattle.sqlite_value.proofs.OrderLemmas.{value_cmp_total}
+use Rattle.sqlite_schema.specs.declared.schema.Keys.{Keys}
+use Rattle.sqlite_schema.specs.declared.schema.Keys.TheVariants.{Enforced}
+use Rattle.sqlite_schema.specs.declared.schema.Reference.{Reference}
+use Rattle.sqlite_schema.specs.Rules.{ParentKey, parent_key}
+use Rattle.sqlite_schema.specs.declared.program.Program.{Program}
+use Rattle.sqlite.specs.Command.TheVariants.{Update}
+use Rattle.sqlite.specs.Edit.{Edit, Applies, edit_of, taken_by, without_all, put_all}
+use Rattle.sqlite.specs.Rowids.TheVariants.{Given}
+use Rattle.sqlite.specs.Cast.{cast_row}
+use Rattle.sqlite_rules.specs.Action.{Writes as Edits}
+use Rattle.sqlite_rules.specs.Calls.{ids_of}
+use Rattle.sqlite_rules.specs.Lists.{Has}
+use Rattle.sqlite_rules.proofs.ListLemmas.{all_has}
+use Rattle.sqlite_rules.proofs.PlaceLemmas.{given}
+use Rattle.sqlite.specs.Effect.{Database, IsDatabase, Answers}
+use Rattle.sqlite.specs.Rows.{Written}
+use Rattle.sqlite.specs.Does.{Tally, Does}
+use Rattle.sqlite.specs.Listing.{understood}
+use Rattle.sqlite.specs.State.{State, mode_of, Executes}
+use Rattle.sqlite.specs.declared.run.Mode.{Mode}
+use Rattle.sqlite.proofs.Callers.{statement_of, runs_as, one_permutation}
+use Rattle.wu_schema.specs.Tables.{project_at, HasTable}
+use Rattle.wu_schema.proofs.EffectLemmas.{went, same_value}
+use Rattle.wu_schema.proofs.QueryLemmas.{plain_query, alone}
+use Rattle.wu_schema.proofs.RowLemmas.{childless}
+use Rattle.wu_schema.proofs.AnswerLemmas.{answers_are, meeting, showing}
+use Rattle.wu_schema.proofs.QuietLemmas.{has_work, IsChildless, RefersOnlyTo, quiet}
+use Rattle.wu_schema.proofs.UpdateLemmas.{update_text, update_is, update_plain, new_row}
+use Rattle.wu_schema.proofs.InsertEffect.{cast_null, cast_int, also, no_more}
+
+-- ---- which tables the actions of one step leave alone
+
+module _ (schema : Schema) (keys : Keys) where
+  -- what the table refers to never becomes a child, and is not the tree that is written
+  pub record IsCalm (at : Table) (source : ℕ) : Type 0 where
+    pub parent : ℕ
+    pub childless : IsChildless schema keys parent
+    pub only : RefersOnlyTo schema keys at.tree parent
+    pub past : (t : Table) (ref : Reference) (key : ParentKey) → Has schema.tables t → t.tree ≡ at.tree → Has t.references ref → parent_key schema.tables ref ≡ Some key → key.0 ≢ source
+
+  -- of a write that is done, the step, and the trees that its actions leave
+  pub record HasStepped (db : Trees) (edit : Edit) (next : Trees) : Type 0 where
+    pub mid : Trees
+    pub applied : Applies schema keys db edit mid
+    pub calm : (at : Table) → Has schema.tables at → IsCalm at edit.table.tree → next at.tree ≡ mid at.tree
+
+  pub stepped : (db next : Trees) (edit : Edit) → Edits schema keys db edit (Ok next) → HasStepped db edit next
+  stepped db next edit (inl refused) = absurd (let e = refused.2 in cc)
+  stepped db next edit (inr (inl big)) = absurd (let e = big.3 in cc)
+  stepped db next edit (inr (inr done)) = record {
+    mid = done.0;
+    applied = done.1;
+    calm = λ at stands c. quiet schema keys at c.parent stands c.childless c.only done.2.0 done.0 next _ done.2.1 (λ w on.
+        let it = has_work schema keys 0 edit.table.tree (taken_by db edit) edit.news w on in record { child = it.child; ref = it.ref; aside = λ is. c.past w.child w.ref it.key it.child is it.ref it.found it.parent });
+  }
+
+-- a table that refers to nothing
+pub calm_bare : (schema : Schema) (t : Table) (source : ℕ) → IsAscending (λ a b. a.tree ≡ b.tree → ⊥) schema.tables → Has schema.tables t → t.references ≡ [] → IsCalm schema Enforced t source
+calm_bare schema t source apart stands none =
+    let own = childless schema t apart stands none in
+    record {
+      parent = t.tree;
+      childless = own;
+      only = λ u ref key listed is refers found. absurd (subst (λ refs. Has refs ref) (own u listed is) refers);
+      past = λ u ref key listed is refers found. absurd (subst (λ refs. Has refs ref) (own u listed is) refers);
+    }
+
+-- a table that refers to one other, which refers to nothing
+pub calm_child : (schema : Schema) (t : Table) (parent source : ℕ) → IsChildless schema Enforced parent → RefersOnlyTo schema Enforced t.tree parent → parent ≢ source → IsCalm schema Enforced t source
+calm_child schema t parent source bare only other =
+    record { parent = parent; childless = bare; only = only; past = λ u ref key listed is refers found at. other (sym (only u ref key listed is refers found) ∙ at) }
+
+-- ---- UPDATE
+
+-- the rows that an UPDATE finds, each its old rowid and then the new row, and the write that it makes of them
+pub record HasSet (db : Database) (mode : Mode) (params : Row) (q : Program) (table : Table) (after : Database) (tally : Tally) : Type 0 where
+  pub rows : List Row
+  pub found : Answers db q params rows
+  pub wrote : Edits db.schema mode.keys db.trees (edit_of db.trees table (ids_of rows) Given 1 rows) (Ok after.trees)
+  pub counted : tally.rows ≡ Some (length (edit_of db.trees table (ids_of rows) Given 1 rows).news)
+  pub schema : after.schema ≡ db.schema
+
+module _ (limit : Option ℕ) (mode : Mode) (params : Row) (db : Database) (text : List ℕ) (at : ℕ) (table : Table) (there : slice_get db.schema.tables at ≡ Some table) (tally : Tally) (after : Database) where
+  pub update_does : (q : Program) → Does limit mode params db text None (Update at q) (Ok (tally, after)) → HasSet db mode params q table after tally
+  update_does q h =
+      let done = went (rw there at h) in
+      let ends = same_value (went (went done.2).2).2 in
+      let found = went done.1 in
+      let wrote = went found.2 in
+      let made = same_value wrote.2 in
+      let trees : after.trees ≡ wrote.0 = ap (λ (p : Tally × Database). p.1.trees) ends ∙ ap (λ (it : Written). it.trees) made in
+      record {
+        rows = found.0;
+        found = found.1;
+        wrote = subst (λ t. Edits db.schema mode.keys db.trees (edit_of db.trees table (ids_of found.0) Given 1 found.0) (Ok t)) (sym trees) wrote.1;
+        counted = ap (λ (p : Tally × Database). p.0.rows) ends ∙ ap (λ (it : Written). Some (length it.rows)) made;
+        schema = ap (λ (p : Tally × Database). p.1.schema) ends;
+      }
+
+-- the new rows in place of those with the old rowids, in any order
+abbrev pub resets : Table → List Row → List Row → List Row
+resets table rows found = put_all (without_all rows (ids_of found)) (map (λ s. cast_row table (Rattle.std.specs.Prelude.drop 1 s)) found)
+
+-- a plain query sets its rows: `project` is the old rowid, and then the row
+pub record Sets (old new : Database) (table : Table) (test project : List Term) (params : Row) : Type 0 where
+  pub schema : new.schema ≡ old.schema
+  pub found : List Row
+  pub shown : IsPermutation (showing project params (meeting test params (old.trees table.tree))) found
+  pub rows : IsCalm old.schema Enforced table table.tree → new.trees table.tree ≡ resets table (old.trees table.tree) found
+  pub others : (t : Table) → Has old.schema.tables t → t.tree ≢ table.tree → IsCalm old.schema Enforced t table.tree → new.trees t.tree ≡ old.trees t.tree
+  pub sound : IsDatabase new
+
+module _ (old new : Database) (limit : Option ℕ) (mode : Mode) (keys : mode.keys ≡ Enforced) (sound : IsDatabase new) (params : Row) (text name : List ℕ) (at : ℕ) (table : Table) (has : HasTable old.schema name at table) (stands : Has old.schema.tables table) where
+  pub update_sets : (test project : List Term) (tally : Tally) → Does limit mode params old text None (Update at (alone (plain_query table.tree test project))) (Ok (tally, new)) → Sets old new table test project params
+  update_sets test project tally h =
+      let set = update_does limit mode params old text at table has.there tally new (alone (plain_query table.tree test project)) h in
+      let edit = edit_of old.trees table (ids_of set.rows) Given 1 set.rows in
+      let step = stepped old.schema Enforced old.trees new.trees edit (subst (λ k. Edits old.schema k old.trees edit (Ok new.trees)) keys set.wrote) in
+      record {
+        schema = set.schema;
+        found = set.rows;
+        shown = answers_are table.tree test project params old set.rows has.low set.found;
+        rows = λ calm. step.calm table stands calm ∙ step.applied.rows ∙ ap (put_all (without_all (old.trees table.tree) (ids_of set.rows))) (given (without_all (old.trees table.tree) (ids_of set.rows)) (map (λ s. cast_row table (Rattle.std.specs.Prelude.drop 1 s)) set.rows));
+        others = λ t there other calm. step.calm t there calm ∙ all_has (λ (u : Table). u.tree ≢ table.tree → step.mid u.tree ≡ old.trees u.tree) old.schema.tables t step.applied.tables there other;
+        sound = sound;
+      }
+
+-- a row takes the place of the only one
+put_one : (id : ℤ) (x new : Row) → rowid x ≡ Int id → put_all (without_all (x ∷ []) (id ∷ [])) (new ∷ []) ≡ new ∷ []
+put_one id x new is = rw (is, tied_itself value_cmp_total (Int id)) refl
+
+-- ---- UPDATE project SET next_number = ?1
+
+abbrev pub project_row : ℤ → ℤ → Row
+project_row version next = Int (pos 1) ∷ Null ∷ Int version ∷ Int next ∷ []
+
+module _ (old new : State) (at tree : ℕ) (has : HasTable old.now.schema (codes "project") at (project_at tree)) (apart : IsAscending (λ a b. a.tree ≡ b.tree → ⊥) old.now.schema.tables)
+    (stands : Has old.now.schema.tables (project_at tree)) (n : ℤ) where
+  pub updates_project : (count : ℕ) → Executes update_text (Int n ∷ []) old new (Ok count) → Sets old.now new.now (project_at tree) [] new_row (Int n ∷ [])
+  updates_project count h =
+      let schema = old.now.schema in
+      let ran = runs_as update_text (Int n ∷ []) old new schema refl (Update at (alone (plain_query tree [] new_row))) (update_is schema at tree has) (update_plain schema at tree has) count h in
+      update_sets old.now new.now old.step_limit (mode_of old) refl ran.sound (Int n ∷ []) (statement_of update_text (understood schema update_text)) (codes "project") at (project_at tree) has stands [] new_row ran.tally ran.changed
+
+  -- the one row has the new number
+  pub sets_next : (version next : ℤ) → old.now.trees tree ≡ project_row version next ∷ [] → (count : ℕ) → Executes update_text (Int n ∷ []) old new (Ok count) → new.now.trees tree ≡ project_row version n ∷ []
+  sets_next version next is count h =
+      let it = updates_project count h in
+      let one : it.found ≡ (Int (pos 1) ∷ Int (pos 1) ∷ Null ∷ Int version ∷ Int n ∷ []) ∷ [] = one_permutation _ it.found (subst (λ rows. IsPermutation (showing new_row (Int n ∷ []) (meeting [] (Int n ∷ []) rows)) it.found) is it.shown) in
+      it.rows (calm_bare old.now.schema (project_at tree) tree apart stands refl) ∙ ap (λ rows. resets (project_at tree) rows it.found) is ∙ ap (resets (project_at tree) (project_row version next ∷ [])) one
+      ∙ ap (λ r. put_all (without_all (project_row version next ∷ []) (pos 1 ∷ [])) (r ∷ [])) (also (cast_int (pos 1)) (also cast_null (also (cast_int version) (also (cast_int n) no_more))))
+      ∙ put_one (pos 1) (project_row version next) (project_row version n) refl

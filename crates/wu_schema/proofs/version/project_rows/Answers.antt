@@ -1,0 +1,42 @@
+use Rattle.std.proofs.Common.{[]}
+use Rattle.sqlite.specs.Held.{state}
+use Rattle.wu_schema.specs.Versions.{version_text}
+use Rattle.wu_schema.proofs.ReadLemmas.{shown_unchanged, failed_back, reads_survive, if_ok, if_err, on_ok}
+use Rattle.wu_schema.proofs.CallLemmas.{err_on}
+use Rattle.wu_schema.proofs.VersionLemmas.{version_selects, version_found, version_told, version_there, version_absent, version_missing, query_serves}
+use Rattle.wu_schema.proofs.version.project_rows.Goals as goal
+
+pub returns-clause-unchanged : goal.returns-clause-unchanged
+returns-clause-unchanged g c clean =
+    on_ok c.query_all.result _ _ (λ rows h. shown_unchanged version_text version_selects [] (state g.S.Store c.args.conn.now) (state g.S.Store c.query_all.new.self) rows.items h) (c.query_all.ensures.ok clean)
+
+pub returns-clause-serves : goal.returns-clause-serves
+returns-clause-serves g c clean =
+    if_err c.query_all.result _ _ (λ e h is. query_serves version_text version_selects [] (state g.S.Store c.args.conn.now) (state g.S.Store c.query_all.new.self) e h is) (c.query_all.ensures.err clean)
+
+pub returns-clause-back : goal.returns-clause-back
+returns-clause-back g c clean =
+    err_on c.query_all.result _ _ (λ e h. failed_back version_text version_selects [] (state g.S.Store c.args.conn.now) (state g.S.Store c.query_all.new.self) e h) (c.query_all.ensures.err clean)
+
+pub returns-clause-crash : goal.returns-clause-crash
+returns-clause-crash g c = reads_survive version_text version_selects [] (state g.S.Store c.args.conn.now) (state g.S.Store c.query_all.new.self) c.query_all.ensures.survives
+
+pub returns-clause-answers : goal.returns-clause-answers
+returns-clause-answers g c clean =
+    if_ok c.query_all.result _ _ (λ rows h world s. version_found (state g.S.Store c.args.conn.now) (state g.S.Store c.query_all.new.self) world s rows.items h) (c.query_all.ensures.ok clean)
+
+pub returns-clause-told : goal.returns-clause-told
+returns-clause-told g c clean =
+    if_err c.query_all.result _ _ (λ e h world s unlimited. version_told (state g.S.Store c.args.conn.now) (state g.S.Store c.query_all.new.self) world s unlimited e h) (c.query_all.ensures.err clean)
+
+pub returns-clause-there : goal.returns-clause-there
+returns-clause-there g c clean =
+    on_ok c.query_all.result _ _ (λ rows h free. version_there (state g.S.Store c.args.conn.now) (state g.S.Store c.query_all.new.self) free rows.items h) (c.query_all.ensures.ok clean)
+
+pub returns-clause-absent : goal.returns-clause-absent
+returns-clause-absent g c clean =
+    if_err c.query_all.result _ _ (λ e h free. version_absent (state g.S.Store c.args.conn.now) (state g.S.Store c.query_all.new.self) free e h) (c.query_all.ensures.err clean)
+
+pub returns-clause-missing : goal.returns-clause-missing
+returns-clause-missing g c clean =
+    if_err c.query_all.result _ _ (λ e h m. version_missing (state g.S.Store c.args.conn.now) (state g.S.Store c.query_all.new.self) e h m) (c.query_all.ensures.err clean)

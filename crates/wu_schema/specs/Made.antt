@@ -1,0 +1,71 @@
+-- What the statements that make a project do to a database.
+use Rattle.std.specs.Prelude.{◌≡◌, ◌≢◌, ◌⊎◌, ℕ, ◌+◌, ◌<◌, List, [], ◌∷◌, length, codes, false}
+use Rattle.std.specs.List.{AllByRecursion}
+use Rattle.sqlite.specs.Order.{Row}
+use Rattle.sqlite.specs.Table.{Table}
+use Rattle.sqlite.specs.Tree.{Trees, put_row}
+use Rattle.sqlite.specs.Edit.{is_taken}
+use Rattle.sqlite.specs.Effect.{Database, IsDatabase}
+use Rattle.sqlite_schema.specs.declared.schema.Index.{Index}
+use Rattle.sqlite_catalog.specs.Change.{next_tree, automatics, KeepsRows}
+use Rattle.sqlite_rules.specs.Lists.{Has}
+use Rattle.wu_core.specs.World.{empty_world}
+use Rattle.wu_schema.specs.Tables.{HasTable, HaveOwnTrees, project_at, workunit_at, result_at, grant_at, host_at, archived_at, import_at}
+use Rattle.wu_schema.specs.StandsFor.{StandsFor}
+
+-- one row is put in, and every other table stays
+pub record PutsOne (old new : Database) (tree : ℕ) (row : Row) : Type 0 where
+  pub schema : new.schema ≡ old.schema
+  pub fresh : is_taken (old.trees tree) row ≡ false
+  pub rows : new.trees tree ≡ put_row row (old.trees tree)
+  pub tables : AllByRecursion (λ t. t.tree ≢ tree → new.trees t.tree ≡ old.trees t.tree) old.schema.tables
+  pub sound : IsDatabase new
+
+-- a name, and its table in any tree
+abbrev pub Named : Type 0
+Named = List ℕ × (ℕ → Table)
+
+-- the table is there and is empty, and what was there stays
+pub record HasMade (old new : Database) (named : Named) : Type 0 where
+  pub has : HasTable new.schema named.0 (length old.schema.tables) (named.1 (next_tree old.schema))
+  pub placed : (named.1 (next_tree old.schema)).tree ≡ next_tree old.schema
+  pub empty : new.trees (next_tree old.schema) ≡ []
+  pub keeps : (other : List ℕ) (at : ℕ) (t : Table) → HasTable old.schema other at t → HasTable new.schema other at t
+  pub listed : (t : Table) → Has old.schema.tables t → Has new.schema.tables t
+  pub others : KeepsRows old.schema.tables old.trees new.trees
+  pub own_trees : HaveOwnTrees old.schema → HaveOwnTrees new.schema
+  pub views : new.schema.views ≡ old.schema.views
+  pub indexes : (i : Index) → Has old.schema.indexes i → Has new.schema.indexes i
+  -- each new index is one of the table's own keys, or of a table that was made behind it
+  pub new_indexes : (i : Index) → Has new.schema.indexes i
+      → Has old.schema.indexes i ⊎ (Has (automatics (named.1 (next_tree old.schema)) 0 (next_tree old.schema + 1) (named.1 (next_tree old.schema)).uniques) i ⊎ (next_tree old.schema < i.table))
+  pub sound : IsDatabase new
+
+-- one after another
+abbrev pub MakesAll : Database → Database → List Named → Type 0
+MakesAll old new [] = new ≡ old
+MakesAll old new (named ∷ more) = (mid : Database) × HasMade old mid named × MakesAll mid new more
+
+-- of a project and its workunits
+abbrev pub work_tables : List Named
+work_tables = (codes "project", project_at) ∷ (codes "workunit", workunit_at) ∷ (codes "result", result_at) ∷ []
+
+-- of what is kept for good
+abbrev pub record_tables : List Named
+record_tables = (codes "credit_grant", grant_at) ∷ (codes "host", host_at) ∷ (codes "archived", archived_at) ∷ (codes "import", import_at) ∷ []
+
+-- what was there, ours or not, is as it was
+pub record KeepsOthers (old new : Database) : Type 0 where
+  pub tables : (t : Table) → Has old.schema.tables t → Has new.schema.tables t × (new.trees t.tree ≡ old.trees t.tree)
+  pub indexes : (i : Index) → Has old.schema.indexes i → Has new.schema.indexes i
+  pub views : new.schema.views ≡ old.schema.views
+
+-- a fresh project stands beside what was there
+pub record MakesProject (old new : Database) : Type 0 where
+  pub stands : HaveOwnTrees old.schema → StandsFor new empty_world
+  pub keeps : KeepsOthers old new
+  pub sound : IsDatabase new
+
+-- the tables are those of a fresh project beside what was there
+abbrev pub IsProjectBeside : Database → Trees → Type 0
+IsProjectBeside old trees = (after : Database) × (after.trees ≡ trees) × MakesProject old after

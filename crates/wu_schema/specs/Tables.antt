@@ -1,0 +1,174 @@
+-- The tables of schema version 1, wherever the store puts them, and a schema that has them.
+use Rattle.std.specs.Prelude.{◌≡◌, ◌^◌, ◌==◌, find, nat_le, false, [], ◌∷◌, Some, None, codes, List, ℕ, true, pos, slice_get}
+use Rattle.sqlite.specs.Collation.TheVariants.{Binary}
+use Rattle.sqlite.specs.declared.types.Value.TheVariants.{Null, Int}
+use Rattle.sqlite.specs.Term.{lit, col, op2}
+use Rattle.sqlite.specs.Table.{Table}
+use Rattle.sqlite.specs.Tree.{IsAscending}
+use Rattle.sqlite_schema.specs.declared.schema.Column.{Column}
+use Rattle.sqlite_schema.specs.declared.schema.Index.{Index}
+use Rattle.sqlite_schema.specs.declared.schema.Reference.{Reference}
+use Rattle.sqlite_schema.specs.declared.schema.Action.TheVariants as action
+use Rattle.sqlite.specs.Schema.{Schema}
+use Rattle.sqlite_sql.specs.declared.ops.BinaryOp.TheVariants as by
+use Rattle.sqlite_sql.specs.declared.ops.CompareOp.TheVariants as compare
+use Rattle.sqlite.specs.Kind.{Kind}
+use Rattle.sqlite.specs.Kind.TheVariants.{Integer, Text, Blob}
+use Rattle.sqlite_schema.specs.Names.{table_named}
+use Rattle.sqlite_schema.specs.Rules.{guards}
+use Rattle.sqlite_value.specs.Keys.{first_key}
+use Rattle.sqlite_rules.specs.Lists.{Has}
+
+-- a column that has to have a value
+abbrev pub needs : List ℕ → Kind → Column
+needs name kind = record { name = name; kind = kind; is_strict = true; not_null = true; default = Null; collation = Binary }
+
+-- a column that may be empty
+abbrev pub may : List ℕ → Kind → Column
+may name kind = record { name = name; kind = kind; is_strict = true; not_null = false; default = Null; collation = Binary }
+
+-- a table of these columns, with no key and no rules
+abbrev pub blank : List ℕ → ℕ → List Column → Table
+blank name tree columns = record {
+  name = name;
+  tree = tree;
+  columns = columns;
+  key = None;
+  primary = [];
+  uniques = [];
+  orders = [];
+  checks = [];
+  references = [];
+  computed = [];
+  stamps = record { places = []; terms = []; formats = [] };
+  is_counted = false;
+}
+
+-- the one row of the project
+abbrev pub project_at : ℕ → Table
+project_at tree = record (blank (codes "project") tree (may (codes "one") Integer ∷ needs (codes "version") Integer ∷ needs (codes "next_number") Integer ∷ [])) {
+  key = Some 0;
+  primary = 0 ∷ [];
+  checks = op2 (by.Compare compare.Eq Binary) (col 1 0) (lit (Int (pos 1))) ∷ [];
+}
+
+-- workunits by number, their names unique
+abbrev pub workunit_at : ℕ → Table
+workunit_at tree = record (blank (codes "workunit") tree (may (codes "number") Integer
+    ∷ needs (codes "name") Text
+    ∷ needs (codes "min_quorum") Integer
+    ∷ needs (codes "target_nresults") Integer
+    ∷ needs (codes "max_error_results") Integer
+    ∷ needs (codes "max_total_results") Integer
+    ∷ needs (codes "max_success_results") Integer
+    ∷ needs (codes "delay_bound") Integer
+    ∷ needs (codes "credit") Integer
+    ∷ needs (codes "input") Blob
+    ∷ needs (codes "error_mask") Integer
+    ∷ may (codes "canonical") Integer
+    ∷ needs (codes "assimilate") Integer
+    ∷ needs (codes "file_delete") Integer
+    ∷ may (codes "done_at") Integer
+    ∷ [])) {
+      key = Some 0;
+      primary = 0 ∷ [];
+      uniques = (2 ∷ []) ∷ [];
+      orders = record { digits = 0 } ∷ [];
+    }
+
+-- an instance goes with its workunit
+abbrev pub result_refers : Reference
+result_refers = record { columns = 1 ∷ []; parent = codes "workunit"; parent_columns = codes "number" ∷ []; on_delete = action.Cascade; on_update = action.NoAction; is_deferred = false }
+
+-- instances by workunit and number
+abbrev pub result_at : ℕ → Table
+result_at tree = record (blank (codes "result") tree (needs (codes "workunit") Integer
+    ∷ needs (codes "n") Integer
+    ∷ needs (codes "server_state") Integer
+    ∷ needs (codes "outcome") Integer
+    ∷ needs (codes "validate_state") Integer
+    ∷ needs (codes "file_delete") Integer
+    ∷ may (codes "host") Text
+    ∷ may (codes "sent_at") Integer
+    ∷ may (codes "deadline") Integer
+    ∷ may (codes "received_at") Integer
+    ∷ needs (codes "output") Blob
+    ∷ [])) {
+      primary = 1 ∷ 2 ∷ [];
+      uniques = (1 ∷ 2 ∷ []) ∷ [];
+      orders = record { digits = 0 } ∷ [];
+      references = result_refers ∷ [];
+    }
+
+-- grants in order of their making, one for an instance
+abbrev pub grant_at : ℕ → Table
+grant_at tree = record (blank (codes "credit_grant") tree (may (codes "seq") Integer ∷ needs (codes "workunit") Integer ∷ needs (codes "n") Integer ∷ needs (codes "host") Text ∷ needs (codes "credit") Integer ∷ [])) {
+  key = Some 0;
+  primary = 0 ∷ [];
+  uniques = (2 ∷ 3 ∷ []) ∷ [];
+  orders = record { digits = 0 } ∷ [];
+}
+
+-- what each host was granted
+abbrev pub host_at : ℕ → Table
+host_at tree = record (blank (codes "host") tree (needs (codes "name") Text ∷ needs (codes "total") Integer ∷ needs (codes "grants") Integer ∷ [])) {
+  primary = 1 ∷ [];
+  uniques = (1 ∷ []) ∷ [];
+  orders = record { digits = 0 } ∷ [];
+}
+
+-- archived workunits in order of their archiving, number and name unique
+abbrev pub archived_at : ℕ → Table
+archived_at tree = record (blank (codes "archived") tree (may (codes "seq") Integer ∷ needs (codes "number") Integer ∷ needs (codes "name") Text ∷ needs (codes "error_mask") Integer ∷ may (codes "canonical") Integer ∷ needs (codes "output") Blob ∷ needs (codes "done_at") Integer ∷ [])) {
+  key = Some 0;
+  primary = 0 ∷ [];
+  uniques = (2 ∷ []) ∷ (3 ∷ []) ∷ [];
+  orders = record { digits = 0 } ∷ record { digits = 0 } ∷ [];
+}
+
+-- imports by kind and name
+abbrev pub import_at : ℕ → Table
+import_at tree = record (blank (codes "import") tree (needs (codes "kind") Integer ∷ needs (codes "name") Text ∷ needs (codes "template") Blob ∷ needs (codes "content") Blob ∷ needs (codes "first_number") Integer ∷ needs (codes "verdicts") Text ∷ [])) {
+  primary = 1 ∷ 2 ∷ [];
+  uniques = (1 ∷ 2 ∷ []) ∷ [];
+  orders = record { digits = 0 } ∷ [];
+}
+
+-- the name finds this table
+pub record HasTable (schema : Schema) (name : List ℕ) (at : ℕ) (table : Table) : Type 0 where
+  pub named : table_named schema name ≡ Some at
+  pub there : slice_get schema.tables at ≡ Some table
+  -- its tree is a stored one, and finds it
+  pub low : nat_le (2 ^ 31) table.tree ≡ false
+  pub stands : find (λ t. t.tree == table.tree) schema.tables ≡ Some table
+
+-- the same, wherever it stands in the list
+abbrev pub HasNamed : Schema → List ℕ → Table → Type 0
+HasNamed schema name table = (at : ℕ) × HasTable schema name at table
+
+-- no two tables, ours or others, have one tree
+abbrev pub HaveOwnTrees : Schema → Type 0
+HaveOwnTrees schema = IsAscending (λ a b. a.tree ≡ b.tree → ⊥) schema.tables
+
+-- where the store put each table
+pub record ProjectTrees : Type 0 where
+  pub project : ℕ
+  pub workunit : ℕ
+  pub result : ℕ
+  pub grant : ℕ
+  pub host : ℕ
+  pub archived : ℕ
+  pub import : ℕ
+
+-- all seven are there, beside whatever else
+pub record HasTables (schema : Schema) (trees : ProjectTrees) : Type 0 where
+  pub project : HasNamed schema (codes "project") (project_at trees.project)
+  pub workunit : HasNamed schema (codes "workunit") (workunit_at trees.workunit)
+  pub result : HasNamed schema (codes "result") (result_at trees.result)
+  pub grant : HasNamed schema (codes "credit_grant") (grant_at trees.grant)
+  pub host : HasNamed schema (codes "host") (host_at trees.host)
+  pub archived : HasNamed schema (codes "archived") (archived_at trees.archived)
+  pub import : HasNamed schema (codes "import") (import_at trees.import)
+  pub apart : HaveOwnTrees schema
+  -- each unique index on the names of hosts alone compares their bytes
+  pub by_bytes : (i : Index) → Has schema.indexes i → guards i (host_at trees.host) ≡ true → i.columns ≡ 1 ∷ [] → (first_key i.order).collation ≡ Binary

@@ -1,0 +1,381 @@
+//! A project over two files in memory, where the calls on one of them stop, after each number of calls in turn.
+//!
+//! An open of what is left finds all of the adoption or of the batch, or nothing of it.
+
+use crate::setting::{adopted, answers, batch, imports, says, shows};
+use sqlite::{Alter, Connection, FileStore, Files, Options};
+use sqlite_disk::{Crash, Disk, Fuse, Memory};
+use std::process::Abort;
+use wu_core::Fault;
+use wu_drive::Project;
+
+/// The file whose calls stop.
+#[derive(Clone, Copy, Drop)]
+enum Side {
+    Log,
+    Database,
+}
+
+/// What is left of the files: all that was written, or only what was synced.
+#[derive(Clone, Copy, Drop)]
+enum Loss {
+    Nothing,
+    Unsynced,
+}
+
+/// What is asked of the files: to adopt an empty database, or to run the batch over a fresh project.
+#[derive(Clone, Copy, Drop, PartialEq, Eq)]
+enum Task {
+    Adopt,
+    Batch,
+}
+
+/// More calls than any run makes on a file.
+const MOST_CALLS: u64 = 1000;
+
+/// The jobs file of the batch.
+const TWO_JOBS: &[u8] = b"name,input\njob_1,00ff\njob_2,\n";
+
+/// What the batch prints.
+const TWO_ADDED: &str = "batch b: 2 added, first 1\n";
+
+/// The view of the two workunits.
+const TWO_WORKUNITS: &str =
+    "1 job_1 input=2 quorum=2 target=2 max_error=3 max_total=10 max_success=6 delay=604800 credit=1 mask=0 canonical=- assimilate=INIT delete=INIT done=-\n2 job_2 input=0 quorum=2 target=2 max_error=3 max_total=10 max_success=6 delay=604800 credit=1 mask=0 canonical=- assimilate=INIT delete=INIT done=-\n";
+
+/// What each table holds: a query, its answer in a fresh project, and its answer after the batch.
+const TABLES: [(&str, i64, i64); 13] = [
+    (
+        "SELECT count(*) FROM sqlite_schema WHERE type = 'table'",
+        7,
+        7,
+    ),
+    ("SELECT count(*) FROM project", 1, 1),
+    ("SELECT version FROM project", 1, 1),
+    ("SELECT next_number FROM project", 1, 3),
+    ("SELECT count(*) FROM workunit", 0, 2),
+    (
+        "SELECT count(*) FROM workunit WHERE number = 1 AND name = 'job_1' AND input = x'00ff' AND min_quorum = 2 AND target_nresults = 2 AND max_error_results = 3 AND max_total_results = 10 AND max_success_results = 6 AND delay_bound = 604800 AND credit = 1 AND error_mask = 0 AND canonical IS NULL AND assimilate = 0 AND file_delete = 0 AND done_at IS NULL",
+        0,
+        1,
+    ),
+    (
+        "SELECT count(*) FROM workunit WHERE number = 2 AND name = 'job_2' AND input = x'' AND min_quorum = 2 AND target_nresults = 2 AND max_error_results = 3 AND max_total_results = 10 AND max_success_results = 6 AND delay_bound = 604800 AND credit = 1 AND error_mask = 0 AND canonical IS NULL AND assimilate = 0 AND file_delete = 0 AND done_at IS NULL",
+        0,
+        1,
+    ),
+    ("SELECT count(*) FROM import", 0, 1),
+    (
+        "SELECT count(*) FROM import WHERE kind = 1 AND name = 'b' AND template = x'' AND content = x'6e616d652c696e7075740a6a6f625f312c303066660a6a6f625f322c0a' AND first_number = 1 AND verdicts = '00'",
+        0,
+        1,
+    ),
+    ("SELECT count(*) FROM result", 0, 0),
+    ("SELECT count(*) FROM credit_grant", 0, 0),
+    ("SELECT count(*) FROM host", 0, 0),
+    ("SELECT count(*) FROM archived", 0, 0),
+];
+
+/// Sees that each table is that of a fresh project, or else that of the project after the batch.
+fn has_tables<S: Alter>(rt: &impl Abort, conn: &mut Connection<S>, is_fresh: bool) {
+    for (sql, before, after) in TABLES {
+        answers(rt, conn, sql, if is_fresh { before } else { after });
+    }
+}
+
+/// The number that a query of a test answers.
+fn number<S: Alter>(rt: &impl Abort, conn: &mut Connection<S>, sql: &str) -> i64 {
+    let row = conn.query_row(sql, &[]).expect(rt, "a row");
+    row.get(0).expect(rt, "a number")
+}
+
+/// Whether the batch is answered with `Ok`. Else the fault is `Broken`, and the session has ended.
+fn runs_batch<S: Alter>(rt: &(impl Abort + AllocGlobal), project: &mut Project<S>) -> bool {
+    let command = batch(rt, "b", b"", TWO_JOBS);
+    match project.run(rt.alloc(), &command) {
+        Ok(_) => {
+            assert!(rt; !project.ended());
+            true
+        }
+        Err(fault) => {
+            assert_eq!(rt; fault, Fault::Broken);
+            assert!(rt; project.ended());
+            says(rt, project, "b", b"", TWO_JOBS, "F16 Ended");
+            false
+        }
+    }
+}
+
+/// Whether the task is answered with `Ok`. Else the fault is `Broken`.
+fn does<S: Alter>(
+    rt: &(impl Abort + AllocGlobal),
+    conn: Connection<S>,
+    task: Task,
+) -> (Connection<S>, bool) {
+    match Project::adopt(conn) {
+        Ok(mut project) => {
+            let was_done = task == Task::Adopt || runs_batch(rt, &mut project);
+            (project.release(), was_done)
+        }
+        Err((conn, fault)) => {
+            assert_eq!(rt; fault, Fault::Broken);
+            (conn, false)
+        }
+    }
+}
+
+/// Sees that there is a fresh project, or nothing at all, which an `Ok` of the adoption excludes.
+fn finds_fresh_or_nothing<S: Alter>(rt: &impl Abort, conn: &mut Connection<S>, was_done: bool) {
+    if number(rt, conn, "SELECT count(*) FROM sqlite_schema") == 0 {
+        assert!(rt; !was_done);
+    } else {
+        has_tables(rt, conn, true);
+    }
+}
+
+/// Sees that there is a fresh project, which an `Ok` of the batch excludes, or the project after the batch.
+fn finds_before_or_after<S: Alter>(rt: &impl Abort, conn: &mut Connection<S>, was_done: bool) {
+    let is_fresh = number(rt, conn, "SELECT count(*) FROM workunit") == 0;
+    assert!(rt; !was_done || !is_fresh);
+    has_tables(rt, conn, is_fresh);
+}
+
+/// Sees that the batch gets its first answer, and that the tables are then those after it.
+fn imports_two<S: Alter + Drop>(rt: &(impl Abort + AllocGlobal), mut project: Project<S>) {
+    imports(rt, &mut project, "b", TWO_JOBS, TWO_ADDED);
+    shows(rt, &mut project, TWO_WORKUNITS);
+    let mut conn = project.release();
+    has_tables(rt, &mut conn, false);
+}
+
+/// Sees what an adoption left, and that the project is adopted, shows no workunit and takes the batch.
+fn recovers_adoption<S: Alter + Drop>(
+    rt: &(impl Abort + AllocGlobal),
+    mut conn: Connection<S>,
+    was_done: bool,
+) {
+    finds_fresh_or_nothing(rt, &mut conn, was_done);
+    let mut project = adopted(rt, conn);
+    shows(rt, &mut project, "");
+    imports_two(rt, project);
+}
+
+/// Sees what a batch left, and that the project is adopted and answers the same batch as at first.
+fn recovers_batch<S: Alter + Drop>(
+    rt: &(impl Abort + AllocGlobal),
+    mut conn: Connection<S>,
+    was_done: bool,
+) {
+    finds_before_or_after(rt, &mut conn, was_done);
+    imports_two(rt, adopted(rt, conn));
+}
+
+/// Sees that the task is done or not begun, and that the project goes on from there.
+fn recovers<S: Alter + Drop>(
+    rt: &(impl Abort + AllocGlobal),
+    conn: Connection<S>,
+    task: Task,
+    was_done: bool,
+) {
+    match task {
+        Task::Adopt => recovers_adoption(rt, conn, was_done),
+        Task::Batch => recovers_batch(rt, conn, was_done),
+    }
+}
+
+/// The two files, where the calls on this one stop after so many.
+fn fused(log: Memory, db: Memory, side: Side, calls: u64) -> Files<Fuse<Memory>> {
+    let (log_calls, db_calls) = match side {
+        Side::Log => (calls, u64::MAX),
+        Side::Database => (u64::MAX, calls),
+    };
+    Files {
+        log: Fuse::new(log, log_calls),
+        db: Fuse::new(db, db_calls),
+    }
+}
+
+/// A synced file of the same bytes.
+fn copied(rt: &(impl Abort + AllocGlobal), file: &Fuse<Memory>) -> Memory {
+    let mut copy = Memory::new(rt.alloc());
+    copy.write_at(0, file.inner().bytes()).expect(rt, "a write");
+    copy.sync().expect(rt, "a sync");
+    copy
+}
+
+/// Copies of the two files, where the calls on this one stop after so many.
+fn copies(
+    rt: &(impl Abort + AllocGlobal),
+    files: &Files<Fuse<Memory>>,
+    side: Side,
+    calls: u64,
+) -> Files<Fuse<Memory>> {
+    fused(copied(rt, &files.log), copied(rt, &files.db), side, calls)
+}
+
+/// What is left of the files, where no call stops.
+fn remains(
+    rt: &(impl Abort + AllocGlobal),
+    mut files: Files<Fuse<Memory>>,
+    loss: Loss,
+) -> Files<Fuse<Memory>> {
+    match loss {
+        Loss::Nothing => copies(rt, &files, Side::Log, u64::MAX),
+        Loss::Unsynced => {
+            files.log.crash();
+            files.db.crash();
+            files
+        }
+    }
+}
+
+/// A connection over the files, or the files where their calls stop.
+fn opened(
+    rt: &(impl Abort + AllocGlobal),
+    files: Files<Fuse<Memory>>,
+) -> Result<Connection<FileStore<Fuse<Memory>>>, Files<Fuse<Memory>>> {
+    assert!(rt; files.may_be_used());
+    match Connection::open_files(rt.alloc(), files, Options::new(1)) {
+        Ok(conn) => Ok(conn),
+        Err((_, left)) => Err(left.into_files()),
+    }
+}
+
+/// The files that a run gave back, and how far it came.
+#[derive(Drop)]
+struct Left {
+    files: Files<Fuse<Memory>>,
+    /// Whether the task was answered with `Ok`.
+    was_done: bool,
+    /// Whether the close was answered with `Ok`.
+    was_closed: bool,
+}
+
+/// Closes a connection as far as its files let it.
+fn closed(conn: Connection<FileStore<Fuse<Memory>>>, was_done: bool) -> Left {
+    match conn.close_files() {
+        Ok(files) => Left {
+            files,
+            was_done,
+            was_closed: true,
+        },
+        Err((_, store)) => Left {
+            files: store.close(),
+            was_done,
+            was_closed: false,
+        },
+    }
+}
+
+/// Does the task, and closes as far as the files let it.
+fn does_and_closes(
+    rt: &(impl Abort + AllocGlobal),
+    conn: Connection<FileStore<Fuse<Memory>>>,
+    task: Task,
+) -> Left {
+    let (conn, was_done) = does(rt, conn, task);
+    closed(conn, was_done)
+}
+
+/// Opens the files, does the task, and closes, as far as the files let it.
+fn does_over(rt: &(impl Abort + AllocGlobal), files: Files<Fuse<Memory>>, task: Task) -> Left {
+    match opened(rt, files) {
+        Ok(conn) => does_and_closes(rt, conn, task),
+        Err(files) => Left {
+            files,
+            was_done: false,
+            was_closed: false,
+        },
+    }
+}
+
+/// Whether the calls on a file have stopped.
+fn is_blown(file: &mut Fuse<Memory>) -> bool {
+    !file.may_be_used() || file.len().is_err()
+}
+
+/// Whether the calls on either file have stopped. If not, each step was answered with `Ok`.
+fn was_stopped(rt: &impl Abort, left: &mut Left) -> bool {
+    let is_stopped = is_blown(&mut left.files.log) || is_blown(&mut left.files.db);
+    assert!(rt; is_stopped || left.was_done && left.was_closed);
+    is_stopped
+}
+
+/// A connection over the files, whose calls do not stop.
+fn reopened(
+    rt: &(impl Abort + AllocGlobal),
+    files: Files<Fuse<Memory>>,
+) -> Connection<FileStore<Fuse<Memory>>> {
+    opened(rt, files).ok().expect(rt, "an open")
+}
+
+/// Does the task over the files until their calls stop, and recovers from it. Whether the calls stopped.
+fn stops(
+    rt: &(impl Abort + AllocGlobal),
+    files: Files<Fuse<Memory>>,
+    task: Task,
+    loss: Loss,
+) -> bool {
+    let mut left = does_over(rt, files, task);
+    let is_stopped = was_stopped(rt, &mut left);
+    let Left {
+        files,
+        was_done,
+        was_closed: _,
+    } = left;
+    let conn = reopened(rt, remains(rt, files, loss));
+    recovers(rt, conn, task, was_done);
+    is_stopped
+}
+
+/// Stops the task over copies of the files after each number of calls, up to one that it does not reach.
+fn stops_each(
+    rt: &(impl Abort + AllocGlobal),
+    files: &Files<Fuse<Memory>>,
+    task: Task,
+    side: Side,
+    loss: Loss,
+) {
+    for calls in 0..MOST_CALLS {
+        if !stops(rt, copies(rt, files, side, calls), task, loss) {
+            assert!(rt; calls > 10);
+            return;
+        }
+    }
+    panic!(rt; "the calls go on");
+}
+
+/// Stops the task at each file in turn, with each loss.
+fn stops_everywhere(rt: &(impl Abort + AllocGlobal), files: &Files<Fuse<Memory>>, task: Task) {
+    for loss in [Loss::Nothing, Loss::Unsynced] {
+        stops_each(rt, files, task, Side::Log, loss);
+        stops_each(rt, files, task, Side::Database, loss);
+    }
+}
+
+/// Two empty files.
+fn empty_files(rt: &(impl Abort + AllocGlobal)) -> Files<Fuse<Memory>> {
+    fused(
+        Memory::new(rt.alloc()),
+        Memory::new(rt.alloc()),
+        Side::Log,
+        u64::MAX,
+    )
+}
+
+/// The files of a fresh project.
+fn fresh_files(rt: &(impl Abort + AllocGlobal)) -> Files<Fuse<Memory>> {
+    let left = does_over(rt, empty_files(rt), Task::Adopt);
+    assert!(rt; left.was_done && left.was_closed);
+    left.files
+}
+
+#[test]
+fn a_stopped_adoption_is_whole_or_absent(rt: HostRuntime) {
+    stops_everywhere(&rt, &empty_files(&rt), Task::Adopt);
+}
+
+#[test]
+fn a_stopped_batch_is_whole_or_absent(rt: HostRuntime) {
+    stops_everywhere(&rt, &fresh_files(&rt), Task::Batch);
+}
