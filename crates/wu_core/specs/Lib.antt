@@ -1,5 +1,6 @@
 pub mod Codes
 pub mod Formed
+pub mod Hosts
 pub mod Limits
 pub mod Mask
 pub mod Names

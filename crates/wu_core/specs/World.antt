@@ -1,9 +1,11 @@
 -- The world: what a project holds, apart from any tables.
-use Rattle.std.specs.Prelude.{ℕ, List, []}
+use Rattle.std.specs.Prelude.{ℕ, ◌==◌, Bool, ◌&&◌, List, [], bytes_eq}
 use Rattle.wu_core.specs.declared.workunit.Workunit.{Workunit}
 use Rattle.wu_core.specs.declared.workunit.Grant.{Grant}
 use Rattle.wu_core.specs.declared.workunit.Archived.{Archived}
 use Rattle.wu_core.specs.declared.import.ImportKind.{ImportKind}
+use Rattle.wu_core.specs.declared.import.ImportKind.TheVariants as kind
+use Rattle.wu_core.specs.Codes.{import_kind_code}
 
 -- what is kept for good of an imported file: its content, and its first answer
 pub record Import : Type 0 where
@@ -15,6 +17,16 @@ pub record Import : Type 0 where
   pub first_number : ℕ
   -- one for each row: 0 where it was applied, else the number of the skip
   pub verdicts : List ℕ
+
+-- whether an import is the one of this kind and name
+abbrev pub is_import : ImportKind → List ℕ → Import → Bool
+is_import kind name import = import_kind_code import.kind == import_kind_code kind && bytes_eq import.name name
+
+-- the greatest number of a skip
+abbrev pub last_skip : ImportKind → ℕ
+last_skip kind.Batch = 0
+last_skip kind.Sent = 3
+last_skip kind.Reported = 5
 
 -- workunits in order of number, grants and archived rows in order of their making, imports in order of their first coming
 pub record World : Type 0 where

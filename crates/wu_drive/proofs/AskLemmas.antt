@@ -13,11 +13,10 @@ use Rattle.wu_core.specs.declared.fault.Fault.{Fault}
 use Rattle.wu_core.specs.declared.import.ImportKind.{ImportKind}
 use Rattle.wu_core.specs.declared.workunit.Archived.{Archived}
 use Rattle.wu_core.specs.declared.workunit.Workunit.{Workunit}
-use Rattle.wu_core.specs.World.{World, Import}
+use Rattle.wu_core.specs.World.{World, Import, is_import}
 use Rattle.wu_rules.proofs.Lists.{any-map, enumerate_from-append}
 use Rattle.wu_schema.specs.Answers.{has_name, kept_of, was_archived}
 use Rattle.wu_schema.specs.Reading.{IsNextNumber, IsStoredImport, Restores, stored_import_row}
-use Rattle.wu_schema.specs.StandsFor.{is_import}
 use Rattle.wu_schema.specs.Stored.{kept_cells, number, verdict_digits}
 use Rattle.wu_schema.specs.declared.rows.StoredImport.{StoredImport}
 use Rattle.wu_schema.proofs.ReadingLemmas.{same_verdicts}

@@ -12,7 +12,7 @@ use Rattle.wu_core.specs.declared.fault.Fault.TheVariants.{Memory, NameUsed, Too
 use Rattle.wu_core.specs.declared.workunit.Workunit.{Workunit}
 use Rattle.wu_core.specs.Limits.{most_workunits}
 use Rattle.wu_core.specs.Parameters.{Parameters}
-use Rattle.wu_core.specs.World.{World, Import}
+use Rattle.wu_core.specs.World.{World, Import, is_import}
 use Rattle.wu_feed.specs.declared.jobs.Job.{Job}
 use Rattle.wu_feed.specs.Jobs.{jobs_of_file}
 use Rattle.wu_feed.specs.Templates.{template_of}
@@ -21,7 +21,6 @@ use Rattle.wu_schema.specs.Stored.{verdict_digits}
 use Rattle.wu_core.specs.declared.import.ImportKind.{ImportKind}
 use Rattle.wu_core.specs.declared.import.ImportKind.TheVariants as kind
 use Rattle.wu_core.specs.Codes.{import_kind_code}
-use Rattle.wu_schema.specs.StandsFor.{is_import}
 use Rattle.wu_schema.specs.declared.rows.StoredImport.{StoredImport}
 use Rattle.wu_drive.specs.declared.command.Answer.TheVariants as answer
 use Rattle.wu_drive.specs.Batches.{all_applied, first_number, first_taken, new_workunit, unless_taken, with_jobs}

@@ -1,10 +1,11 @@
 -- From command to command of a list.
-use Rattle.std.proofs.Common.{◌≡◌, ℕ, ◌+◌, ◌<◌, ◌≤◌, Bool, true, false, List, [], ◌∷◌, ◌++◌, length, get_or, map, take, Some, Ok, Err, refl, sym, ap, subst, ◌∙◌, arith}
+use Rattle.std.proofs.Common.{◌≡◌, ◌⊎◌, inl, inr, ℕ, ◌+◌, ◌<◌, ◌≤◌, Bool, true, false, List, [], ◌∷◌, ◌++◌, length, get_or, map, take, Option, Some, Ok, Err, refl, sym, ap, subst, ◌∙◌, arith}
 use Rattle.std.proofs.lemmas.List.{map-append, take_more}
 use Rattle.std.proofs.lemmas.Option.{slice_get-get_or}
 use Rattle.std.specs.Prelude.{slice_get}
 use Rattle.sqlite.specs.State.{State}
 use Rattle.wu_core.specs.declared.fault.Fault.{Fault}
+use Rattle.wu_core.specs.declared.fault.Fault.TheVariants.{Output}
 use Rattle.wu_core.specs.World.{World}
 use Rattle.wu_drive.specs.declared.command.Answer.{Answer}
 use Rattle.wu_drive.specs.declared.command.Command.{Command}
@@ -12,13 +13,13 @@ use Rattle.wu_drive.specs.declared.command.Command.TheVariants as command
 use Rattle.wu_drive.specs.declared.runs.Run.{Run}
 use Rattle.wu_drive.specs.Driving.{AnswerAll, Drives, IsDriving, world_after}
 use Rattle.wu_drive.specs.Machine.{fold_steps, reply, step}
-use Rattle.wu_drive.specs.Planning.{IsProject, request_of}
+use Rattle.wu_drive.specs.Planning.{IsProject, IsStoreFault, request_of}
 use Rattle.wu_drive.specs.Requests.{Request}
 use Rattle.wu_drive.specs.Standing.{GoesOn, Runs, Stands}
 use Rattle.wu_drive.specs.Writing.{reply_of_answer}
 use Rattle.wu_drive.proofs.BatchLemmas.{keeps_project}
 
-fold_more : (world : World) (requests : List Request) (one : Request) → fold_steps world (requests ++ one ∷ []) ≡ step (fold_steps world requests) one
+pub fold_more : (world : World) (requests : List Request) (one : Request) → fold_steps world (requests ++ one ∷ []) ≡ step (fold_steps world requests) one
 fold_more world [] one = refl
 fold_more world (first ∷ more) one = fold_more (step world first) more one
 
@@ -37,6 +38,13 @@ next_world world commands i command d low there =
 
 keeps_by : (world : World) (command : Command) → IsProject world → IsProject (step world (request_of command))
 keeps_by world (command.Batch name template file) project = keeps_project world project name template file
+
+pub keeps_all : (world : World) (commands : List Command) → IsProject world → IsProject (fold_steps world (map request_of commands))
+keeps_all world [] project = project
+keeps_all world (command ∷ more) project = keeps_all (step world (request_of command)) more (keeps_by world command project)
+
+pub one_fault : (a b : Fault) → ◌≡◌ {A = Option Fault} (Some a) (Some b) → a ≡ b
+one_fault a b same = cc
 
 there_is : {X : Type 0} (xs : List X) (i : ℕ) (x d : X) → i < length xs → get_or xs i d ≡ x → slice_get xs i ≡ Some x
 there_is xs i x d low there = slice_get-get_or xs i d low ∙ ap (λ y. Some y) there
@@ -57,21 +65,25 @@ module _ (world : World) (commands : List Command) (answers : List Answer) (i : 
         project = subst (λ w. IsProject w) (sym next) (keeps_by (world_after world commands i) command driving.project);
       }
 
-  pub drives_cut : (fault : Fault) (is : Bool) (new : State) (run : Run) → run.acknowledged ≡ i → Runs (world_after world commands i) (request_of command) is new (Err fault)
+  pub drives_cut : (fault : Fault) (is : Bool) (new : State) (run : Run) → run.acknowledged ≡ i → run.end ≡ Some fault → Runs (world_after world commands i) (request_of command) is new (Err fault)
       → Drives world commands answers run is new
-  drives_cut fault is new run count (told, stands) = subst (λ k. Drives world commands answers (record run { acknowledged = k }) is new) (sym count) (record {
+  drives_cut fault is new run count end (told, stands) = subst (λ k. Drives world commands answers (record run { acknowledged = k }) is new) (sym count) (record {
     within = omega (arith, low);
     answered = driving.answered;
+    end = λ other told_so.
+        let same : fault ≡ other = one_fault fault other (sym end ∙ told_so) in
+        inl (command, there_is commands i command d low there, subst (λ f. (reply (world_after world commands i) (request_of command) ≡ Err f) ⊎ IsStoreFault f) same told);
     goes = λ going. subst (λ b. Stands b new (world_after world commands i) (request_of command)) going stands;
     ended = λ ended. (command, there_is commands i command d low there, subst (λ b. Stands b new (world_after world commands i) (request_of command)) ended stands);
   })
 
--- between two commands
+-- between two commands: the list has ended, or a text was not written
 pub drives_so_far : (world : World) (commands : List Command) (answers : List Answer) (i : ℕ) (is : Bool) (s : State) (run : Run) → i ≤ length commands → run.acknowledged ≡ i
-    → IsDriving world commands answers i is s → Drives world commands answers run is s
-drives_so_far world commands answers i is s run within count driving = subst (λ k. Drives world commands answers (record run { acknowledged = k }) is s) (sym count) (record {
+    → ((fault : Fault) → run.end ≡ Some fault → (fault ≡ Output) × (1 ≤ i)) → IsDriving world commands answers i is s → Drives world commands answers run is s
+drives_so_far world commands answers i is s run within count end driving = subst (λ k. Drives world commands answers (record run { acknowledged = k }) is s) (sym count) (record {
   within = within;
   answered = driving.answered;
+  end = λ fault told. inr (end fault told);
   goes = λ going. driving.goes;
   ended = λ ended. absurd (let no : false ≡ true = sym driving.going ∙ ended in cc);
 })

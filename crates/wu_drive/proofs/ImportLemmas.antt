@@ -12,7 +12,7 @@ use Rattle.wu_core.specs.declared.workunit.Workunit.{Workunit}
 use Rattle.wu_core.specs.Codes.{import_kind_code}
 use Rattle.wu_core.specs.Limits.{most_workunits}
 use Rattle.wu_core.specs.Parameters.{Parameters}
-use Rattle.wu_core.specs.World.{World, Import}
+use Rattle.wu_core.specs.World.{World, Import, is_import}
 use Rattle.wu_feed.specs.declared.jobs.Job.{Job}
 use Rattle.wu_feed.specs.Jobs.{jobs_of_file}
 use Rattle.wu_feed.specs.Templates.{template_of}
@@ -20,7 +20,7 @@ use Rattle.wu_drive.specs.Files.{sends_of_file, reports_of_file}
 use Rattle.wu_rules.specs.Counts.{is_undecided}
 use Rattle.wu_rules.specs.Cancelling.{cancelled}
 use Rattle.wu_drive.specs.Batches.{jobs_added, unless_taken, first_taken, with_jobs, first_number, all_applied}
-use Rattle.wu_drive.specs.Imports.{Done, Given, batch_given, sent_given, reported_given, is_import_of, import_of, has_content, first_answer, kept_import, keeping, jobs_kept, batch_read, sends_read, reports_read, newly_imported, imported_after, imported}
+use Rattle.wu_drive.specs.Imports.{Done, Given, batch_given, sent_given, reported_given, import_of, has_content, first_answer, kept_import, keeping, jobs_kept, batch_read, sends_read, reports_read, newly_imported, imported_after, imported}
 use Rattle.wu_drive.specs.Laws.{AnswersAgain, ImportsActOnce}
 use Rattle.wu_drive.specs.Machine.{present_version, is_limit_right, cancel_done, done_now, is_upgrade, done, reply_of, world_of, step, fold_steps}
 use Rattle.wu_drive.specs.Passes.{passed, handled}
@@ -195,9 +195,9 @@ kept_stays : (world after : World) (given : Given) (answer : Reply) → IsKept w
 kept_stays world after given answer kept stays = record {
   import = kept.import;
   found =
-      ap (λ (l : List Import). find (is_import_of given) l) stays.imports
-      ∙ find-append (is_import_of given) world.imports stays.more
-      ∙ ap (λ (o : Option Import). option_or o (find (is_import_of given) stays.more)) kept.found;
+      ap (λ (l : List Import). find (is_import given.kind given.name) l) stays.imports
+      ∙ find-append (is_import given.kind given.name) world.imports stays.more
+      ∙ ap (λ (o : Option Import). option_or o (find (is_import given.kind given.name) stays.more)) kept.found;
   content = kept.content;
   answered = kept.answered;
   version = stays.version kept.version;
@@ -211,18 +211,18 @@ both true b x y = y
 both false b x y = x
 
 -- what is kept is found by what it was given as, with its content
-kept_is_of : (given : Given) (first : ℕ) (verdicts : List ℕ) → is_import_of given (kept_import given first verdicts) ≡ true
+kept_is_of : (given : Given) (first : ℕ) (verdicts : List ℕ) → is_import given.kind given.name (kept_import given first verdicts) ≡ true
 kept_is_of given first verdicts = both _ _ (eq-eqb (import_kind_code given.kind) (import_kind_code given.kind) refl) (same_bytes given.name)
 
 kept_has_content : (given : Given) (first : ℕ) (verdicts : List ℕ) → has_content given (kept_import given first verdicts) ≡ true
 kept_has_content given first verdicts = both _ _ (same_bytes given.template) (same_bytes given.content)
 
 -- it is found where none was before, and after the imports that are there
-found_last : (given : Given) (imports : List Import) (one : Import) → find (is_import_of given) imports ≡ None → is_import_of given one ≡ true
-    → find (is_import_of given) (imports ++ one ∷ []) ≡ Some one
+found_last : (given : Given) (imports : List Import) (one : Import) → find (is_import given.kind given.name) imports ≡ None → is_import given.kind given.name one ≡ true
+    → find (is_import given.kind given.name) (imports ++ one ∷ []) ≡ Some one
 found_last given imports one none is =
-    find-append (is_import_of given) imports (one ∷ [])
-    ∙ ap (λ (o : Option Import). option_or o (find (is_import_of given) (one ∷ []))) none
+    find-append (is_import given.kind given.name) imports (one ∷ [])
+    ∙ ap (λ (o : Option Import). option_or o (find (is_import given.kind given.name) (one ∷ []))) none
     ∙ ap (λ (b : Bool). if b then Some one else None) is
 
 -- a result that is Ok keeps the import with its answer
@@ -236,7 +236,7 @@ keeps_new world given (Ok it) present none (after, first, verdicts, same, is) =
     subst (λ (d : Done). IsKept d.1 given d.0) (sym is) (record {
       import = kept_import given first verdicts;
       found = found_last given after.imports (kept_import given first verdicts)
-          (ap (λ (l : List Import). find (is_import_of given) l) same.imports ∙ none) (kept_is_of given first verdicts);
+          (ap (λ (l : List Import). find (is_import given.kind given.name) l) same.imports ∙ none) (kept_is_of given first verdicts);
       content = kept_has_content given first verdicts;
       answered = refl;
       version = subst (λ (v : ℕ). nat_lt v present_version ≡ false) (sym same.version) present;

@@ -6,8 +6,9 @@ mod ChangingLemmas
 mod PlanLemmas
 mod BatchLemmas
 mod AskLemmas
+mod LifeLemmas
 mod LineLemmas
 mod WritingLemmas
 mod StandingLemmas
-mod DrivingLemmas
+pub mod DrivingLemmas
 mod ViewLemmas

@@ -1,6 +1,5 @@
 -- What stands of a session after each exit of a command.
-use Rattle.std.proofs.Common.{◌≡◌, ◌⊎◌, List, Result, Ok, Err, IfErr, OnOk, IsTrue, sym, ap, subst, ◌∙◌, inl, inr, arith}
-use Rattle.std.specs.Prelude.{MatchResult}
+use Rattle.std.proofs.Common.{◌≡◌, ◌⊎◌, ◌≤◌, ℕ, List, Option, None, Some, Result, Ok, Err, IfErr, OnOk, IsTrue, sym, ap, subst, ◌∙◌, inl, inr, arith}
 use Rattle.sqlite.specs.Effect.{Database}
 use Rattle.sqlite.specs.State.{State, HasCleanDisk, IsUnchanged, Survives}
 use Rattle.wu_core.specs.declared.fault.Fault.{Fault}
@@ -8,10 +7,10 @@ use Rattle.wu_core.specs.declared.fault.Fault.TheVariants.{NotAProject}
 use Rattle.wu_core.specs.World.{World, empty_world}
 use Rattle.wu_schema.specs.Calls.{LeavesOnly, IsCreated, IsRefused, IsUndone}
 use Rattle.wu_schema.specs.Made.{IsProjectBeside}
-use Rattle.wu_schema.specs.Tables.{HaveOwnTrees}
 use Rattle.wu_schema.specs.StandsFor.{StandsFor}
+use Rattle.wu_schema.specs.Versions.{HasProject, HasVersion}
 use Rattle.wu_drive.specs.Changing.{AreDone, AreRight, FoundAs, IsAfter, made_all}
-use Rattle.wu_drive.specs.Machine.{done, reply, reply_of, step, world_of}
+use Rattle.wu_drive.specs.Machine.{done, present_version, reply, reply_of, step, world_of}
 use Rattle.wu_drive.specs.Planning.{FailsToRead, IsPlan, IsRead, IsStoreFault, Plans}
 use Rattle.wu_drive.specs.Writing.{reply_of_answer}
 use Rattle.wu_drive.specs.Requests.{Request}
@@ -81,16 +80,16 @@ plan_refused old world request result fault is goes (inl is_open) plan = refused
 plan_refused old world request result fault is goes (inr fails) plan = inr (let same : fails.0 ≡ fault = error_is fails.0 fault (sym fails.1 ∙ is) in subst (λ f. IsStoreFault f) same fails.2)
 
 -- a fresh project was made
-pub goes_created : (old new : State) → HaveOwnTrees old.now.schema → IsCreated old new → GoesOn new empty_world
-goes_created old new own created =
-    let stands = created.makes.stands own in
+pub goes_created : (old new : State) → IsCreated old new → GoesOn new empty_world
+goes_created old new created =
+    let stands = created.makes.stands in
     record { stands = λ is_open. (stands, created.committed); left = λ db may. record { database = new.now; same = sym (created.left.only db may); stands = stands } }
 
 -- none was, or a stop came first
-pub leaves_fresh : (old mid new : State) → HasCleanDisk new → HaveOwnTrees mid.now.schema → Survives old mid (λ _. ⊥) → Survives mid new (IsProjectBeside mid.now) → LeavesAlso old new empty_world
-leaves_fresh old mid new clean own read survives db may = elim (survives.crash clean db may) [
+pub leaves_fresh : (old mid new : State) → HasCleanDisk new → Survives old mid (λ _. ⊥) → Survives mid new (IsProjectBeside mid.now) → LeavesAlso old new empty_world
+leaves_fresh old mid new clean read survives db may = elim (survives.crash clean db may) [
   | inl before ↦ elim (read.crash (omega (arith, survives.clean)) db before) [ inl first ↦ inl first | inr none ↦ absurd none ]
-  | inr made ↦ inr (record { database = made.0; same = made.1; stands = made.2.stands own })
+  | inr made ↦ inr (record { database = made.0; same = made.1; stands = made.2.stands })
 ]
 
 pub keeps_unchanged : (old new : State) → HasCleanDisk new → Survives old new (λ _. ⊥) → IsUnchanged old new → KeepsAll old new
@@ -109,14 +108,39 @@ keeps_refused old mid new same whole clean survives only refused = record {
       elim (survives.crash clean db is) [ inl before ↦ before | inr none ↦ absurd none ];
 }
 
+-- a question leaves nothing more
+pub leaves_read : (old new : State) (world : World) → HasCleanDisk new → Survives old new (λ _. ⊥) → LeavesAlso old new world
+leaves_read old new world clean survives db may = elim (survives.crash clean db may) [ inl before ↦ inl before | inr none ↦ absurd none ]
+
 -- a creation over a database that a question left as it was
 module _ (old mid new : State) (clean : HasCleanDisk new) (before : HasCleanDisk mid) (same : IsUnchanged old mid) (read : Survives old mid (λ _. ⊥)) where
-  pub created_is : (r : Result (Unit {0}) Fault) → HaveOwnTrees old.now.schema → OnOk r (IsCreated mid new) → Survives mid new (IsProjectBeside mid.now)
-      → MatchResult r (λ _. GoesOn new empty_world) (λ _. LeavesAlso old new empty_world)
-  created_is (Ok x) own created survives = goes_created mid new (subst (λ (d : Database). HaveOwnTrees d.schema) (sym same.0.now_is) own) created
-  created_is (Err e) own created survives = leaves_fresh old mid new clean (subst (λ (d : Database). HaveOwnTrees d.schema) (sym same.0.now_is) own) read survives
+  pub created_is : (r : Result (Unit {0}) Fault) → OnOk r (IsCreated mid new) → OnOk r (GoesOn new empty_world)
+  created_is (Ok x) created = goes_created mid new created
+  created_is (Err e) created = tt
+
+  pub leaves_made : Survives mid new (IsProjectBeside mid.now) → LeavesAlso old new empty_world
+  leaves_made survives = leaves_fresh old mid new clean read survives
 
   pub refusal_is : (r : Result (Unit {0}) Fault) → old.committed ≡ old.now → LeavesOnly mid mid.committed.trees → IfErr r (λ fault. fault ≡ NotAProject → IsRefused mid new)
       → IfErr r (λ fault. fault ≡ NotAProject → KeepsAll old new)
   refusal_is (Ok x) whole only refused = tt
   refusal_is (Err e) whole only refused = λ is. keeps_refused old mid new same whole before read only (refused is)
+
+-- a version that was found in a table is known, or refused
+module _ (r : Result (Unit {0}) Fault) (db : Database) (found : Option ℕ) (answers : (has : HasProject db.schema) → (one : ℕ) × (found ≡ Some one) × HasVersion db has one) where
+  pub known_is : (version : ℕ) → found ≡ Some version → OnOk r (version ≤ present_version) → OnOk r ((has : HasProject db.schema) → (one : ℕ) × HasVersion db has one × (one ≤ present_version))
+  known_is version is known = go r known
+    where
+      go : (r : Result (Unit {0}) Fault) → OnOk r (version ≤ present_version) → OnOk r ((has : HasProject db.schema) → (one : ℕ) × HasVersion db has one × (one ≤ present_version))
+      go (Ok x) known = λ has.
+          let same : version ≡ (answers has).0 = let so = sym is ∙ (answers has).1 in cc in
+          ((answers has).0, (answers has).2, subst (λ n. n ≤ present_version) same known)
+      go (Err e) known = tt
+
+  -- and nothing is made there
+  pub none_known : found ≡ None → OnOk r ((has : HasProject db.schema) → (one : ℕ) × HasVersion db has one × (one ≤ present_version))
+  none_known is = go r
+    where
+      go : (r : Result (Unit {0}) Fault) → OnOk r ((has : HasProject db.schema) → (one : ℕ) × HasVersion db has one × (one ≤ present_version))
+      go (Ok x) = λ has. absurd (let so = sym is ∙ (answers has).1 in cc)
+      go (Err e) = tt

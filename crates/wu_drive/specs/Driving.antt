@@ -1,9 +1,14 @@
 -- A list of commands over a session: what was answered, and what the tables then stand for.
-use Rattle.std.specs.Prelude.{◌≡◌, ◌≤◌, ℕ, Bool, true, false, List, [], ◌∷◌, length, map, take, slice_get, Some, Ok, ⊤}
+use Rattle.std.specs.Prelude.{◌≡◌, ◌⊎◌, ◌≤◌, ℕ, Bool, true, false, List, [], ◌∷◌, ◌++◌, if◌then◌else◌, length, map, option_map, take, slice_get, Some, None, Ok, Err, ⊤}
 use Rattle.sqlite.specs.State.{State}
+use Rattle.sqlite.specs.Tree.{Trees}
+use Rattle.wu_drive.specs.Changing.{FoundAs}
+use Rattle.wu_drive.specs.Sessions.{Lived, Session, world_of_life}
 use Rattle.wu_core.specs.World.{World}
+use Rattle.wu_core.specs.declared.fault.Fault.{Fault}
+use Rattle.wu_core.specs.declared.fault.Fault.TheVariants.{Output}
 use Rattle.wu_drive.specs.Machine.{fold_steps, reply, step}
-use Rattle.wu_drive.specs.Planning.{IsProject, request_of}
+use Rattle.wu_drive.specs.Planning.{IsProject, IsStoreFault, request_of}
 use Rattle.wu_drive.specs.Standing.{GoesOn, HasEnded}
 use Rattle.wu_drive.specs.Writing.{reply_of_answer}
 use Rattle.wu_drive.specs.declared.command.Answer.{Answer}
@@ -22,11 +27,18 @@ AnswerAll world (command ∷ commands) (answer ∷ answers) =
 abbrev pub world_after : World → List Command → ℕ → World
 world_after world commands count = fold_steps world (map request_of (take count commands))
 
+-- why a run ended: the machine refused the next command, or the store failed it
+abbrev pub FailsNext : World → List Command → ℕ → Fault → Type 0
+FailsNext world commands count fault =
+    (next : Command) × (slice_get commands count ≡ Some next) × ((reply (world_after world commands count) (request_of next) ≡ Err fault) ⊎ IsStoreFault fault)
+
 -- A run acknowledges a beginning of the list, each with the machine's reply. The tables then stand for the world after
 -- that beginning; where the session ended, a stop may also leave the world after the next command, which was cut.
 pub record Drives (world : World) (commands : List Command) (answers : List Answer) (run : Run) (has_ended : Bool) (new : State) : Type 0 where
   pub within : run.acknowledged ≤ length commands
   pub answered : AnswerAll world (take run.acknowledged commands) answers
+  -- or else the text of the last command that was done could not be written
+  pub end : (fault : Fault) → run.end ≡ Some fault → FailsNext world commands run.acknowledged fault ⊎ ((fault ≡ Output) × (1 ≤ run.acknowledged))
   pub goes : has_ended ≡ false → GoesOn new (world_after world commands run.acknowledged)
   pub ended : has_ended ≡ true → (cut : Command) × (slice_get commands run.acknowledged ≡ Some cut) × HasEnded new (world_after world commands run.acknowledged) (request_of cut)
 
@@ -36,3 +48,15 @@ pub record IsDriving (world : World) (commands : List Command) (answers : List A
   pub answered : AnswerAll world (take count commands) answers
   pub goes : GoesOn new (world_after world commands count)
   pub project : IsProject (world_after world commands count)
+
+-- the session of a run: the commands that it acknowledged, and the one that was cut where the session ended
+abbrev pub session_of : List Command → Run → Bool → Session
+session_of commands run has_ended = record {
+  acknowledged = map request_of (take run.acknowledged commands);
+  cut = if has_ended then option_map request_of (slice_get commands run.acknowledged) else None;
+}
+
+-- each world that a stop may leave is that of the life lengthened by this session, its cut command in or out
+abbrev pub Lengthens : World → List Lived → Session → State → Type 0
+Lengthens start life session new =
+    (db : Trees) → new.may_leave db → (is_cut_in : Bool) × FoundAs db (world_of_life start (life ++ record { session = session; is_cut_in = is_cut_in } ∷ []))

@@ -1,12 +1,11 @@
 -- Imports: each kind and name once, its content and its first answer kept for good.
-use Rattle.std.specs.Prelude.{ℕ, ◌==◌, Bool, ◌&&◌, if◌then◌else◌, List, [], ◌∷◌, ◌++◌, find, bytes_eq, Option, Some, None, Result, Ok, Err}
+use Rattle.std.specs.Prelude.{ℕ, Bool, ◌&&◌, if◌then◌else◌, List, [], ◌∷◌, ◌++◌, find, bytes_eq, Option, Some, None, Result, Ok, Err}
 use Rattle.wu_core.specs.declared.fault.Fault.{Fault}
 use Rattle.wu_core.specs.declared.fault.Fault.TheVariants.{NameUsed}
 use Rattle.wu_core.specs.declared.import.ImportKind.{ImportKind}
 use Rattle.wu_core.specs.declared.import.ImportKind.TheVariants as kind
-use Rattle.wu_core.specs.Codes.{import_kind_code}
 use Rattle.wu_core.specs.Parameters.{Parameters}
-use Rattle.wu_core.specs.World.{World, Import}
+use Rattle.wu_core.specs.World.{World, Import, is_import}
 use Rattle.wu_feed.specs.declared.jobs.Job.{Job}
 use Rattle.wu_feed.specs.Jobs.{jobs_of_file}
 use Rattle.wu_feed.specs.Templates.{template_of}
@@ -35,12 +34,9 @@ sent_given name file = record { kind = kind.Sent; name = name; template = []; co
 abbrev pub reported_given : (name file : List ℕ) → Given
 reported_given name file = record { kind = kind.Reported; name = name; template = []; content = file }
 
-abbrev pub is_import_of : Given → Import → Bool
-is_import_of given import = import_kind_code import.kind == import_kind_code given.kind && bytes_eq import.name given.name
-
 -- the import of this kind and name, if there was one
 abbrev pub import_of : World → Given → Option Import
-import_of world given = find (is_import_of given) world.imports
+import_of world given = find (is_import given.kind given.name) world.imports
 
 abbrev pub has_content : Given → Import → Bool
 has_content given import = bytes_eq import.template given.template && bytes_eq import.content given.content

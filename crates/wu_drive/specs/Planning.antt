@@ -5,12 +5,11 @@ use Rattle.sqlite.specs.State.{State, HasCleanDisk, Survives}
 use Rattle.wu_core.specs.declared.fault.Fault.{Fault}
 use Rattle.wu_core.specs.declared.fault.Fault.TheVariants.{Memory, Broken, NotAProject, WorkunitUsed}
 use Rattle.wu_core.specs.Parameters.{Parameters}
-use Rattle.wu_core.specs.World.{World, Import}
+use Rattle.wu_core.specs.World.{World, Import, is_import}
 use Rattle.wu_feed.specs.declared.jobs.Job.{Job}
 use Rattle.wu_core.specs.declared.import.ImportKind.TheVariants as kind
 use Rattle.wu_schema.specs.Calls.{IsBack}
 use Rattle.wu_schema.specs.Changes.{IsAbove}
-use Rattle.wu_schema.specs.StandsFor.{is_import}
 use Rattle.wu_schema.specs.declared.rows.StoredImport.{StoredImport}
 use Rattle.wu_schema.specs.Stored.{verdict_digits}
 use Rattle.wu_drive.specs.declared.batch.Plan.{Plan}

@@ -4,15 +4,13 @@ use Rattle.std.specs.List.{list_any}
 use Rattle.wu_core.specs.declared.workunit.Instance.{Instance}
 use Rattle.wu_core.specs.declared.workunit.Workunit.{Workunit}
 use Rattle.wu_core.specs.declared.workunit.Grant.{Grant}
-use Rattle.wu_core.specs.declared.import.ImportKind.{ImportKind}
-use Rattle.wu_core.specs.declared.import.ImportKind.TheVariants as kind
 use Rattle.wu_core.specs.declared.states.ServerState.TheVariants as server
 use Rattle.wu_core.specs.declared.states.Outcome.TheVariants as outcome
 use Rattle.wu_core.specs.declared.states.ValidateState.TheVariants as validate
 use Rattle.wu_core.specs.declared.states.Assimilate.TheVariants as assimilate
 use Rattle.wu_core.specs.declared.states.FileDelete.TheVariants as file_delete
 use Rattle.wu_core.specs.Formed.{IsWorkunit}
-use Rattle.wu_core.specs.World.{World}
+use Rattle.wu_core.specs.World.{World, last_skip}
 use Rattle.wu_rules.specs.Instances.{is_success, is_unsent}
 use Rattle.wu_rules.specs.Counts.{is_clear}
 use Rattle.wu_drive.specs.Machine.{step}
@@ -65,12 +63,6 @@ pub record IsRecorded (world : World) (w : Workunit) : Type 0 where
 -- a number that was given to a workunit
 abbrev pub IsGiven : World → ℕ → Type 0
 IsGiven world number = (1 ≤ number) × (number < world.next_number)
-
--- the greatest number of a skip
-abbrev pub last_skip : ImportKind → ℕ
-last_skip kind.Batch = 0
-last_skip kind.Sent = 3
-last_skip kind.Reported = 5
 
 pub record IsSound (world : World) : Type 0 where
   pub next_number : (1 ≤ world.next_number) × (world.next_number ≤ 1000000001)

@@ -1,12 +1,12 @@
 -- A session over its tables: what they stand for, and what a stop may leave.
-use Rattle.std.specs.Prelude.{◌≡◌, ◌⊎◌, ◌<◌, codes, Bool, true, false, IsTrue, Result, Ok, Err, MatchResult}
+use Rattle.std.specs.Prelude.{◌≡◌, ◌⊎◌, ◌<◌, Bool, true, false, IsTrue, Result, Ok, Err, MatchResult}
 use Rattle.sqlite.specs.State.{State}
 use Rattle.sqlite.specs.Tree.{Trees}
 use Rattle.wu_core.specs.declared.fault.Fault.{Fault}
 use Rattle.wu_core.specs.declared.fault.Fault.TheVariants.{Memory, Broken, NewSchema}
 use Rattle.wu_core.specs.World.{World}
-use Rattle.wu_schema.specs.Tables.{HaveOwnTrees}
-use Rattle.wu_schema.specs.StandsFor.{IsFree, StandsFor}
+use Rattle.wu_schema.specs.StandsFor.{StandsFor}
+use Rattle.wu_schema.specs.Versions.{LacksProject}
 use Rattle.wu_drive.specs.declared.command.Answer.{Answer}
 use Rattle.wu_drive.specs.Changing.{FoundAs}
 use Rattle.wu_drive.specs.Machine.{present_version, reply, step}
@@ -41,10 +41,9 @@ Runs world request has_ended new result =
 abbrev pub MayEnd : Fault → Type 0
 MayEnd fault = (fault ≡ Memory) ⊎ (fault ≡ Broken)
 
--- no project is there: its name is free, and no two tables have one tree
-pub record IsVacant (s : State) : Type 0 where
-  pub free : IsFree s.now.schema (codes "project")
-  pub own_trees : HaveOwnTrees s.now.schema
+-- no project is there: nothing has its name, or what has it lacks a column
+abbrev pub IsVacant : State → Type 0
+IsVacant s = LacksProject s.now.schema
 
 -- a stop leaves what it left before, or tables that stand for this world
 abbrev pub LeavesAlso : State → State → World → Type 0

@@ -1,9 +1,7 @@
 -- The texts that are printed, as functions of values. Each line ends with a line feed.
-use Rattle.std.specs.Prelude.{ℕ, ◌+◌, ◌-◌, ◌/◌, ◌%◌, ◌==◌, if◌then◌else◌, pos, int_le, List, [], ◌∷◌, ◌++◌, length, map, flat_map, sum_by, count_by, codes, bytes_eq, unsigned_abs, Option, Some, None}
-use Rattle.std.specs.Cmp.Lexicographic.{slice_cmp}
+use Rattle.std.specs.Prelude.{ℕ, ◌+◌, ◌-◌, ◌/◌, ◌%◌, ◌==◌, if◌then◌else◌, pos, int_le, List, [], ◌∷◌, ◌++◌, length, flat_map, sum_by, count_by, codes, unsigned_abs, Option, Some, None}
 use Rattle.std.specs.Fmt.{decimal}
 use Rattle.std.specs.List.{enumerate_from, range_with_len}
-use Rattle.std.specs.Ordering.{nat_cmp, match_ordering}
 use Rattle.hex.specs.Hex.{encode_lower}
 use Rattle.jiff_core.specs.Calendar.{days_from_civil}
 use Rattle.wu_core.specs.declared.fault.Fault.{Fault}
@@ -13,12 +11,12 @@ use Rattle.wu_core.specs.declared.import.ImportKind.TheVariants as kind
 use Rattle.wu_core.specs.declared.workunit.Workunit.{Workunit}
 use Rattle.wu_core.specs.declared.workunit.Instance.{Instance}
 use Rattle.wu_core.specs.declared.workunit.Archived.{Archived}
+use Rattle.wu_core.specs.Hosts.{credit_of, grants_of, hosts_of}
 use Rattle.wu_core.specs.Mask.{error_mask_code}
 use Rattle.wu_core.specs.Words.{server_state_word, outcome_word, validate_state_word, assimilate_word, file_delete_word, template_key_word, file_cause_word}
 use Rattle.wu_core.specs.World.{World}
 use Rattle.wu_rules.specs.Instances.{is_unsent, is_in_progress, is_over}
 use Rattle.wu_drive.specs.Requests.{Pass, Transition, Validate, Assimilate, Delete, Purge, Reply, Imported, Passed, Cancelled, Upgraded}
-use Rattle.wu_drive.specs.Worlds.{total}
 
 abbrev pub line_end : List ℕ
 line_end = 10 ∷ []
@@ -174,28 +172,10 @@ archived_line row =
     ++ codes " canonical=" ++ or_dash decimal row.canonical ++ codes " done=" ++ moment_text row.done_at
     ++ codes " output=" ++ bytes_text row.output ++ line_end
 
--- a name at its place among names that ascend by their bytes, once
-abbrev pub with_host : List ℕ → List (List ℕ) → List (List ℕ)
-with_host host [] = host ∷ []
-with_host host (one ∷ more) =
-    match_ordering (slice_cmp nat_cmp host one) (host ∷ one ∷ more) (one ∷ more) (one ∷ with_host host more)
-
-abbrev pub hosts_among : List (List ℕ) → List (List ℕ)
-hosts_among [] = []
-hosts_among (host ∷ more) = with_host host (hosts_among more)
-
--- each host with a grant, by its name
-abbrev pub hosts : World → List (List ℕ)
-hosts world = hosts_among (map (λ grant. grant.host) world.grants)
-
--- how many grants a host has
-abbrev pub grants_of : World → List ℕ → ℕ
-grants_of world host = count_by (λ grant. bytes_eq grant.host host) world.grants
-
 -- the line of a host
 abbrev pub host_line : World → List ℕ → List ℕ
 host_line world host =
-    host ++ codes " total=" ++ decimal (total world host) ++ codes " grants=" ++ decimal (grants_of world host) ++ line_end
+    host ++ codes " total=" ++ decimal (credit_of world.grants host) ++ codes " grants=" ++ decimal (grants_of world.grants host) ++ line_end
 
 -- what can be looked at
 pub data Sight : Type 0 where
@@ -230,6 +210,6 @@ summary_text world =
 abbrev pub view_text : World → Sight → List ℕ
 view_text world Workunits = flat_map workunit_line world.workunits
 view_text world Results = flat_map (λ w. flat_map (result_line w) (enumerate_from 0 w.instances)) world.workunits
-view_text world Hosts = flat_map (host_line world) (hosts world)
+view_text world Hosts = flat_map (host_line world) (hosts_of world.grants)
 view_text world Archive = flat_map archived_line world.archived
 view_text world Summary = summary_text world

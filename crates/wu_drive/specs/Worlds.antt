@@ -1,5 +1,5 @@
 -- What is found in a world, and what is put into one.
-use Rattle.std.specs.Prelude.{ℕ, if◌then◌else◌, List, map, find, filter, sum_by, bytes_eq, slice_set, Option}
+use Rattle.std.specs.Prelude.{ℕ, if◌then◌else◌, List, map, find, bytes_eq, slice_set, Option}
 use Rattle.wu_core.specs.declared.workunit.Instance.{Instance}
 use Rattle.wu_core.specs.declared.workunit.Workunit.{Workunit}
 use Rattle.wu_core.specs.World.{World}
@@ -15,7 +15,3 @@ with_named world name change = record world { workunits = map (λ w. if bytes_eq
 -- the instance of this number changed
 abbrev pub with_instance : Workunit → ℕ → Instance → Workunit
 with_instance w n instance = record w { instances = slice_set w.instances n instance }
-
--- the credit of a host: the sum over its grants
-abbrev pub total : World → List ℕ → ℕ
-total world host = sum_by (λ grant. grant.credit) (filter (λ grant. bytes_eq grant.host host) world.grants)

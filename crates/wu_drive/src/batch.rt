@@ -5,8 +5,8 @@ ghost use Rattle.wu_core.specs.declared.fault.Fault.TheVariants.{Memory, NameUse
 ghost use Rattle.std.specs.List.{list_any};
 ghost use Rattle.sqlite.specs.State.{HasCleanDisk};
 ghost use Rattle.sqlite.specs.Held.{state};
-ghost use Rattle.wu_core.specs.World.{World};
-ghost use Rattle.wu_schema.specs.StandsFor.{is_import, StandsFor};
+ghost use Rattle.wu_core.specs.World.{World, is_import};
+ghost use Rattle.wu_schema.specs.StandsFor.{StandsFor};
 ghost use Rattle.wu_drive.specs.Requests.{AskBatch};
 ghost use Rattle.wu_feed.specs.Jobs.{jobs_of_file};
 ghost use Rattle.wu_feed.specs.Templates.{template_of};

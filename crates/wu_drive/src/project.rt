@@ -1,6 +1,6 @@
 //! A project: a session over its database.
 
-ghost use Rattle.std.specs.Prelude.{◌≡◌, ◌⊎◌, ◌<◌, ◌≤◌, true, false, map, Err, IfErr, IfOk, IsErrAnd, IsTrue, MatchResult, OnOk};
+ghost use Rattle.std.specs.Prelude.{◌≡◌, ◌⊎◌, ◌<◌, ◌≤◌, ℕ, true, false, map, Err, IfErr, IfOk, IsErrAnd, IsTrue, MatchResult, OnOk};
 ghost use Rattle.sqlite_trees.specs.View.{doubt};
 ghost use Rattle.sqlite.specs.State.{HasCleanDisk};
 ghost use Rattle.sqlite.specs.Held.{state};
@@ -8,6 +8,7 @@ ghost use Rattle.wu_core.specs.World.{World, empty_world};
 ghost use Rattle.wu_drive.specs.Machine.{present_version};
 ghost use Rattle.wu_schema.specs.StandsFor.{StandsFor};
 ghost use Rattle.wu_schema.specs.Stored.{workunit_row};
+ghost use Rattle.wu_schema.specs.Versions.{HasProject, HasVersion};
 ghost use Rattle.wu_drive.specs.Planning.{FailsToRead, IsPlan, IsProject, IsRead, IsStoreFault, Plans, request_of, StaysSame};
 ghost use Rattle.wu_drive.specs.Requests.{AskBatch, Request};
 ghost use Rattle.wu_drive.specs.Standing.{GoesOn, IsVacant, KeepsAll, LeavesAlso, MayEnd, RefusesVersion, Runs};
@@ -47,8 +48,12 @@ fn check_version(version: u64) -> Result<(), Fault>
 fn find_or_create<S: Alter>(conn: &mut Connection<S>) -> Result<(), Fault>
     requires { conn.old.in_transaction ≡ false }
     ensures mode { conn.new.in_transaction ≡ false }
+    ensures clean { doubt (state S.Store conn.old).is_clean ≤ doubt (state S.Store conn.new).is_clean }
     ensures found { HasCleanDisk (state S.Store conn.new) → (world : World) → 1 ≤ world.version → GoesOn (state S.Store conn.old) world → GoesOn (state S.Store conn.new) world × MatchResult result (λ _. world.version ≡ present_version) (RefusesVersion world) }
-    ensures made { HasCleanDisk (state S.Store conn.new) → IsVacant (state S.Store conn.old) → MatchResult result (λ _. GoesOn (state S.Store conn.new) empty_world) (λ _. LeavesAlso (state S.Store conn.old) (state S.Store conn.new) empty_world) }
+    ensures made { HasCleanDisk (state S.Store conn.new) → IsVacant (state S.Store conn.old) → OnOk result (GoesOn (state S.Store conn.new) empty_world) }
+    ensures left { HasCleanDisk (state S.Store conn.new) → LeavesAlso (state S.Store conn.old) (state S.Store conn.new) empty_world }
+    ensures known { HasCleanDisk (state S.Store conn.new) → OnOk result ((has : HasProject (state S.Store conn.old).now.schema) → (version : ℕ) × HasVersion (state S.Store conn.old).now has version × (version ≤ present_version)) }
+    ensures later { (version : ℕ) → result ≡ Err (Fault.NewSchema version) → present_version < version }
     ensures refused { HasCleanDisk (state S.Store conn.new) → (state S.Store conn.old).committed ≡ (state S.Store conn.old).now → IfErr result (λ fault. fault ≡ Fault.NotAProject → KeepsAll (state S.Store conn.old) (state S.Store conn.new)) }
 {
     match version_of(conn) {
@@ -92,8 +97,12 @@ impl<S: Alter> Project<S> {
     pub fn adopt(mut conn: Connection<S>) -> Result<Self, (Connection<S>, Fault)>
         ensures busy { conn.in_transaction ≡ true → result ≡ Err (conn, Fault.NotAProject) }
         ensures begins { IfOk result (λ project. project.has_ended ≡ false) }
+        ensures clean { MatchResult result (λ project. doubt (state S.Store conn).is_clean ≤ doubt (state S.Store project.conn).is_clean) (λ refusal. doubt (state S.Store conn).is_clean ≤ doubt (state S.Store refusal.0).is_clean) }
         ensures found { (world : World) → 1 ≤ world.version → GoesOn (state S.Store conn) world → MatchResult result (λ project. HasCleanDisk (state S.Store project.conn) → GoesOn (state S.Store project.conn) world × (world.version ≡ present_version)) (λ refusal. HasCleanDisk (state S.Store refusal.0) → GoesOn (state S.Store refusal.0) world × RefusesVersion world refusal.1) }
-        ensures made { IsVacant (state S.Store conn) → MatchResult result (λ project. HasCleanDisk (state S.Store project.conn) → GoesOn (state S.Store project.conn) empty_world) (λ refusal. HasCleanDisk (state S.Store refusal.0) → LeavesAlso (state S.Store conn) (state S.Store refusal.0) empty_world) }
+        ensures made { IsVacant (state S.Store conn) → IfOk result (λ project. HasCleanDisk (state S.Store project.conn) → GoesOn (state S.Store project.conn) empty_world) }
+        ensures left { MatchResult result (λ project. HasCleanDisk (state S.Store project.conn) → LeavesAlso (state S.Store conn) (state S.Store project.conn) empty_world) (λ refusal. HasCleanDisk (state S.Store refusal.0) → LeavesAlso (state S.Store conn) (state S.Store refusal.0) empty_world) }
+        ensures known { (has : HasProject (state S.Store conn).now.schema) → IfOk result (λ project. HasCleanDisk (state S.Store project.conn) → (version : ℕ) × HasVersion (state S.Store conn).now has version × (version ≤ present_version)) }
+        ensures later { (version : ℕ) → IfErr result (λ refusal. refusal.1 ≡ Fault.NewSchema version → present_version < version) }
         ensures refused { (state S.Store conn).committed ≡ (state S.Store conn).now → IfErr result (λ refusal. HasCleanDisk (state S.Store refusal.0) → refusal.1 ≡ Fault.NotAProject → KeepsAll (state S.Store conn) (state S.Store refusal.0)) }
     {
         if !conn.is_autocommit() {

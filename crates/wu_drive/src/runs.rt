@@ -1,11 +1,14 @@
 //! Lists of commands, and the demonstration.
 
-ghost use Rattle.std.specs.Prelude.{◌≡◌, ◌≤◌, false, List, length};
+ghost use Rattle.std.specs.Prelude.{◌≡◌, ◌≤◌, true, false, IfSome, List, length};
+ghost use Rattle.sqlite_trees.specs.View.{doubt};
 ghost use Rattle.sqlite.specs.State.{HasCleanDisk};
 ghost use Rattle.sqlite.specs.Held.{state};
+ghost use Rattle.wu_core.specs.declared.fault.Fault.TheVariants.{Ended};
 ghost use Rattle.wu_core.specs.World.{World};
-ghost use Rattle.wu_drive.specs.Driving.{Drives};
+ghost use Rattle.wu_drive.specs.Driving.{Drives, Lengthens, session_of};
 ghost use Rattle.wu_drive.specs.Planning.{IsProject};
+ghost use Rattle.wu_drive.specs.Sessions.{Lived, world_of_life};
 ghost use Rattle.wu_drive.specs.Standing.{GoesOn};
 ghost use Rattle.wu_drive.specs.declared.command.Answer.{Answer};
 ghost use Rattle.wu_drive.specs.Writing.{WritesAnswers};
@@ -30,7 +33,10 @@ pub struct Run {
 
 /// Runs the commands in order and writes the text of each answer, up to the first fault.
 ///
-/// An acknowledged command is one that was answered, also where its text could not be written.
+/// An acknowledged command is one that was answered, also where its text could not be written. The run ends early with
+/// the refusal of the next command, with a fault of the store, or with `Output` for the text of the last one done. Over
+/// a session that had ended it answers `Ended` at once. Where a stop before it could leave one world alone, the worlds
+/// that a stop may leave after it are those of the acknowledged commands, with the cut one or without.
 pub fn drive<S: Alter, W: Write>(
     alloc: Global,
     project: &mut Project<S>,
@@ -38,6 +44,9 @@ pub fn drive<S: Alter, W: Write>(
     out: &mut W,
 ) -> Run
     ensures answers { (answers : List Answer) × WritesAnswers (W.contents out.old) (W.contents out.new) answers result × (project.old.has_ended ≡ false → HasCleanDisk (state S.Store project.new.conn) → (world : World) → IsProject world → GoesOn (state S.Store project.old.conn) world → Drives world commands.now answers result project.new.has_ended (state S.Store project.new.conn)) }
+    ensures lives { project.old.has_ended ≡ false → HasCleanDisk (state S.Store project.new.conn) → (start : World) (life : List Lived) → IsProject (world_of_life start life) → GoesOn (state S.Store project.old.conn) (world_of_life start life) → Lengthens start life (session_of commands.now result project.new.has_ended) (state S.Store project.new.conn) }
+    ensures ended { project.old.has_ended ≡ true → (project.new ≡ project.old) × (out.new ≡ out.old) × (result.acknowledged ≡ 0) × IfSome result.end (λ fault. fault ≡ Ended) }
+    ensures clean { doubt (state S.Store project.old.conn).is_clean ≤ doubt (state S.Store project.new.conn).is_clean }
     ensures count { result.acknowledged ≤ length commands.now }
     ensures all { result.end ≡ None → result.acknowledged ≡ length commands.now }
 {

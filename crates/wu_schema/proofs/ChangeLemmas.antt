@@ -71,5 +71,5 @@ module _ (old new : State) (world : World) (s : StandsFor old.now world) where
       let tree = s.trees.project in
       let has = s.tables.project in
       let there = is_there old.now.schema _ _ has in
-      let sets = updates_project old new has.0 tree has.1 s.tables.apart there (pos n) count h in
-      stands_with_next old.now new.now world s n sets.schema (sets_next old new has.0 tree has.1 s.tables.apart there (pos n) (pos world.version) (pos world.next_number) s.rows.project count h) sets.others sets.sound
+      let sets = updates_project old new has.0 tree has.1 has.2 there (pos n) count h in
+      stands_with_next old.now new.now world s n sets.schema (sets_next old new has.0 tree has.1 has.2 there (pos n) (pos world.version) (pos world.next_number) s.rows.project count h) sets.others sets.sound

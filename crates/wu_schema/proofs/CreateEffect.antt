@@ -6,7 +6,6 @@ use Rattle.std.proofs.lemmas.Bool.{cases_Bool, false_from_ne_true, leb-true, ne_
 use Rattle.sqlite.specs.Order.{Row}
 use Rattle.sqlite.specs.Schema.{Schema}
 use Rattle.sqlite.specs.Table.{Table}
-use Rattle.sqlite.specs.Tree.{IsAscending}
 use Rattle.sqlite.specs.declared.types.Value.{Value}
 use Rattle.sqlite.specs.declared.types.Value.TheVariants.{Null, Int, Real, Text, Blob}
 use Rattle.sqlite_schema.specs.Names.{same_name, table_named, index_named, view_named}
@@ -18,7 +17,6 @@ use Rattle.sqlite_catalog.specs.Listing.{IsTableRow, IsIndexRow, IsDefined}
 use Rattle.sqlite_catalog.specs.Change.{created, next_tree, automatics, KeepsRows}
 use Rattle.sqlite_catalog.proofs.StepLemmas.{table_below}
 use Rattle.sqlite_catalog.proofs.LayoutLemmas.{zipped_left}
-use Rattle.sqlite_catalog.proofs.ListFacts.{ascending_push}
 use Rattle.sqlite_ast.specs.declared.CreateTable.{CreateTable}
 use Rattle.sqlite_ast.specs.declared.Statement.TheVariants as written
 use Rattle.sqlite_syntax.specs.declared.statement.Parsed.{Parsed}
@@ -38,7 +36,7 @@ use Rattle.sqlite.specs.Listing.{understood, reads_listing, is_select, if_select
 use Rattle.sqlite.specs.declared.run.Mode.{Mode}
 use Rattle.sqlite.specs.State.{State, mode_of, ExecutesIn, Executes}
 use Rattle.sqlite.proofs.Callers.{IsPlain, command_of, statement_of, runs_as}
-use Rattle.wu_schema.specs.Tables.{HasTable}
+use Rattle.wu_schema.specs.Tables.{HasTable, OwnsTree}
 use Rattle.wu_schema.specs.StandsFor.{IsFree}
 use Rattle.wu_schema.specs.Made.{HasMade}
 use Rattle.wu_schema.proofs.CompileLemmas.{understood_is, compiled_is}
@@ -187,8 +185,20 @@ own_table t at tree (key ∷ keys) i (inr more) = own_table t (at + 1) (tree + 1
 pub tree_apart : (schema : Schema) (t : Table) → Has schema.tables t → t.tree ≢ next_tree schema
 tree_apart schema t has same = omega (arith, table_below schema t has, same)
 
-pub own_created : (schema : Schema) (table : Table) → IsAscending (λ a b. a.tree ≡ b.tree → ⊥) schema.tables → IsAscending (λ a b. a.tree ≡ b.tree → ⊥) (created schema table).tables
-own_created schema table apart = ascending_push (λ (a b : Table). a.tree ≡ b.tree → ⊥) schema.tables (record table { tree = next_tree schema }) apart (λ t has same. tree_apart schema t has same)
+-- the new table has a tree of its own, and each other one keeps its own
+owns_created : (schema : Schema) (table : Table) → OwnsTree (created schema table) (record table { tree = next_tree schema })
+owns_created schema table other has is = elim (has_either schema.tables (record table { tree = next_tree schema } ∷ []) other has) [
+  | inl before ↦ absurd (tree_apart schema other before is)
+  | inr (inl same) ↦ same
+  | inr (inr none) ↦ absurd none
+]
+
+keeps_created : (schema : Schema) (table t : Table) → Has schema.tables t → OwnsTree schema t → OwnsTree (created schema table) t
+keeps_created schema table t there own other has is = elim (has_either schema.tables (record table { tree = next_tree schema } ∷ []) other has) [
+  | inl before ↦ own other before is
+  | inr (inl same) ↦ absurd (tree_apart schema t there (sym is ∙ ap (λ (u : Table). u.tree) same))
+  | inr (inr none) ↦ absurd none
+]
 
 module _ (old : Schema) (name : List ℕ) (table : ℕ → Table) (free : table_named old name ≡ None) (named : (tree : ℕ) → same_name (table tree).name name ≡ true) (placed : (tree : ℕ) → record (table 0) { tree = tree } ≡ table tree) where
   abbrev new : Table
@@ -231,8 +241,10 @@ module _ (text name : List ℕ) (table : ℕ → Table) (d : Defines text name t
         others = all_from (λ (t : Table). new.trees t.tree ≡ old.trees t.tree) old.schema.tables (λ t h.
             all_has (λ (u : Table). new.trees u.tree ≡ mid.trees u.tree) mid.schema.tables t still (subst (λ (s : Schema). Has s.tables t) (sym is) (has_left old.schema.tables _ t h))
             ∙ all_has (λ (u : Table). mid.trees u.tree ≡ old.trees u.tree) old.schema.tables t kept h);
-        own_trees = λ apart. subst (λ (s : Schema). IsAscending (λ a b. a.tree ≡ b.tree → ⊥) s.tables) (sym again)
-            (own_created mid.schema other (subst (λ (s : Schema). IsAscending (λ a b. a.tree ≡ b.tree → ⊥) s.tables) (sym is) (own_created old.schema (table 0) apart)));
+        owns = subst (OwnsTree new.schema) is_added
+            (subst (λ (s : Schema). OwnsTree s added) (sym again) (keeps_created mid.schema other added listed (subst (λ (s : Schema). OwnsTree s added) (sym is) (owns_created old.schema (table 0)))));
+        keeps_own = λ t there own. subst (λ (s : Schema). OwnsTree s t) (sym again)
+            (keeps_created mid.schema other t (subst (λ (s : Schema). Has s.tables t) (sym is) (has_left old.schema.tables _ t there)) (subst (λ (s : Schema). OwnsTree s t) (sym is) (keeps_created old.schema (table 0) t there own)));
         views = ap (λ (s : Schema). s.views) again ∙ ap (λ (s : Schema). s.views) is;
         indexes = λ i h. subst (λ (s : Schema). Has s.indexes i) (sym again) (has_left mid.schema.indexes _ i (subst (λ (s : Schema). Has s.indexes i) (sym is) (has_left old.schema.indexes _ i h)));
         new_indexes = λ i h. elim (has_either mid.schema.indexes _ i (subst (λ (s : Schema). Has s.indexes i) again h)) [
@@ -256,7 +268,8 @@ module _ (text name : List ℕ) (table : ℕ → Table) (d : Defines text name t
         keeps = λ n at t h. subst (λ s. HasTable s n at t) (sym is) (keeps_table old.schema (table 0) t n at h);
         listed = λ t h. subst (λ (s : Schema). Has s.tables t) (sym is) (has_left old.schema.tables _ t h);
         others = kept;
-        own_trees = λ apart. subst (λ (s : Schema). IsAscending (λ a b. a.tree ≡ b.tree → ⊥) s.tables) (sym is) (own_created old.schema (table 0) apart);
+        owns = subst (OwnsTree new.schema) is_added (subst (λ (s : Schema). OwnsTree s added) (sym is) (owns_created old.schema (table 0)));
+        keeps_own = λ t there own. subst (λ (s : Schema). OwnsTree s t) (sym is) (keeps_created old.schema (table 0) t there own);
         views = ap (λ (s : Schema). s.views) is;
         indexes = λ i h. subst (λ (s : Schema). Has s.indexes i) (sym is) (has_left old.schema.indexes _ i h);
         new_indexes = λ i h. elim (has_either old.schema.indexes _ i (subst (λ (s : Schema). Has s.indexes i) is h)) [

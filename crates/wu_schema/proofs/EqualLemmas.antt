@@ -1,12 +1,17 @@
 -- When SQL finds two values equal.
-use Rattle.std.proofs.Common.{◌≡◌, ℕ, pos, ◌==◌, List, bytes_eq, Bool, true, false, Some, refl, ap, ◌∙◌, arith}
+use Rattle.std.proofs.Common.{◌≡◌, ℕ, ℤ, pos, ◌==◌, nat_lt, List, bytes_eq, Bool, true, false, Some, refl, ap, ◌∙◌, arith}
 use Rattle.std.proofs.lemmas.Bool.Decides.{nat_tests}
-use Rattle.std.specs.Ordering.{is_eq, int_cmp}
+use Rattle.std.specs.Ordering.{is_eq, is_gt, int_cmp}
+use Rattle.std.specs.declared.cmp.Ordering.{Ordering}
+use Rattle.std.specs.declared.cmp.Ordering.TheVariants.{Less, Equal, Greater}
 use Rattle.std.proofs.lemmas.Map.Text.{is_eq-slice_cmp}
 use Rattle.sqlite.specs.declared.types.Value.TheVariants.{Int, Text}
 use Rattle.sqlite.specs.Order.{value_cmp}
 use Rattle.sqlite.specs.Ops.{binary, is_true}
 use Rattle.sqlite_value.proofs.OrderLemmas.{value_cmp-Int, value_cmp-Text}
+use Rattle.sqlite_sql.specs.Ops.{test}
+use Rattle.sqlite_sql.specs.declared.ops.BinaryOp.TheVariants as by
+use Rattle.sqlite_sql.specs.declared.ops.CompareOp.TheVariants as compare
 use Rattle.sqlite_value.specs.declared.keys.Collation.TheVariants.{Binary}
 use Rattle.sqlite_schema.specs.Rules.{equal}
 
@@ -18,9 +23,27 @@ pub text_equal : (a b : List ℕ) → equal Binary (Text a) (Text b) ≡ bytes_e
 unfolding binary
 text_equal a b = true_if (is_eq (value_cmp (Text a) (Text b))) ∙ ap is_eq (value_cmp-Text a b) ∙ is_eq-slice_cmp a b
 
-pub number_equal : (a b : ℕ) → equal Binary (Int (pos a)) (Int (pos b)) ≡ (a == b)
-unfolding binary
-number_equal a b = true_if (is_eq (value_cmp (Int (pos a)) (Int (pos b)))) ∙ ap is_eq (value_cmp-Int (pos a) (pos b)) ∙ tests
+pub number_tied : (a b : ℕ) → is_eq (value_cmp (Int (pos a)) (Int (pos b))) ≡ (a == b)
+number_tied a b = ap is_eq (value_cmp-Int (pos a) (pos b)) ∙ tests
   where
     tests : is_eq (int_cmp (pos a) (pos b)) ≡ (a == b)
+    tests = grind (arith, nat_tests)
+
+pub int_equal : (m n : ℤ) → equal Binary (Int m) (Int n) ≡ is_eq (value_cmp (Int m) (Int n))
+unfolding binary
+int_equal m n = true_if (is_eq (value_cmp (Int m) (Int n)))
+
+pub number_equal : (a b : ℕ) → equal Binary (Int (pos a)) (Int (pos b)) ≡ (a == b)
+number_equal a b = int_equal (pos a) (pos b) ∙ number_tied a b
+
+pub number_above : (a b : ℕ) → is_true (binary (by.Compare compare.Gt Binary) (Int (pos a)) (Int (pos b))) ≡ nat_lt b a
+unfolding binary
+number_above a b = true_if (test compare.Gt (value_cmp (Int (pos a)) (Int (pos b)))) ∙ ap (test compare.Gt) (value_cmp-Int (pos a) (pos b)) ∙ tested (int_cmp (pos a) (pos b)) ∙ tests
+  where
+    tested : (o : Ordering) → test compare.Gt o ≡ is_gt o
+    tested Less = refl
+    tested Equal = refl
+    tested Greater = refl
+
+    tests : is_gt (int_cmp (pos a) (pos b)) ≡ nat_lt b a
     tests = grind (arith, nat_tests)

@@ -53,3 +53,6 @@ lower_step d cx e s = refl
 
 abbrev pub same : Term → Term → Term
 same = op2 (by.Compare compare.Eq Binary)
+
+abbrev pub more : Term → Term → Term
+more = op2 (by.Compare compare.Gt Binary)

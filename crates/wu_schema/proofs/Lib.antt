@@ -21,7 +21,6 @@ pub mod CreateLemmas
 pub mod CreateEffect
 pub mod CreateTexts
 pub mod MadeLemmas
-pub mod OpenLemmas
 pub mod CallLemmas
 pub mod CreatedLemmas
 pub mod ChangeLemmas
@@ -30,3 +29,15 @@ pub mod UpdateEffect
 pub mod ReadingLemmas
 pub mod VersionTexts
 pub mod VersionLemmas
+pub mod DeleteTexts
+pub mod FallLemmas
+pub mod CascadeEffect
+pub mod DeleteEffect
+pub mod CutLemmas
+pub mod InstanceLemmas
+pub mod InstanceAnswers
+pub mod UpsertTexts
+pub mod UpsertEffect
+pub mod NameKey
+pub mod InPlaceLemmas
+pub mod HostEffect

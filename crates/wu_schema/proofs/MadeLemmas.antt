@@ -17,7 +17,7 @@ use Rattle.sqlite_rules.specs.Lists.{Has}
 use Rattle.sqlite_rules.proofs.ListLemmas.{all_has}
 use Rattle.wu_core.specs.World.{empty_world}
 use Rattle.wu_schema.specs.Stored.{stored_project}
-use Rattle.wu_schema.specs.Tables.{HasTable, HasNamed, HasTables, ProjectTrees, project_at, workunit_at, result_at, grant_at, host_at, archived_at, import_at, HaveOwnTrees}
+use Rattle.wu_schema.specs.Tables.{HasTable, HasNamed, HasTables, ProjectTrees, project_at, workunit_at, result_at, grant_at, host_at, archived_at, import_at, OwnsTree}
 use Rattle.wu_schema.specs.StandsFor.{StandsFor, ListsAll, HoldsAll}
 use Rattle.wu_schema.specs.Made.{HasMade, MakesAll, Named, MakesProject, PutsOne, work_tables, record_tables}
 use Rattle.wu_schema.proofs.StandsLemmas.{differ, is_there}
@@ -37,9 +37,9 @@ pub all_rows : (old new : Database) (made : List Named) → MakesAll old new mad
 all_rows old new [] same t has = ap (λ (d : Database). d.trees t.tree) same
 all_rows old new (named ∷ made) h t has = all_rows h.0 new made h.2 t (h.1.listed t has) ∙ all_has (λ (u : Table). h.0.trees u.tree ≡ old.trees u.tree) old.schema.tables t h.1.others has
 
-pub all_own : (old new : Database) (made : List Named) → MakesAll old new made → HaveOwnTrees old.schema → HaveOwnTrees new.schema
-all_own old new [] same own = subst (λ (d : Database). HaveOwnTrees d.schema) (sym same) own
-all_own old new (named ∷ made) h own = all_own h.0 new made h.2 (h.1.own_trees own)
+pub all_own : (old new : Database) (made : List Named) → MakesAll old new made → (t : Table) → Has old.schema.tables t → OwnsTree old.schema t → OwnsTree new.schema t
+all_own old new [] same t there own = subst (λ (d : Database). OwnsTree d.schema t) (sym same) own
+all_own old new (named ∷ made) h t there own = all_own h.0 new made h.2 t (h.1.listed t there) (h.1.keeps_own t there own)
 
 pub all_views : (old new : Database) (made : List Named) → MakesAll old new made → new.schema.views ≡ old.schema.views
 all_views old new [] same = ap (λ (d : Database). d.schema.views) same
@@ -93,9 +93,9 @@ pub record IsMadeIn (end : Database) (name : List ℕ) (table : Table) : Type 0 
 made_in : (old mid end : Database) (named : Named) (more : List Named) → HasMade old mid named → MakesAll mid end more → IsMadeIn end named.0 (named.1 (next_tree old.schema))
 made_in old mid end named more made rest =
     let table = named.1 (next_tree old.schema) in
-    let there = is_there mid.schema named.0 table (length old.schema.tables, made.has) in
+    let there = is_there mid.schema named.0 table (length old.schema.tables, made.has, made.owns) in
     record {
-      has = (length old.schema.tables, all_keeps mid end more rest named.0 (length old.schema.tables) table made.has);
+      has = (length old.schema.tables, all_keeps mid end more rest named.0 (length old.schema.tables) table made.has, all_own mid end more rest table there made.owns);
       empty = all_rows mid end more rest table there ∙ ap (λ n. mid.trees n) made.placed ∙ made.empty;
     }
 
@@ -110,9 +110,9 @@ no_cells rows none = subst (λ rs. HoldsAll rs []) (sym none) (record { shaped =
 
 module _ (end new : Database) (trees : ProjectTrees) (project : IsMadeIn end (codes "project") (project_at trees.project)) (workunit : IsMadeIn end (codes "workunit") (workunit_at trees.workunit)) (result : IsMadeIn end (codes "result") (result_at trees.result))
     (grant : IsMadeIn end (codes "credit_grant") (grant_at trees.grant)) (host : IsMadeIn end (codes "host") (host_at trees.host)) (archived : IsMadeIn end (codes "archived") (archived_at trees.archived)) (import : IsMadeIn end (codes "import") (import_at trees.import))
-    (own : HaveOwnTrees end.schema) (by : ByBytes end.schema trees.host) (put : PutsOne end new trees.project first_row) where
+    (by : ByBytes end.schema trees.host) (put : PutsOne end new trees.project first_row) where
   end_tables : HasTables end.schema trees
-  end_tables = record { project = project.has; workunit = workunit.has; result = result.has; grant = grant.has; host = host.has; archived = archived.has; import = import.has; apart = own; by_bytes = by }
+  end_tables = record { project = project.has; workunit = workunit.has; result = result.has; grant = grant.has; host = host.has; archived = archived.has; import = import.has; by_bytes = by }
 
   still_empty : (name : List ℕ) (t : Table) → IsMadeIn end name t → bytes_eq t.name t.name ≡ true → bytes_eq t.name (codes "project") ≡ false → new.trees t.tree ≡ []
   still_empty name t made itself other =
@@ -186,13 +186,13 @@ module _ (old d1 d2 d3 d4 d5 d6 end new : Database) (m1 : HasMade old d1 (codes 
   trees = record { project = next_tree old.schema; workunit = next_tree d1.schema; result = next_tree d2.schema; grant = next_tree d3.schema; host = next_tree d4.schema; archived = next_tree d5.schema; import = next_tree d6.schema }
 
   compares : ByBytes end.schema (next_tree d4.schema)
-  compares = all_compare d5 end s5 (host_at (next_tree d4.schema)) r5 (is_there d5.schema _ _ (length d4.schema.tables, m5.has)) (host_compares d4 d5 m4.sound m5)
+  compares = all_compare d5 end s5 (host_at (next_tree d4.schema)) r5 (is_there d5.schema _ _ (length d4.schema.tables, m5.has, m5.owns)) (host_compares d4 d5 m4.sound m5)
 
   pub makes_project : MakesProject old new
   makes_project = record {
-    stands = λ own. stands_empty end new trees (made_in old d1 end (codes "project", project_at) s1 m1 r1) (made_in d1 d2 end (codes "workunit", workunit_at) s2 m2 r2) (made_in d2 d3 end (codes "result", result_at) record_tables m3 r3) (made_in d3 d4 end (codes "credit_grant", grant_at) s4 m4 r4)
+    stands = stands_empty end new trees (made_in old d1 end (codes "project", project_at) s1 m1 r1) (made_in d1 d2 end (codes "workunit", workunit_at) s2 m2 r2) (made_in d2 d3 end (codes "result", result_at) record_tables m3 r3) (made_in d3 d4 end (codes "credit_grant", grant_at) s4 m4 r4)
         (made_in d4 d5 end (codes "host", host_at) s5 m5 r5) (made_in d5 d6 end (codes "archived", archived_at) s6 m6 r6) (made_in d6 end end (codes "import", import_at) [] m7 r7)
-        (all_own old end s0 r0 own) compares put;
+        compares put;
     keeps = record {
       tables = λ t has. (
         subst (λ (s : Schema). Has s.tables t) (sym put.schema) (all_listed old end s0 r0 t has),

@@ -24,13 +24,14 @@ use Rattle.wu_core.specs.declared.workunit.Workunit.{Workunit}
 use Rattle.wu_core.specs.declared.workunit.Archived.{Archived}
 use Rattle.wu_core.specs.declared.import.ImportKind.{ImportKind}
 use Rattle.wu_core.specs.Codes.{import_kind_code}
-use Rattle.wu_core.specs.World.{World, Import}
+use Rattle.wu_core.specs.World.{World, Import, is_import}
 use Rattle.wu_schema.specs.Stored.{number, stored_workunit, stored_archived, import_cells, kept_cells}
-use Rattle.wu_schema.specs.StandsFor.{StandsFor, is_import}
+use Rattle.wu_schema.specs.StandsFor.{StandsFor}
 use Rattle.wu_schema.specs.Answers.{has_name, was_archived, kept_of}
 use Rattle.wu_schema.proofs.AnswerLemmas.{answers_are, meeting, showing}
 use Rattle.wu_schema.proofs.EqualLemmas.{text_equal, number_equal}
 use Rattle.wu_schema.proofs.QueryLemmas.{alone}
+use Rattle.wu_schema.proofs.RowLemmas.{no_rows, one_test}
 use Rattle.wu_schema.proofs.SelectTexts.{CompilesTo, import_text, import_tests, import_shows, import_reads, workunit_text, workunit_tests, workunit_shows, workunit_reads, archived_text, archived_tests, archived_shows, archived_reads, next_text, next_query, next_shows, next_reads}
 
 module _ (text : List ℕ) (params : Row) (old new : State) (p : Parsed) (q : Query) (names : List Name) (it : CompilesTo old.now.schema text p (Select (alone q) names)) where
@@ -43,10 +44,6 @@ module _ (text : List ℕ) (params : Row) (old new : State) (p : Parsed) (q : Qu
       (first.1.0, record { typed = first.0; answer = first.1.1 })
 
 -- ---- lists
-
-no_rows : (xs : List Row) → length xs ≡ 0 → xs ≡ []
-no_rows [] h = refl
-no_rows (x ∷ xs) h = absurd (omega (arith, h))
 
 nonzero : (n : ℕ) → (suc n == 0) ≡ false
 nonzero n = false_from_ne_true _ (λ h. let e = eqb-true (suc n) 0 h in omega (arith, e))
@@ -89,10 +86,6 @@ module _ (old new : State) (world : World) (s : StandsFor old.now world) where
       absurd (cc)
 
 -- ---- by name
-
-one_test : (b : Bool) → (b && true) ≡ b
-one_test true = refl
-one_test false = refl
 
 any_numbered : (name : List ℕ) (n : ℕ) (xs : List Archived) → list_any (λ (p : ℕ × Archived). bytes_eq p.1.name name) (enumerate_from n xs) ≡ list_any (λ (a : Archived). bytes_eq a.name name) xs
 any_numbered name n [] = refl

@@ -17,7 +17,7 @@ use Rattle.sqlite_resolve.specs.Compile.{first, compiled, planned, meaning, retu
 use Rattle.sqlite.specs.Clock.{timed}
 use Rattle.sqlite.specs.Listing.{understood, reads_listing, if_select, is_select}
 use Rattle.sqlite.specs.State.{State, IsUnchanged, Shown, ShowsRows, QueriesRow, FailsToQuery, FailsToShow, CommitsShowing, Survives}
-use Rattle.wu_schema.proofs.SelectTexts.{import_text, import_parsed, import_select, import_first, workunit_text, workunit_parsed, workunit_select, workunit_first, archived_text, archived_parsed, archived_select, archived_first, next_text, next_parsed, next_select, next_first, all_text, all_parsed, all_select, all_first}
+use Rattle.wu_schema.proofs.SelectTexts.{import_text, import_parsed, import_select, import_first, workunit_text, workunit_parsed, workunit_select, workunit_first, archived_text, archived_parsed, archived_select, archived_first, next_text, next_parsed, next_select, next_first, all_text, all_parsed, all_select, all_first, above_text, above_parsed, above_select, above_first, instances_text, instances_parsed, instances_select, instances_first}
 use Rattle.wu_schema.specs.Calls.{IsBack}
 use Rattle.wu_schema.proofs.CallLemmas.{back_not_run, back_unchanged}
 
@@ -108,6 +108,12 @@ next_selects = record { parsed = next_parsed; select = next_select; read = next_
 
 pub all_selects : IsSelect all_text
 all_selects = record { parsed = all_parsed; select = all_select; read = all_first; is = refl }
+
+pub above_selects : IsSelect above_text
+above_selects = record { parsed = above_parsed; select = above_select; read = above_first; is = refl }
+
+pub instances_selects : IsSelect instances_text
+instances_selects = record { parsed = instances_parsed; select = instances_select; read = instances_first; is = refl }
 
 -- ---- through a result
 

@@ -14,11 +14,12 @@ use Rattle.wu_core.specs.declared.workunit.Workunit.{Workunit}
 use Rattle.wu_core.specs.Parameters.{Parameters, IsParameters}
 use Rattle.wu_core.specs.declared.workunit.Instance.{Instance}
 use Rattle.wu_core.specs.Limits.{longest_output}
+use Rattle.wu_core.specs.World.{last_skip}
 use Rattle.wu_schema.specs.declared.rows.Moments.{Moments}
 use Rattle.wu_schema.specs.declared.rows.Progress.{Progress}
 use Rattle.wu_schema.specs.declared.rows.States.{States}
 use Rattle.wu_schema.specs.Stored.{instance_row, text_or_null, verdict_digits, number, number_or_null, parameter_cells, workunit_row}
-use Rattle.wu_schema.specs.Reading.{AreMoments, IsHost, MayBeInstance, moment_cells, state_cells, AreVerdicts, last_skip, columns, progress_cells, IsInput, IsMoment, IsName, IsPlace, IsProgress, IsStoredWorkunit, Restores}
+use Rattle.wu_schema.specs.Reading.{AreMoments, IsHost, MayBeInstance, moment_cells, state_cells, AreVerdicts, columns, progress_cells, IsInput, IsMoment, IsName, IsPlace, IsProgress, IsStoredWorkunit, Restores}
 
 -- a value that can't be read is none that is stored so
 pub unread : {T C : Type 0} (stored_as : T → C) (IsValue : T → Type 0) (stored : C) (fault : Fault)

@@ -1,5 +1,5 @@
 -- What the SELECTs compile to, over any schema.
-use Rattle.std.proofs.Common.{◌≡◌, ℕ, pos, negsuc, List, [], ◌∷◌, codes, length, true, false, Some, None, Ok, refl, sym, ap, subst}
+use Rattle.std.proofs.Common.{◌≡◌, ℕ, suc, nat_lt, pos, negsuc, List, [], ◌∷◌, codes, length, true, false, Option, Some, None, Ok, refl, sym, ap, subst}
 use Rattle.sqlite.specs.Term.{Term, lit, col, op2}
 use Rattle.sqlite.specs.Query.{Query}
 use Rattle.sqlite.specs.declared.types.Value.TheVariants.{Int}
@@ -8,33 +8,37 @@ use Rattle.sqlite.specs.Command.{Command}
 use Rattle.sqlite.specs.Command.TheVariants as command
 use Rattle.sqlite.specs.Kind.TheVariants as Kind
 use Rattle.sqlite_value.specs.declared.keys.Key.{Key}
+use Rattle.sqlite_value.specs.declared.keys.Collation.{Collation}
 use Rattle.sqlite_value.specs.declared.keys.Collation.TheVariants.{Binary}
 use Rattle.sqlite_sql.specs.declared.ops.BinaryOp.TheVariants as by
-use Rattle.sqlite_ast.specs.declared.Expr.{roll-Expr}
+use Rattle.sqlite_ast.specs.declared.Expr.{Expr, roll-Expr}
 use Rattle.sqlite_ast.specs.declared.Expr.TheOpen.{Expr-F}
 use Rattle.sqlite_ast.specs.declared.Binary.TheVariants as binary
-use Rattle.sqlite_ast.specs.declared.Core.{Core, roll-Core}
-use Rattle.sqlite_ast.specs.declared.Sort.{roll-Sort}
+use Rattle.sqlite_ast.specs.declared.Core.{Core, roll-Core, out-Core}
+use Rattle.sqlite_ast.specs.declared.Sort.{Sort, roll-Sort}
 use Rattle.sqlite_ast.specs.declared.Select.{Select, roll-Select}
 use Rattle.sqlite_ast.specs.declared.Statement.TheVariants as written
 use Rattle.sqlite_syntax.specs.declared.statement.Parsed.{Parsed}
 use Rattle.sqlite_draft.specs.declared.join.Step.TheVariants.{Inner}
 use Rattle.sqlite_draft.specs.declared.query.Draft.{Draft}
 use Rattle.sqlite_resolve.specs.declared.scope.Output.{Output}
+use Rattle.sqlite_resolve.specs.declared.state.State.{State}
+use Rattle.sqlite_resolve.specs.declared.state.Carried.{Carried}
 use Rattle.sqlite_resolve.specs.Lowering.{nothing}
-use Rattle.sqlite_resolve.specs.Scope.{Name, declared}
-use Rattle.sqlite_resolve.specs.Expr.{lower_to}
+use Rattle.sqlite_resolve.specs.Scope.{Name, Context, declared}
+use Rattle.sqlite_resolve.specs.Body.{tests}
+use Rattle.sqlite_resolve.specs.Expr.{lower, lower_to}
 use Rattle.sqlite_resolve.specs.Compile.{first, planned, compiled, with_command}
 use Rattle.sqlite_resolve.specs.Write.{simple}
-use Rattle.sqlite_resolve.specs.Select.{named}
+use Rattle.sqlite_resolve.specs.Select.{named, outermost}
 use Rattle.sqlite_resolve.specs.Program.{program, query, query_to}
 use Rattle.sqlite.specs.Listing.{understood, reads_listing}
 use Rattle.sqlite.proofs.Callers.{IsPlain, command_of}
 use Rattle.sqlite_tied.specs.Compute.{everything}
 use Rattle.wu_schema.specs.Pipeline.{pipeline}
-use Rattle.wu_schema.specs.Tables.{HasTable, project_at, workunit_at, archived_at, import_at, needs, may}
+use Rattle.wu_schema.specs.Tables.{HasTable, project_at, workunit_at, result_at, archived_at, import_at, needs, may}
 use Rattle.wu_schema.proofs.CompileLemmas.{understood_is, compiled_is}
-use Rattle.wu_schema.proofs.ExprLemmas.{column, parameter, equals, scope, so_far, same, lower_step, column_lowers, parameter_lowers}
+use Rattle.wu_schema.proofs.ExprLemmas.{column, parameter, equals, scope, so_far, same, more, lower_step, column_lowers, parameter_lowers}
 use Rattle.wu_schema.proofs.QueryLemmas.{plain_query, alone, viewing_is, query_step, one, from_table, output}
 
 -- what is known of a text over a schema, once it compiles
@@ -49,9 +53,9 @@ compiles_to schema text p command read plan =
     let it = understood_is schema text _ (compiled_is schema text p _ read plan) in
     record { known = it.0; is = ap command_of it.0; plain = subst IsPlain (sym it.0) (refl, refl); unlisted = it.1 }
 
--- by the key, from the least on
-abbrev pub rising_by : List (Term × Key)
-rising_by = (col 1 0, record { collation = Binary; descending = false }) ∷ []
+-- by a column, from the least on
+abbrev pub rising_at : ℕ → List (Term × Key)
+rising_at place = (col 1 place, record { collation = Binary; descending = false }) ∷ []
 
 -- ---- the import of a kind and a name
 
@@ -343,26 +347,13 @@ module _ (schema : Schema) (at tree : ℕ) (has : HasTable schema (codes "projec
   pub next_reads : CompilesTo schema next_text next_parsed (command.Select (alone (next_query tree)) next_names)
   next_reads = compiles_to schema next_text next_parsed _ next_first next_planned
 
--- ---- all workunits, in order of number
+-- ---- workunits in order of number, with any condition and any limit
 
-abbrev pub all_text : List ℕ
-all_text = codes "SELECT number, name, min_quorum, target_nresults, max_error_results, max_total_results, max_success_results, delay_bound, credit, input, error_mask, canonical, assimilate, file_delete, done_at FROM workunit ORDER BY number"
+abbrev workunits_core : Option Expr → Core
+workunits_core filter = roll-Core (record { distinct = false; shown = one (codes "number") ∷ one (codes "name") ∷ one (codes "min_quorum") ∷ one (codes "target_nresults") ∷ one (codes "max_error_results") ∷ one (codes "max_total_results") ∷ one (codes "max_success_results") ∷ one (codes "delay_bound") ∷ one (codes "credit") ∷ one (codes "input") ∷ one (codes "error_mask") ∷ one (codes "canonical") ∷ one (codes "assimilate") ∷ one (codes "file_delete") ∷ one (codes "done_at") ∷ []; from = from_table (codes "workunit") ∷ []; filter = filter; group = []; having = None })
 
-abbrev all_core : Core
-all_core = roll-Core (record { distinct = false; shown = one (codes "number") ∷ one (codes "name") ∷ one (codes "min_quorum") ∷ one (codes "target_nresults") ∷ one (codes "max_error_results") ∷ one (codes "max_total_results") ∷ one (codes "max_success_results") ∷ one (codes "delay_bound") ∷ one (codes "credit") ∷ one (codes "input") ∷ one (codes "error_mask") ∷ one (codes "canonical") ∷ one (codes "assimilate") ∷ one (codes "file_delete") ∷ one (codes "done_at") ∷ []; from = from_table (codes "workunit") ∷ []; filter = None; group = []; having = None })
-
-abbrev pub all_select : Select
-all_select = roll-Select (record { with = []; first = all_core; others = []; order = roll-Sort (record { key = column (codes "number"); descending = false; nulls_first = None }) ∷ []; limit = None; offset = None })
-
-abbrev pub all_parsed : Parsed
-all_parsed = record { statement = written.Select all_select; names = []; formats = []; start = 0; end = length all_text; tail = length all_text }
-
-pub all_first : first all_text ≡ Ok all_parsed
-unfolding everything
-all_first = refl
-
-abbrev pub all_tests : List Term
-all_tests = []
+abbrev by_number : List Sort
+by_number = roll-Sort (record { key = column (codes "number"); descending = false; nulls_first = None }) ∷ []
 
 abbrev pub all_shows : List Term
 all_shows = col 1 0 ∷ col 1 2 ∷ col 1 3 ∷ col 1 4 ∷ col 1 5 ∷ col 1 6 ∷ col 1 7 ∷ col 1 8 ∷ col 1 9 ∷ col 1 10 ∷ col 1 11 ∷ col 1 12 ∷ col 1 13 ∷ col 1 14 ∷ col 1 15 ∷ []
@@ -370,19 +361,28 @@ all_shows = col 1 0 ∷ col 1 2 ∷ col 1 3 ∷ col 1 4 ∷ col 1 5 ∷ col 1 6 
 abbrev pub all_names : List Name
 all_names = codes "number" ∷ codes "name" ∷ codes "min_quorum" ∷ codes "target_nresults" ∷ codes "max_error_results" ∷ codes "max_total_results" ∷ codes "max_success_results" ∷ codes "delay_bound" ∷ codes "credit" ∷ codes "input" ∷ codes "error_mask" ∷ codes "canonical" ∷ codes "assimilate" ∷ codes "file_delete" ∷ codes "done_at" ∷ []
 
-abbrev all_draft : ℕ → Draft
-all_draft tree = record (simple (Inner tree ∷ []) all_tests all_shows) { order = rising_by }
+abbrev collations : List (Option Collation)
+collations = None ∷ Some Binary ∷ Some Binary ∷ Some Binary ∷ Some Binary ∷ Some Binary ∷ Some Binary ∷ Some Binary ∷ Some Binary ∷ Some Binary ∷ Some Binary ∷ Some Binary ∷ Some Binary ∷ Some Binary ∷ Some Binary ∷ []
 
-abbrev pub all_query : ℕ → Query
-all_query tree = record (plain_query tree all_tests all_shows) { order = rising_by }
+abbrev workunits_draft : ℕ → List Term → Term → Draft
+workunits_draft tree tests limit = record (simple (Inner tree ∷ []) tests all_shows) { order = rising_at 0; limit = limit }
+
+abbrev pub workunits_query : ℕ → List Term → Term → Query
+workunits_query tree tests limit = record (plain_query tree tests all_shows) { order = rising_at 0; limit = limit }
 
 abbrev all_outputs : ℕ → List Output
 all_outputs tree = output (workunit_at tree) 0 (may (codes "number") Kind.Integer) ∷ output (workunit_at tree) 1 (needs (codes "name") Kind.Text) ∷ output (workunit_at tree) 2 (needs (codes "min_quorum") Kind.Integer) ∷ output (workunit_at tree) 3 (needs (codes "target_nresults") Kind.Integer) ∷ output (workunit_at tree) 4 (needs (codes "max_error_results") Kind.Integer) ∷ output (workunit_at tree) 5 (needs (codes "max_total_results") Kind.Integer) ∷ output (workunit_at tree) 6 (needs (codes "max_success_results") Kind.Integer) ∷ output (workunit_at tree) 7 (needs (codes "delay_bound") Kind.Integer) ∷ output (workunit_at tree) 8 (needs (codes "credit") Kind.Integer) ∷ output (workunit_at tree) 9 (needs (codes "input") Kind.Blob) ∷ output (workunit_at tree) 10 (needs (codes "error_mask") Kind.Integer) ∷ output (workunit_at tree) 11 (may (codes "canonical") Kind.Integer) ∷ output (workunit_at tree) 12 (needs (codes "assimilate") Kind.Integer) ∷ output (workunit_at tree) 13 (needs (codes "file_delete") Kind.Integer) ∷ output (workunit_at tree) 14 (may (codes "done_at") Kind.Integer) ∷ []
 
+-- the state once the columns are read
+abbrev read_columns : ℕ → State
+read_columns tree = so_far 2 99985 (declared (workunit_at tree) 14 (may (codes "done_at") Kind.Integer))
+
 module _ (schema : Schema) (at tree : ℕ) (has : HasTable schema (codes "workunit") at (workunit_at tree)) where
-  all_named : named schema all_core (roll-Sort (record { key = column (codes "number"); descending = false; nulls_first = None }) ∷ []) (lit (Int (negsuc 0)), lit (Int (pos 0))) ≡ Ok (all_draft tree, all_names, None ∷ Some Binary ∷ Some Binary ∷ Some Binary ∷ Some Binary ∷ Some Binary ∷ Some Binary ∷ Some Binary ∷ Some Binary ∷ Some Binary ∷ Some Binary ∷ Some Binary ∷ Some Binary ∷ Some Binary ∷ Some Binary ∷ [])
+  workunits_named : (filter : Option Expr) (terms : List Term) (limit : Term) (budget : ℕ) (carried : Carried) → nat_lt 1 budget ≡ true
+      → tests lower (scope schema (codes "workunit") at (all_outputs tree) false true) [] (out-Core (workunits_core filter)).filter (read_columns tree) ≡ Ok (terms, so_far 2 budget carried)
+      → named schema (workunits_core filter) by_number (limit, lit (Int (pos 0))) ≡ Ok (workunits_draft tree terms limit, all_names, collations)
   unfolding pipeline
-  all_named = rw (
+  workunits_named filter terms limit budget carried enough lowers = rw (
     has.named,
     column_lowers 699 schema (codes "workunit") at (workunit_at tree) [] true true 2 100000 nothing has refl (codes "number") 0 (may (codes "number") Kind.Integer) refl refl,
     column_lowers 699 schema (codes "workunit") at (workunit_at tree) [] true true 2 99999 nothing has refl (codes "name") 1 (needs (codes "name") Kind.Text) refl refl,
@@ -401,14 +401,38 @@ module _ (schema : Schema) (at tree : ℕ) (has : HasTable schema (codes "workun
     column_lowers 699 schema (codes "workunit") at (workunit_at tree) [] true true 2 99986 (declared (workunit_at tree) 13 (needs (codes "file_delete") Kind.Integer)) has refl (codes "done_at") 14 (may (codes "done_at") Kind.Integer) refl refl,
     has.there,
     has.there,
-    column_lowers 699 schema (codes "workunit") at (workunit_at tree) (all_outputs tree) false true 2 99985 (declared (workunit_at tree) 14 (may (codes "done_at") Kind.Integer)) has refl (codes "number") 0 (may (codes "number") Kind.Integer) refl refl,
+    lowers,
+    column_lowers 699 schema (codes "workunit") at (workunit_at tree) (all_outputs tree) false true 2 budget carried has enough (codes "number") 0 (may (codes "number") Kind.Integer) refl refl,
   )
 
-  all_queried : query schema all_select ≡ Ok ((all_draft tree, all_names, None ∷ Some Binary ∷ Some Binary ∷ Some Binary ∷ Some Binary ∷ Some Binary ∷ Some Binary ∷ Some Binary ∷ Some Binary ∷ Some Binary ∷ Some Binary ∷ Some Binary ∷ Some Binary ∷ Some Binary ∷ Some Binary ∷ []), [])
-  unfolding pipeline
-  all_queried = rw (query_step 15 schema all_select [], viewing_is (query_to 15) schema schema all_core (roll-Sort (record { key = column (codes "number"); descending = false; nulls_first = None }) ∷ []) (lit (Int (negsuc 0)), lit (Int (pos 0))) _ 63 [] all_named)
+-- ---- all workunits
 
-  all_program : program schema [] (all_draft tree) ≡ Ok (alone (all_query tree))
+abbrev pub all_text : List ℕ
+all_text = codes "SELECT number, name, min_quorum, target_nresults, max_error_results, max_total_results, max_success_results, delay_bound, credit, input, error_mask, canonical, assimilate, file_delete, done_at FROM workunit ORDER BY number"
+
+abbrev pub all_select : Select
+all_select = roll-Select (record { with = []; first = workunits_core None; others = []; order = by_number; limit = None; offset = None })
+
+abbrev pub all_parsed : Parsed
+all_parsed = record { statement = written.Select all_select; names = []; formats = []; start = 0; end = length all_text; tail = length all_text }
+
+pub all_first : first all_text ≡ Ok all_parsed
+unfolding everything
+all_first = refl
+
+abbrev pub all_query : ℕ → Query
+all_query tree = workunits_query tree [] (lit (Int (negsuc 0)))
+
+module _ (schema : Schema) (at tree : ℕ) (has : HasTable schema (codes "workunit") at (workunit_at tree)) where
+  no_filter : tests lower (scope schema (codes "workunit") at (all_outputs tree) false true) [] (out-Core (workunits_core None)).filter (read_columns tree) ≡ Ok ([], read_columns tree)
+  unfolding pipeline
+  no_filter = refl
+
+  all_queried : query schema all_select ≡ Ok ((workunits_draft tree [] (lit (Int (negsuc 0))), all_names, collations), [])
+  unfolding pipeline
+  all_queried = rw (query_step 15 schema all_select [], viewing_is (query_to 15) schema schema (workunits_core None) by_number (lit (Int (negsuc 0)), lit (Int (pos 0))) _ 63 [] (workunits_named schema at tree has None [] (lit (Int (negsuc 0))) 99985 _ refl no_filter))
+
+  all_program : program schema [] (workunits_draft tree [] (lit (Int (negsuc 0)))) ≡ Ok (alone (all_query tree))
   unfolding pipeline
   all_program = rw (has.low, has.stands)
 
@@ -418,3 +442,147 @@ module _ (schema : Schema) (at tree : ℕ) (has : HasTable schema (codes "workun
 
   pub all_reads : CompilesTo schema all_text all_parsed (command.Select (alone (all_query tree)) all_names)
   all_reads = compiles_to schema all_text all_parsed _ all_first all_planned
+
+-- ---- the first workunit above a number
+
+abbrev pub above_text : List ℕ
+above_text = codes "SELECT number, name, min_quorum, target_nresults, max_error_results, max_total_results, max_success_results, delay_bound, credit, input, error_mask, canonical, assimilate, file_delete, done_at FROM workunit WHERE number > ?1 ORDER BY number LIMIT 1"
+
+abbrev number_above : Expr
+number_above = roll-Expr (Expr-F.Binary binary.Gt (column (codes "number")) (parameter 1))
+
+abbrev numeral_one : Expr
+numeral_one = roll-Expr (Expr-F.Integer (codes "1"))
+
+abbrev pub above_select : Select
+above_select = roll-Select (record { with = []; first = workunits_core (Some number_above); others = []; order = by_number; limit = Some numeral_one; offset = None })
+
+abbrev pub above_parsed : Parsed
+above_parsed = record { statement = written.Select above_select; names = codes "?1" ∷ []; formats = []; start = 0; end = length above_text; tail = length above_text }
+
+pub above_first : first above_text ≡ Ok above_parsed
+unfolding everything
+above_first = refl
+
+abbrev pub above_tests : List Term
+above_tests = more (col 1 0) (col 0 0) ∷ []
+
+abbrev pub above_query : ℕ → Query
+above_query tree = workunits_query tree above_tests (lit (Int (pos 1)))
+
+one_lowers : (d : ℕ) (cx : Context) → lower_to (suc d) cx numeral_one (so_far 1 100000 nothing) ≡ Ok (lit (Int (pos 1)), so_far 1 99999 nothing)
+unfolding pipeline lower_to
+one_lowers d cx = refl
+
+module _ (schema : Schema) (at tree : ℕ) (has : HasTable schema (codes "workunit") at (workunit_at tree)) where
+  above_lowers : tests lower (scope schema (codes "workunit") at (all_outputs tree) false true) [] (out-Core (workunits_core (Some number_above))).filter (read_columns tree) ≡ Ok (above_tests, so_far 2 99982 nothing)
+  unfolding pipeline
+  above_lowers = rw (
+    lower_step 699 (scope schema (codes "workunit") at (all_outputs tree) false true) number_above (read_columns tree),
+    column_lowers 698 schema (codes "workunit") at (workunit_at tree) (all_outputs tree) false true 2 99984 nothing has refl (codes "number") 0 _ refl refl,
+    parameter_lowers 698 schema (codes "workunit") at (workunit_at tree) (all_outputs tree) false true 2 99983 nothing has refl 1,
+  )
+
+  above_queried : query schema above_select ≡ Ok ((workunits_draft tree above_tests (lit (Int (pos 1))), all_names, collations), [])
+  unfolding pipeline
+  above_queried = rw (query_step 15 schema above_select [], one_lowers 699 (outermost schema), viewing_is (query_to 15) schema schema (workunits_core (Some number_above)) by_number (lit (Int (pos 1)), lit (Int (pos 0))) _ 63 [] (workunits_named schema at tree has (Some number_above) above_tests (lit (Int (pos 1))) 99982 nothing refl above_lowers))
+
+  above_program : program schema [] (workunits_draft tree above_tests (lit (Int (pos 1)))) ≡ Ok (alone (above_query tree))
+  unfolding pipeline
+  above_program = rw (has.low, has.stands)
+
+  above_planned : planned schema above_parsed ≡ Ok ([], (command.Select (alone (above_query tree)) all_names, None))
+  unfolding Rattle.sqlite_resolve.specs.Compile.planned Rattle.sqlite_resolve.specs.Compile.meaning Rattle.sqlite_resolve.specs.Compile.returning Rattle.sqlite_resolve.specs.Compile.command Rattle.sqlite_resolve.specs.Compile.read Rattle.sqlite_resolve.specs.Compile.timed
+  above_planned = rw (above_queried, above_program)
+
+  pub above_reads : CompilesTo schema above_text above_parsed (command.Select (alone (above_query tree)) all_names)
+  above_reads = compiles_to schema above_text above_parsed _ above_first above_planned
+
+-- ---- the instances of a workunit, in order of their numbers
+
+abbrev pub instances_text : List ℕ
+instances_text = codes "SELECT server_state, outcome, validate_state, file_delete, host, sent_at, deadline, received_at, output FROM result WHERE workunit = ?1 ORDER BY n"
+
+abbrev of_workunit : Expr
+of_workunit = equals (column (codes "workunit")) (parameter 1)
+
+abbrev by_place : List Sort
+by_place = roll-Sort (record { key = column (codes "n"); descending = false; nulls_first = None }) ∷ []
+
+abbrev instances_core : Core
+instances_core = roll-Core (record { distinct = false; shown = one (codes "server_state") ∷ one (codes "outcome") ∷ one (codes "validate_state") ∷ one (codes "file_delete") ∷ one (codes "host") ∷ one (codes "sent_at") ∷ one (codes "deadline") ∷ one (codes "received_at") ∷ one (codes "output") ∷ []; from = from_table (codes "result") ∷ []; filter = Some of_workunit; group = []; having = None })
+
+abbrev pub instances_select : Select
+instances_select = roll-Select (record { with = []; first = instances_core; others = []; order = by_place; limit = None; offset = None })
+
+abbrev pub instances_parsed : Parsed
+instances_parsed = record { statement = written.Select instances_select; names = codes "?1" ∷ []; formats = []; start = 0; end = length instances_text; tail = length instances_text }
+
+pub instances_first : first instances_text ≡ Ok instances_parsed
+unfolding everything
+instances_first = refl
+
+abbrev pub instances_tests : List Term
+instances_tests = same (col 1 1) (col 0 0) ∷ []
+
+abbrev pub instances_shows : List Term
+instances_shows = col 1 3 ∷ col 1 4 ∷ col 1 5 ∷ col 1 6 ∷ col 1 7 ∷ col 1 8 ∷ col 1 9 ∷ col 1 10 ∷ col 1 11 ∷ []
+
+abbrev pub instances_names : List Name
+instances_names = codes "server_state" ∷ codes "outcome" ∷ codes "validate_state" ∷ codes "file_delete" ∷ codes "host" ∷ codes "sent_at" ∷ codes "deadline" ∷ codes "received_at" ∷ codes "output" ∷ []
+
+abbrev instances_draft : ℕ → Draft
+instances_draft tree = record (simple (Inner tree ∷ []) instances_tests instances_shows) { order = rising_at 2 }
+
+abbrev pub instances_query : ℕ → Query
+instances_query tree = record (plain_query tree instances_tests instances_shows) { order = rising_at 2 }
+
+abbrev instances_collations : List (Option Collation)
+instances_collations = Some Binary ∷ Some Binary ∷ Some Binary ∷ Some Binary ∷ Some Binary ∷ Some Binary ∷ Some Binary ∷ Some Binary ∷ Some Binary ∷ []
+
+abbrev instances_outputs : ℕ → List Output
+instances_outputs tree = output (result_at tree) 2 (needs (codes "server_state") Kind.Integer) ∷ output (result_at tree) 3 (needs (codes "outcome") Kind.Integer) ∷ output (result_at tree) 4 (needs (codes "validate_state") Kind.Integer) ∷ output (result_at tree) 5 (needs (codes "file_delete") Kind.Integer) ∷ output (result_at tree) 6 (may (codes "host") Kind.Text) ∷ output (result_at tree) 7 (may (codes "sent_at") Kind.Integer) ∷ output (result_at tree) 8 (may (codes "deadline") Kind.Integer) ∷ output (result_at tree) 9 (may (codes "received_at") Kind.Integer) ∷ output (result_at tree) 10 (needs (codes "output") Kind.Blob) ∷ []
+
+module _ (schema : Schema) (at tree : ℕ) (has : HasTable schema (codes "result") at (result_at tree)) where
+  instances_of_one : lower_to 700 (scope schema (codes "result") at (instances_outputs tree) false true) of_workunit (so_far 2 99991 (declared (result_at tree) 10 (needs (codes "output") Kind.Blob))) ≡ Ok (same (col 1 1) (col 0 0), so_far 2 99988 nothing)
+  unfolding pipeline
+  instances_of_one = rw (
+    lower_step 699 (scope schema (codes "result") at (instances_outputs tree) false true) of_workunit (so_far 2 99991 (declared (result_at tree) 10 (needs (codes "output") Kind.Blob))),
+    column_lowers 698 schema (codes "result") at (result_at tree) (instances_outputs tree) false true 2 99990 nothing has refl (codes "workunit") 0 (needs (codes "workunit") Kind.Integer) refl refl,
+    parameter_lowers 698 schema (codes "result") at (result_at tree) (instances_outputs tree) false true 2 99989 (declared (result_at tree) 0 (needs (codes "workunit") Kind.Integer)) has refl 1,
+    has.there,
+  )
+
+  instances_named : named schema instances_core by_place (lit (Int (negsuc 0)), lit (Int (pos 0))) ≡ Ok (instances_draft tree, instances_names, instances_collations)
+  unfolding pipeline
+  instances_named = rw (
+    has.named,
+    column_lowers 699 schema (codes "result") at (result_at tree) [] true true 2 100000 nothing has refl (codes "server_state") 2 (needs (codes "server_state") Kind.Integer) refl refl,
+    column_lowers 699 schema (codes "result") at (result_at tree) [] true true 2 99999 (declared (result_at tree) 2 (needs (codes "server_state") Kind.Integer)) has refl (codes "outcome") 3 (needs (codes "outcome") Kind.Integer) refl refl,
+    column_lowers 699 schema (codes "result") at (result_at tree) [] true true 2 99998 (declared (result_at tree) 3 (needs (codes "outcome") Kind.Integer)) has refl (codes "validate_state") 4 (needs (codes "validate_state") Kind.Integer) refl refl,
+    column_lowers 699 schema (codes "result") at (result_at tree) [] true true 2 99997 (declared (result_at tree) 4 (needs (codes "validate_state") Kind.Integer)) has refl (codes "file_delete") 5 (needs (codes "file_delete") Kind.Integer) refl refl,
+    column_lowers 699 schema (codes "result") at (result_at tree) [] true true 2 99996 (declared (result_at tree) 5 (needs (codes "file_delete") Kind.Integer)) has refl (codes "host") 6 (may (codes "host") Kind.Text) refl refl,
+    column_lowers 699 schema (codes "result") at (result_at tree) [] true true 2 99995 (declared (result_at tree) 6 (may (codes "host") Kind.Text)) has refl (codes "sent_at") 7 (may (codes "sent_at") Kind.Integer) refl refl,
+    column_lowers 699 schema (codes "result") at (result_at tree) [] true true 2 99994 (declared (result_at tree) 7 (may (codes "sent_at") Kind.Integer)) has refl (codes "deadline") 8 (may (codes "deadline") Kind.Integer) refl refl,
+    column_lowers 699 schema (codes "result") at (result_at tree) [] true true 2 99993 (declared (result_at tree) 8 (may (codes "deadline") Kind.Integer)) has refl (codes "received_at") 9 (may (codes "received_at") Kind.Integer) refl refl,
+    column_lowers 699 schema (codes "result") at (result_at tree) [] true true 2 99992 (declared (result_at tree) 9 (may (codes "received_at") Kind.Integer)) has refl (codes "output") 10 (needs (codes "output") Kind.Blob) refl refl,
+    has.there,
+    has.there,
+    instances_of_one,
+    column_lowers 699 schema (codes "result") at (result_at tree) (instances_outputs tree) false true 2 99988 nothing has refl (codes "n") 1 (needs (codes "n") Kind.Integer) refl refl,
+  )
+
+  instances_queried : query schema instances_select ≡ Ok ((instances_draft tree, instances_names, instances_collations), [])
+  unfolding pipeline
+  instances_queried = rw (query_step 15 schema instances_select [], viewing_is (query_to 15) schema schema instances_core by_place (lit (Int (negsuc 0)), lit (Int (pos 0))) _ 63 [] instances_named)
+
+  instances_program : program schema [] (instances_draft tree) ≡ Ok (alone (instances_query tree))
+  unfolding pipeline
+  instances_program = rw (has.low, has.stands)
+
+  instances_planned : planned schema instances_parsed ≡ Ok ([], (command.Select (alone (instances_query tree)) instances_names, None))
+  unfolding Rattle.sqlite_resolve.specs.Compile.planned Rattle.sqlite_resolve.specs.Compile.meaning Rattle.sqlite_resolve.specs.Compile.returning Rattle.sqlite_resolve.specs.Compile.command Rattle.sqlite_resolve.specs.Compile.read Rattle.sqlite_resolve.specs.Compile.timed
+  instances_planned = rw (instances_queried, instances_program)
+
+  pub instances_reads : CompilesTo schema instances_text instances_parsed (command.Select (alone (instances_query tree)) instances_names)
+  instances_reads = compiles_to schema instances_text instances_parsed _ instances_first instances_planned

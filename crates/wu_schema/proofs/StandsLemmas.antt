@@ -12,7 +12,7 @@ use Rattle.sqlite.specs.declared.types.Value.TheVariants.{Int}
 use Rattle.sqlite.specs.Order.{Row, column, value_cmp}
 use Rattle.sqlite.specs.Schema.{Schema}
 use Rattle.sqlite.specs.Table.{Table}
-use Rattle.sqlite.specs.Tree.{IsAscending, Trees, put_row, rowid}
+use Rattle.sqlite.specs.Tree.{Trees, put_row, rowid}
 use Rattle.sqlite_schema.specs.Names.{same_name}
 use Rattle.sqlite_schema.specs.Rules.{ParentKey, parent_key}
 use Rattle.sqlite_schema.specs.declared.schema.Keys.TheVariants.{Enforced}
@@ -32,13 +32,12 @@ use Rattle.sqlite_trees.specs.Objects.{catalog_tree}
 use Rattle.sqlite_schema.specs.Rules.{equal}
 use Rattle.sqlite_value.specs.declared.keys.Collation.TheVariants.{Binary}
 use Rattle.wu_core.specs.Codes.{import_kind_code}
-use Rattle.sqlite_rules.proofs.RuleLemmas.{same_table}
 use Rattle.wu_core.specs.declared.workunit.Workunit.{Workunit}
-use Rattle.wu_core.specs.World.{World, Import}
+use Rattle.wu_core.specs.World.{World, Import, is_import}
 use Rattle.wu_schema.specs.Stored.{stored_workunit, stored_project, import_cells}
-use Rattle.wu_schema.specs.Tables.{HasNamed, HasTables, ProjectTrees, result_refers, project_at, workunit_at, result_at, grant_at, host_at, archived_at, import_at}
-use Rattle.wu_schema.specs.StandsFor.{StandsFor, ListsAll, HoldsAll, instances_of, is_import}
-use Rattle.wu_schema.specs.Changes.{with_workunit, with_import, with_next, IsAbove}
+use Rattle.wu_schema.specs.Tables.{HasNamed, HasTables, ProjectTrees, result_refers, project_at, workunit_at, result_at, grant_at, host_at, archived_at, import_at, OwnsTree}
+use Rattle.wu_schema.specs.StandsFor.{StandsFor, ListsAll, HoldsAll, instances_of}
+use Rattle.wu_schema.specs.Changes.{with_workunit, without_workunit, with_import, with_next, IsAbove}
 use Rattle.wu_schema.specs.Made.{PutsOne}
 use Rattle.wu_schema.specs.Pipeline.{pipeline}
 use Rattle.wu_schema.proofs.QuietLemmas.{RefersOnlyTo, same_some}
@@ -81,26 +80,31 @@ named_found p from at (y ∷ xs) x is there low = go (p y) (λ h k l. named_foun
     go true again h = let e : from ≡ at = same_some h in first (subst (λ n. slice_get (y ∷ xs) (n - from) ≡ Some x) (sym e) there)
     go false again h = let high = placed_from p (from + 1) at xs h in again h (later high) high
 
-result_key : (tables : List Table) (work : ℕ) → find (λ t. same_name t.name (codes "workunit")) tables ≡ Some (workunit_at work) → parent_key tables result_refers ≡ Some (work, 0 ∷ [], record { digits = 0 })
+pub result_key : (tables : List Table) (work : ℕ) → find (λ t. same_name t.name (codes "workunit")) tables ≡ Some (workunit_at work) → parent_key tables result_refers ≡ Some (work, 0 ∷ [], record { digits = 0 })
 unfolding pipeline
 result_key tables work named = rw named
 
-pub only_work : (schema : Schema) (work tree : ℕ) → find (λ t. same_name t.name (codes "workunit")) schema.tables ≡ Some (workunit_at work) → IsAscending (λ a b. a.tree ≡ b.tree → ⊥) schema.tables → Has schema.tables (result_at tree)
+pub only_work : (schema : Schema) (work tree : ℕ) → find (λ t. same_name t.name (codes "workunit")) schema.tables ≡ Some (workunit_at work) → OwnsTree schema (result_at tree)
     → RefersOnlyTo schema Enforced tree work
-only_work schema work tree named apart stands t ref key listed is refers found =
-    elim (subst (λ (u : Table). Has u.references ref) (same_table schema.tables t (result_at tree) apart listed stands is) refers) [
+only_work schema work tree named own t ref key listed is refers found =
+    elim (subst (λ (u : Table). Has u.references ref) (own t listed is) refers) [
       | inl one ↦ let keyed = same_some (sym (ap (λ r. parent_key schema.tables r) one ∙ result_key schema.tables work named) ∙ found) in ap (λ (k : ParentKey). k.0) (sym keyed)
       | inr none ↦ absurd none
     ]
+
+-- the name finds the workunits first
+pub workunit_found : (schema : Schema) (t : ProjectTrees) → HasTables schema t → find (λ u. same_name u.name (codes "workunit")) schema.tables ≡ Some (workunit_at t.workunit)
+workunit_found schema t has =
+    let work = has.workunit in
+    let whole : work.0 - 0 ≡ work.0 = omega arith in
+    named_found (λ u. same_name u.name (codes "workunit")) 0 work.0 schema.tables (workunit_at t.workunit) work.1.named (subst (λ n. slice_get schema.tables n ≡ Some (workunit_at t.workunit)) (sym whole) work.1.there) (omega arith)
 
 -- a write of the project's row leaves the instances alone
 pub calm_result : (schema : Schema) (t : ProjectTrees) → HasTables schema t → IsCalm schema Enforced (result_at t.result) t.project
 calm_result schema t has =
     let work = has.workunit in
-    let whole : work.0 - 0 ≡ work.0 = omega arith in
-    let named = named_found (λ u. same_name u.name (codes "workunit")) 0 work.0 schema.tables (workunit_at t.workunit) work.1.named (subst (λ n. slice_get schema.tables n ≡ Some (workunit_at t.workunit)) (sym whole) work.1.there) (omega arith) in
-    calm_child schema (result_at t.result) t.workunit t.project (childless schema (workunit_at t.workunit) has.apart (is_there schema _ _ work) refl)
-    (only_work schema t.workunit t.result named has.apart (is_there schema _ _ has.result)) (differ schema.tables (workunit_at t.workunit) (project_at t.project) work.1.stands has.project.1.stands refl refl)
+    calm_child schema (result_at t.result) t.workunit t.project (childless schema (workunit_at t.workunit) work.2 refl)
+    (only_work schema t.workunit t.result (workunit_found schema t has) has.result.2) (differ schema.tables (workunit_at t.workunit) (project_at t.project) work.1.stands has.project.1.stands refl refl)
 
 -- each of our tables in another tree keeps its rows
 abbrev pub KeepsBut : Database → Database → ℕ → Type 0
@@ -129,7 +133,7 @@ bytes_back [] (y ∷ b) h = absurd (cc)
 bytes_back (x ∷ a) [] h = absurd (cc)
 bytes_back (x ∷ a) (y ∷ b) h = let parts = and_parts _ _ h in and_from _ _ (eq-eqb y x (sym (eqb-true x y parts.0))) (bytes_back a b parts.1)
 
-none_has : {X : Type 0} (p : X → Bool) (xs : List X) (x : X) → list_any p xs ≡ false → Has xs x → p x ≡ false
+pub none_has : {X : Type 0} (p : X → Bool) (xs : List X) (x : X) → list_any p xs ≡ false → Has xs x → p x ≡ false
 none_has p xs x none has = false_from_ne_true _ (λ h. let e = sym (some_from p xs x has h) ∙ none in cc)
 
 pub lists_still : {rows new stored : List Row} → new ≡ rows → ListsAll rows stored → ListsAll new stored
@@ -239,18 +243,42 @@ module _ (old new : Database) (world : World) (s : StandsFor old world) where
       let has = s.tables in
       let rows = s.rows in
       let at_p = has.project.1.stands in
-      let bare : (u : Table) → Has tables u → u.tree ≢ t.project → u.references ≡ [] → new.trees u.tree ≡ old.trees u.tree = λ u there other none. but u there other (calm_bare old.schema u t.project has.apart there none) in
+      let bare : (u : Table) → Has tables u → OwnsTree old.schema u → u.tree ≢ t.project → u.references ≡ [] → new.trees u.tree ≡ old.trees u.tree = λ u there own other none. but u there other (calm_bare old.schema u t.project own none) in
       record {
         trees = t;
         tables = subst (λ (x : Schema). HasTables x t) (sym same) has;
         rows = record {
           project = is;
-          workunits = lists_still (bare (workunit_at t.workunit) (is_there old.schema _ _ has.workunit) (differ tables (workunit_at t.workunit) (project_at t.project) has.workunit.1.stands at_p refl refl) refl) rows.workunits;
+          workunits = lists_still (bare (workunit_at t.workunit) (is_there old.schema _ _ has.workunit) has.workunit.2 (differ tables (workunit_at t.workunit) (project_at t.project) has.workunit.1.stands at_p refl refl) refl) rows.workunits;
           instances = holds_still (but (result_at t.result) (is_there old.schema _ _ has.result) (differ tables (result_at t.result) (project_at t.project) has.result.1.stands at_p refl refl) (calm_result old.schema t has)) rows.instances;
-          grants = lists_still (bare (grant_at t.grant) (is_there old.schema _ _ has.grant) (differ tables (grant_at t.grant) (project_at t.project) has.grant.1.stands at_p refl refl) refl) rows.grants;
-          hosts = holds_still (bare (host_at t.host) (is_there old.schema _ _ has.host) (differ tables (host_at t.host) (project_at t.project) has.host.1.stands at_p refl refl) refl) rows.hosts;
-          archived = lists_still (bare (archived_at t.archived) (is_there old.schema _ _ has.archived) (differ tables (archived_at t.archived) (project_at t.project) has.archived.1.stands at_p refl refl) refl) rows.archived;
-          imports = holds_still (bare (import_at t.import) (is_there old.schema _ _ has.import) (differ tables (import_at t.import) (project_at t.project) has.import.1.stands at_p refl refl) refl) rows.imports;
+          grants = lists_still (bare (grant_at t.grant) (is_there old.schema _ _ has.grant) has.grant.2 (differ tables (grant_at t.grant) (project_at t.project) has.grant.1.stands at_p refl refl) refl) rows.grants;
+          hosts = holds_still (bare (host_at t.host) (is_there old.schema _ _ has.host) has.host.2 (differ tables (host_at t.host) (project_at t.project) has.host.1.stands at_p refl refl) refl) rows.hosts;
+          archived = lists_still (bare (archived_at t.archived) (is_there old.schema _ _ has.archived) has.archived.2 (differ tables (archived_at t.archived) (project_at t.project) has.archived.1.stands at_p refl refl) refl) rows.archived;
+          imports = holds_still (bare (import_at t.import) (is_there old.schema _ _ has.import) has.import.2 (differ tables (import_at t.import) (project_at t.project) has.import.1.stands at_p refl refl) refl) rows.imports;
+          imported_once = rows.imported_once;
+        };
+        sound = sound;
+      }
+
+  -- the rows of a workunit and of its instances are gone, and our other tables stay
+  pub stands_without_workunit : (n : ℕ) → new.schema ≡ old.schema → ListsAll (new.trees s.trees.workunit) (map stored_workunit (without_workunit n world).workunits) → HoldsAll (new.trees s.trees.result) (flat_map instances_of (without_workunit n world).workunits)
+      → ((u : Table) → Has tables u → OwnsTree old.schema u → u.tree ≢ s.trees.workunit → u.references ≡ [] → new.trees u.tree ≡ old.trees u.tree) → IsDatabase new → StandsFor new (without_workunit n world)
+  stands_without_workunit n same workunits instances bare sound =
+      let t = s.trees in
+      let has = s.tables in
+      let rows = s.rows in
+      let at_w = has.workunit.1.stands in
+      record {
+        trees = t;
+        tables = subst (λ (x : Schema). HasTables x t) (sym same) has;
+        rows = record {
+          project = bare (project_at t.project) (is_there old.schema _ _ has.project) has.project.2 (differ tables (project_at t.project) (workunit_at t.workunit) has.project.1.stands at_w refl refl) refl ∙ rows.project;
+          workunits = workunits;
+          instances = instances;
+          grants = lists_still (bare (grant_at t.grant) (is_there old.schema _ _ has.grant) has.grant.2 (differ tables (grant_at t.grant) (workunit_at t.workunit) has.grant.1.stands at_w refl refl) refl) rows.grants;
+          hosts = holds_still (bare (host_at t.host) (is_there old.schema _ _ has.host) has.host.2 (differ tables (host_at t.host) (workunit_at t.workunit) has.host.1.stands at_w refl refl) refl) rows.hosts;
+          archived = lists_still (bare (archived_at t.archived) (is_there old.schema _ _ has.archived) has.archived.2 (differ tables (archived_at t.archived) (workunit_at t.workunit) has.archived.1.stands at_w refl refl) refl) rows.archived;
+          imports = holds_still (bare (import_at t.import) (is_there old.schema _ _ has.import) has.import.2 (differ tables (import_at t.import) (workunit_at t.workunit) has.import.1.stands at_w refl refl) refl) rows.imports;
           imported_once = rows.imported_once;
         };
         sound = sound;

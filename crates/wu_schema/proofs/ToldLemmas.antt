@@ -25,9 +25,9 @@ use Rattle.wu_core.specs.World.{World}
 use Rattle.wu_schema.specs.Stored.{number}
 use Rattle.wu_schema.specs.StandsFor.{StandsFor}
 use Rattle.wu_schema.proofs.ReadAnswers.{next_there}
-use Rattle.wu_schema.specs.Tables.{HasTable, project_at, workunit_at, archived_at, import_at}
+use Rattle.wu_schema.specs.Tables.{HasTable, project_at, workunit_at, result_at, archived_at, import_at}
 use Rattle.wu_schema.proofs.QueryLemmas.{plain_query, alone}
-use Rattle.wu_schema.proofs.SelectTexts.{CompilesTo, all_names, all_parsed, all_query, all_reads, all_shows, all_tests, all_text, archived_names, archived_parsed, archived_query, archived_reads, archived_shows, archived_tests, archived_text, import_names, import_parsed, import_query, import_reads, import_shows, import_tests, import_text, next_names, next_parsed, next_query, next_reads, next_shows, next_tests, next_text, workunit_names, workunit_parsed, workunit_query, workunit_reads, workunit_shows, workunit_tests, workunit_text}
+use Rattle.wu_schema.proofs.SelectTexts.{CompilesTo, above_parsed, above_query, above_reads, above_tests, above_text, all_names, all_parsed, all_query, all_reads, all_shows, all_text, archived_names, archived_parsed, archived_query, archived_reads, archived_shows, archived_tests, archived_text, instances_names, instances_parsed, instances_query, instances_reads, instances_shows, instances_tests, instances_text, import_names, import_parsed, import_query, import_reads, import_shows, import_tests, import_text, next_names, next_parsed, next_query, next_reads, next_shows, next_tests, next_text, workunit_names, workunit_parsed, workunit_query, workunit_reads, workunit_shows, workunit_tests, workunit_text}
 
 -- a failure of the store is one of memory, disk or size
 pub store_told : (cause : StoreError) → IsFailure (fault_of (store_error cause))
@@ -97,6 +97,12 @@ module _ (schema : Schema) (at tree kind : ℕ) (name : List ℕ) where
   all_accepted : HasTable schema (codes "workunit") at (workunit_at tree) → accepts_program schema [] (all_query tree) [] ≡ true
   all_accepted has = rw (has.low, has.stands)
 
+  above_accepted : HasTable schema (codes "workunit") at (workunit_at tree) → accepts_program schema [] (above_query tree) (number kind ∷ []) ≡ true
+  above_accepted has = rw (has.low, has.stands)
+
+  instances_accepted : HasTable schema (codes "result") at (result_at tree) → accepts_program schema [] (instances_query tree) (number kind ∷ []) ≡ true
+  instances_accepted has = rw (has.low, has.stands)
+
 module _ (old new : State) (world : World) (s : StandsFor old.now world) (unlimited : old.step_limit ≡ None) (e : Error) where
   pub import_told : (kind : ℕ) (name : List ℕ) → FailsToQuery import_text (number kind ∷ Text name ∷ []) old new e → IsFailure (fault_of e)
   import_told kind name =
@@ -131,4 +137,16 @@ module _ (old new : State) (world : World) (s : StandsFor old.now world) (unlimi
   all_told =
       let has = s.tables.workunit in
       query_told all_text [] old new all_parsed (all_query s.trees.workunit) all_names (all_reads old.now.schema has.0 s.trees.workunit has.1) (omega arith) refl
-      (all_accepted old.now.schema has.0 s.trees.workunit 0 [] has.1) (never_over s.trees.workunit (all_query s.trees.workunit) all_tests all_shows old.now.trees [] refl refl) unlimited e
+      (all_accepted old.now.schema has.0 s.trees.workunit 0 [] has.1) (never_over s.trees.workunit (all_query s.trees.workunit) [] all_shows old.now.trees [] refl refl) unlimited e
+
+  pub above_told : (n : ℕ) → FailsToQuery above_text (number n ∷ []) old new e → IsFailure (fault_of e)
+  above_told n =
+      let has = s.tables.workunit in
+      query_told above_text (number n ∷ []) old new above_parsed (above_query s.trees.workunit) all_names (above_reads old.now.schema has.0 s.trees.workunit has.1) (omega arith) refl
+      (above_accepted old.now.schema has.0 s.trees.workunit n [] has.1) (never_over s.trees.workunit (above_query s.trees.workunit) above_tests all_shows old.now.trees (number n ∷ []) refl refl) unlimited e
+
+  pub instances_told : (n : ℕ) → FailsToQuery instances_text (number n ∷ []) old new e → IsFailure (fault_of e)
+  instances_told n =
+      let has = s.tables.result in
+      query_told instances_text (number n ∷ []) old new instances_parsed (instances_query s.trees.result) instances_names (instances_reads old.now.schema has.0 s.trees.result has.1) (omega arith) refl
+      (instances_accepted old.now.schema has.0 s.trees.result n [] has.1) (never_over s.trees.result (instances_query s.trees.result) instances_tests instances_shows old.now.trees (number n ∷ []) refl refl) unlimited e

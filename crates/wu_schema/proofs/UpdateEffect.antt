@@ -1,12 +1,11 @@
 -- What UPDATE does to the rows, over any schema.
-use Rattle.std.proofs.Common.{◌≡◌, ◌≢◌, inl, inr, ℕ, ℤ, pos, List, [], ◌∷◌, length, map, codes, slice_get, Option, Some, None, Ok, refl, sym, ap, subst, ◌∙◌}
+use Rattle.std.proofs.Common.{◌≡◌, ◌≢◌, inl, inr, ℕ, ℤ, pos, List, [], ◌∷◌, ◌++◌, length, map, codes, slice_get, Option, Some, None, Ok, refl, sym, ap, subst, ◌∙◌}
 use Rattle.std.specs.List.Sorted.{IsPermutation}
 use Rattle.sqlite.specs.declared.types.Value.TheVariants.{Null, Int}
 use Rattle.sqlite.specs.Order.{Row}
 use Rattle.sqlite.specs.Term.{Term}
 use Rattle.sqlite.specs.Table.{Table}
 use Rattle.sqlite.specs.Schema.{Schema}
-use Rattle.sqlite.specs.Tree.{IsAscending}
 use Rattle.sqlite_trees.specs.Tree.{Trees, rowid}
 use Rattle.std.proofs.lemmas.Cmp.{tied_itself}
 use Rattle.sqlite_value.proofs.OrderLemmas.{value_cmp_total}
@@ -19,7 +18,7 @@ use Rattle.sqlite.specs.Command.TheVariants.{Update}
 use Rattle.sqlite.specs.Edit.{Edit, Applies, edit_of, taken_by, without_all, put_all}
 use Rattle.sqlite.specs.Rowids.TheVariants.{Given}
 use Rattle.sqlite.specs.Cast.{cast_row}
-use Rattle.sqlite_rules.specs.Action.{Writes as Edits}
+use Rattle.sqlite_rules.specs.Action.{Writes as Edits, Leads, works}
 use Rattle.sqlite_rules.specs.Calls.{ids_of}
 use Rattle.sqlite_rules.specs.Lists.{Has}
 use Rattle.sqlite_rules.proofs.ListLemmas.{all_has}
@@ -31,7 +30,7 @@ use Rattle.sqlite.specs.Listing.{understood}
 use Rattle.sqlite.specs.State.{State, mode_of, Executes}
 use Rattle.sqlite.specs.declared.run.Mode.{Mode}
 use Rattle.sqlite.proofs.Callers.{statement_of, runs_as, one_permutation}
-use Rattle.wu_schema.specs.Tables.{project_at, HasTable}
+use Rattle.wu_schema.specs.Tables.{project_at, HasTable, OwnsTree}
 use Rattle.wu_schema.proofs.EffectLemmas.{went, same_value}
 use Rattle.wu_schema.proofs.QueryLemmas.{plain_query, alone}
 use Rattle.wu_schema.proofs.RowLemmas.{childless}
@@ -50,10 +49,12 @@ module _ (schema : Schema) (keys : Keys) where
     pub only : RefersOnlyTo schema keys at.tree parent
     pub past : (t : Table) (ref : Reference) (key : ParentKey) → Has schema.tables t → t.tree ≡ at.tree → Has t.references ref → parent_key schema.tables ref ≡ Some key → key.0 ≢ source
 
-  -- of a write that is done, the step, and the trees that its actions leave
+  -- of a write that is done, the step, what its actions lead to, and the trees that they leave
   pub record HasStepped (db : Trees) (edit : Edit) (next : Trees) : Type 0 where
     pub mid : Trees
     pub applied : Applies schema keys db edit mid
+    pub steps : ℕ
+    pub leads : Leads schema keys steps mid ([] ++ works schema keys 0 edit.table.tree (taken_by db edit) edit.news) (Ok next)
     pub calm : (at : Table) → Has schema.tables at → IsCalm at edit.table.tree → next at.tree ≡ mid at.tree
 
   pub stepped : (db next : Trees) (edit : Edit) → Edits schema keys db edit (Ok next) → HasStepped db edit next
@@ -62,14 +63,16 @@ module _ (schema : Schema) (keys : Keys) where
   stepped db next edit (inr (inr done)) = record {
     mid = done.0;
     applied = done.1;
+    steps = done.2.0;
+    leads = done.2.1;
     calm = λ at stands c. quiet schema keys at c.parent stands c.childless c.only done.2.0 done.0 next _ done.2.1 (λ w on.
         let it = has_work schema keys 0 edit.table.tree (taken_by db edit) edit.news w on in record { child = it.child; ref = it.ref; aside = λ is. c.past w.child w.ref it.key it.child is it.ref it.found it.parent });
   }
 
 -- a table that refers to nothing
-pub calm_bare : (schema : Schema) (t : Table) (source : ℕ) → IsAscending (λ a b. a.tree ≡ b.tree → ⊥) schema.tables → Has schema.tables t → t.references ≡ [] → IsCalm schema Enforced t source
-calm_bare schema t source apart stands none =
-    let own = childless schema t apart stands none in
+pub calm_bare : (schema : Schema) (t : Table) (source : ℕ) → OwnsTree schema t → t.references ≡ [] → IsCalm schema Enforced t source
+calm_bare schema t source owns none =
+    let own = childless schema t owns none in
     record {
       parent = t.tree;
       childless = own;
@@ -146,7 +149,7 @@ put_one id x new is = rw (is, tied_itself value_cmp_total (Int id)) refl
 abbrev pub project_row : ℤ → ℤ → Row
 project_row version next = Int (pos 1) ∷ Null ∷ Int version ∷ Int next ∷ []
 
-module _ (old new : State) (at tree : ℕ) (has : HasTable old.now.schema (codes "project") at (project_at tree)) (apart : IsAscending (λ a b. a.tree ≡ b.tree → ⊥) old.now.schema.tables)
+module _ (old new : State) (at tree : ℕ) (has : HasTable old.now.schema (codes "project") at (project_at tree)) (owns : OwnsTree old.now.schema (project_at tree))
     (stands : Has old.now.schema.tables (project_at tree)) (n : ℤ) where
   pub updates_project : (count : ℕ) → Executes update_text (Int n ∷ []) old new (Ok count) → Sets old.now new.now (project_at tree) [] new_row (Int n ∷ [])
   updates_project count h =
@@ -159,6 +162,6 @@ module _ (old new : State) (at tree : ℕ) (has : HasTable old.now.schema (codes
   sets_next version next is count h =
       let it = updates_project count h in
       let one : it.found ≡ (Int (pos 1) ∷ Int (pos 1) ∷ Null ∷ Int version ∷ Int n ∷ []) ∷ [] = one_permutation _ it.found (subst (λ rows. IsPermutation (showing new_row (Int n ∷ []) (meeting [] (Int n ∷ []) rows)) it.found) is it.shown) in
-      it.rows (calm_bare old.now.schema (project_at tree) tree apart stands refl) ∙ ap (λ rows. resets (project_at tree) rows it.found) is ∙ ap (resets (project_at tree) (project_row version next ∷ [])) one
+      it.rows (calm_bare old.now.schema (project_at tree) tree owns refl) ∙ ap (λ rows. resets (project_at tree) rows it.found) is ∙ ap (resets (project_at tree) (project_row version next ∷ [])) one
       ∙ ap (λ r. put_all (without_all (project_row version next ∷ []) (pos 1 ∷ [])) (r ∷ [])) (also (cast_int (pos 1)) (also cast_null (also (cast_int version) (also (cast_int n) no_more))))
       ∙ put_one (pos 1) (project_row version next) (project_row version n) refl

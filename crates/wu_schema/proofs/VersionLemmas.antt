@@ -1,6 +1,7 @@
 -- What the question for the version answers.
-use Rattle.std.proofs.Common.{◌≡◌, ◌⊎◌, inl, inr, ℕ, ◌≤◌, List, [], codes, true, Option, None, Some, Ok, Err, Result, IfErr, refl, sym, subst, ap, ◌∙◌, arith}
+use Rattle.std.proofs.Common.{◌≡◌, ◌⊎◌, inl, inr, ℕ, ◌≤◌, List, [], ◌∷◌, map, codes, Option, None, Some, Ok, Err, Result, IfErr, refl, sym, subst, ap, ◌∙◌, arith}
 use Rattle.std.specs.List.Sorted.{IsPermutation}
+use Rattle.std.proofs.lemmas.List.Sorted.{IsPermutation-sym}
 use Rattle.sqlite.specs.Order.{Row}
 use Rattle.sqlite.specs.Schema.{Schema}
 use Rattle.sqlite_schema.specs.declared.program.Program.{Program}
@@ -15,45 +16,77 @@ use Rattle.sqlite.specs.Listing.{understood}
 use Rattle.sqlite.specs.State.{State, store_error, IsUnchanged, Shown, FailsToQuery, FailsToShow, IsNotRun}
 use Rattle.sqlite.specs.Clock.{timed}
 use Rattle.sqlite.proofs.Callers.{one_permutation}
-use Rattle.sqlite_typing.specs.Types.{accepts_program}
+use Rattle.sqlite.specs.Kind.TheVariants.{Integer}
 use Rattle.sqlite_resolve.specs.declared.error.CompileError.{CompileError}
 use Rattle.sqlite_resolve.specs.declared.error.CompileError.TheVariants.{NoSuchTable}
 use Rattle.wu_core.specs.World.{World}
 use Rattle.wu_core.specs.Reads.{Gives}
 use Rattle.wu_core.specs.declared.fault.Fault.{Fault}
 use Rattle.wu_core.specs.declared.fault.Fault.TheVariants.{NotAProject}
+use Rattle.sqlite_schema.specs.Names.{column_named}
+use Rattle.wu_schema.specs.Pipeline.{pipeline}
 use Rattle.wu_schema.specs.Stored.{number}
 use Rattle.wu_schema.specs.StandsFor.{StandsFor, IsFree}
 use Rattle.wu_schema.specs.Faults.{fault_of, IsFailure}
-use Rattle.wu_schema.specs.Tables.{HasTable, project_at}
-use Rattle.wu_schema.specs.Versions.{version_text, AreOfVersion, TellsMissing, LacksProject, HasProject}
+use Rattle.wu_schema.specs.Tables.{may, needs, project_at}
+use Rattle.wu_schema.specs.Versions.{version_text, IsMissing, project_cells, rows_of_project, AreOfVersion, HasVersion, TellsMissing, LacksProject, HasProject}
 use Rattle.wu_schema.proofs.AnswerLemmas.{answers_are, meeting, showing}
 use Rattle.wu_schema.proofs.CallLemmas.{serves_after}
 use Rattle.wu_schema.proofs.ReadAnswers.{shown_answers}
 use Rattle.wu_schema.proofs.ReadLemmas.{IsSelect, shows_none}
 use Rattle.wu_schema.proofs.ToldLemmas.{query_told, never_over, failed_told}
-use Rattle.wu_schema.proofs.VersionTexts.{version_first, version_parsed, version_select, version_query, version_names, version_tests, version_shows, version_reads, any_known, free_understood}
+use Rattle.wu_schema.proofs.VersionTexts.{version_accepted, version_first, version_parsed, version_select, version_query, version_names, version_tests, version_shows, version_reads, free_understood}
 
 pub version_selects : IsSelect version_text
 version_selects = record { parsed = version_parsed; select = version_select; read = version_first; is = refl }
 
-module _ (old new : State) (world : World) (s : StandsFor old.now world) where
-  pub version_found : (rows : List Row) → Shown version_text [] old new rows → AreOfVersion rows world.version
+-- ---- the three columns of a project that stands, and its row
+
+pub one_named : (tree : ℕ) → column_named (project_at tree) (codes "one") ≡ Some 0
+unfolding pipeline
+one_named tree = refl
+
+pub version_named : (tree : ℕ) → column_named (project_at tree) (codes "version") ≡ Some 1
+unfolding pipeline
+version_named tree = refl
+
+pub next_named : (tree : ℕ) → column_named (project_at tree) (codes "next_number") ≡ Some 2
+unfolding pipeline
+next_named tree = refl
+
+abbrev pub project_of : (db : Database) (world : World) → StandsFor db world → HasProject db.schema
+project_of db world s = record {
+  at = s.tables.project.0;
+  table = project_at s.trees.project;
+  found = s.tables.project.1;
+  one = (0, may (codes "one") Integer, one_named s.trees.project, refl);
+  version = (1, needs (codes "version") Integer, version_named s.trees.project, refl);
+  next_number = (2, needs (codes "next_number") Integer, next_named s.trees.project, refl);
+}
+
+pub project_row : (db : Database) (world : World) (s : StandsFor db world) → AreOfVersion (rows_of_project db (project_of db world s)) world.version
+project_row db world s = (number world.next_number, rw s.rows.project refl)
+
+-- ---- over any table of the name with the three columns
+
+module _ (old new : State) (has : HasProject old.now.schema) where
+  all_shown : (rows : List Row) → showing (version_shows old.now.schema has) [] (meeting [] [] rows) ≡ map (project_cells has.table has.one.0 has.version.0 has.next_number.0) rows
+  all_shown [] = refl
+  all_shown (row ∷ rows) = ap (λ more. project_cells has.table has.one.0 has.version.0 has.next_number.0 row ∷ more) (all_shown rows)
+
+  pub version_found : (rows : List Row) → Shown version_text [] old new rows → IsPermutation (rows_of_project old.now has) rows
   version_found rows h =
-      let has = s.tables.project in
-      let answers = shown_answers version_text [] old new _ _ _ (version_reads old.now.schema has.0 s.trees.project has.1) rows h in
-      let all = answers_are s.trees.project [] version_shows [] old.now rows has.1.low answers in
-      (number world.next_number, one_permutation _ rows (subst (λ rs. IsPermutation (showing version_shows [] (meeting [] [] rs)) rows) s.rows.project all))
+      let answers = shown_answers version_text [] old new _ _ _ (version_reads old.now.schema has) rows h in
+      subst (λ all. IsPermutation all rows) (all_shown (old.now.trees has.table.tree)) (answers_are has.table.tree [] (version_shows old.now.schema has) [] old.now rows has.found.low answers)
 
-version_accepted : (schema : Schema) (at tree : ℕ) → HasTable schema (codes "project") at (project_at tree) → accepts_program schema [] (version_query tree) [] ≡ true
-version_accepted schema at tree has = rw (has.low, has.stands)
+  pub version_told : old.step_limit ≡ None → (e : Error) → FailsToQuery version_text [] old new e → IsFailure (fault_of e)
+  version_told unlimited e =
+      query_told version_text [] old new version_parsed (version_query old.now.schema has) (version_names old.now.schema has) (version_reads old.now.schema has) (omega arith) refl
+      (version_accepted old.now.schema has) (never_over has.table.tree (version_query old.now.schema has) version_tests (version_shows old.now.schema has) old.now.trees [] refl refl) unlimited e
 
-module _ (old new : State) (world : World) (s : StandsFor old.now world) (unlimited : old.step_limit ≡ None) (e : Error) where
-  pub version_told : FailsToQuery version_text [] old new e → IsFailure (fault_of e)
-  version_told =
-      let has = s.tables.project in
-      query_told version_text [] old new version_parsed (version_query s.trees.project) version_names (version_reads old.now.schema has.0 s.trees.project has.1) (omega arith) refl
-      (version_accepted old.now.schema has.0 s.trees.project has.1) (never_over s.trees.project (version_query s.trees.project) version_tests version_shows old.now.trees [] refl refl) unlimited e
+-- so it is not refused for want of them
+pub has_understood : (schema : Schema) → HasProject schema → ¬ LacksProject schema
+has_understood schema has lacks = absurd (let no = sym lacks.1 ∙ (version_reads schema has).known in cc)
 
 -- ---- whatever the schema
 
@@ -133,9 +166,13 @@ version_missing old new e h m = (m.0, query_text version_text version_selects []
 same_fault : {X E : Type 0} {a b : E} → ◌≡◌ {A = Result X E} (Err a) (Err b) → a ≡ b
 same_fault e = cc
 
-module _ (old new : State) (free : IsFree old.now.schema (codes "project")) where
-  unknown : understood old.now.schema version_text ≡ Err NoSuchTable
-  unknown = free_understood old.now.schema free
+-- where nothing has the name, the question is refused for want of the table
+pub free_lacks : (schema : Schema) → IsFree schema (codes "project") → LacksProject schema
+free_lacks schema free = (NoSuchTable, free_understood schema free, inl refl)
+
+module _ (old new : State) (lacks : LacksProject old.now.schema) where
+  unknown : understood old.now.schema version_text ≡ Err lacks.0
+  unknown = lacks.1
 
   pub version_there : (rows : List Row) → ¬ Shown version_text [] old new rows
   unfolding Shown
@@ -144,38 +181,56 @@ module _ (old new : State) (free : IsFree old.now.schema (codes "project")) wher
   pub version_absent : (e : Error) → FailsToQuery version_text [] old new e → TellsMissing e ⊎ IsFailure (fault_of e)
   unfolding FailsToQuery IsNotRun
   version_absent e (inl (inl none)) = elim none.0 [
-    | inl h ↦ let same : h.0 ≡ NoSuchTable = same_fault (sym h.1 ∙ unknown) in inl (h.0, h.2, inl same)
+    | inl h ↦ let same : lacks.0 ≡ h.0 = same_fault (sym unknown ∙ h.1) in inl (h.0, h.2, subst IsMissing same lacks.2)
     | inr h ↦ absurd (let no = sym unknown ∙ h.1 in cc)
   ]
   version_absent e (inl (inr failed)) = inr (failed_told old new ⊥ e failed)
   version_absent e (inr h) = absurd (let no = sym unknown ∙ h.1.is in cc)
 
--- ---- from the rows, or the error, to the version
+-- ---- from the rows to the version
 
 one_version : (rows : List Row) (a b : ℕ) → AreOfVersion rows a → AreOfVersion rows b → a ≡ b
 one_version rows a b x y = let same = sym x.1 ∙ y.1 in cc
 
-module _ (rows slice : List Row) (is : slice ≡ rows) (world : World) (of : AreOfVersion rows world.version) where
-  pub rows_stored : (found : Option ℕ) (version : ℕ) → found ≡ Some version → AreOfVersion slice version → found ≡ Some world.version
-  rows_stored found version at read = at ∙ ap Some (one_version rows version world.version (subst (λ rs. AreOfVersion rs version) is read) of)
+-- one row in another order is the same row
+pub of_answer : (all rows : List Row) (version : ℕ) → IsPermutation all rows → AreOfVersion all version → AreOfVersion rows version
+of_answer all rows version same of = (of.0, one_permutation _ rows (subst (λ rs. IsPermutation rs rows) of.1 same))
 
-  pub rows_refused : (r : Result (Option ℕ) Fault) → 1 ≤ world.version → ((version : ℕ) → 1 ≤ version → AreOfVersion slice version → Gives r (Ok (Some version))) → IfErr r IsFailure
-  rows_refused r positive found = elim (found world.version positive (subst (λ rs. AreOfVersion rs world.version) (sym is) of)) [
+pub of_table : (all rows : List Row) (version : ℕ) → IsPermutation all rows → AreOfVersion rows version → AreOfVersion all version
+of_table all rows version same of = of_answer rows all version (IsPermutation-sym all rows same) of
+
+module _ (all rows slice : List Row) (is : slice ≡ rows) (same : IsPermutation all rows) where
+  -- what was read is of the table
+  pub rows_stored : (found : Option ℕ) → (version : ℕ) × (found ≡ Some version) × (1 ≤ version) × AreOfVersion slice version → (version : ℕ) × (found ≡ Some version) × ((1 ≤ version) × AreOfVersion all version)
+  rows_stored found (version, at, positive, read) = (version, at, (positive, of_table all rows version same (subst (λ rs. AreOfVersion rs version) is read)))
+
+  -- and nothing else is refused
+  pub rows_refused : (r : Result (Option ℕ) Fault) (version : ℕ) → (1 ≤ version) × AreOfVersion all version → ((version : ℕ) → 1 ≤ version → AreOfVersion slice version → Gives r (Ok (Some version))) → IfErr r IsFailure
+  rows_refused r version (positive, of) found = elim (found version positive (subst (λ rs. AreOfVersion rs version) (sym is) (of_answer all rows version same of))) [
     | inl ok ↦ subst (λ x. IfErr x IsFailure) (sym ok) tt
     | inr memory ↦ subst (λ x. IfErr x IsFailure) (sym memory) (inl refl)
   ]
 
--- over a project the question is understood
-pub stands_understood : (db : Database) (world : World) → StandsFor db world → ¬ LacksProject db.schema
-stands_understood db world s lacks =
-    let has = s.tables.project in
-    absurd (let no = sym lacks.1 ∙ (version_reads db.schema has.0 s.trees.project has.1).known in cc)
-
--- over a table of the name with the three columns it is not refused for want of them
-pub has_understood : (schema : Schema) → HasProject schema → ¬ LacksProject schema
-has_understood schema has lacks = any_known schema has.at has.table has.found has.one has.version has.next_number lacks.0 lacks.1 lacks.2
+-- of a world
+pub stored_is : (db : Database) (world : World) (s : StandsFor db world) (found : Option ℕ) → (version : ℕ) × (found ≡ Some version) × HasVersion db (project_of db world s) version → found ≡ Some world.version
+stored_is db world s found (version, at, (positive, of)) = at ∙ ap Some (one_version _ version world.version of (project_row db world s))
 
 -- a clause of each fault, from one of the result
-pub err_of : (r : Result (Option ℕ) Fault) (P : World → Type 0) (U : Type 0) → ((world : World) → P world → 1 ≤ world.version → U → IfErr r IsFailure) → IfErr r (λ fault. (world : World) → P world → 1 ≤ world.version → U → IsFailure fault)
-err_of (Ok found) P U f = tt
-err_of (Err fault) P U f = f
+module _ (result : Result (Option ℕ) Fault) (db : Database) (unlimited : Type 0) where
+  pub none_taken : ((has : HasProject db.schema) (version : ℕ) → HasVersion db has version → IfErr result IsFailure)
+      → IfErr result (λ fault. (has : HasProject db.schema) (version : ℕ) → HasVersion db has version → unlimited → IsFailure fault)
+  none_taken fails = go result fails
+    where
+      go : (r : Result (Option ℕ) Fault) → ((has : HasProject db.schema) (version : ℕ) → HasVersion db has version → IfErr r IsFailure)
+          → IfErr r (λ fault. (has : HasProject db.schema) (version : ℕ) → HasVersion db has version → unlimited → IsFailure fault)
+      go (Ok found) f = tt
+      go (Err fault) f = λ has version of limit. f has version of
+
+  pub none_refused : ((world : World) → StandsFor db world → 1 ≤ world.version → IfErr result IsFailure)
+      → IfErr result (λ fault. (world : World) → StandsFor db world → 1 ≤ world.version → unlimited → IsFailure fault)
+  none_refused fails = go result fails
+    where
+      go : (r : Result (Option ℕ) Fault) → ((world : World) → StandsFor db world → 1 ≤ world.version → IfErr r IsFailure)
+          → IfErr r (λ fault. (world : World) → StandsFor db world → 1 ≤ world.version → unlimited → IsFailure fault)
+      go (Ok found) f = tt
+      go (Err fault) f = λ world s positive limit. f world s positive

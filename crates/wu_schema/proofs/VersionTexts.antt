@@ -1,28 +1,23 @@
 -- What the question for the version compiles to, over a schema with the project and over one without.
-use Rattle.std.proofs.Common.{◌≡◌, ◌⊎◌, inl, inr, ℕ, pos, negsuc, List, [], ◌∷◌, codes, length, true, false, Some, None, Result, Ok, Err, refl, sym, subst, ◌∙◌}
+use Rattle.std.proofs.Common.{◌≡◌, ℕ, suc, ◌+◌, pos, negsuc, List, [], ◌∷◌, codes, length, Bool, if◌then◌else◌, is_some, true, false, Some, None, Ok, Err, refl, arith}
+use Rattle.std.specs.Prelude.{slice_get}
 use Rattle.sqlite.specs.Term.{Term, lit, col}
 use Rattle.sqlite.specs.Query.{Query}
 use Rattle.sqlite.specs.declared.types.Value.TheVariants.{Int}
 use Rattle.sqlite.specs.Schema.{Schema}
 use Rattle.sqlite.specs.Table.{Table}
-use Rattle.sqlite_schema.specs.Names.{place_of}
+use Rattle.sqlite_schema.specs.Names.{is_key, place_of}
 use Rattle.sqlite.specs.Command.TheVariants as command
-use Rattle.sqlite.specs.Kind.TheVariants as Kind
-use Rattle.sqlite_value.specs.declared.keys.Collation.TheVariants.{Binary}
 use Rattle.sqlite_ast.specs.declared.Core.{Core, roll-Core}
 use Rattle.sqlite_ast.specs.declared.Select.{Select, roll-Select}
 use Rattle.sqlite_ast.specs.declared.Statement.TheVariants as written
 use Rattle.sqlite_syntax.specs.declared.statement.Parsed.{Parsed}
 use Rattle.sqlite_draft.specs.declared.join.Step.TheVariants.{Inner}
 use Rattle.sqlite_draft.specs.declared.query.Draft.{Draft}
-use Rattle.sqlite_resolve.specs.declared.error.CompileError.{CompileError}
-use Rattle.sqlite_resolve.specs.declared.error.CompileError.TheVariants.{NoSuchTable, Mismatch}
-use Rattle.sqlite_resolve.specs.declared.compiled.Compiled.{Compiled}
-use Rattle.sqlite_schema.specs.declared.program.Program.{Program}
-use Rattle.sqlite_draft.specs.Query.{query_of}
-use Rattle.sqlite_typing.specs.Types.{accepts_program}
-use Rattle.std.proofs.lemmas.Bool.{cases_Bool}
-use Rattle.wu_schema.proofs.CompileLemmas.{understood_is, compiled_is}
+use Rattle.sqlite_resolve.specs.declared.error.CompileError.TheVariants.{NoSuchTable}
+use Rattle.sqlite_typing.specs.Types.{accepts_program, class_in, row_classes}
+use Rattle.std.proofs.lemmas.Option.{slice_get-map}
+use Rattle.sqlite_schema.specs.declared.schema.Column.{Column}
 use Rattle.sqlite_resolve.specs.Lowering.{nothing}
 use Rattle.sqlite_resolve.specs.Scope.{Name, declared}
 use Rattle.sqlite_resolve.specs.Compile.{first, planned, compiled}
@@ -32,9 +27,8 @@ use Rattle.sqlite_resolve.specs.Program.{program, query, query_to, viewing, Show
 use Rattle.sqlite.specs.Listing.{understood, listing_schema}
 use Rattle.sqlite_tied.specs.Compute.{everything}
 use Rattle.wu_schema.specs.Pipeline.{pipeline}
-use Rattle.wu_schema.specs.Tables.{HasTable, project_at, needs, may}
 use Rattle.wu_schema.specs.StandsFor.{IsFree}
-use Rattle.wu_schema.specs.Versions.{version_text, HasColumn, IsMissing}
+use Rattle.wu_schema.specs.Versions.{version_text, HasProject}
 use Rattle.wu_schema.proofs.ExprLemmas.{column_lowers}
 use Rattle.wu_schema.proofs.QueryLemmas.{plain_query, alone, viewing_is, query_step, one, from_table}
 use Rattle.wu_schema.proofs.SelectTexts.{CompilesTo, compiles_to}
@@ -55,112 +49,75 @@ version_first = refl
 abbrev pub version_tests : List Term
 version_tests = []
 
-abbrev pub version_shows : List Term
-version_shows = col 1 0 ∷ col 1 2 ∷ col 1 3 ∷ []
+-- a column of a table has a class
+column_typed : (table : Table) (at : ℕ) (column : Column) → slice_get table.columns at ≡ Some column → is_some (slice_get (row_classes table) (place_of table at)) ≡ true
+column_typed table at column there = go (is_key table.key at)
+  where
+    go : (b : Bool) → is_some (slice_get (row_classes table) (if b then 0 else at + 1)) ≡ true
+    go true = refl
+    go false =
+        let next : at + 1 ≡ suc at = omega arith in
+        rw (next, slice_get-map class_in table.columns at, there) refl
 
-abbrev pub version_names : List Name
-version_names = codes "one" ∷ codes "version" ∷ codes "next_number" ∷ []
+-- any table of the name with the three columns
+module _ (schema : Schema) (has : HasProject schema) where
+  abbrev pub version_shows : List Term
+  version_shows = col 1 (place_of has.table has.one.0) ∷ col 1 (place_of has.table has.version.0) ∷ col 1 (place_of has.table has.next_number.0) ∷ []
 
-abbrev version_draft : ℕ → Draft
-version_draft tree = simple (Inner tree ∷ []) version_tests version_shows
+  abbrev pub version_names : List Name
+  version_names = has.one.1.name ∷ has.version.1.name ∷ has.next_number.1.name ∷ []
 
-abbrev pub version_query : ℕ → Query
-version_query tree = plain_query tree version_tests version_shows
+  abbrev version_draft : Draft
+  version_draft = simple (Inner has.table.tree ∷ []) version_tests version_shows
 
-module _ (schema : Schema) (at tree : ℕ) (has : HasTable schema (codes "project") at (project_at tree)) where
-  version_named : named schema version_core ([]) (lit (Int (negsuc 0)), lit (Int (pos 0))) ≡ Ok (version_draft tree, version_names, None ∷ Some Binary ∷ Some Binary ∷ [])
+  abbrev pub version_query : Query
+  version_query = plain_query has.table.tree version_tests version_shows
+
+  abbrev version_shown : Shown
+  version_shown = (version_draft, version_names, (declared has.table has.one.0 has.one.1).collation ∷ (declared has.table has.version.0 has.version.1).collation ∷ (declared has.table has.next_number.0 has.next_number.1).collation ∷ [])
+
+  version_named : named schema version_core ([]) (lit (Int (negsuc 0)), lit (Int (pos 0))) ≡ Ok version_shown
   unfolding pipeline
   version_named = rw (
-    has.named,
-    column_lowers 699 schema (codes "project") at (project_at tree) [] true true 2 100000 nothing has refl (codes "one") 0 (may (codes "one") Kind.Integer) refl refl,
-    column_lowers 699 schema (codes "project") at (project_at tree) [] true true 2 99999 nothing has refl (codes "version") 1 (needs (codes "version") Kind.Integer) refl refl,
-    column_lowers 699 schema (codes "project") at (project_at tree) [] true true 2 99998 (declared (project_at tree) 1 (needs (codes "version") Kind.Integer)) has refl (codes "next_number") 2 (needs (codes "next_number") Kind.Integer) refl refl,
-    has.there,
-    has.there,
+    has.found.named,
+    column_lowers 699 schema (codes "project") has.at has.table [] true true 2 100000 nothing has.found refl (codes "one") has.one.0 has.one.1 has.one.2 has.one.3,
+    column_lowers 699 schema (codes "project") has.at has.table [] true true 2 99999 (declared has.table has.one.0 has.one.1) has.found refl (codes "version") has.version.0 has.version.1 has.version.2 has.version.3,
+    column_lowers 699 schema (codes "project") has.at has.table [] true true 2 99998 (declared has.table has.version.0 has.version.1) has.found refl (codes "next_number") has.next_number.0 has.next_number.1 has.next_number.2 has.next_number.3,
+    has.found.there,
+    has.one.2,
+    has.found.there,
+    has.one.3,
+    has.version.2,
+    has.found.there,
+    has.version.3,
+    has.next_number.2,
+    has.found.there,
+    has.next_number.3,
   )
 
-  version_queried : query schema version_select ≡ Ok ((version_draft tree, version_names, None ∷ Some Binary ∷ Some Binary ∷ []), [])
+  version_queried : query schema version_select ≡ Ok (version_shown, [])
   unfolding pipeline
   version_queried = rw (query_step 15 schema version_select [], viewing_is (query_to 15) schema schema version_core ([]) (lit (Int (negsuc 0)), lit (Int (pos 0))) _ 63 [] version_named)
 
-  version_program : program schema [] (version_draft tree) ≡ Ok (alone (version_query tree))
-  unfolding pipeline
-  version_program = rw (has.low, has.stands)
+  pub version_accepted : accepts_program schema [] version_query [] ≡ true
+  version_accepted = rw (
+    has.found.low,
+    has.found.stands,
+    column_typed has.table has.one.0 has.one.1 has.one.3,
+    column_typed has.table has.version.0 has.version.1 has.version.3,
+    column_typed has.table has.next_number.0 has.next_number.1 has.next_number.3,
+  )
 
-  version_planned : planned schema version_parsed ≡ Ok ([], (command.Select (alone (version_query tree)) version_names, None))
+  version_program : program schema [] version_draft ≡ Ok (alone version_query)
+  unfolding program
+  version_program = rw version_accepted refl
+
+  version_planned : planned schema version_parsed ≡ Ok ([], (command.Select (alone version_query) version_names, None))
   unfolding Rattle.sqlite_resolve.specs.Compile.planned Rattle.sqlite_resolve.specs.Compile.meaning Rattle.sqlite_resolve.specs.Compile.returning Rattle.sqlite_resolve.specs.Compile.command Rattle.sqlite_resolve.specs.Compile.read Rattle.sqlite_resolve.specs.Compile.timed
   version_planned = rw (version_queried, version_program)
 
-  pub version_reads : CompilesTo schema version_text version_parsed (command.Select (alone (version_query tree)) version_names)
+  pub version_reads : CompilesTo schema version_text version_parsed (command.Select (alone version_query) version_names)
   version_reads = compiles_to schema version_text version_parsed _ version_first version_planned
-
--- ---- any table of the name with the three columns
-
-same_fault : {a b : CompileError} → ◌≡◌ {A = Result Compiled CompileError} (Err a) (Err b) → a ≡ b
-same_fault e = cc
-
-never_missing : ¬ IsMissing Mismatch
-never_missing (inl h) = absurd cc
-never_missing (inr h) = absurd cc
-
-module _ (schema : Schema) (at : ℕ) (table : Table) (has : HasTable schema (codes "project") at table) (one : HasColumn table (codes "one")) (version : HasColumn table (codes "version")) (next : HasColumn table (codes "next_number")) where
-  abbrev any_draft : Draft
-  any_draft = simple (Inner table.tree ∷ []) [] (col 1 (place_of table one.0) ∷ col 1 (place_of table version.0) ∷ col 1 (place_of table next.0) ∷ [])
-
-  abbrev any_shown : Shown
-  any_shown = (any_draft, one.1.name ∷ version.1.name ∷ next.1.name ∷ [], (declared table one.0 one.1).collation ∷ (declared table version.0 version.1).collation ∷ (declared table next.0 next.1).collation ∷ [])
-
-  any_named : named schema version_core ([]) (lit (Int (negsuc 0)), lit (Int (pos 0))) ≡ Ok any_shown
-  unfolding pipeline
-  any_named = rw (
-    has.named,
-    column_lowers 699 schema (codes "project") at table [] true true 2 100000 nothing has refl (codes "one") one.0 one.1 one.2 one.3,
-    column_lowers 699 schema (codes "project") at table [] true true 2 99999 (declared table one.0 one.1) has refl (codes "version") version.0 version.1 version.2 version.3,
-    column_lowers 699 schema (codes "project") at table [] true true 2 99998 (declared table version.0 version.1) has refl (codes "next_number") next.0 next.1 next.2 next.3,
-    has.there,
-    one.2,
-    has.there,
-    one.3,
-    version.2,
-    has.there,
-    version.3,
-    next.2,
-    has.there,
-    next.3,
-  )
-
-  any_queried : query schema version_select ≡ Ok (any_shown, [])
-  unfolding pipeline
-  any_queried = rw (query_step 15 schema version_select [], viewing_is (query_to 15) schema schema version_core ([]) (lit (Int (negsuc 0)), lit (Int (pos 0))) _ 63 [] any_named)
-
-  any_program : ((p : Program) × (program schema [] any_draft ≡ Ok p)) ⊎ (program schema [] any_draft ≡ Err Mismatch)
-  unfolding program
-  any_program = elim (cases_Bool (accepts_program schema [] (query_of any_draft) [])) [
-    | inl fits ↦ inl (record { lets = []; body = query_of any_draft }, rw fits refl)
-    | inr not ↦ inr (rw not refl)
-  ]
-
-  any_fits : (p : Program) → program schema [] any_draft ≡ Ok p → planned schema version_parsed ≡ Ok ([], (command.Select p any_shown.1, None))
-  unfolding Rattle.sqlite_resolve.specs.Compile.planned Rattle.sqlite_resolve.specs.Compile.meaning Rattle.sqlite_resolve.specs.Compile.returning Rattle.sqlite_resolve.specs.Compile.command Rattle.sqlite_resolve.specs.Compile.read Rattle.sqlite_resolve.specs.Compile.timed
-  any_fits p is = rw (any_queried, is)
-
-  any_mismatch : program schema [] any_draft ≡ Err Mismatch → planned schema version_parsed ≡ Err Mismatch
-  unfolding Rattle.sqlite_resolve.specs.Compile.planned Rattle.sqlite_resolve.specs.Compile.meaning Rattle.sqlite_resolve.specs.Compile.returning Rattle.sqlite_resolve.specs.Compile.command Rattle.sqlite_resolve.specs.Compile.read Rattle.sqlite_resolve.specs.Compile.timed
-  any_mismatch is = rw (any_queried, is)
-
-  any_refused : planned schema version_parsed ≡ Err Mismatch → compiled schema version_text ≡ Err Mismatch
-  unfolding compiled
-  any_refused is = rw (version_first, is)
-
-  any_told : compiled schema version_text ≡ Err Mismatch → understood schema version_text ≡ Err Mismatch
-  unfolding understood
-  any_told is = rw is refl
-
-  pub any_known : (fault : CompileError) → understood schema version_text ≡ Err fault → ¬ IsMissing fault
-  any_known fault is missing = elim any_program [
-    | inl fits ↦ absurd (let no = sym is ∙ (understood_is schema version_text _ (compiled_is schema version_text version_parsed _ version_first (any_fits fits.0 fits.1))).0 in cc)
-    | inr mismatch ↦ absurd (never_missing (subst IsMissing (same_fault (sym is ∙ any_told (any_refused (any_mismatch mismatch)))) missing))
-  ]
 
 -- ---- no table or view of the project's name
 

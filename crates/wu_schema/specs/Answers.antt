@@ -1,13 +1,13 @@
 -- What the reads ask of a world.
-use Rattle.std.specs.Prelude.{ℕ, List, map, filter, bytes_eq, Bool}
+use Rattle.std.specs.Prelude.{ℕ, ◌==◌, nat_lt, List, [], map, filter, find, bytes_eq, Bool, Option}
 use Rattle.std.specs.List.{list_any}
+use Rattle.std.specs.Option.{option_map_or}
 use Rattle.sqlite.specs.Order.{Row}
 use Rattle.wu_core.specs.declared.workunit.Workunit.{Workunit}
 use Rattle.wu_core.specs.declared.workunit.Archived.{Archived}
 use Rattle.wu_core.specs.declared.import.ImportKind.{ImportKind}
-use Rattle.wu_core.specs.World.{World}
-use Rattle.wu_schema.specs.Stored.{kept_cells}
-use Rattle.wu_schema.specs.StandsFor.{is_import}
+use Rattle.wu_core.specs.World.{World, is_import}
+use Rattle.wu_schema.specs.Stored.{kept_cells, instance_row}
 
 -- a workunit of this name is present
 abbrev pub has_name : List ℕ → World → Bool
@@ -20,3 +20,11 @@ was_archived name world = list_any (λ (a : Archived). bytes_eq a.name name) wor
 -- what is kept of the import of this kind and name, or nothing
 abbrev pub kept_of : ImportKind → List ℕ → World → List Row
 kept_of kind name world = map kept_cells (filter (is_import kind name) world.imports)
+
+-- the first workunit above this number
+abbrev pub first_above : ℕ → World → Option Workunit
+first_above number world = find (λ (w : Workunit). nat_lt number w.number) world.workunits
+
+-- the rows of the instances of the workunit of this number, in order of theirs; none where it is not there
+abbrev pub instance_rows_of : ℕ → World → List Row
+instance_rows_of number world = option_map_or (λ (w : Workunit). map instance_row w.instances) (find (λ (w : Workunit). w.number == number) world.workunits) []

@@ -10,7 +10,7 @@ use Rattle.sqlite_schema.specs.declared.schema.Index.{Index}
 use Rattle.sqlite_catalog.specs.Change.{next_tree, automatics, KeepsRows}
 use Rattle.sqlite_rules.specs.Lists.{Has}
 use Rattle.wu_core.specs.World.{empty_world}
-use Rattle.wu_schema.specs.Tables.{HasTable, HaveOwnTrees, project_at, workunit_at, result_at, grant_at, host_at, archived_at, import_at}
+use Rattle.wu_schema.specs.Tables.{HasTable, OwnsTree, project_at, workunit_at, result_at, grant_at, host_at, archived_at, import_at}
 use Rattle.wu_schema.specs.StandsFor.{StandsFor}
 
 -- one row is put in, and every other table stays
@@ -33,7 +33,8 @@ pub record HasMade (old new : Database) (named : Named) : Type 0 where
   pub keeps : (other : List ℕ) (at : ℕ) (t : Table) → HasTable old.schema other at t → HasTable new.schema other at t
   pub listed : (t : Table) → Has old.schema.tables t → Has new.schema.tables t
   pub others : KeepsRows old.schema.tables old.trees new.trees
-  pub own_trees : HaveOwnTrees old.schema → HaveOwnTrees new.schema
+  pub owns : OwnsTree new.schema (named.1 (next_tree old.schema))
+  pub keeps_own : (t : Table) → Has old.schema.tables t → OwnsTree old.schema t → OwnsTree new.schema t
   pub views : new.schema.views ≡ old.schema.views
   pub indexes : (i : Index) → Has old.schema.indexes i → Has new.schema.indexes i
   -- each new index is one of the table's own keys, or of a table that was made behind it
@@ -62,7 +63,7 @@ pub record KeepsOthers (old new : Database) : Type 0 where
 
 -- a fresh project stands beside what was there
 pub record MakesProject (old new : Database) : Type 0 where
-  pub stands : HaveOwnTrees old.schema → StandsFor new empty_world
+  pub stands : StandsFor new empty_world
   pub keeps : KeepsOthers old new
   pub sound : IsDatabase new
 

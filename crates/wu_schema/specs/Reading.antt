@@ -5,7 +5,6 @@ use Rattle.sqlite.specs.Order.{Row, column}
 use Rattle.wu_core.specs.declared.fault.Fault.{Fault}
 use Rattle.wu_core.specs.declared.fault.Fault.TheVariants.{Memory, NotAProject}
 use Rattle.wu_core.specs.declared.import.ImportKind.{ImportKind}
-use Rattle.wu_core.specs.declared.import.ImportKind.TheVariants as kind
 use Rattle.wu_core.specs.declared.states.Assimilate.{Assimilate}
 use Rattle.wu_core.specs.declared.states.Assimilate.TheVariants as assimilate
 use Rattle.wu_core.specs.declared.workunit.Workunit.{Workunit}
@@ -17,6 +16,7 @@ use Rattle.wu_core.specs.Mask.{error_mask_code}
 use Rattle.wu_core.specs.Names.{is_name}
 use Rattle.wu_core.specs.Parameters.{IsParameters}
 use Rattle.wu_core.specs.Reads.{Gives}
+use Rattle.wu_core.specs.World.{last_skip}
 use Rattle.wu_schema.specs.Stored.{number, number_or_null, verdict_digits}
 use Rattle.wu_schema.specs.declared.rows.Progress.{Progress}
 use Rattle.wu_schema.specs.declared.rows.Moments.{Moments}
@@ -104,12 +104,6 @@ pub record MayBeInstance (i : Instance) : Type 0 where
 pub record IsStoredInstance (i : Instance) : Type 0 where
   pub values : MayBeInstance i
   pub formed : IsInstance i
-
--- the greatest number of a skip
-abbrev pub last_skip : ImportKind → ℕ
-last_skip kind.Batch = 0
-last_skip kind.Sent = 3
-last_skip kind.Reported = 5
 
 abbrev pub AreVerdicts : ImportKind → List ℕ → Type 0
 AreVerdicts kind verdicts = All (λ verdict. verdict ≤ last_skip kind) verdicts

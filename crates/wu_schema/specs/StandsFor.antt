@@ -1,6 +1,6 @@
 -- When a database stands for a world: the tables are there, and their rows are what the world holds.
-use Rattle.std.specs.Prelude.{◌≡◌, ◌⊎◌, ◌&&◌, ◌==◌, false, bytes_eq, ℕ, List, [], ◌∷◌, map, filter, drop, length, sum_by, codes, Bool, if◌then◌else◌, None}
-use Rattle.std.specs.List.{enumerate_from, flat_map, list_any}
+use Rattle.std.specs.Prelude.{◌≡◌, ◌⊎◌, false, ℕ, List, [], ◌∷◌, map, drop, codes, None}
+use Rattle.std.specs.List.{enumerate_from, flat_map}
 use Rattle.std.specs.List.Sorted.{IsPermutation}
 use Rattle.sqlite.specs.Order.{Row}
 use Rattle.sqlite.specs.Tree.{IsAscending, Trees}
@@ -12,28 +12,18 @@ use Rattle.sqlite_schema.specs.Names.{table_named, index_named, view_named}
 use Rattle.wu_core.specs.declared.workunit.Grant.{Grant}
 use Rattle.wu_core.specs.declared.workunit.Instance.{Instance}
 use Rattle.wu_core.specs.declared.workunit.Workunit.{Workunit}
-use Rattle.wu_core.specs.declared.import.ImportKind.{ImportKind}
-use Rattle.wu_core.specs.Codes.{import_kind_code}
-use Rattle.wu_core.specs.World.{World, Import, empty_world}
+use Rattle.wu_core.specs.Hosts.{credit_of, grants_of, hosts_of}
+use Rattle.wu_core.specs.World.{World, Import, empty_world, is_import}
 use Rattle.wu_schema.specs.Stored.{stored_project, stored_workunit, stored_grant, stored_archived, instance_cells, host_cells, import_cells}
-use Rattle.wu_schema.specs.Tables.{ProjectTrees, HasTables, HaveOwnTrees}
+use Rattle.wu_schema.specs.Tables.{ProjectTrees, HasTables}
 
 -- the instances of a workunit, numbered from 0
 abbrev pub instances_of : Workunit → List Row
 instances_of w = map (λ (p : ℕ × Instance). instance_cells w.number p.0 p.1) (enumerate_from 0 w.instances)
 
--- whether a grant is to this host
-abbrev pub is_of_host : List ℕ → Grant → Bool
-is_of_host name grant = bytes_eq name grant.host
-
--- the names of the hosts that have a grant, each once
-abbrev pub hosts : List Grant → List (List ℕ)
-hosts [] = []
-hosts (grant ∷ grants) = if list_any (is_of_host grant.host) grants then hosts grants else grant.host ∷ hosts grants
-
 -- a host with the credit and the number of its grants
 abbrev pub host_of : List Grant → List ℕ → Row
-host_of grants name = host_cells name (sum_by (λ (g : Grant). g.credit) (filter (is_of_host name) grants)) (length (filter (is_of_host name) grants))
+host_of grants name = host_cells name (credit_of grants name) (grants_of grants name)
 
 -- the rows of a table whose key is the rowid, in order of the key
 pub record ListsAll (rows stored : List Row) : Type 0 where
@@ -45,17 +35,13 @@ pub record HoldsAll (rows cells : List Row) : Type 0 where
   pub shaped : IsShaped shape.Table rows
   pub same : IsPermutation cells (map (drop 1) rows)
 
--- whether an import is the one of this kind and name
-abbrev pub is_import : ImportKind → List ℕ → Import → Bool
-is_import kind name import = (import_kind_code import.kind == import_kind_code kind) && bytes_eq import.name name
-
 -- the rows of the seven tables are what the world holds
 pub record HasRows (db : Trees) (trees : ProjectTrees) (world : World) : Type 0 where
   pub project : db trees.project ≡ stored_project world ∷ []
   pub workunits : ListsAll (db trees.workunit) (map stored_workunit world.workunits)
   pub instances : HoldsAll (db trees.result) (flat_map instances_of world.workunits)
   pub grants : ListsAll (db trees.grant) (map stored_grant (enumerate_from 1 world.grants))
-  pub hosts : HoldsAll (db trees.host) (map (host_of world.grants) (hosts world.grants))
+  pub hosts : HoldsAll (db trees.host) (map (host_of world.grants) (hosts_of world.grants))
   pub archived : ListsAll (db trees.archived) (map stored_archived (enumerate_from 1 world.archived))
   pub imports : HoldsAll (db trees.import) (map import_cells world.imports)
   -- no two imports are of one kind and name
@@ -84,7 +70,6 @@ pub record IsAbsent (schema : Schema) : Type 0 where
   pub host : IsFree schema (codes "host")
   pub archived : IsFree schema (codes "archived")
   pub import : IsFree schema (codes "import")
-  pub apart : HaveOwnTrees schema
 
 -- no project yet, or a fresh one: nothing is in the world before the first command
 abbrev pub StandsOrAbsent : Database → World → Type 0

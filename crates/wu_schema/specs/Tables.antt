@@ -4,7 +4,6 @@ use Rattle.sqlite.specs.Collation.TheVariants.{Binary}
 use Rattle.sqlite.specs.declared.types.Value.TheVariants.{Null, Int}
 use Rattle.sqlite.specs.Term.{lit, col, op2}
 use Rattle.sqlite.specs.Table.{Table}
-use Rattle.sqlite.specs.Tree.{IsAscending}
 use Rattle.sqlite_schema.specs.declared.schema.Column.{Column}
 use Rattle.sqlite_schema.specs.declared.schema.Index.{Index}
 use Rattle.sqlite_schema.specs.declared.schema.Reference.{Reference}
@@ -142,13 +141,13 @@ pub record HasTable (schema : Schema) (name : List ℕ) (at : ℕ) (table : Tabl
   pub low : nat_le (2 ^ 31) table.tree ≡ false
   pub stands : find (λ t. t.tree == table.tree) schema.tables ≡ Some table
 
--- the same, wherever it stands in the list
-abbrev pub HasNamed : Schema → List ℕ → Table → Type 0
-HasNamed schema name table = (at : ℕ) × HasTable schema name at table
+-- no other table, ours or somebody else's, has its tree
+abbrev pub OwnsTree : Schema → Table → Type 0
+OwnsTree schema table = (other : Table) → Has schema.tables other → other.tree ≡ table.tree → other ≡ table
 
--- no two tables, ours or others, have one tree
-abbrev pub HaveOwnTrees : Schema → Type 0
-HaveOwnTrees schema = IsAscending (λ a b. a.tree ≡ b.tree → ⊥) schema.tables
+-- the name finds this table, wherever it stands in the list, and its tree is its own
+abbrev pub HasNamed : Schema → List ℕ → Table → Type 0
+HasNamed schema name table = (at : ℕ) × HasTable schema name at table × OwnsTree schema table
 
 -- where the store put each table
 pub record ProjectTrees : Type 0 where
@@ -169,6 +168,5 @@ pub record HasTables (schema : Schema) (trees : ProjectTrees) : Type 0 where
   pub host : HasNamed schema (codes "host") (host_at trees.host)
   pub archived : HasNamed schema (codes "archived") (archived_at trees.archived)
   pub import : HasNamed schema (codes "import") (import_at trees.import)
-  pub apart : HaveOwnTrees schema
   -- each unique index on the names of hosts alone compares their bytes
   pub by_bytes : (i : Index) → Has schema.indexes i → guards i (host_at trees.host) ≡ true → i.columns ≡ 1 ∷ [] → (first_key i.order).collation ≡ Binary

@@ -1,6 +1,6 @@
 -- The version of a project, as it is asked for and as it is answered.
-use Rattle.std.specs.Prelude.{◌≡◌, ◌⊎◌, ℕ, List, [], ◌∷◌, codes, slice_get, Some, Err}
-use Rattle.sqlite.specs.Order.{Row}
+use Rattle.std.specs.Prelude.{◌≡◌, ◌⊎◌, ◌≤◌, ℕ, List, [], ◌∷◌, map, codes, slice_get, Some, Err}
+use Rattle.sqlite.specs.Order.{Row, column}
 use Rattle.sqlite.specs.Schema.{Schema}
 use Rattle.sqlite.specs.Listing.{understood}
 use Rattle.sqlite.specs.declared.error.Error.{Error}
@@ -8,9 +8,10 @@ use Rattle.sqlite.specs.declared.error.Error.TheVariants.{SqlInputError}
 use Rattle.sqlite.specs.declared.types.Value.{Value}
 use Rattle.sqlite_resolve.specs.declared.error.CompileError.{CompileError}
 use Rattle.sqlite_resolve.specs.declared.error.CompileError.TheVariants.{NoSuchTable, NoSuchColumn}
+use Rattle.sqlite.specs.Effect.{Database}
 use Rattle.sqlite.specs.Table.{Table}
 use Rattle.sqlite_schema.specs.declared.schema.Column.{Column}
-use Rattle.sqlite_schema.specs.Names.{column_named}
+use Rattle.sqlite_schema.specs.Names.{column_named, place_of}
 use Rattle.wu_schema.specs.Stored.{number}
 use Rattle.wu_schema.specs.Tables.{HasTable}
 
@@ -46,3 +47,16 @@ pub record HasProject (schema : Schema) : Type 0 where
   pub one : HasColumn table (codes "one")
   pub version : HasColumn table (codes "version")
   pub next_number : HasColumn table (codes "next_number")
+
+-- what the question answers of a row of such a table: the three columns, wherever they stand in it
+abbrev pub project_cells : Table → (one version next_number : ℕ) → Row → Row
+project_cells table one version next_number row =
+    column row (place_of table one) ∷ column row (place_of table version) ∷ column row (place_of table next_number) ∷ []
+
+-- of all its rows
+abbrev pub rows_of_project : (db : Database) → HasProject db.schema → List Row
+rows_of_project db has = map (project_cells has.table has.one.0 has.version.0 has.next_number.0) (db.trees has.table.tree)
+
+-- its one row is that of a project of this version
+abbrev pub HasVersion : (db : Database) → HasProject db.schema → ℕ → Type 0
+HasVersion db has version = (1 ≤ version) × AreOfVersion (rows_of_project db has) version

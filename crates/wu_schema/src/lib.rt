@@ -3,6 +3,7 @@
 
 mod creation;
 mod fault;
+mod laws;
 mod rows;
 mod statements;
 mod texts;
@@ -10,9 +11,10 @@ mod version;
 
 pub use creation::create;
 pub use fault::{commit_fault_of, fault_after, fault_of};
+pub use laws::{a_free_name_lacks_a_project, columns_of_a_project_are_found};
 pub use rows::{StoredImport, import_from, instance_from, next_number_from, workunit_from};
 pub use statements::{
-    has_archived, has_workunit, import_rows, insert_import, insert_workunit, next_number_row,
-    set_next_number, workunit_rows,
+    delete_workunit, has_archived, has_workunit, import_rows, insert_import, insert_workunit,
+    instance_rows, next_number_row, set_next_number, workunit_row_above, workunit_rows,
 };
 pub use version::{PRESENT_VERSION, version_of};

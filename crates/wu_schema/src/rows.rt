@@ -10,8 +10,9 @@ ghost use Rattle.wu_core.specs.Formed.{IsInstance};
 ghost use Rattle.wu_core.specs.Limits.{longest_output};
 ghost use Rattle.wu_core.specs.Mask.{error_mask_code};
 ghost use Rattle.wu_core.specs.Parameters.{IsParameters};
+ghost use Rattle.wu_core.specs.World.{last_skip};
 ghost use Rattle.wu_schema.specs.Stored.{instance_row, number, number_or_null, text_or_null, parameter_cells, verdict_digits, workunit_row};
-ghost use Rattle.wu_schema.specs.Reading.{columns, progress_cells, IsInput, IsMoment, IsName, IsPlace, IsProgress, IsStoredWorkunit, Restores, AreVerdicts, IsNextNumber, IsStoredImport, last_skip, stored_import_row, AreMoments, IsDeadline, IsHost, IsStoredInstance, MayBeInstance, moment_cells, state_cells};
+ghost use Rattle.wu_schema.specs.Reading.{columns, progress_cells, IsInput, IsMoment, IsName, IsPlace, IsProgress, IsStoredWorkunit, Restores, AreVerdicts, IsNextNumber, IsStoredImport, stored_import_row, AreMoments, IsDeadline, IsHost, IsStoredInstance, MayBeInstance, moment_cells, state_cells};
 
 use crate::fault::fault_of;
 use sqlite::Row;

@@ -1,15 +1,15 @@
 //! The statements that a batch and the view of workunits run, each text in one function.
 
-ghost use Rattle.std.specs.Prelude.{◌≡◌, ◌<◌, ◌^◌, [], ◌∷◌, false, pos, map, option_map, None, IsTrue, IfOk, IfErr, OnOk, OnErr};
+ghost use Rattle.std.specs.Prelude.{◌≡◌, ◌<◌, ◌≤◌, ◌^◌, [], ◌∷◌, false, pos, map, option_map, None, IsTrue, IfOk, IfErr, OnOk, OnErr};
 ghost use Rattle.sqlite.specs.State.{HasCleanDisk, IsUnchanged, Survives};
 ghost use Rattle.sqlite.specs.Held.{state};
 ghost use Rattle.wu_core.specs.World.{World, Import};
 ghost use Rattle.wu_schema.specs.Stored.{number, verdict_digits, workunit_row};
 ghost use Rattle.wu_schema.specs.StandsFor.{StandsFor};
-ghost use Rattle.wu_schema.specs.Changes.{with_workunit, with_import, with_next, IsAbove};
+ghost use Rattle.wu_schema.specs.Changes.{with_workunit, without_workunit, with_import, with_next, IsAbove};
 ghost use Rattle.wu_schema.specs.Calls.{IsPart, IsBack};
 ghost use Rattle.wu_schema.specs.Faults.{fault_of, IsFailure};
-ghost use Rattle.wu_schema.specs.Answers.{has_name, was_archived, kept_of};
+ghost use Rattle.wu_schema.specs.Answers.{has_name, was_archived, kept_of, first_above, instance_rows_of};
 
 use sqlite::{Alter, Connection, Error, Row, Transaction, params};
 use wu_core::{ImportKind, Moment, Name, Workunit};
@@ -18,6 +18,7 @@ use wu_core::{ImportKind, Moment, Name, Workunit};
 fn signed(number: u64) -> Result<i64, Error>
     ensures value { IfOk result (λ n. n ≡ pos number) }
     ensures within { IfOk result (λ _. number < 2 ^ 63) }
+    ensures beyond { IfErr result (λ _. 2 ^ 63 ≤ number) }
 {
     i64::try_from(number).map_err(|_| Error::IntegralValueOutOfRange(0))
 }
@@ -110,6 +111,52 @@ pub fn workunit_rows<S: Alter>(conn: &mut Connection<S>) -> Result<Vec<Row>, Err
     )
 }
 
+/// The row of the workunit with the least number above this one, or none. A number from 2^63 on is an error.
+pub fn workunit_row_above<S: Alter>(
+    conn: &mut Connection<S>,
+    number: u64,
+) -> Result<Option<Row>, Error>
+    ensures mode { conn.old.in_transaction ≡ false → conn.new.in_transaction ≡ false }
+    ensures unchanged { HasCleanDisk (state S.Store conn.new) → OnOk result (IsUnchanged (state S.Store conn.old) (state S.Store conn.new)) }
+    ensures back { HasCleanDisk (state S.Store conn.new) → OnErr result (IsBack (state S.Store conn.old) (state S.Store conn.new)) }
+    ensures crash { Survives (state S.Store conn.old) (state S.Store conn.new) (λ _. ⊥) }
+    ensures answers { HasCleanDisk (state S.Store conn.new) → IfOk result (λ row. (world : World) → StandsFor (state S.Store conn.old).now world → row ≡ option_map workunit_row (first_above number world)) }
+    ensures told { HasCleanDisk (state S.Store conn.new) → IfErr result (λ e. (world : World) → StandsFor (state S.Store conn.old).now world → conn.old.step_limit ≡ None → number < 2 ^ 63 → IsFailure (fault_of e)) }
+{
+    let number = match signed(number) {
+        Ok(number) => number,
+        Err(error) => return Err(error),
+    };
+    let found = conn.query_all(
+        "SELECT number, name, min_quorum, target_nresults, max_error_results, max_total_results, max_success_results, delay_bound, credit, input, error_mask, canonical, assimilate, file_delete, done_at FROM workunit WHERE number > ?1 ORDER BY number LIMIT 1",
+        params![number],
+    );
+    match found {
+        Ok(mut rows) => Ok(rows.pop()),
+        Err(error) => Err(error),
+    }
+}
+
+/// The rows of the instances of the workunit of this number, in order of theirs, from the third column on.
+/// A number from 2^63 on is an error.
+pub fn instance_rows<S: Alter>(conn: &mut Connection<S>, workunit: u64) -> Result<Vec<Row>, Error>
+    ensures mode { conn.old.in_transaction ≡ false → conn.new.in_transaction ≡ false }
+    ensures unchanged { HasCleanDisk (state S.Store conn.new) → OnOk result (IsUnchanged (state S.Store conn.old) (state S.Store conn.new)) }
+    ensures back { HasCleanDisk (state S.Store conn.new) → OnErr result (IsBack (state S.Store conn.old) (state S.Store conn.new)) }
+    ensures crash { Survives (state S.Store conn.old) (state S.Store conn.new) (λ _. ⊥) }
+    ensures answers { HasCleanDisk (state S.Store conn.new) → IfOk result (λ rows. (world : World) → StandsFor (state S.Store conn.old).now world → rows.items ≡ instance_rows_of workunit world) }
+    ensures told { HasCleanDisk (state S.Store conn.new) → IfErr result (λ e. (world : World) → StandsFor (state S.Store conn.old).now world → conn.old.step_limit ≡ None → workunit < 2 ^ 63 → IsFailure (fault_of e)) }
+{
+    let workunit = match signed(workunit) {
+        Ok(workunit) => workunit,
+        Err(error) => return Err(error),
+    };
+    conn.query_all(
+        "SELECT server_state, outcome, validate_state, file_delete, host, sent_at, deadline, received_at, output FROM result WHERE workunit = ?1 ORDER BY n",
+        params![workunit],
+    )
+}
+
 /// Adds the row of a workunit, without its instances.
 pub fn insert_workunit<S: Alter>(
     tx: &mut Transaction<'_, S>,
@@ -142,6 +189,20 @@ pub fn insert_workunit<S: Alter>(
             workunit.file_delete.code(),
             done_at
         ],
+    )?;
+    Ok(())
+}
+
+/// Deletes the workunit of this number, if there is one, and its instances.
+pub fn delete_workunit<S: Alter>(tx: &mut Transaction<'_, S>, number: u64) -> Result<(), Error>
+    ensures same_reference { tx.new.conn.ghost_name ≡ tx.old.conn.ghost_name }
+    ensures part { IsPart (state S.Store tx.old.conn.now) (state S.Store tx.new.conn.now) }
+    ensures inside { HasCleanDisk (state S.Store tx.new.conn.now) → OnOk result (IsTrue (state S.Store tx.new.conn.now).in_transaction) }
+    ensures deletes { HasCleanDisk (state S.Store tx.new.conn.now) → OnOk result ((world : World) → StandsFor (state S.Store tx.old.conn.now).now world → StandsFor (state S.Store tx.new.conn.now).now (without_workunit number world)) }
+{
+    tx.execute(
+        "DELETE FROM workunit WHERE number = ?1",
+        params![signed(number)?],
     )?;
     Ok(())
 }

@@ -1,15 +1,16 @@
 //! Which version a project has.
 
-ghost use Rattle.std.specs.Prelude.{◌≡◌, ◌⊎◌, ◌≤◌, ℕ, false, codes, None, Some, Ok, IfSome, IfOk, IfErr, OnOk, OnErr};
+ghost use Rattle.std.specs.Prelude.{◌≡◌, ◌⊎◌, ◌≤◌, ℕ, false, None, Some, Ok, IfSome, IfOk, IfErr, OnOk, OnErr};
+ghost use Rattle.std.specs.List.Sorted.{IsPermutation};
 ghost use Rattle.sqlite.specs.State.{HasCleanDisk, IsUnchanged, Survives};
 ghost use Rattle.sqlite.specs.Held.{state};
 ghost use Rattle.wu_core.specs.declared.fault.Fault.TheVariants.{Memory, NotAProject};
 ghost use Rattle.wu_core.specs.Reads.{Gives};
 ghost use Rattle.wu_core.specs.World.{World};
-ghost use Rattle.wu_schema.specs.StandsFor.{StandsFor, IsFree};
+ghost use Rattle.wu_schema.specs.StandsFor.{StandsFor};
 ghost use Rattle.wu_schema.specs.Calls.{IsBack};
 ghost use Rattle.wu_schema.specs.Faults.{fault_of, IsFailure, IsTold};
-ghost use Rattle.wu_schema.specs.Versions.{AreOfVersion, HasProject, LacksProject, TellsMissing};
+ghost use Rattle.wu_schema.specs.Versions.{rows_of_project, AreOfVersion, HasProject, HasVersion, LacksProject, TellsMissing};
 
 use crate::fault::fault_of;
 use crate::rows::version_from;
@@ -27,10 +28,10 @@ fn project_rows<S: Alter>(conn: &mut Connection<S>) -> Result<Vec<Row>, Error>
     ensures serves { HasCleanDisk (state S.Store conn.new) → IfErr result (λ e. fault_of e ≡ NotAProject → IsUnchanged (state S.Store conn.old) (state S.Store conn.new)) }
     ensures back { HasCleanDisk (state S.Store conn.new) → OnErr result (IsBack (state S.Store conn.old) (state S.Store conn.new)) }
     ensures crash { Survives (state S.Store conn.old) (state S.Store conn.new) (λ _. ⊥) }
-    ensures answers { HasCleanDisk (state S.Store conn.new) → IfOk result (λ rows. (world : World) → StandsFor (state S.Store conn.old).now world → AreOfVersion rows.items world.version) }
-    ensures told { HasCleanDisk (state S.Store conn.new) → IfErr result (λ e. (world : World) → StandsFor (state S.Store conn.old).now world → conn.old.step_limit ≡ None → IsFailure (fault_of e)) }
-    ensures there { HasCleanDisk (state S.Store conn.new) → OnOk result (¬ IsFree (state S.Store conn.old).now.schema (codes "project")) }
-    ensures absent { HasCleanDisk (state S.Store conn.new) → IfErr result (λ e. IsFree (state S.Store conn.old).now.schema (codes "project") → TellsMissing e ⊎ IsFailure (fault_of e)) }
+    ensures answers { HasCleanDisk (state S.Store conn.new) → IfOk result (λ rows. (has : HasProject (state S.Store conn.old).now.schema) → IsPermutation (rows_of_project (state S.Store conn.old).now has) rows.items) }
+    ensures told { HasCleanDisk (state S.Store conn.new) → IfErr result (λ e. HasProject (state S.Store conn.old).now.schema → conn.old.step_limit ≡ None → IsFailure (fault_of e)) }
+    ensures there { HasCleanDisk (state S.Store conn.new) → OnOk result (¬ LacksProject (state S.Store conn.old).now.schema) }
+    ensures absent { HasCleanDisk (state S.Store conn.new) → IfErr result (λ e. LacksProject (state S.Store conn.old).now.schema → TellsMissing e ⊎ IsFailure (fault_of e)) }
     ensures missing { HasCleanDisk (state S.Store conn.new) → IfErr result (λ e. TellsMissing e → LacksProject (state S.Store conn.old).now.schema) }
 {
     conn.query_all("SELECT one, version, next_number FROM project", &[])
@@ -70,12 +71,13 @@ pub fn version_of<S: Alter>(conn: &mut Connection<S>) -> Result<Option<u64>, Fau
     ensures crash { Survives (state S.Store conn.old) (state S.Store conn.new) (λ _. ⊥) }
     ensures told { IfErr result IsTold }
     ensures positive { IfOk result (λ found. IfSome found (λ version. 1 ≤ version)) }
+    ensures answers { HasCleanDisk (state S.Store conn.new) → IfOk result (λ found. (has : HasProject (state S.Store conn.old).now.schema) → (version : ℕ) × (found ≡ Some version) × HasVersion (state S.Store conn.old).now has version) }
+    ensures taken { HasCleanDisk (state S.Store conn.new) → IfErr result (λ fault. (has : HasProject (state S.Store conn.old).now.schema) (version : ℕ) → HasVersion (state S.Store conn.old).now has version → conn.old.step_limit ≡ None → IsFailure fault) }
     ensures stored { HasCleanDisk (state S.Store conn.new) → IfOk result (λ found. (world : World) → StandsFor (state S.Store conn.old).now world → found ≡ Some world.version) }
     ensures refused { HasCleanDisk (state S.Store conn.new) → IfErr result (λ fault. (world : World) → StandsFor (state S.Store conn.old).now world → 1 ≤ world.version → conn.old.step_limit ≡ None → IsFailure fault) }
-    ensures absent { HasCleanDisk (state S.Store conn.new) → IfOk result (λ found. IsFree (state S.Store conn.old).now.schema (codes "project") → found ≡ None) }
-    ensures failed { HasCleanDisk (state S.Store conn.new) → IfErr result (λ fault. IsFree (state S.Store conn.old).now.schema (codes "project") → IsFailure fault) }
+    ensures absent { HasCleanDisk (state S.Store conn.new) → IfOk result (λ found. LacksProject (state S.Store conn.old).now.schema → found ≡ None) }
+    ensures failed { HasCleanDisk (state S.Store conn.new) → IfErr result (λ fault. LacksProject (state S.Store conn.old).now.schema → IsFailure fault) }
     ensures none { HasCleanDisk (state S.Store conn.new) → IfOk result (λ found. found ≡ None → LacksProject (state S.Store conn.old).now.schema) }
-    ensures sure { HasCleanDisk (state S.Store conn.new) → IfOk result (λ found. found ≡ None → ¬ HasProject (state S.Store conn.old).now.schema) }
 {
     match project_rows(conn) {
         Ok(rows) => version_in(rows.as_slice()),

@@ -87,6 +87,16 @@ fn other_rows_are_no_project(rt: HostRuntime) {
 }
 
 #[test]
+fn a_view_of_the_name_takes_no_batch(rt: HostRuntime) {
+    let conn = made(
+        &rt,
+        "CREATE VIEW project AS SELECT 1 AS one, 1 AS version, 1 AS next_number",
+    );
+    let mut project = adopted(&rt, conn);
+    imports(&rt, &mut project, "b1", ONE_JOB, "F13 NotAProject");
+}
+
+#[test]
 fn a_connection_in_a_transaction_is_refused(rt: HostRuntime) {
     let mut conn = refused(&rt, made(&rt, "BEGIN"), Fault::NotAProject);
     assert!(rt; !conn.is_autocommit());

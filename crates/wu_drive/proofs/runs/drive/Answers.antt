@@ -1,28 +1,31 @@
-use Rattle.std.proofs.Common.{rules, ◌≡◌, ◌+◌, [], ◌∷◌, ◌++◌, length, Some, ap, sym, ◌∙◌, subst, arith, length-append, refl}
+use Rattle.std.proofs.Common.{rules, ◌≡◌, ◌+◌, [], ◌∷◌, ◌++◌, length, true, Some, ap, sym, ◌∙◌, subst, arith, length-append, refl}
 use Rattle.std.specs.Io.KnownBytes.{Appends}
 use Rattle.std.proofs.KnownBytes.{Appends-trans}
 use Rattle.sqlite.specs.State.{HasCleanDisk}
 use Rattle.sqlite.specs.Held.{state}
+use Rattle.wu_core.specs.declared.fault.Fault.TheVariants.{Output}
 use Rattle.wu_drive.proofs.AnswerLemmas.{all_written, answers_text-more, last_cut}
-use Rattle.wu_drive.proofs.DrivingLemmas.{driving_more, driving_none, drives_cut, drives_so_far}
+use Rattle.wu_drive.proofs.DrivingLemmas.{driving_more, driving_none, drives_cut, drives_so_far, one_fault}
+use Rattle.wu_drive.proofs.LifeLemmas.{lengthens}
+use Rattle.wu_drive.specs.Sessions.{world_of_life}
 use Rattle.wu_drive.specs.Writing.{answers_text}
 use Rattle.wu_drive.proofs.runs.drive.Goals as goal
 
 pub returns-in-Err-clause-answers : goal.returns-in-Err-clause-answers
 returns-in-Err-clause-answers g c =
-    let (index, (answers, counted, whole, driving)) = c.loop-command.invariant in (
+    let (index, was_ended, kept_clean, (answers, counted, whole, driving)) = c.loop-command.invariant in (
       answers,
       all_written _ _ answers _ counted whole,
       λ going clean world project goes.
           let before : HasCleanDisk (state g.S.Store c.loop-command.project.conn) = omega (arith, c.run.ensures.clean) in
           let so_far = driving going before world project goes in
-          drives_cut world c.args.commands.now answers c.loop-command.command-index _ _ so_far c.command-item.result c.command-item.result c.loop-command-test.true (sym c.command-item.is) c.in-Err.fault _ _ _ index
+          drives_cut world c.args.commands.now answers c.loop-command.command-index _ _ so_far c.command-item.result c.command-item.result c.loop-command-test.true (sym c.command-item.is) c.in-Err.fault _ _ _ index refl
           (c.in-Err.ensures.runs so_far.going clean _ so_far.project so_far.goes),
     )
 
 pub returns-in-Err-write_answer-clause-answers : goal.returns-in-Err-write_answer-clause-answers
 returns-in-Err-write_answer-clause-answers g c =
-    let (index, (answers, counted, whole, driving)) = c.loop-command.invariant in
+    let (index, was_ended, kept_clean, (answers, counted, whole, driving)) = c.loop-command.invariant in
     let answer = c.in-Ok.answer in (
       answers ++ answer ∷ [],
       last_cut _ _ (g.W.Write.contents c.write_answer.new.out) answers answer _ (omega arith) (ap Some c.in-Err-write_answer.ensures.fault) whole c.in-Err-write_answer.ensures.bytes,
@@ -30,20 +33,25 @@ returns-in-Err-write_answer-clause-answers g c =
           let before : HasCleanDisk (state g.S.Store c.loop-command.project.conn) = omega (arith, c.run.ensures.clean) in
           let so_far = driving going before world project goes in
           drives_so_far world c.args.commands.now (answers ++ answer ∷ []) (c.loop-command.command-index + 1) _ _ _ (omega (arith, c.loop-command-test.true)) (ap (λ k. k + 1) index)
+          (λ fault told. (one_fault fault Output (sym told ∙ ap Some c.in-Err-write_answer.ensures.fault), omega arith))
           (driving_more world c.args.commands.now answers c.loop-command.command-index _ _ so_far c.command-item.result c.command-item.result c.loop-command-test.true (sym c.command-item.is) answer _ _
           (c.in-Ok.ensures.runs so_far.going clean _ so_far.project so_far.goes)),
     )
 
 pub loop-command-init : goal.loop-command-init
-loop-command-init g c = (refl, ([], refl, search rules, λ going clean world project goes. driving_none world c.args.commands.now _ _ going project goes))
+loop-command-init g c = (refl, λ ended. (refl, refl, refl), omega arith, ([], refl, search rules, λ going clean world project goes. driving_none world c.args.commands.now _ _ going project goes))
 
 pub loop-command-preserved : goal.loop-command-preserved
 loop-command-preserved g c =
-    let (index, (answers, counted, whole, driving)) = c.loop-command.invariant in
+    let (index, was_ended, kept_clean, (answers, counted, whole, driving)) = c.loop-command.invariant in
     let answer = c.in-Ok.answer in
     let longer : length (answers ++ answer ∷ []) ≡ c.loop-command.acknowledged + 1 = length-append answers (answer ∷ []) ∙ omega arith in
     let more = Appends-trans _ _ _ (answers_text answers) _ whole c.in_default.ensures.bytes in (
       ap (λ k. k + 1) index,
+      λ ended.
+          let still : c.loop-command.project.has_ended ≡ true = ap (λ p. p.has_ended) (was_ended ended).1 ∙ ended in
+          absurd (let no = sym (c.run.ensures.ended still).0 ∙ c.in-Ok.is in cc),
+      omega (arith, kept_clean, c.run.ensures.clean),
       (
         answers ++ answer ∷ [],
         longer,
@@ -58,9 +66,24 @@ loop-command-preserved g c =
 
 pub returns-clause-answers : goal.returns-clause-answers
 returns-clause-answers g c =
-    let (index, (answers, counted, whole, driving)) = c.loop-command.invariant in (
+    let (index, was_ended, kept_clean, (answers, counted, whole, driving)) = c.loop-command.invariant in (
       answers,
       all_written _ _ answers _ counted whole,
       λ going clean world project goes.
-          drives_so_far world c.args.commands.now answers c.loop-command.command-index _ _ _ c.loop-command.auto.command-index-end index (driving going clean world project goes),
+          drives_so_far world c.args.commands.now answers c.loop-command.command-index _ _ _ c.loop-command.auto.command-index-end index (λ fault told. absurd (cc)) (driving going clean world project goes),
     )
+
+pub returns-in-Err-clause-lives : goal.returns-in-Err-clause-lives
+returns-in-Err-clause-lives g c going clean start life project goes =
+    let driven = returns-in-Err-clause-answers g c in
+    lengthens start life c.args.commands.now driven.0 _ _ _ (driven.2 going clean (world_of_life start life) project goes)
+
+pub returns-in-Err-write_answer-clause-lives : goal.returns-in-Err-write_answer-clause-lives
+returns-in-Err-write_answer-clause-lives g c going clean start life project goes =
+    let driven = returns-in-Err-write_answer-clause-answers g c in
+    lengthens start life c.args.commands.now driven.0 _ _ _ (driven.2 going clean (world_of_life start life) project goes)
+
+pub returns-clause-lives : goal.returns-clause-lives
+returns-clause-lives g c going clean start life project goes =
+    let driven = returns-clause-answers g c in
+    lengthens start life c.args.commands.now driven.0 _ _ _ (driven.2 going clean (world_of_life start life) project goes)

@@ -23,11 +23,11 @@ returns-clause-crash g c = reads_survive version_text version_selects [] (state 
 
 pub returns-clause-answers : goal.returns-clause-answers
 returns-clause-answers g c clean =
-    if_ok c.query_all.result _ _ (λ rows h world s. version_found (state g.S.Store c.args.conn.now) (state g.S.Store c.query_all.new.self) world s rows.items h) (c.query_all.ensures.ok clean)
+    if_ok c.query_all.result _ _ (λ rows h has. version_found (state g.S.Store c.args.conn.now) (state g.S.Store c.query_all.new.self) has rows.items h) (c.query_all.ensures.ok clean)
 
 pub returns-clause-told : goal.returns-clause-told
 returns-clause-told g c clean =
-    if_err c.query_all.result _ _ (λ e h world s unlimited. version_told (state g.S.Store c.args.conn.now) (state g.S.Store c.query_all.new.self) world s unlimited e h) (c.query_all.ensures.err clean)
+    if_err c.query_all.result _ _ (λ e h has unlimited. version_told (state g.S.Store c.args.conn.now) (state g.S.Store c.query_all.new.self) has unlimited e h) (c.query_all.ensures.err clean)
 
 pub returns-clause-there : goal.returns-clause-there
 returns-clause-there g c clean =
