@@ -1,4 +1,5 @@
-mod MaskLemmas
+pub mod HostLemmas
+pub mod MaskLemmas
 mod NameLemmas
 mod ParameterLemmas
 mod ResultNameLemmas

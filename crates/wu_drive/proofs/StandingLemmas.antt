@@ -56,7 +56,7 @@ ended_undone old new world request changes clean stands goes right is undone sur
   stands = λ is_open.
       let was = goes.stands (undone.was_open is_open) in
       subst (λ (d : Database). StandsFor d world) (sym ((undone.now is_open).0 ∙ was.1)) was.0;
-  left = λ db may. elim (survives.crash clean db may) [ inl before ↦ inl (goes.left db before) | inr after ↦ inr (subst (λ w. FoundAs db w) (sym is) (after world stands right)) ];
+  left = λ db may. elim (survives.crash clean db may) [ inl before ↦ inl (goes.left db before) | inr after ↦ inr (subst (λ w. FoundAs db w) (sym is) (record { database = after.0; same = after.1; stands = after.2 world stands right })) ];
 }
 
 -- what a plan says of the machine

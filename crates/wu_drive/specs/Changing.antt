@@ -1,10 +1,10 @@
 -- What the changes of a command make of a world, and of the tables that stand for it.
-use Rattle.std.specs.Prelude.{◌≡◌, ◌-◌, List, [], ◌∷◌, map, string_bytes, IsTrue, ⊤}
+use Rattle.std.specs.Prelude.{◌≡◌, ◌-◌, List, [], ◌∷◌, map, string_bytes, ⊤}
 use Rattle.sqlite.specs.Effect.{Database}
 use Rattle.sqlite.specs.State.{State}
 use Rattle.sqlite.specs.Tree.{Trees}
 use Rattle.wu_core.specs.World.{World, Import}
-use Rattle.wu_schema.specs.Calls.{IsDone}
+use Rattle.wu_schema.specs.Calls.{IsDone, IsMade}
 use Rattle.wu_schema.specs.Changes.{with_workunit, with_import, with_next, IsAbove}
 use Rattle.wu_schema.specs.StandsFor.{StandsFor}
 use Rattle.wu_schema.specs.Stored.{verdict_digits}
@@ -48,11 +48,6 @@ AreRight (change ∷ more) world = IsRight change world × AreRight more (made c
 abbrev pub MakesWorlds : List Change → Database → Database → Type 0
 MakesWorlds changes old new = (world : World) → StandsFor old world → AreRight changes world → StandsFor new (made_all changes world)
 
--- the changes were made inside a transaction, which stays open
-pub record MakesAll (changes : List Change) (old new : State) : Type 0 where
-  pub inside : IsTrue old.in_transaction → IsTrue new.in_transaction
-  pub makes : MakesWorlds changes old.now new.now
-
 -- what a stop left stands for this world
 pub record FoundAs (db : Trees) (world : World) : Type 0 where
   pub database : Database
@@ -61,7 +56,7 @@ pub record FoundAs (db : Trees) (world : World) : Type 0 where
 
 -- what a stop left has the changes, where the tables stood for a world before
 abbrev pub IsAfter : List Change → Database → Trees → Type 0
-IsAfter changes before db = (world : World) → StandsFor before world → AreRight changes world → FoundAs db (made_all changes world)
+IsAfter changes = IsMade (MakesWorlds changes)
 
 -- the changes are committed, and a stop leaves exactly the tables with them
 abbrev pub AreDone : List Change → State → State → Type 0

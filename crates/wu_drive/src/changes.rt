@@ -3,14 +3,14 @@
 ghost use Rattle.std.specs.Prelude.{◌≡◌, [], ◌∷◌, false, IfErr, OnOk, OnErr};
 ghost use Rattle.sqlite.specs.State.{HasCleanDisk, Survives};
 ghost use Rattle.sqlite.specs.Held.{state};
-ghost use Rattle.wu_schema.specs.Calls.{IsPart, IsRefused, IsUndone};
+ghost use Rattle.wu_schema.specs.Calls.{Writes, Works, Does, IsRefused, IsUndone};
 ghost use Rattle.wu_schema.specs.Faults.{IsTold};
-ghost use Rattle.wu_drive.specs.Changing.{AreDone, IsAfter, MakesAll};
+ghost use Rattle.wu_drive.specs.Changing.{AreDone, IsAfter, MakesWorlds};
 
 use sqlite::{Alter, Connection, Error, Transaction};
 use std::alloc::Global;
 use wu_core::{Bytes, Fault, ImportKind, Name, Workunit};
-use wu_schema::{commit_fault_of, fault_after, insert_import, insert_workunit, set_next_number};
+use wu_schema::{Work, insert_import, insert_workunit, set_next_number, transact};
 
 /// What is kept for good of an import: its content, and its first answer.
 #[derive(Debug, Drop)]
@@ -37,9 +37,8 @@ pub enum Change {
 }
 
 fn keep<S: Alter>(tx: &mut Transaction<'_, S>, import: &Import) -> Result<(), Error>
-    ensures same_reference { tx.new.conn.ghost_name ≡ tx.old.conn.ghost_name }
-    ensures part { IsPart (state S.Store tx.old.conn.now) (state S.Store tx.new.conn.now) }
-    ensures ok { HasCleanDisk (state S.Store tx.new.conn.now) → OnOk result (MakesAll (Change.Keep import.now ∷ []) (state S.Store tx.old.conn.now) (state S.Store tx.new.conn.now)) }
+    ensures writes { Writes S.Store tx.old tx.new result }
+    ensures makes { Does S.Store tx.old tx.new result (MakesWorlds (Change.Keep import.now ∷ [])) }
 {
     insert_import(
         tx,
@@ -53,9 +52,8 @@ fn keep<S: Alter>(tx: &mut Transaction<'_, S>, import: &Import) -> Result<(), Er
 }
 
 fn make<S: Alter>(tx: &mut Transaction<'_, S>, change: &Change) -> Result<(), Error>
-    ensures same_reference { tx.new.conn.ghost_name ≡ tx.old.conn.ghost_name }
-    ensures part { IsPart (state S.Store tx.old.conn.now) (state S.Store tx.new.conn.now) }
-    ensures ok { HasCleanDisk (state S.Store tx.new.conn.now) → OnOk result (MakesAll (change.now ∷ []) (state S.Store tx.old.conn.now) (state S.Store tx.new.conn.now)) }
+    ensures writes { Writes S.Store tx.old tx.new result }
+    ensures makes { Does S.Store tx.old tx.new result (MakesWorlds (change.now ∷ [])) }
 {
     match change {
         Change::Add(workunit) => insert_workunit(tx, workunit),
@@ -65,9 +63,8 @@ fn make<S: Alter>(tx: &mut Transaction<'_, S>, change: &Change) -> Result<(), Er
 }
 
 fn apply<S: Alter>(tx: &mut Transaction<'_, S>, changes: &[Change]) -> Result<(), Error>
-    ensures same_reference { tx.new.conn.ghost_name ≡ tx.old.conn.ghost_name }
-    ensures part { IsPart (state S.Store tx.old.conn.now) (state S.Store tx.new.conn.now) }
-    ensures ok { HasCleanDisk (state S.Store tx.new.conn.now) → OnOk result (MakesAll changes.now (state S.Store tx.old.conn.now) (state S.Store tx.new.conn.now)) }
+    ensures works { Works S.Store tx.old tx.new result }
+    ensures makes { Does S.Store tx.old tx.new result (MakesWorlds changes.now) }
 {
     for change in changes {
         make(tx, change)?;
@@ -75,26 +72,15 @@ fn apply<S: Alter>(tx: &mut Transaction<'_, S>, changes: &[Change]) -> Result<()
     Ok(())
 }
 
-/// What stopped a transaction: a statement, which rolled it back, or its commit.
-enum Stopped {
-    Statement(Error),
-    Commit(Error),
-}
+/// The changes of a command, as the work of one transaction.
+#[derive(Clone, Copy)]
+struct Changes<'a>(&'a [Change]);
 
-fn apply_and_commit<S: Alter>(conn: &mut Connection<S>, changes: &[Change]) -> Result<(), Stopped>
-    requires { conn.old.in_transaction ≡ false }
-    ensures mode { conn.new.in_transaction ≡ false }
-    ensures done { HasCleanDisk (state S.Store conn.new) → OnOk result (AreDone changes.now (state S.Store conn.old) (state S.Store conn.new)) }
-    ensures undone { HasCleanDisk (state S.Store conn.new) → OnErr result (IsUndone (state S.Store conn.old) (state S.Store conn.new)) }
-    ensures crash { Survives (state S.Store conn.old) (state S.Store conn.new) (IsAfter changes.now (state S.Store conn.old).now) }
-{
-    let mut tx = conn.transaction();
-    if let Err(error) = apply(&mut tx, changes) {
-        return Err(Stopped::Statement(error));
-    }
-    match tx.commit() {
-        Ok(()) => Ok(()),
-        Err(error) => Err(Stopped::Commit(error)),
+impl<'a> Work for Changes<'a> {
+    ghost makes = { λ changes. MakesWorlds changes.0.now };
+
+    fn run<S: Alter>(&self, tx: &mut Transaction<'_, S>) -> Result<(), Error> {
+        apply(tx, self.0)
     }
 }
 
@@ -111,9 +97,5 @@ pub fn change_all<S: Alter>(conn: &mut Connection<S>, changes: &[Change]) -> Res
     ensures undone { HasCleanDisk (state S.Store conn.new) → OnErr result (IsUndone (state S.Store conn.old) (state S.Store conn.new)) }
     ensures crash { Survives (state S.Store conn.old) (state S.Store conn.new) (IsAfter changes.now (state S.Store conn.old).now) }
 {
-    match apply_and_commit(conn, changes) {
-        Ok(()) => Ok(()),
-        Err(Stopped::Statement(error)) => Err(fault_after(conn, &error)),
-        Err(Stopped::Commit(error)) => Err(commit_fault_of(&error)),
-    }
+    transact(conn, &Changes(changes))
 }

@@ -1,14 +1,5 @@
 -- Which rows a query on one table answers.
-use Rattle.std.proofs.Common.{◌≡◌, ℕ, ◌^◌, nat_le, List, [], ◌∷◌, ◌++◌, map, filter, true, false, if◌then◌else◌, cond, refl, sym, ap, subst, ◌∙◌}
-use Rattle.std.specs.List.{list_all, flat_map}
-use Rattle.std.specs.List.Sorted.{IsPermutation}
-use Rattle.std.proofs.lemmas.List.Sorted.{IsPermutation-map}
-use Rattle.sqlite.specs.declared.types.Value.TheVariants.{Null}
-use Rattle.sqlite.specs.Order.{Row}
-use Rattle.sqlite.specs.Term.{Term, eval_all, holds}
-use Rattle.sqlite.specs.Query.{IsAnswerAs, Output, output}
-use Rattle.sqlite.specs.Program.{overlay}
-use Rattle.sqlite.specs.Effect.{Database, Answers}
+use Rattle.wu_schema.proofs.Words.{Answers, Database, IsAnswerAs, IsPermutation, IsPermutation-map, List, Null, Output, Row, Term, [], ap, cond, eval_all, false, filter, flat_map, holds, if◌then◌else◌, list_all, map, nat_le, output, overlay, refl, subst, sym, true, ℕ, ◌++◌, ◌^◌, ◌∙◌, ◌∷◌, ◌≡◌}
 use Rattle.wu_schema.proofs.QueryLemmas.{plain_query, alone}
 
 -- the rows that meet the condition, as the query shows them

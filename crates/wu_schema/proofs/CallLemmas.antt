@@ -1,23 +1,11 @@
 -- From call to call inside a transaction.
-use Rattle.std.proofs.Common.{◌≢◌, ◌≡◌, ℕ, true, false, List, Result, Ok, Err, OnOk, OnErr, IfErr, IsTrue, refl, sym, ap, subst, ◌∙◌, inl, inr, arith}
-use Rattle.std.proofs.lemmas.Bool.{cases_Bool}
-use Rattle.sqlite.specs.Tree.{Trees}
-use Rattle.sqlite.specs.Order.{Row}
-use Rattle.sqlite.specs.Store.{Ghosts}
-use Rattle.sqlite.specs.declared.error.Error.{Error}
-use Rattle.sqlite.specs.Effect.{Database}
-use Rattle.sqlite.specs.State.{State, HasCleanDisk, Survives, IsUnchanged, IsRolledBack, ExecutesInside}
-use Rattle.sqlite.specs.Held.{Held, state}
+use Rattle.wu_schema.proofs.Words.{Err, Error, Executes, Ghosts, HasCleanDisk, HasRun, Held, IfErr, IsBack, IsErrAnd, IsNotRun, IsPart, IsTrue, IsUnchanged, IsUndone, List, NotAProject, Ok, OnErr, OnOk, Result, Row, State, StoreError, Survives, Transaction, Trees, ap, arith, cases_Bool, false, fault_of, inl, inr, refl, state, store_error, subst, sym, true, ℕ, ◌∙◌, ◌≡◌, ◌≢◌}
+use Rattle.sqlite.specs.State.{IsRolledBack, ExecutesInside}
 use Rattle.sqlite.proofs.StateLemmas.{survives_then}
-use Rattle.sqlite.proofs.InsideLemmas.{inside_keeps, unchanged_keeps, keeps_then}
+use Rattle.sqlite.proofs.InsideLemmas.{inside_keeps, keeps_then}
 use Rattle.sqlite.proofs.Callers.{survives_begin}
-use Rattle.sqlite.specs.State.{IsNotRun}
-use Rattle.sqlite_trees.specs.declared.error.StoreError.{StoreError}
 use Rattle.sqlite_trees.specs.declared.error.StoreError.TheVariants as kind
-use Rattle.sqlite.specs.State.{store_error}
-use Rattle.wu_core.specs.declared.fault.Fault.TheVariants.{NotAProject}
-use Rattle.wu_schema.specs.Faults.{fault_of}
-use Rattle.wu_schema.specs.Calls.{LeavesOnly, IsUndone, IsRefused, IsBack, IsPart}
+use Rattle.wu_schema.specs.Calls.{LeavesOnly, Writes}
 
 pub part_then : (a b c : State) → IsPart a b → IsPart b c → IsPart a c
 part_then a b c one two = record {
@@ -40,17 +28,31 @@ part_of g old new sql params e r ended runs survives = elim (cases_Bool old.in_t
   | inr outside ↦ subst (λ h. IsPart (state g old) (state g h)) (sym (ended outside).1) (part_none (state g old))
 ]
 
--- at Ok it ran
-pub ran_inside : {S : Type 0} (g : Ghosts S) (old new : Held S) (sql : List ℕ) (params : Row) (e : Error) (count : ℕ) (r : Result ℕ Error) → r ≡ Ok count
-    → (old.in_transaction ≡ false → (r ≡ Err e) × (new ≡ old)) → (HasCleanDisk (state g new) → IsTrue old.in_transaction → ExecutesInside 0 sql params (state g old) (state g new) r)
-    → HasCleanDisk (state g new) → ExecutesInside 0 sql params (state g old) (state g new) (Ok count)
-ran_inside g old new sql params e count r is ended runs clean = elim (cases_Bool old.in_transaction) [
-  | inl within ↦ subst (ExecutesInside 0 sql params (state g old) (state g new)) is (runs clean within)
-  | inr outside ↦ absurd (let no = (ended outside).0 in cc)
-]
+module _ {S : Type 0} (g : Ghosts S) (old new : Transaction S) (one : new.conn.ghost_name ≡ old.conn.ghost_name) (sql : List ℕ) (given : Row) (stop : Error) where
+  abbrev pub IsEnded : Result ℕ Error → Type 0
+  IsEnded r = old.conn.now.in_transaction ≡ false → (r ≡ Err stop) × (new.conn.now ≡ old.conn.now)
 
-pub part_undone : (a b : State) → Survives a b (λ _. ⊥) → (HasCleanDisk b → IsRolledBack a b) → IsPart a b
-part_undone a b survives undone = record { survives = survives; keeps = λ clean. unchanged_keeps a b (inr (undone clean)) }
+  abbrev pub Runs : Result ℕ Error → Type 0
+  Runs r = HasCleanDisk (state g new.conn.now) → IsTrue old.conn.now.in_transaction → ExecutesInside 0 sql given (state g old.conn.now) (state g new.conn.now) r
+
+  -- a statement that is refused
+  pub refuses : {T : Type 0} (e : Error) → IsEnded (Err e) → Runs (Err e) → Survives (state g old.conn.now) (state g new.conn.now) (λ _. ⊥) → (result : Result T Error) → IsErrAnd result (λ d. d ≡ e) → Writes g old new result
+  refuses e ended runs survives (Ok x) is = absurd is
+  refuses e ended runs survives (Err d) is = record { same_reference = one; part = part_of g old.conn.now new.conn.now sql given stop (Err e) ended runs survives; inside = λ clean. tt }
+
+  module _ (count : ℕ) (ended : IsEnded (Ok count)) (runs : Runs (Ok count)) where
+    -- at Ok it ran
+    ran : HasCleanDisk (state g new.conn.now) → ExecutesInside 0 sql given (state g old.conn.now) (state g new.conn.now) (Ok count)
+    ran clean = elim (cases_Bool old.conn.now.in_transaction) [
+      | inl within ↦ runs clean within
+      | inr outside ↦ absurd (let no = (ended outside).0 in cc)
+    ]
+
+    pub wrote : {T : Type 0} (x : T) → Survives (state g old.conn.now) (state g new.conn.now) (λ _. ⊥) → Writes {E = Error} g old new (Ok x)
+    wrote x survives = record { same_reference = one; part = part_of g old.conn.now new.conn.now sql given stop (Ok count) ended runs survives; inside = λ clean. (ran clean).1.mode }
+
+    pub has_run : HasCleanDisk (state g new.conn.now) → HasRun sql given (state g old.conn.now) (state g new.conn.now)
+    has_run clean = (count, (ran clean).0)
 
 -- a transaction begins with the state as it was
 pub begun_part : {S : Type 0} (g : Ghosts S) (h : Held S) (new : State) → IsPart (state g (record h { in_transaction = true })) new → IsPart (state g h) new
@@ -71,27 +73,6 @@ module _ {S : Type 0} (g : Ghosts S) (settled : (s : S) (db : Trees) → IsTrue 
         was_open = λ is_open. keeps.was_open (back.was_open is_open);
         now = λ is_open. ((back.undone is_open).0 ∙ same is_open, (back.undone is_open).1 ∙ same is_open);
         left = λ is_open. rw (← same is_open, ← (back.undone is_open).1) (leaves_only h is_open);
-      }
-
-  pub undone_back : (old mid : State) (h : Held S) → IsUndone old mid → IsBack mid (state g h) → IsUndone old (state g h)
-  undone_back old mid h undone back =
-      let was = λ (is_open : IsTrue (state g h).is_open). undone.now (back.was_open is_open) in
-      let committed : IsTrue (state g h).is_open → (state g h).committed ≡ old.committed = λ is_open. back.committed is_open ∙ (was is_open).1 in
-      record {
-        was_open = λ is_open. undone.was_open (back.was_open is_open);
-        now = λ is_open. (elim (back.now is_open) [ inl same ↦ same ∙ (was is_open).0 | inr last ↦ last ∙ (was is_open).1 ], committed is_open);
-        left = λ is_open. subst (λ (d : Database). LeavesOnly (state g h) d.trees) (committed is_open) (leaves_only h is_open);
-      }
-
-  pub refused_after : (old mid : State) (h : Held S) → IsUndone old mid → IsUnchanged mid (state g h) → IsRefused old (state g h)
-  refused_after old mid h undone same =
-      let back = undone.now same.0.was_open in
-      let committed : (state g h).committed ≡ old.committed = same.0.committed_is ∙ back.1 in
-      record {
-        is_open = same.0.is_open;
-        now = same.0.now_is ∙ back.0;
-        committed = committed;
-        left = subst (λ (d : Database). LeavesOnly (state g h) d.trees) committed (leaves_only h same.0.is_open);
       }
 
 pub back_none : (s : State) → IsBack s s
@@ -119,10 +100,6 @@ unfolding IsNotRun
 serves_after old new sql params e (inl refused) is = refused.1
 serves_after old new sql params e (inr failed) is = absurd (never_refused failed.0 (ap fault_of (sym failed.1) ∙ is))
 
-pub on_err : {T E : Type 0} (r : Result T E) (P : Type 0) → P → OnErr r P
-on_err (Ok x) P p = tt
-on_err (Err e) P p = p
-
 pub err_on : {T E : Type 0} (r : Result T E) (P : E → Type 0) (Q : Type 0) → ((e : E) → P e → Q) → IfErr r P → OnErr r Q
 err_on (Ok x) P Q f h = tt
 err_on (Err e) P Q f h = f e h
@@ -131,6 +108,10 @@ pub ok_on : {T E : Type 0} (r : Result T E) (P Q : Type 0) → (P → Q) → OnO
 ok_on (Ok x) P Q f h = f h
 ok_on (Err e) P Q f h = tt
 
-pub err_also : {T E : Type 0} (r : Result T E) (P Q : Type 0) → (P → Q) → OnErr r P → OnErr r Q
-err_also (Ok x) P Q f h = tt
-err_also (Err e) P Q f h = f h
+pub never_ok : {T E : Type 0} (r : Result T E) (P : Type 0) (Q : E → Type 0) → IsErrAnd r Q → OnOk r P
+never_ok (Ok x) P Q is = absurd is
+never_ok (Err e) P Q is = tt
+
+-- with these parameters
+pub ran_as : {T E P : Type 0} (old new : State) (sql : List ℕ) (given params : Row) → given ≡ params → (r : Result T E) → OnOk r (HasRun sql given old new) → ((count : ℕ) → Executes sql params old new (Ok count) → P) → OnOk r P
+ran_as old new sql given params same r ran f = ok_on r _ _ (λ it. f it.0 (subst (λ ps. Executes sql ps old new (Ok it.0)) same it.1)) ran

@@ -1,86 +1,64 @@
--- What the delete of a workunit takes out of the results, over any schema.
-use Rattle.std.proofs.Common.{◌≡◌, ◌⊎◌, inl, inr, ℕ, ◌==◌, List, [], ◌∷◌, codes, find, Bool, true, false, not, ◌&&◌, ◌||◌, Option, Some, None, refl, sym, ap, subst, ◌∙◌}
-use Rattle.std.specs.List.{list_any, flat_map, filter_map, cons_option}
-use Rattle.std.proofs.lemmas.Bool.{cases_Bool, eq-eqb, eqb-true, eqb-false, and_from}
-use Rattle.sqlite.specs.Order.{Row}
-use Rattle.sqlite.specs.Schema.{Schema}
-use Rattle.sqlite.specs.Table.{Table}
-use Rattle.sqlite_schema.specs.declared.schema.Keys.TheVariants.{Enforced}
-use Rattle.sqlite_schema.specs.declared.schema.Reference.{Reference}
-use Rattle.sqlite_schema.specs.Names.{same_name}
-use Rattle.sqlite_schema.specs.Rules.{ParentKey, parent_key}
-use Rattle.sqlite_rules.specs.declared.action.Deed.{Deed}
-use Rattle.sqlite_rules.specs.declared.action.Deed.TheVariants.{Delete}
-use Rattle.sqlite_rules.specs.Lists.{Has}
-use Rattle.sqlite_rules.specs.Action.{Work, works, work_by, work_for, loses, pairs, is_child_of}
-use Rattle.sqlite_rules.proofs.ListLemmas.{has_left, has_right}
-use Rattle.wu_schema.specs.Tables.{workunit_at, result_at, result_refers, OwnsTree}
-use Rattle.wu_schema.proofs.QuietLemmas.{has_flat, has_kept, same_some, made_by, has_work, IsAside}
-use Rattle.wu_schema.proofs.RowLemmas.{filter_same, no_test}
-use Rattle.wu_schema.proofs.StandsLemmas.{result_key}
+-- What the delete of a workunit takes out of a table that refers to it, over any schema.
+use Rattle.wu_schema.proofs.Words.{AllByRecursion, Binary, Delete, Enforced, Has, HasNamed, Int, IsSound, List, Null, Row, Schema, Table, Trees, Value, Work, [], agree, all_has, and_from, and_parts, ap, binary, codes, column, deed_for, equal, false, false_from_ne_true, filter, first_key, inl, is_eq, not, pairs, parent_key, passes, refl, rowid, some_has, subst, sym, test_has, tied_itself, true, value_cmp_total, works, workunit_at, ℕ, ℤ, ◌&&◌, ◌||◌, ◌∙◌, ◌∷◌, ◌≡◌}
+use Rattle.std.proofs.Math.Bool.{or-true, or-false}
+use Rattle.sqlite_sql.specs.Ops.{is_null}
+use Rattle.sqlite_schema.specs.declared.schema.Constraint.TheVariants.{ForeignKey}
+use Rattle.sqlite_schema.specs.Rules.{has_parent}
+use Rattle.sqlite_rules.proofs.KeyLemmas.{agree_chain, agree_whole}
+use Rattle.wu_schema.proofs.EqualLemmas.{int_equal}
+use Rattle.wu_schema.proofs.RowLemmas.{filter_same, one_test}
+use Rattle.wu_schema.proofs.QuietLemmas.{same_some, has_work, IsAside}
 use Rattle.wu_schema.proofs.FallLemmas.{bereft}
+use Rattle.wu_schema.proofs.StandsLemmas.{IsChild, refers_by, refers_key, one_reference}
 
-put_flat : {X Y : Type 0} (f : X → List Y) (xs : List X) (x : X) (y : Y) → Has xs x → Has (f x) y → Has (flat_map f xs) y
-put_flat f [] x y h k = absurd h
-put_flat f (z ∷ xs) x y (inl same) k = has_left (f z) (flat_map f xs) y (subst (λ v. Has (f v) y) same k)
-put_flat f (z ∷ xs) x y (inr later) k = has_right (f z) (flat_map f xs) y (put_flat f xs x y later k)
+-- the one action on a child
+abbrev pub fall : Table → ℕ → List Row → Work
+fall child c taken = record { depth = 0; child = child; ref = refers_by c; places = 0 ∷ []; order = record { digits = 0 }; deed = Delete; moves = pairs taken [] }
 
--- the one action on the results
-abbrev pub fall : ℕ → List Row → Work
-fall tree taken = record { depth = 0; child = result_at tree; ref = result_refers; places = 0 ∷ []; order = record { digits = 0 }; deed = Delete; moves = pairs taken [] }
+-- each action is on another table, or is that one
+pub which : (schema : Schema) (work : ℕ) → HasNamed schema (codes "workunit") (workunit_at work) → (child : Table) (c : ℕ) → IsChild schema child c → (taken : List Row) (w : Work)
+    → Has (works schema Enforced 0 work taken []) w → IsAside schema Enforced (λ w. w ≡ fall child c taken) child.tree w
+which schema work has child c is taken w h =
+    let on = has_work schema Enforced 0 work taken [] w h in
+    record {
+      child = on.child;
+      ref = on.ref;
+      aside = λ same.
+          let own : w.child ≡ child = is.owns w.child on.child same in
+          let one : w.ref ≡ refers_by c = one_reference schema work has child c is w.child w.ref own on.ref in
+          let key : on.key ≡ (work, 0 ∷ [], record { digits = 0 }) = same_some (sym on.found ∙ ap (parent_key schema.tables) one ∙ refers_key schema work has c) in
+          let deed : w.deed ≡ Delete = same_some (sym on.due ∙ ap (deed_for Enforced true) one) in
+          on.made ∙ (cc);
+    }
 
-made_is : (depth tree : ℕ) (moves : List (Row × Row)) (child : Table) (ref : Reference) (deed : Deed) (key : ParentKey) (w : Work) → work_by depth tree moves child ref (Some deed) (Some key) ≡ Some w
-    → w ≡ record { depth = depth; child = child; ref = ref; places = key.1; order = key.2; deed = deed; moves = moves }
-made_is depth tree moves child ref deed key w h = elim (cases_Bool ((key.0 == tree) && list_any (loses key.2 key.1) moves)) [
-  | inl on ↦ same_some (sym (rw on at h))
-  | inr off ↦ absurd (let e = rw off at h in cc)
-]
+-- where each row has its parent, none refers to a number that no workunit has
+pub none_refers : (schema : Schema) (work : ℕ) → HasNamed schema (codes "workunit") (workunit_at work) → (child : Table) (c : ℕ) → IsChild schema child c → (db : Trees) → IsSound schema db
+    → (n : ℤ) → ((p : Row) → Has (db work) p → equal Binary (rowid p) (Int n) ≡ false) → (r : Row) → Has (db child.tree) r → equal Binary (column r c) (Int n) ≡ false
+unfolding first_key
+none_refers schema work has child c is db sound n off r there = false_from_ne_true _ (λ on.
+    let to : agree (record { digits = 0 }) (c ∷ []) r (0 ∷ []) (Int n ∷ []) ≡ true = and_from _ _ on refl in
+    let rules = all_has (λ (t : Table). AllByRecursion (λ row. passes ForeignKey schema db t row ≡ true) (db t.tree)) schema.tables child (sound.obeys.rules ForeignKey) is.listed in
+    let fits = all_has (λ row. passes ForeignKey schema db child row ≡ true) (db child.tree) r rules there in
+    let one = test_has (has_parent schema.tables db r) child.references (refers_by c) fits (subst (λ refs. Has refs (refers_by c)) (sym is.refers) (inl refl)) in
+    let held = rw (agree_whole (record { digits = 0 }) (c ∷ []) (0 ∷ []) r (Int n ∷ []) to, refers_key schema work has c) at one in
+    let parent = some_has (λ p. agree (record { digits = 0 }) (0 ∷ []) p (c ∷ []) r) (db work) held in
+    let both = and_parts _ _ (agree_chain (record { digits = 0 }) (0 ∷ []) (c ∷ []) (0 ∷ []) parent.0 r (Int n ∷ []) parent.2 to) in
+    let e = sym both.0 ∙ off parent.0 parent.1 in cc)
 
-one_kept : {X : Type 0} (o : Option X) (x : X) → Has (cons_option o []) x → o ≡ Some x
-one_kept None x h = absurd h
-one_kept (Some y) x (inl same) = ap (λ v. Some v) (sym same)
-one_kept (Some y) x (inr none) = absurd none
+never_null : (v : Value) → equal Binary v Null ≡ false
+unfolding binary
+never_null v = rw (or-true (is_null v))
 
-neither : (a b : Bool) → (a || b) ≡ false → (a ≡ false) × (b ≡ false)
-neither true b h = absurd (cc)
-neither false b h = (refl, h)
+-- the rows of a child that refer to that number go
+abbrev pub without_number : ℤ → ℕ → List Row → List Row
+without_number n c = filter (λ r. not (equal Binary (column r c) (Int n)))
 
-both_off : (a b c : Bool) → a ≡ false → b ≡ false → ((a && c) || b) ≡ false
-both_off a b c p q = rw (p, q)
-
-module _ (schema : Schema) (work tree : ℕ) (named : find (λ t. same_name t.name (codes "workunit")) schema.tables ≡ Some (workunit_at work)) (owns : OwnsTree schema (result_at tree))
-    (stands : Has schema.tables (result_at tree)) (taken : List Row) where
-  abbrev on_results : Option ParentKey → Option Work
-  on_results key = work_by 0 work (pairs taken []) (result_at tree) result_refers (Some Delete) key
-
-  -- each action is on another table, or is that one
-  pub which : (w : Work) → Has (works schema Enforced 0 work taken []) w → IsAside schema Enforced tree w ⊎ (w ≡ fall tree taken)
-  which w h =
-      let on = has_work schema Enforced 0 work taken [] w h in
-      elim (cases_Bool (w.child.tree == tree)) [
-        | inr off ↦ inl (record { child = on.child; ref = on.ref; aside = eqb-false _ _ off })
-        | inl is ↦
-            let child = has_flat (λ child. filter_map (work_for schema Enforced 0 work taken [] child) child.references) schema.tables w h in
-            let ref = has_kept (work_for schema Enforced 0 work taken [] child.0) child.0.references w child.2 in
-            let own = made_by 0 work _ child.0 ref.0 _ _ w ref.2 in
-            let same : child.0 ≡ result_at tree = owns child.0 child.1 (ap (λ (t : Table). t.tree) (sym own.0) ∙ eqb-true _ _ is) in
-            let here : Has (cons_option (on_results (parent_key schema.tables result_refers)) []) w = subst (λ t. Has (filter_map (work_for schema Enforced 0 work taken [] t) t.references) w) same child.2 in
-            let made = one_kept _ w (subst (λ key. Has (cons_option (on_results key) []) w) (result_key schema.tables work named) here) in
-            inr (made_is 0 work (pairs taken []) (result_at tree) result_refers Delete (work, 0 ∷ [], record { digits = 0 }) w made)
-      ]
-
-  -- it is there where a row lost its number
-  pub due : list_any (loses (record { digits = 0 }) (0 ∷ [])) (pairs taken []) ≡ true → Has (works schema Enforced 0 work taken []) (fall tree taken)
-  due lost =
-      let made : on_results (Some (work, 0 ∷ [], record { digits = 0 })) ≡ Some (fall tree taken) = rw (and_from _ _ (eq-eqb work work refl) lost) in
-      let here : on_results (parent_key schema.tables result_refers) ≡ Some (fall tree taken) = ap on_results (result_key schema.tables work named) ∙ made in
-      put_flat (λ child. filter_map (work_for schema Enforced 0 work taken [] child) child.references) schema.tables (result_at tree) (fall tree taken) stands
-      (subst (λ o. Has (cons_option o []) (fall tree taken)) (sym here) (inl refl))
-
--- where no row loses its number nothing falls
-pub none_falls : (tree : ℕ) (taken rows : List Row) → list_any (loses (record { digits = 0 }) (0 ∷ [])) (pairs taken []) ≡ false → bereft (fall tree taken) rows ≡ rows
-none_falls tree taken rows none = filter_same _ (λ r. true) rows (λ r has. ap not (quiet (pairs taken []) r none)) ∙ no_test rows
+pub falls_by_number : (u : Table) (c : ℕ) (n : ℤ) (x : Row) (rows : List Row) → rowid x ≡ Int n → bereft (fall u c (x ∷ [])) rows ≡ without_number n c rows
+unfolding first_key
+falls_by_number u c n x rows is = filter_same _ _ rows (λ r has. ap not (child r))
   where
-    quiet : (moves : List (Row × Row)) (r : Row) → list_any (loses (record { digits = 0 }) (0 ∷ [])) moves ≡ false → list_any (is_child_of (fall tree taken) r) moves ≡ false
-    quiet [] r h = refl
-    quiet (move ∷ moves) r h = let parts = neither _ _ h in both_off _ _ _ parts.0 (quiet moves r parts.1)
+    first : equal Binary (column x 0) (column x 0) ≡ true
+    first = ap (λ v. equal Binary v v) is ∙ int_equal n n ∙ ap is_eq (tied_itself value_cmp_total (Int n))
+
+    child : (r : Row) → ((((equal Binary (column x 0) (column x 0) && true) && not (equal Binary (column x 0) Null && true)) && (equal Binary (column r c) (column x 0) && true)) || false) ≡ equal Binary (column r c) (Int n)
+    child r = rw (first, never_null (column x 0)) (or-false _ ∙ one_test _ ∙ ap (λ v. equal Binary (column r c) v) is)

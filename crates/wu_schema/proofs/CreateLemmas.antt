@@ -1,44 +1,28 @@
 -- A table that is made leaves the others where they are.
-use Rattle.std.proofs.Common.{◌≡◌, ℕ, ◌+◌, ◌==◌, List, [], ◌∷◌, ◌++◌, find, length, Bool, true, false, not, ◌&&◌, cond, None, Some, Ok, Err, refl}
-use Rattle.std.specs.List.{position_from}
-use Rattle.sqlite.specs.Schema.{Schema}
-use Rattle.sqlite.specs.Table.{Table}
+use Rattle.wu_schema.proofs.Words.{Bool, Checked, CreateTable, Err, HasTable, IsFree, List, None, Ok, Parsed, Schema, Some, Statement, Table, [], ap, arith, command, cond, create_table, false, got_still, is_attached, is_reserved, length, meaning, not, option_or, planned, position_from, refl, returning, same_name, timed, true, ℕ, ◌&&◌, ◌++◌, ◌+◌, ◌==◌, ◌∙◌, ◌∷◌, ◌≡◌}
+use Rattle.std.proofs.lemmas.List.Folds.{find-append}
 use Rattle.sqlite.specs.Change.{created}
-use Rattle.sqlite_schema.specs.Names.{same_name}
-use Rattle.sqlite_rules.proofs.ActionLemmas.{got_still}
 use Rattle.sqlite_resolve.specs.Define as define
-use Rattle.sqlite_resolve.specs.Lowering.{Checked}
-use Rattle.sqlite_resolve.specs.Compile.{planned, create_table, creates, is_attached, is_reserved, meaning, returning, command, timed}
-use Rattle.sqlite_ast.specs.declared.CreateTable.{CreateTable}
-use Rattle.sqlite_ast.specs.declared.Statement.{Statement}
+use Rattle.sqlite_resolve.specs.Compile.{creates}
 use Rattle.sqlite_ast.specs.declared.Statement.TheVariants as written
-use Rattle.sqlite_syntax.specs.declared.statement.Parsed.{Parsed}
 use Rattle.sqlite.specs.Command.TheVariants.{CreateTable as Make}
-use Rattle.wu_schema.specs.Tables.{HasTable}
-use Rattle.wu_schema.specs.StandsFor.{IsFree}
 
-still_placed : {X : Type 0} (p : X → Bool) (from at : ℕ) (xs ys : List X) → position_from p from xs ≡ Some at → position_from p from (xs ++ ys) ≡ Some at
-still_placed p from at [] ys h = absurd (cc)
-still_placed p from at (x ∷ xs) ys h = go (p x) (still_placed p (from + 1) at xs ys) h
-  where
-    go : (b : Bool) → (position_from p (from + 1) xs ≡ Some at → position_from p (from + 1) (xs ++ ys) ≡ Some at) → cond b (Some from) (position_from p (from + 1) xs) ≡ Some at → cond b (Some from) (position_from p (from + 1) (xs ++ ys)) ≡ Some at
-    go true again h = h
-    go false again h = again h
-
-still_found : {X : Type 0} (p : X → Bool) (x : X) (xs ys : List X) → find p xs ≡ Some x → find p (xs ++ ys) ≡ Some x
-still_found p x [] ys h = absurd (cc)
-still_found p x (y ∷ xs) ys h = go (p y) (still_found p x xs ys) h
-  where
-    go : (b : Bool) → (find p xs ≡ Some x → find p (xs ++ ys) ≡ Some x) → cond b (Some y) (find p xs) ≡ Some x → cond b (Some y) (find p (xs ++ ys)) ≡ Some x
-    go true again h = h
-    go false again h = again h
+-- the first place in a list that is followed by another
+pub placed_append : {X : Type 0} (p : X → Bool) (from : ℕ) (xs ys : List X) → position_from p from (xs ++ ys) ≡ option_or (position_from p from xs) (position_from p (from + length xs) ys)
+placed_append p from [] ys = let e : from ≡ from + 0 = omega arith in ap (λ n. position_from p n ys) e
+placed_append p from (x ∷ xs) ys =
+    let e : from + 1 + length xs ≡ from + length (x ∷ xs) = omega arith in
+    elim (p x) as (λ b. cond b (Some from) (position_from p (from + 1) (xs ++ ys)) ≡ option_or (cond b (Some from) (position_from p (from + 1) xs)) (position_from p (from + length (x ∷ xs)) ys)) [
+      | true ↦ refl
+      | false ↦ placed_append p (from + 1) xs ys ∙ ap (λ n. option_or (position_from p (from + 1) xs) (position_from p n ys)) e
+    ]
 
 pub keeps_table : (schema : Schema) (made table : Table) (name : List ℕ) (at : ℕ) → HasTable schema name at table → HasTable (created schema made) name at table
 keeps_table schema made table name at has = record {
-  named = still_placed (λ t. same_name t.name name) 0 at schema.tables _ has.named;
+  named = placed_append (λ t. same_name t.name name) 0 schema.tables _ ∙ rw has.named refl;
   there = got_still schema.tables _ _ at table refl has.there;
   low = has.low;
-  stands = still_found (λ t. t.tree == table.tree) table schema.tables _ has.stands;
+  stands = find-append (λ t. t.tree == table.tree) schema.tables _ ∙ rw has.stands refl;
 }
 
 -- ---- what the text compiles to, where the name is free

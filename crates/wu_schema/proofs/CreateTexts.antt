@@ -1,8 +1,5 @@
 -- The seven texts make the seven tables.
-use Rattle.std.proofs.Common.{ℕ, List, codes, refl}
-use Rattle.sqlite_resolve.specs.Compile.{first}
-use Rattle.sqlite_tied.specs.Compute.{everything}
-use Rattle.wu_schema.specs.Tables.{project_at, workunit_at, result_at, grant_at, host_at, archived_at, import_at}
+use Rattle.wu_schema.proofs.Words.{List, archived_at, codes, everything, first, grant_at, host_at, import_at, project_at, refl, result_at, workunit_at, ℕ}
 use Rattle.wu_schema.proofs.CreateLemmas.{def_by, or_empty}
 use Rattle.wu_schema.proofs.CreateEffect.{Defines}
 

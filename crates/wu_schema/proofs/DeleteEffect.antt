@@ -1,53 +1,22 @@
--- What the DELETE of a workunit does to the rows, over any schema: its row goes, and its results with it.
-use Rattle.std.proofs.Common.{◌≡◌, ◌≢◌, inl, inr, ℕ, ℤ, List, [], ◌∷◌, map, filter, slice_get, Bool, true, false, not, ◌&&◌, ◌||◌, Option, Some, None, Ok, IsTrue, refl, sym, ap, subst, ◌∙◌}
-use Rattle.std.specs.List.{list_any}
-use Rattle.std.specs.List.Sorted.{IsPermutation}
-use Rattle.std.specs.Ordering.{is_eq}
-use Rattle.std.specs.declared.cmp.Ordering.TheVariants.{Less}
-use Rattle.std.proofs.lemmas.Bool.{cases_Bool, false_from_ne_true}
-use Rattle.std.proofs.lemmas.Cmp.{tied_itself}
-use Rattle.std.proofs.lemmas.List.Sorted.{length_permutation}
-use Rattle.sqlite_value.proofs.OrderLemmas.{value_cmp_total}
-use Rattle.sqlite.specs.declared.types.Value.{Value}
-use Rattle.sqlite.specs.declared.types.Value.TheVariants.{Null, Int}
-use Rattle.sqlite.specs.Order.{Row, value_cmp, column}
-use Rattle.sqlite.specs.Ops.{binary}
-use Rattle.sqlite.specs.Table.{Table}
-use Rattle.sqlite.specs.Tree.{rowid, has_rowid, without_rowid}
-use Rattle.sqlite_trees.specs.Tree.{IsTable}
-use Rattle.sqlite_trees.specs.View.{is_int, IsShaped}
+-- What the DELETE of a workunit does to the rows, over any schema: its row goes, and with it the rows that refer to it.
+use Rattle.wu_schema.proofs.Words.{Answers, Binary, Database, Does, Enforced, Executes, Given, Has, HasNamed, Int, IsDatabase, IsPermutation, IsShaped, IsSound, IsTable, IsTrue, Less, List, Mode, None, Ok, Option, OwnsTree, Program, Row, Some, State, Table, Tally, Written, [], all_from, all_has, ap, cases_Bool, codes, column, edit_of, equal, false, false_from_ne_true, filter, filter_all, filter_none, has_filtered, has_rowid, id_in, ids_of, inl, inr, is_eq, is_int, length_permutation, list_any, map, mode_of, not, one_permutation, refl, row_at_is, rowid, runs_as, slice_get, some_has, statement_of, subst, sym, taken_by, tied_itself, true, understood, value_cmp, value_cmp-Int, value_cmp_total, without_all, without_rowid, workunit_at, ℕ, ℤ, ◌∙◌, ◌∷◌, ◌≡◌, ◌≢◌, ◌⊎◌}
 use Rattle.sqlite_trees.specs.declared.store.Shape.TheVariants as shape
-use Rattle.sqlite_trees.proofs.ListLemmas.{filter_none}
-use Rattle.sqlite_value.specs.declared.keys.Collation.TheVariants.{Binary}
-use Rattle.sqlite_value.specs.Keys.{first_key}
-use Rattle.sqlite_schema.specs.Rules.{equal}
-use Rattle.sqlite_schema.specs.declared.schema.Keys.TheVariants.{Enforced}
-use Rattle.sqlite_schema.specs.declared.program.Program.{Program}
 use Rattle.sqlite.specs.Command.TheVariants.{Delete}
-use Rattle.sqlite.specs.Edit.{edit_of, taken_by, without_all, id_in, row_at}
-use Rattle.sqlite.specs.Rowids.TheVariants.{Given}
-use Rattle.sqlite_rules.specs.Action.{Writes as Edits, loses, pairs}
-use Rattle.sqlite_rules.specs.Calls.{ids_of}
-use Rattle.sqlite_rules.specs.Lists.{Has}
-use Rattle.sqlite_rules.proofs.ListLemmas.{all_has, all_from}
-use Rattle.sqlite_rules.proofs.PlaceLemmas.{found_at, row_at_is}
-use Rattle.sqlite.specs.Effect.{Database, IsDatabase, Answers}
-use Rattle.sqlite.specs.Rows.{Written}
-use Rattle.sqlite.specs.Does.{Tally, Does}
-use Rattle.sqlite.specs.Listing.{understood}
-use Rattle.sqlite.specs.State.{State, mode_of, Executes}
-use Rattle.sqlite.specs.declared.run.Mode.{Mode}
-use Rattle.sqlite.proofs.Callers.{statement_of, runs_as, one_permutation}
-use Rattle.wu_schema.specs.Tables.{ProjectTrees, HasTables, workunit_at, result_at, OwnsTree}
+use Rattle.sqlite.specs.Edit.{row_at}
+use Rattle.sqlite_rules.specs.Action.{Writes as Edits}
+use Rattle.sqlite_rules.proofs.PlaceLemmas.{found_at}
+use Rattle.sqlite_rules.proofs.TableLemmas.{none_to_drop}
+use Rattle.std.proofs.lemmas.Bool.Decides.{Decides-int_eq}
 use Rattle.wu_schema.proofs.EffectLemmas.{went, same_value}
 use Rattle.wu_schema.proofs.EqualLemmas.{int_equal}
 use Rattle.wu_schema.proofs.QueryLemmas.{alone}
 use Rattle.wu_schema.proofs.AnswerLemmas.{answers_are, meeting, showing}
 use Rattle.wu_schema.proofs.RowLemmas.{childless, filter_same, int_value, no_test, no_rows, one_test}
 use Rattle.wu_schema.proofs.UpdateEffect.{stepped, calm_bare}
-use Rattle.wu_schema.proofs.StandsLemmas.{is_there, differ, workunit_found, only_work}
-use Rattle.wu_schema.proofs.FallLemmas.{bereft, falls, has_own}
-use Rattle.wu_schema.proofs.CascadeEffect.{fall, which, due, none_falls}
+use Rattle.wu_schema.proofs.StandsLemmas.{is_there, none_has, IsChild, ChildrenAre, only_work, child_apart}
+use Rattle.wu_schema.proofs.QuietLemmas.{falls}
+use Rattle.wu_schema.proofs.FallLemmas.{bereft, strikes_out}
+use Rattle.wu_schema.proofs.CascadeEffect.{fall, which, none_refers, without_number, falls_by_number}
 use Rattle.wu_schema.proofs.DeleteTexts.{delete_text, delete_query, delete_compiles, by_number, shows_number}
 
 -- the rows that a DELETE finds, and the write that it makes of them
@@ -73,68 +42,63 @@ module _ (limit : Option ℕ) (mode : Mode) (params : Row) (db : Database) (text
         schema = ap (λ (p : Tally × Database). p.1.schema) ends;
       }
 
--- the rows of the workunits that were found go, and what refers to them among the results; a table that refers to nothing stays
-pub record Cuts (old new : Database) (t : ProjectTrees) (n : ℤ) : Type 0 where
+-- the rows of the workunits that were found go, and of each child either what refers to them, or nothing; a table that refers to nothing stays
+pub record Cuts (old new : Database) (work : ℕ) (n : ℤ) : Type 0 where
   pub schema : new.schema ≡ old.schema
   pub ids : List Row
-  pub found : IsPermutation (showing shows_number (Int n ∷ []) (meeting by_number (Int n ∷ []) (old.trees t.workunit))) ids
-  pub workunits : new.trees t.workunit ≡ without_all (old.trees t.workunit) (ids_of ids)
-  pub results : new.trees t.result ≡ bereft (fall t.result (map (row_at (old.trees t.workunit)) (ids_of ids))) (old.trees t.result)
-  pub others : (u : Table) → Has old.schema.tables u → OwnsTree old.schema u → u.tree ≢ t.workunit → u.references ≡ [] → new.trees u.tree ≡ old.trees u.tree
+  pub found : IsPermutation (showing shows_number (Int n ∷ []) (meeting by_number (Int n ∷ []) (old.trees work))) ids
+  pub workunits : new.trees work ≡ without_all (old.trees work) (ids_of ids)
+  pub children : (u : Table) (c : ℕ) → IsChild old.schema u c → IsShaped shape.Table (old.trees u.tree)
+      → (new.trees u.tree ≡ old.trees u.tree) ⊎ (new.trees u.tree ≡ bereft (fall u c (map (row_at (old.trees work)) (ids_of ids))) (old.trees u.tree))
+  pub others : (u : Table) → Has old.schema.tables u → OwnsTree old.schema u → u.tree ≢ work → u.references ≡ [] → new.trees u.tree ≡ old.trees u.tree
   pub sound : IsDatabase new
 
-module _ (old new : State) (t : ProjectTrees) (has : HasTables old.now.schema t) (good : IsShaped shape.Table (old.now.trees t.result)) (n : ℤ) where
-  pub cuts : (count : ℕ) → Executes delete_text (Int n ∷ []) old new (Ok count) → Cuts old.now new.now t n
+module _ (old new : State) (work : ℕ) (has : HasNamed old.now.schema (codes "workunit") (workunit_at work)) (n : ℤ) where
+  pub cuts : (count : ℕ) → Executes delete_text (Int n ∷ []) old new (Ok count) → Cuts old.now new.now work n
   cuts count h =
       let schema = old.now.schema in
       let db = old.now.trees in
       let params : Row = Int n ∷ [] in
-      let at = has.workunit.0 in
-      let work = has.workunit.1 in
-      let q = alone (delete_query t.workunit) in
-      let it = delete_compiles schema at t.workunit work in
-      let ran = runs_as delete_text params old new schema refl (Delete at q) it.is it.plain count h in
-      let cut = delete_does old.step_limit (mode_of old) params old.now (statement_of delete_text (understood schema delete_text)) at (workunit_at t.workunit) work.there ran.tally new.now q ran.changed in
-      let edit = edit_of db (workunit_at t.workunit) (ids_of cut.rows) Given 0 [] in
+      let q = alone (delete_query work) in
+      let it = delete_compiles schema has.0 work has.1 in
+      let ran = runs_as delete_text params old new schema refl (Delete has.0 q) it.is it.plain count h in
+      let cut = delete_does old.step_limit (mode_of old) params old.now (statement_of delete_text (understood schema delete_text)) has.0 (workunit_at work) has.1.there ran.tally new.now q ran.changed in
+      let edit = edit_of db (workunit_at work) (ids_of cut.rows) Given 0 [] in
       let taken = taken_by db edit in
-      let stands = is_there schema _ _ has.workunit in
-      let follows = is_there schema _ _ has.result in
-      let named = workunit_found schema t has in
       let step = stepped schema Enforced db new.now.trees edit cut.wrote in
-      let still = λ (u : Table) (there : Has schema.tables u) (own : OwnsTree schema u) (none : u.references ≡ []). step.calm u there (calm_bare schema u t.workunit own none) in
-      let beside = λ (u : Table) (there : Has schema.tables u) (other : u.tree ≢ t.workunit). all_has (λ (x : Table). x.tree ≢ t.workunit → step.mid x.tree ≡ db x.tree) schema.tables u step.applied.tables there other in
-      let mid : step.mid t.result ≡ db t.result = beside (result_at t.result) follows (differ schema.tables (result_at t.result) (workunit_at t.workunit) has.result.1.stands work.stands refl refl) in
-      let fell = falls schema Enforced (fall t.result taken) t.workunit follows (inl refl) refl (childless schema (workunit_at t.workunit) has.workunit.2 refl) (only_work schema t.workunit t.result named has.result.2)
-      step.steps step.mid new.now.trees _ step.leads (which schema t.workunit t.result named has.result.2 follows taken) (subst (IsShaped shape.Table) (sym mid) good) in
-      let gone : new.now.trees t.result ≡ bereft (fall t.result taken) (step.mid t.result) = elim (cases_Bool (list_any (loses (record { digits = 0 }) (0 ∷ [])) (pairs taken []))) [
-        | inl lost ↦ fell.done (due schema t.workunit t.result named has.result.2 follows taken lost)
-        | inr none ↦ elim fell.settled [ inl same ↦ same ∙ sym (none_falls t.result taken (step.mid t.result) none) | inr without ↦ without ]
-      ] in
+      let still = λ (u : Table) (there : Has schema.tables u) (own : OwnsTree schema u) (none : u.references ≡ []). step.calm u there (calm_bare schema u work own none) in
+      let beside = λ (u : Table) (there : Has schema.tables u) (other : u.tree ≢ work). all_has (λ (x : Table). x.tree ≢ work → step.mid x.tree ≡ db x.tree) schema.tables u step.applied.tables there other in
       record {
         schema = cut.schema;
         ids = cut.rows;
-        found = answers_are t.workunit by_number shows_number params old.now cut.rows work.low cut.found;
-        workunits = still (workunit_at t.workunit) stands has.workunit.2 refl ∙ step.applied.rows;
-        results = gone ∙ ap (bereft (fall t.result taken)) mid;
+        found = answers_are work by_number shows_number params old.now cut.rows has.1.low cut.found;
+        workunits = still (workunit_at work) (is_there schema _ _ has) has.2 refl ∙ step.applied.rows;
+        children = λ u c is good.
+            let mid = beside u is.listed (child_apart schema work has u c is) in
+            elim (falls schema Enforced u work is.listed (childless schema (workunit_at work) has.2 refl) (only_work schema work has u c is) (λ w. w ≡ fall u c taken) (IsShaped shape.Table) (bereft (fall u c taken)) (strikes_out schema Enforced (fall u c taken) refl)
+            step.steps step.mid new.now.trees _ step.leads (which schema work has u c is taken) (subst (IsShaped shape.Table) (sym mid) good)) [
+              | inl same ↦ inl (same ∙ mid)
+              | inr fell ↦ inr (fell ∙ ap (bereft (fall u c taken)) mid)
+            ];
         others = λ u there own other none. still u there own none ∙ beside u there other;
         sound = ran.sound;
       }
 
 -- ---- in terms of the number
 
-never_null : (v : Value) → equal Binary v Null ≡ false
-unfolding binary
-never_null v = rw (or_true (Rattle.sqlite_sql.specs.Ops.is_null v))
-  where
-    or_true : (b : Bool) → (b || true) ≡ true
-    or_true true = refl
-    or_true false = refl
+module _ (n : ℤ) (rows : List Row) (good : IsShaped shape.Table rows) where
+  has_int : (r : Row) → Has rows r → (id : ℤ) × (rowid r ≡ Int id)
+  has_int r has = int_value (rowid r) (all_has (λ s. IsTrue (is_int (rowid s))) rows r good.1 has)
 
--- the rows that the condition finds are those with the rowid
-meets : (n : ℤ) (rows : List Row) → IsShaped shape.Table rows → meeting by_number (Int n ∷ []) rows ≡ filter (has_rowid n) rows
-meets n rows good = filter_same _ _ rows (λ r has.
-    let id = int_value (rowid r) (all_has (λ s. IsTrue (is_int (rowid s))) rows r good.1 has) in
-    one_test _ ∙ ap (λ v. equal Binary v (Int n)) id.1 ∙ int_equal id.0 n ∙ ap (λ v. is_eq (value_cmp v (Int n))) (sym id.1))
+  has_number : (r : Row) → Has rows r → equal Binary (rowid r) (Int n) ≡ has_rowid n r
+  has_number r has = let id = has_int r has in ap (λ v. equal Binary v (Int n)) id.1 ∙ int_equal id.0 n ∙ ap (λ v. is_eq (value_cmp v (Int n))) (sym id.1)
+
+  own_number : (r : Row) → Has rows r → has_rowid n r ≡ true → rowid r ≡ Int n
+  own_number r has on = let id = has_int r has in id.1 ∙ ap Int ((Decides-int_eq id.0 n).0 (sym (ap is_eq (value_cmp-Int id.0 n)) ∙ sym (ap (λ v. is_eq (value_cmp v (Int n))) id.1) ∙ on))
+
+  -- the rows that the condition finds are those with the rowid
+  meets : meeting by_number (Int n ∷ []) rows ≡ filter (has_rowid n) rows
+  meets = filter_same _ _ rows (λ r has. one_test _ ∙ has_number r has)
 
 -- of two rows of a table with one rowid there is but one
 same_row : (n : ℤ) (rows : List Row) (a b : Row) → IsTable rows → Has rows a → Has rows b → has_rowid n a ≡ true → has_rowid n b ≡ true → a ≡ b
@@ -154,38 +118,41 @@ only_row n (r ∷ rows) x up (inr later) on =
     let off : has_rowid n r ≡ false = false_from_ne_true _ (λ h. never_below r x (same_row n (r ∷ rows) r x up (inl refl) (inr later) h on) (all_has (λ z. value_cmp (rowid r) (rowid z) ≡ Less) rows x up.0 later)) in
     rw off (only_row n rows x up.1 later on)
 
-tidy : (b : Bool) → ((b && true) || false) ≡ b
-tidy true = refl
-tidy false = refl
-
--- a result with that number in its first column goes
-falls_by_number : (tree : ℕ) (n : ℤ) (x : Row) (rows : List Row) → rowid x ≡ Int n → bereft (fall tree (x ∷ [])) rows ≡ filter (λ r. not (equal Binary (column r 1) (Int n))) rows
-unfolding first_key
-falls_by_number tree n x rows is = filter_same _ _ rows (λ r has. ap not (child r))
-  where
-    first : equal Binary (column x 0) (column x 0) ≡ true
-    first = ap (λ v. equal Binary v v) is ∙ int_equal n n ∙ ap is_eq (tied_itself value_cmp_total (Int n))
-
-    child : (r : Row) → ((((equal Binary (column x 0) (column x 0) && true) && not (equal Binary (column x 0) Null && true)) && (equal Binary (column r 1) (column x 0) && true)) || false) ≡ equal Binary (column r 1) (Int n)
-    child r = rw (first, never_null (column x 0)) (tidy _ ∙ ap (λ v. equal Binary (column r 1) v) is)
-
-module _ (old new : Database) (t : ProjectTrees) (n : ℤ) (cut : Cuts old new t n) (good : IsShaped shape.Table (old.trees t.workunit)) where
+module _ (old new : Database) (work : ℕ) (has : HasNamed old.schema (codes "workunit") (workunit_at work)) (n : ℤ) (cut : Cuts old new work n) (good : IsShaped shape.Table (old.trees work)) where
   abbrev rows : List Row
-  rows = old.trees t.workunit
+  rows = old.trees work
 
   ids_are : (found : List Row) → filter (has_rowid n) rows ≡ found → IsPermutation (showing shows_number (Int n ∷ []) found) cut.ids
   ids_are found is = subst (λ rs. IsPermutation (showing shows_number (Int n ∷ []) rs) cut.ids) (meets n rows good ∙ is) cut.found
 
-  -- a workunit that is there goes, and its results with it
-  pub cuts_one : (x : Row) → Has rows x → rowid x ≡ Int n → (new.trees t.workunit ≡ without_rowid n rows) × (new.trees t.result ≡ filter (λ r. not (equal Binary (column r 1) (Int n))) (old.trees t.result))
-  cuts_one x there is =
-      let one = only_row n rows x good.0 there (has_own x n is) in
-      let ids : ids_of cut.ids ≡ n ∷ [] = ap ids_of (one_permutation (rowid x ∷ []) cut.ids (ids_are (x ∷ []) one)) ∙ ap (λ v. id_in v ∷ []) is in
-      let taken : map (row_at rows) (ids_of cut.ids) ≡ x ∷ [] = ap (map (row_at rows)) ids ∙ ap (λ r. r ∷ []) (sym (found_at rows n x one)) in
-      (cut.workunits ∙ ap (without_all rows) ids, cut.results ∙ ap (λ xs. bereft (fall t.result xs) (old.trees t.result)) taken ∙ falls_by_number t.result n x (old.trees t.result) is)
+  -- no row has the number, or one
+  taken : ((list_any (has_rowid n) rows ≡ false) × (ids_of cut.ids ≡ [])) ⊎ ((x : Row) × (rowid x ≡ Int n) × (x ≡ row_at rows n) × (ids_of cut.ids ≡ n ∷ []))
+  taken = elim (cases_Bool (list_any (has_rowid n) rows)) [
+    | inl some ↦
+        let it = some_has (has_rowid n) rows some in
+        let own = own_number n rows good it.0 it.1 it.2 in
+        let one = only_row n rows it.0 good.0 it.1 it.2 in
+        inr (it.0, own, found_at rows n it.0 one, ap ids_of (one_permutation (rowid it.0 ∷ []) cut.ids (ids_are (it.0 ∷ []) one)) ∙ ap (λ v. id_in v ∷ []) own)
+    | inr none ↦ inl (none, ap ids_of (no_rows cut.ids (length_permutation [] cut.ids (ids_are [] (filter_none (has_rowid n) rows (all_from (λ r. has_rowid n r ≡ false) rows (λ r there. none_has (has_rowid n) rows r none there)))))))
+  ]
 
-  -- where no workunit has the number, nothing goes
-  pub cuts_none : filter (has_rowid n) rows ≡ [] → (new.trees t.workunit ≡ rows) × (new.trees t.result ≡ old.trees t.result)
-  cuts_none none =
-      let ids : cut.ids ≡ [] = no_rows cut.ids (length_permutation [] cut.ids (ids_are [] none)) in
-      (cut.workunits ∙ ap (λ xs. without_all rows (ids_of xs)) ids, cut.results ∙ ap (λ xs. bereft (fall t.result (map (row_at rows) (ids_of xs))) (old.trees t.result)) ids ∙ no_test (old.trees t.result))
+  -- the workunit goes, if it is there
+  pub row_goes : new.trees work ≡ without_rowid n rows
+  row_goes = elim taken [ inl none ↦ cut.workunits ∙ ap (without_all rows) none.1 ∙ sym (none_to_drop n rows none.0) | inr one ↦ cut.workunits ∙ ap (without_all rows) one.3 ]
+
+  -- and of each child the rows that refer to it
+  pub children_go : ChildrenAre old new (without_number n)
+  children_go u c is shaped =
+      let was = old.trees u.tree in
+      let off = λ (p : Row) (there : Has (new.trees work) p).
+      let it = has_filtered (λ r. not (has_rowid n r)) rows p (subst (λ rs. Has rs p) row_goes there) in has_number n rows good p it.0 ∙ false_from_ne_true _ (λ on. let e = it.1 in cc) in
+      let none = none_refers old.schema work has u c is new.trees (subst (λ s. IsSound s new.trees) cut.schema cut.sound) n off in
+      let still : new.trees u.tree ≡ was → new.trees u.tree ≡ without_number n c was = λ same.
+      same ∙ sym (filter_all (λ r. not (equal Binary (column r c) (Int n))) was (all_from (λ r. not (equal Binary (column r c) (Int n)) ≡ true) was (λ r there. ap not (none r (subst (λ rs. Has rs r) (sym same) there))))) in
+      elim (cut.children u c is shaped) [
+        | inl same ↦ still same
+        | inr fell ↦ elim taken [
+          | inl nothing ↦ still (fell ∙ ap (λ ids. bereft (fall u c (map (row_at rows) ids)) was) nothing.1 ∙ no_test was)
+          | inr one ↦ fell ∙ ap (λ ids. bereft (fall u c (map (row_at rows) ids)) was) one.3 ∙ ap (λ x. bereft (fall u c (x ∷ [])) was) (sym one.2) ∙ falls_by_number u c n one.0 was one.1
+        ]
+      ]

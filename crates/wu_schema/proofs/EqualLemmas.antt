@@ -1,19 +1,11 @@
 -- When SQL finds two values equal.
-use Rattle.std.proofs.Common.{◌≡◌, ℕ, ℤ, pos, ◌==◌, nat_lt, List, bytes_eq, Bool, true, false, Some, refl, ap, ◌∙◌, arith}
-use Rattle.std.proofs.lemmas.Bool.Decides.{nat_tests}
-use Rattle.std.specs.Ordering.{is_eq, is_gt, int_cmp}
-use Rattle.std.specs.declared.cmp.Ordering.{Ordering}
-use Rattle.std.specs.declared.cmp.Ordering.TheVariants.{Less, Equal, Greater}
+use Rattle.wu_schema.proofs.Words.{Binary, Bool, Equal, Greater, Int, Less, List, Ordering, Some, Text, ap, arith, binary, bytes_eq, equal, false, int_cmp, is_eq, is_true, nat_lt, nat_tests, pos, refl, true, value_cmp, value_cmp-Int, ℕ, ℤ, ◌==◌, ◌∙◌, ◌≡◌}
+use Rattle.std.specs.Ordering.{is_gt}
 use Rattle.std.proofs.lemmas.Map.Text.{is_eq-slice_cmp}
-use Rattle.sqlite.specs.declared.types.Value.TheVariants.{Int, Text}
-use Rattle.sqlite.specs.Order.{value_cmp}
-use Rattle.sqlite.specs.Ops.{binary, is_true}
-use Rattle.sqlite_value.proofs.OrderLemmas.{value_cmp-Int, value_cmp-Text}
+use Rattle.sqlite_value.proofs.OrderLemmas.{value_cmp-Text}
 use Rattle.sqlite_sql.specs.Ops.{test}
 use Rattle.sqlite_sql.specs.declared.ops.BinaryOp.TheVariants as by
 use Rattle.sqlite_sql.specs.declared.ops.CompareOp.TheVariants as compare
-use Rattle.sqlite_value.specs.declared.keys.Collation.TheVariants.{Binary}
-use Rattle.sqlite_schema.specs.Rules.{equal}
 
 true_if : (b : Bool) → is_true (Rattle.sqlite_sql.specs.Ops.from_truth (Some b)) ≡ b
 true_if true = refl

@@ -1,24 +1,12 @@
 -- What a column, a parameter and a comparison lower to, over any schema.
-use Rattle.std.proofs.Common.{◌≡◌, ℕ, suc, ◌-◌, nat_lt, List, [], ◌∷◌, Bool, true, Some, None, Ok, slice_get, refl}
-use Rattle.sqlite.specs.Term.{Term, col, op2}
-use Rattle.sqlite.specs.Schema.{Schema}
+use Rattle.wu_schema.proofs.Words.{Binary, Bool, Carried, Column, Context, Expr, Expr-F, HasTable, List, Name, None, Ok, Schema, Some, Term, [], col, column_named, declared, lower_to, nat_lt, nothing, op2, pipeline, place_of, refl, roll-Expr, slice_get, suc, true, ℕ, ◌-◌, ◌∷◌, ◌≡◌}
 use Rattle.sqlite_schema.specs.declared.schema.Table.{Table}
-use Rattle.sqlite_schema.specs.declared.schema.Column.{Column}
-use Rattle.sqlite_schema.specs.Names.{column_named, place_of}
 use Rattle.sqlite_sql.specs.declared.ops.BinaryOp.TheVariants as by
 use Rattle.sqlite_sql.specs.declared.ops.CompareOp.TheVariants as compare
-use Rattle.sqlite_value.specs.declared.keys.Collation.TheVariants.{Binary}
-use Rattle.sqlite_ast.specs.declared.Expr.{Expr, roll-Expr}
-use Rattle.sqlite_ast.specs.declared.Expr.TheOpen.{Expr-F}
 use Rattle.sqlite_ast.specs.declared.Binary.TheVariants as binary
 use Rattle.sqlite_resolve.specs.declared.state.State.{State}
-use Rattle.sqlite_resolve.specs.declared.state.Carried.{Carried}
 use Rattle.sqlite_resolve.specs.declared.scope.Output.{Output}
-use Rattle.sqlite_resolve.specs.Lowering.{nothing}
-use Rattle.sqlite_resolve.specs.Scope.{Name, Context, declared}
-use Rattle.sqlite_resolve.specs.Expr.{lower_to, node}
-use Rattle.wu_schema.specs.Pipeline.{pipeline}
-use Rattle.wu_schema.specs.Tables.{HasTable}
+use Rattle.sqlite_resolve.specs.Expr.{node}
 
 abbrev pub column : Name → Expr
 column name = roll-Expr (Expr-F.Column None name)

@@ -1,52 +1,18 @@
 -- INSERT INTO host .. ON CONFLICT (name) DO UPDATE, over any schema.
-use Rattle.std.proofs.Common.{◌≡◌, ◌≢◌, ◌⊎◌, inl, inr, ℕ, ℤ, pos, List, [], ◌∷◌, ◌^◌, nat_le, map, filter, drop, codes, true, false, Option, Some, Ok, IsTrue, refl, sym, ap, subst, ◌∙◌}
-use Rattle.std.specs.List.Sorted.{IsPermutation}
-use Rattle.std.specs.List.{AllByRecursion}
-use Rattle.std.specs.Ordering.{is_eq}
-use Rattle.sqlite.specs.Kind.TheVariants.{Integer}
-use Rattle.sqlite_rules.proofs.PlaceLemmas.{given}
-use Rattle.std.proofs.lemmas.Bool.{false_from_ne_true}
-use Rattle.sqlite.specs.declared.types.Value.{Value}
-use Rattle.sqlite.specs.declared.types.Value.TheVariants.{Null, Int, Text}
-use Rattle.sqlite.specs.Order.{Row, column, value_cmp}
-use Rattle.sqlite.specs.Ops.{binary}
-use Rattle.sqlite.specs.Term.{Term, col}
-use Rattle.sqlite.specs.Table.{Table}
+use Rattle.wu_schema.proofs.Words.{Abort, AllByRecursion, AreConflicts, Binary, Chosen, Database, Enforced, Executes, Given, Has, HasTable, InsertOr, Int, Integer, IsCalm, IsDatabase, IsPermutation, IsShaped, IsTrue, List, Meets, Mode, Null, Ok, Option, OwnsTree, Row, Some, State, Table, Term, Text, Upsert, Upserts, Value, Values, Written, [], all_has, ap, binary, cast, cast_row, codes, col, column, drop, edit_of, equal, false, false_from_ne_true, filter, given, host_at, id_in, ids_of, inl, inr, is_eq, is_int, map, mode_of, nat_le, next_rowid, no_works, one_permutation, one_step, pos, put_all, refl, runs_as, statement_of, subst, sym, true, understood, value_cmp, with_rowid, without_all, ℕ, ℤ, ◌^◌, ◌∙◌, ◌∷◌, ◌≡◌, ◌≢◌, ◌⊎◌}
 use Rattle.sqlite_trees.specs.Tree.{Trees, rowid, has_rowid, put_row, without_rowid}
-use Rattle.sqlite_trees.specs.View.{IsShaped, is_int}
 use Rattle.sqlite_trees.specs.declared.store.Shape.TheVariants as shape
 use Rattle.sqlite_sql.specs.declared.ops.BinaryOp.TheVariants as by
 use Rattle.sqlite_sql.specs.declared.ops.ArithOp.TheVariants as arith
-use Rattle.sqlite_value.specs.declared.keys.Collation.TheVariants.{Binary}
-use Rattle.sqlite_schema.specs.Rules.{equal}
-use Rattle.sqlite_schema.specs.declared.schema.Keys.TheVariants.{Enforced}
-use Rattle.sqlite_schema.specs.declared.command.Conflict.TheVariants.{Abort}
-use Rattle.sqlite_schema.specs.declared.command.Upsert.{Upsert}
-use Rattle.sqlite.specs.Source.TheVariants.{Values}
-use Rattle.sqlite.specs.Command.TheVariants.{InsertOr}
-use Rattle.sqlite.specs.Edit.{edit_of, next_rowid, with_rowid, put_all, without_all, id_in}
-use Rattle.sqlite.specs.Rowids.TheVariants.{Chosen, Given}
-use Rattle.sqlite.specs.Cast.{cast, cast_row}
 use Rattle.sqlite_rules.specs.Action.{Writes as Edits}
-use Rattle.sqlite_rules.specs.Calls.{ids_of}
-use Rattle.sqlite_rules.specs.Keys.{AreConflicts}
-use Rattle.sqlite_rules.specs.Lists.{Has}
-use Rattle.sqlite_rules.proofs.ListLemmas.{all_has}
-use Rattle.sqlite_rules.proofs.ActionLemmas.{no_works}
-use Rattle.sqlite.specs.Effect.{Database}
-use Rattle.sqlite.specs.Rows.{Written, Clears, Puts, Meets, Upserts, Updates}
-use Rattle.sqlite.specs.Listing.{understood}
-use Rattle.sqlite.specs.State.{State, mode_of, Executes}
-use Rattle.sqlite.specs.declared.run.Mode.{Mode}
-use Rattle.sqlite.proofs.Callers.{statement_of, runs_as, one_step, one_permutation}
-use Rattle.wu_schema.specs.Tables.{host_at, HasTable, OwnsTree}
+use Rattle.sqlite.specs.Rows.{Clears, Puts, Updates}
 use Rattle.wu_schema.proofs.EffectLemmas.{went, same_value}
 use Rattle.wu_schema.proofs.AnswerLemmas.{answers_are, meeting, showing}
 use Rattle.wu_schema.proofs.RowLemmas.{filter_same, int_value, one_test}
 use Rattle.wu_schema.proofs.ExprLemmas.{same}
 use Rattle.wu_schema.proofs.QueryLemmas.{plain_query, alone}
 use Rattle.wu_schema.proofs.EqualLemmas.{int_equal}
-use Rattle.wu_schema.proofs.UpdateEffect.{IsCalm, stepped, calm_bare, resets}
+use Rattle.wu_schema.proofs.UpdateEffect.{stepped, calm_bare, resets}
 use Rattle.wu_schema.proofs.UpsertTexts.{upsert_text, upsert_terms, upsert_row, upsert_compiles}
 use Rattle.wu_schema.proofs.UpsertEffect.{task_of, HasMet, upsert_does}
 use Rattle.wu_schema.proofs.NameKey.{HasNameKey, names_key, conflict_named, named_conflict}
@@ -156,7 +122,7 @@ module _ (old new : State) (at tree : ℕ) (has : HasTable old.now.schema (codes
     (stands : Has old.now.schema.tables (host_at tree)) (rising : IsShaped shape.Table (old.now.trees tree)) (name : List ℕ) (total : ℤ) where
   pub grows : (count : ℕ) → Executes upsert_text (Text name ∷ Int total ∷ []) old new (Ok count)
       → (new.now.schema ≡ old.now.schema) × Grown old.now.trees new.now.trees tree name total
-      × ((t : Table) → Has old.now.schema.tables t → t.tree ≢ tree → IsCalm old.now.schema Enforced t tree → new.now.trees t.tree ≡ old.now.trees t.tree)
+      × ((t : Table) → Has old.now.schema.tables t → t.tree ≢ tree → IsCalm old.now.schema Enforced t tree → new.now.trees t.tree ≡ old.now.trees t.tree) × IsDatabase new.now
   grows count h =
       let schema = old.now.schema in
       let db = old.now.trees in
@@ -170,4 +136,5 @@ module _ (old new : State) (at tree : ℕ) (has : HasTable old.now.schema (codes
         did.0,
         subst (λ t. Grown db t tree name total) (sym met.trees) done.0,
         subst (λ (ts : Trees). (t : Table) → Has schema.tables t → t.tree ≢ tree → IsCalm schema Enforced t tree → ts t.tree ≡ db t.tree) (sym met.trees) done.1,
+        ran.sound,
       )

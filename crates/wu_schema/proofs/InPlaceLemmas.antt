@@ -1,18 +1,10 @@
 -- A row is replaced where it stands.
-use Rattle.std.proofs.Common.{◌≡◌, inl, inr, ℤ, List, [], ◌∷◌, map, filter, if◌then◌else◌, true, false, refl, sym, ap, ◌∙◌}
-use Rattle.std.specs.declared.cmp.Ordering.{Ordering}
-use Rattle.std.specs.declared.cmp.Ordering.TheVariants.{Less, Equal, Greater}
-use Rattle.std.specs.Ordering.{is_eq, ordering_reverse}
-use Rattle.std.proofs.lemmas.Bool.{cases_Bool}
-use Rattle.std.proofs.lemmas.Cmp.{tied_itself, tied_back}
-use Rattle.sqlite_value.proofs.OrderLemmas.{value_cmp_total}
-use Rattle.sqlite.specs.declared.types.Value.TheVariants.{Int}
-use Rattle.sqlite.specs.Order.{Row, value_cmp}
-use Rattle.sqlite_trees.specs.Tree.{IsTable, rowid, has_rowid, put_row, without_rowid}
-use Rattle.sqlite_rules.specs.Lists.{Has}
-use Rattle.sqlite_rules.proofs.ListLemmas.{all_has}
+use Rattle.wu_schema.proofs.Words.{Equal, Greater, Has, Int, IsTable, Less, List, Ordering, Row, [], all_has, ap, cases_Bool, false, filter, if◌then◌else◌, inl, inr, is_eq, map, ordering_reverse, refl, sym, true, value_cmp, value_cmp_total, ℤ, ◌∙◌, ◌∷◌, ◌≡◌}
+use Rattle.wu_schema.proofs.FallLemmas.{has_own}
+use Rattle.std.proofs.lemmas.Cmp.{tied_back}
+use Rattle.sqlite_trees.specs.Tree.{rowid, has_rowid, put_row, without_rowid}
 
-equal_is : (r : Ordering) → is_eq r ≡ true → r ≡ Equal
+pub equal_is : (r : Ordering) → is_eq r ≡ true → r ≡ Equal
 equal_is Less h = absurd (cc)
 equal_is Equal h = refl
 equal_is Greater h = absurd (cc)
@@ -22,9 +14,6 @@ above_it : (id : ℤ) (r s : Row) → has_rowid id r ≡ true → value_cmp (row
 above_it id r s is low =
     let back = tied_back value_cmp_total (rowid r) (Int id) (equal_is _ is) in
     value_cmp_total.antisymm (rowid s) (Int id) ∙ ap ordering_reverse (value_cmp_total.congr (Int id) (rowid r) (rowid s) back ∙ low)
-
-has_it : (id : ℤ) (x : Row) → rowid x ≡ Int id → has_rowid id x ≡ true
-has_it id x is = ap (λ v. is_eq (value_cmp v (Int id))) is ∙ ap is_eq (tied_itself value_cmp_total (Int id))
 
 abbrev pub replaced : ℤ → Row → List Row → List Row
 replaced id new = map (λ r. if has_rowid id r then new else r)
@@ -51,7 +40,7 @@ module _ (id : ℤ) (new x : Row) (is : rowid x ≡ Int id) (new_is : rowid new 
         let first = put_first new rows (λ s h. ap (value_cmp (rowid s)) new_is ∙ above_it id r s on (lower s h)) in
         rw on (ap (put_row new) none.0 ∙ first ∙ ap (λ l. new ∷ l) (sym none.1))
     | inr off ↦ elim has [
-      | inl same ↦ absurd (let e = sym (has_it id x is) ∙ ap (has_rowid id) same ∙ off in cc)
+      | inl same ↦ absurd (let e = sym (has_own x id is) ∙ ap (has_rowid id) same ∙ off in cc)
       | inr later ↦
           let below : value_cmp (rowid r) (rowid new) ≡ Less = ap (value_cmp (rowid r)) (new_is ∙ sym is) ∙ all_has (λ t. value_cmp (rowid r) (rowid t) ≡ Less) rows x up.0 later in
           rw (off, below) (ap (λ l. r ∷ l) (in_place rows up.1 later))

@@ -1,23 +1,9 @@
--- What the three INSERTs compile to, over any schema.
-use Rattle.std.proofs.Common.{◌≡◌, ℕ, pos, List, [], ◌∷◌, codes, length, None, Ok, Err, refl, sym, ap, subst}
-use Rattle.sqlite.specs.Term.{Term, lit, col}
-use Rattle.sqlite.specs.declared.types.Value.TheVariants.{Null, Int}
-use Rattle.sqlite.specs.Schema.{Schema}
-use Rattle.sqlite.specs.Source.TheVariants.{Values}
-use Rattle.sqlite.specs.Command.TheVariants.{Insert}
-use Rattle.sqlite_ast.specs.declared.Rows.{Rows}
+-- INSERTs of one row: what such a text compiles to, over any schema in which its name finds the table; and each text, with its fit.
+use Rattle.wu_schema.proofs.Words.{Checked, Err, HasTable, Insert, Int, List, Name, None, Null, Ok, Parsed, Row, Rows, Schema, Statement, Table, Term, Values, [], append-nil, archived_at, codes, col, everything, false, first, grant_at, import_at, length, lit, new_rows, planned, pos, project_at, refl, result_at, small, stamped, subst, workunit_at, ℕ, ◌+◌, ◌∷◌, ◌≡◌}
 use Rattle.sqlite_ast.specs.declared.Rows.TheVariants as rows
-use Rattle.sqlite_ast.specs.declared.Statement.{Statement}
 use Rattle.sqlite_ast.specs.declared.Statement.TheVariants as written
-use Rattle.sqlite_syntax.specs.declared.statement.Parsed.{Parsed}
-use Rattle.sqlite_resolve.specs.Lowering.{Checked}
-use Rattle.sqlite_resolve.specs.Scope.{Name}
-use Rattle.sqlite_resolve.specs.Compile.{compiled, first, new_rows, with_command}
-use Rattle.sqlite_tied.specs.Compute.{everything}
-use Rattle.sqlite.specs.Listing.{understood}
-use Rattle.sqlite.proofs.Callers.{IsPlain, command_of}
-use Rattle.wu_schema.specs.Tables.{project_at, workunit_at, import_at, HasTable}
-use Rattle.wu_schema.proofs.CompileLemmas.{understood_is, compiled_is, insert_planned, insert_parsed}
+use Rattle.wu_schema.proofs.CompileLemmas.{insert_planned, insert_parsed}
+use Rattle.wu_schema.proofs.SelectLemmas.{CompilesTo, compiles_to}
 
 abbrev rows_by : Statement → Rows
 rows_by (written.Insert how name columns rs clauses shown) = rs
@@ -39,92 +25,89 @@ abbrev names_in : Checked Parsed → List Name
 names_in (Ok p) = p.names
 names_in (Err e) = []
 
--- ---- workunit
+-- an INSERT of one row: its text, and the terms of the row, the rowid first
+pub record Put : Type 0 where
+  pub text : List ℕ
+  pub terms : List Term
 
-abbrev pub workunit_text : List ℕ
-workunit_text = codes "INSERT INTO workunit (number, name, min_quorum, target_nresults, max_error_results, max_total_results, max_success_results, delay_bound, credit, input, error_mask, canonical, assimilate, file_delete, done_at) VALUES (?1, ?2, ?3, ?4, ?5, ?6, ?7, ?8, ?9, ?10, ?11, ?12, ?13, ?14, ?15)"
+abbrev pub put_parsed : Name → Put → Parsed
+put_parsed title q = insert_parsed title (columns_in (first q.text)) (rows_in (first q.text)) (names_in (first q.text)) 0 (length q.text) (length q.text)
 
-abbrev pub workunit_terms : List Term
-workunit_terms = col 0 0 ∷ lit Null ∷ col 0 1 ∷ col 0 2 ∷ col 0 3 ∷ col 0 4 ∷ col 0 5 ∷ col 0 6 ∷ col 0 7 ∷ col 0 8 ∷ col 0 9 ∷ col 0 10 ∷ col 0 11 ∷ col 0 12 ∷ col 0 13 ∷ col 0 14 ∷ []
+-- what is to be seen of a table and an INSERT, each by `refl`
+pub record PutFits (title : Name) (table : ℕ → Table) (q : Put) : Type 0 where
+  pub read : first q.text ≡ Ok (put_parsed title q)
+  pub made : (schema : Schema) (tree : ℕ) → new_rows schema (table tree) (small (names_in (first q.text)) + small (table tree).stamps.formats) (columns_in (first q.text)) (rows_in (first q.text)) ≡ Ok (Values q.terms (length q.terms))
+  pub formats : (tree : ℕ) → (table tree).stamps.formats ≡ []
+  pub bare : (tree : ℕ) → (table tree).is_counted ≡ false
+  pub plain : (tree : ℕ) (params : Row) → stamped (table tree) params ≡ params
 
-abbrev workunit_parsed : Parsed
-workunit_parsed = insert_parsed (codes "workunit") (columns_in (first workunit_text)) (rows_in (first workunit_text)) (names_in (first workunit_text)) 0 (length workunit_text) (length workunit_text)
+module _ (schema : Schema) (title : Name) (at : ℕ) (table : ℕ → Table) (tree : ℕ) (has : HasTable schema title at (table tree)) (q : Put) (fits : PutFits title table q) where
+  put_planned : planned schema (put_parsed title q) ≡ Ok ([], (Insert at (Values q.terms (length q.terms)), None))
+  put_planned = subst (λ formats. planned schema (put_parsed title q) ≡ Ok (formats, (Insert at (Values q.terms (length q.terms)), None))) (fits.formats tree)
+      (insert_planned schema (names_in (first q.text)) title (columns_in (first q.text)) (rows_in (first q.text)) at (table tree) (Values q.terms (length q.terms)) 0 (length q.text) (length q.text) has (fits.made schema tree))
 
-workunit_first : first workunit_text ≡ Ok workunit_parsed
+  pub put_compiles : CompilesTo schema q.text (put_parsed title q) (Insert at (Values q.terms (length q.terms)))
+  put_compiles = compiles_to schema q.text (put_parsed title q) _ fits.read put_planned
+
+-- ---- a workunit
+
+abbrev pub workunit_put : Put
+workunit_put = record {
+  text = codes "INSERT INTO workunit (number, name, min_quorum, target_nresults, max_error_results, max_total_results, max_success_results, delay_bound, credit, input, error_mask, canonical, assimilate, file_delete, done_at) VALUES (?1, ?2, ?3, ?4, ?5, ?6, ?7, ?8, ?9, ?10, ?11, ?12, ?13, ?14, ?15)";
+  terms = col 0 0 ∷ lit Null ∷ col 0 1 ∷ col 0 2 ∷ col 0 3 ∷ col 0 4 ∷ col 0 5 ∷ col 0 6 ∷ col 0 7 ∷ col 0 8 ∷ col 0 9 ∷ col 0 10 ∷ col 0 11 ∷ col 0 12 ∷ col 0 13 ∷ col 0 14 ∷ [];
+}
+
+pub workunit_fits : PutFits (codes "workunit") workunit_at workunit_put
 unfolding everything
-workunit_first = refl
+workunit_fits = record { read = refl; made = λ schema tree. refl; formats = λ tree. refl; bare = λ tree. refl; plain = λ tree params. append-nil params }
 
-workunit_rows : (schema : Schema) (tree : ℕ) → new_rows schema (workunit_at tree) 15 (columns_in (first workunit_text)) (rows_in (first workunit_text)) ≡ Ok (Values workunit_terms 16)
+-- ---- an instance
+
+abbrev pub instance_put : Put
+instance_put = record {
+  text = codes "INSERT INTO result (workunit, n, server_state, outcome, validate_state, file_delete, host, sent_at, deadline, received_at, output) VALUES (?1, ?2, ?3, ?4, ?5, ?6, ?7, ?8, ?9, ?10, ?11)";
+  terms = lit Null ∷ col 0 0 ∷ col 0 1 ∷ col 0 2 ∷ col 0 3 ∷ col 0 4 ∷ col 0 5 ∷ col 0 6 ∷ col 0 7 ∷ col 0 8 ∷ col 0 9 ∷ col 0 10 ∷ [];
+}
+
+pub instance_fits : PutFits (codes "result") result_at instance_put
 unfolding everything
-workunit_rows schema tree = refl
+instance_fits = record { read = refl; made = λ schema tree. refl; formats = λ tree. refl; bare = λ tree. refl; plain = λ tree params. append-nil params }
 
-module _ (schema : Schema) (at tree : ℕ) (has : HasTable schema (codes "workunit") at (workunit_at tree)) where
-  workunit_compiled : compiled schema workunit_text ≡ Ok (with_command workunit_parsed ([], (Insert at (Values workunit_terms 16), None)))
-  unfolding everything
-  workunit_compiled = compiled_is schema workunit_text workunit_parsed _ workunit_first (insert_planned schema (names_in (first workunit_text)) (codes "workunit") (columns_in (first workunit_text)) (rows_in (first workunit_text)) at (workunit_at tree) (Values workunit_terms 16) 0 (length workunit_text) (length workunit_text) has (workunit_rows schema tree))
+-- ---- a grant
 
-  pub workunit_is : command_of (understood schema workunit_text) ≡ Insert at (Values workunit_terms 16)
-  workunit_is = ap command_of (understood_is schema workunit_text _ workunit_compiled).0
+abbrev pub grant_put : Put
+grant_put = record { text = codes "INSERT INTO credit_grant (workunit, n, host, credit) VALUES (?1, ?2, ?3, ?4)"; terms = lit Null ∷ lit Null ∷ col 0 0 ∷ col 0 1 ∷ col 0 2 ∷ col 0 3 ∷ [] }
 
-  pub workunit_plain : IsPlain (understood schema workunit_text)
-  workunit_plain = subst IsPlain (sym (understood_is schema workunit_text _ workunit_compiled).0) (refl, refl)
-
--- ---- import
-
-abbrev pub import_text : List ℕ
-import_text = codes "INSERT INTO import (kind, name, template, content, first_number, verdicts) VALUES (?1, ?2, ?3, ?4, ?5, ?6)"
-
-abbrev pub import_terms : List Term
-import_terms = lit Null ∷ col 0 0 ∷ col 0 1 ∷ col 0 2 ∷ col 0 3 ∷ col 0 4 ∷ col 0 5 ∷ []
-
-abbrev import_parsed : Parsed
-import_parsed = insert_parsed (codes "import") (columns_in (first import_text)) (rows_in (first import_text)) (names_in (first import_text)) 0 (length import_text) (length import_text)
-
-import_first : first import_text ≡ Ok import_parsed
+pub grant_fits : PutFits (codes "credit_grant") grant_at grant_put
 unfolding everything
-import_first = refl
+grant_fits = record { read = refl; made = λ schema tree. refl; formats = λ tree. refl; bare = λ tree. refl; plain = λ tree params. append-nil params }
 
-import_rows : (schema : Schema) (tree : ℕ) → new_rows schema (import_at tree) 6 (columns_in (first import_text)) (rows_in (first import_text)) ≡ Ok (Values import_terms 7)
+-- ---- an archived row
+
+abbrev pub archived_put : Put
+archived_put = record {
+  text = codes "INSERT INTO archived (number, name, error_mask, canonical, output, done_at) VALUES (?1, ?2, ?3, ?4, ?5, ?6)";
+  terms = lit Null ∷ lit Null ∷ col 0 0 ∷ col 0 1 ∷ col 0 2 ∷ col 0 3 ∷ col 0 4 ∷ col 0 5 ∷ [];
+}
+
+pub archived_fits : PutFits (codes "archived") archived_at archived_put
 unfolding everything
-import_rows schema tree = refl
+archived_fits = record { read = refl; made = λ schema tree. refl; formats = λ tree. refl; bare = λ tree. refl; plain = λ tree params. append-nil params }
 
-module _ (schema : Schema) (at tree : ℕ) (has : HasTable schema (codes "import") at (import_at tree)) where
-  import_compiled : compiled schema import_text ≡ Ok (with_command import_parsed ([], (Insert at (Values import_terms 7), None)))
-  unfolding everything
-  import_compiled = compiled_is schema import_text import_parsed _ import_first (insert_planned schema (names_in (first import_text)) (codes "import") (columns_in (first import_text)) (rows_in (first import_text)) at (import_at tree) (Values import_terms 7) 0 (length import_text) (length import_text) has (import_rows schema tree))
+-- ---- an import
 
-  pub import_is : command_of (understood schema import_text) ≡ Insert at (Values import_terms 7)
-  import_is = ap command_of (understood_is schema import_text _ import_compiled).0
+abbrev pub import_put : Put
+import_put = record { text = codes "INSERT INTO import (kind, name, template, content, first_number, verdicts) VALUES (?1, ?2, ?3, ?4, ?5, ?6)"; terms = lit Null ∷ col 0 0 ∷ col 0 1 ∷ col 0 2 ∷ col 0 3 ∷ col 0 4 ∷ col 0 5 ∷ [] }
 
-  pub import_plain : IsPlain (understood schema import_text)
-  import_plain = subst IsPlain (sym (understood_is schema import_text _ import_compiled).0) (refl, refl)
-
--- ---- project
-
-abbrev pub project_text : List ℕ
-project_text = codes "INSERT INTO project (one, version, next_number) VALUES (1, ?1, 1)"
-
-abbrev pub project_terms : List Term
-project_terms = lit (Int (pos 1)) ∷ lit Null ∷ col 0 0 ∷ lit (Int (pos 1)) ∷ []
-
-abbrev project_parsed : Parsed
-project_parsed = insert_parsed (codes "project") (columns_in (first project_text)) (rows_in (first project_text)) (names_in (first project_text)) 0 (length project_text) (length project_text)
-
-project_first : first project_text ≡ Ok project_parsed
+pub import_fits : PutFits (codes "import") import_at import_put
 unfolding everything
-project_first = refl
+import_fits = record { read = refl; made = λ schema tree. refl; formats = λ tree. refl; bare = λ tree. refl; plain = λ tree params. append-nil params }
 
-project_rows : (schema : Schema) (tree : ℕ) → new_rows schema (project_at tree) 1 (columns_in (first project_text)) (rows_in (first project_text)) ≡ Ok (Values project_terms 4)
+-- ---- the row of a fresh project
+
+abbrev pub project_put : Put
+project_put = record { text = codes "INSERT INTO project (one, version, next_number) VALUES (1, ?1, 1)"; terms = lit (Int (pos 1)) ∷ lit Null ∷ col 0 0 ∷ lit (Int (pos 1)) ∷ [] }
+
+pub project_fits : PutFits (codes "project") project_at project_put
 unfolding everything
-project_rows schema tree = refl
-
-module _ (schema : Schema) (at tree : ℕ) (has : HasTable schema (codes "project") at (project_at tree)) where
-  project_compiled : compiled schema project_text ≡ Ok (with_command project_parsed ([], (Insert at (Values project_terms 4), None)))
-  unfolding everything
-  project_compiled = compiled_is schema project_text project_parsed _ project_first (insert_planned schema (names_in (first project_text)) (codes "project") (columns_in (first project_text)) (rows_in (first project_text)) at (project_at tree) (Values project_terms 4) 0 (length project_text) (length project_text) has (project_rows schema tree))
-
-  pub project_is : command_of (understood schema project_text) ≡ Insert at (Values project_terms 4)
-  project_is = ap command_of (understood_is schema project_text _ project_compiled).0
-
-  pub project_plain : IsPlain (understood schema project_text)
-  project_plain = subst IsPlain (sym (understood_is schema project_text _ project_compiled).0) (refl, refl)
+project_fits = record { read = refl; made = λ schema tree. refl; formats = λ tree. refl; bare = λ tree. refl; plain = λ tree params. append-nil params }

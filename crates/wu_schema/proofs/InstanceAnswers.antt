@@ -1,85 +1,43 @@
 -- What the SELECT of a workunit's instances answers.
-use Rattle.std.proofs.Common.{◌≡◌, inl, inr, ℕ, ◌+◌, ◌<◌, ◌≤◌, ◌==◌, pos, negsuc, List, [], ◌∷◌, length, map, drop, filter, find, Bool, false, Option, None, Some, refl, sym, ap, subst, ◌∙◌, append-nil, arith}
-use Rattle.std.specs.List.{AllByRecursion, enumerate_from, flat_map, list_any}
-use Rattle.std.specs.List.Sorted.{IsPermutation}
+use Rattle.wu_schema.proofs.Words.{AllByRecursion, Binary, Bool, Instance, Int, IsAscending, IsPermutation, IsPermutation-filter, IsPermutation-map, IsTable, Less, List, None, Option, Output, Row, Shown, Some, StandsFor, State, Workunit, World, [], ap, append-nil, arith, column, drop, enumerate_from, eqb-true, equal, filter, find, flat_map, instance_cells, instance_row, instance_rows_of, instances_of, length, lit, map, map-map, negsuc, number, option_to_list, refl, stored_workunit, subst, sym, ℕ, ◌+◌, ◌<◌, ◌==◌, ◌∙◌, ◌∷◌, ◌≡◌, ◌≤◌}
 use Rattle.std.specs.Option.{option_map_or}
-use Rattle.std.specs.declared.cmp.Ordering.TheVariants.{Less}
-use Rattle.std.proofs.lemmas.Bool.{cases_Bool, eqb-true}
-use Rattle.std.proofs.lemmas.List.Sorted.{IsPermutation-map}
-use Rattle.sqlite.specs.declared.types.Value.TheVariants.{Int}
-use Rattle.sqlite.specs.Order.{Row, column}
-use Rattle.sqlite.specs.Query.{Output}
-use Rattle.sqlite.specs.Term.{lit}
-use Rattle.sqlite.specs.Tree.{IsAscending, has_rowid}
-use Rattle.sqlite.specs.State.{State, Shown}
-use Rattle.sqlite_trees.specs.Tree.{IsTable}
-use Rattle.sqlite_trees.proofs.ListLemmas.{filter-map, filter_none, map-map, IsPermutation-filter}
-use Rattle.sqlite_value.specs.declared.keys.Collation.TheVariants.{Binary}
-use Rattle.sqlite_schema.specs.Rules.{equal}
-use Rattle.sqlite_rules.proofs.ListLemmas.{all_from, some_has}
-use Rattle.sqlite_rules.proofs.ProbeLemmas.{mapped_has}
-use Rattle.wu_core.specs.declared.workunit.Instance.{Instance}
-use Rattle.wu_core.specs.declared.workunit.Workunit.{Workunit}
-use Rattle.wu_core.specs.World.{World}
-use Rattle.wu_schema.specs.Stored.{number, stored_workunit, instance_cells, instance_row}
-use Rattle.wu_schema.specs.StandsFor.{StandsFor, instances_of}
-use Rattle.wu_schema.specs.Answers.{instance_rows_of}
-use Rattle.wu_schema.proofs.EqualLemmas.{number_tied}
 use Rattle.wu_schema.proofs.RowLemmas.{filter_same, one_test}
 use Rattle.wu_schema.proofs.PutLemmas.{number_less}
 use Rattle.wu_schema.proofs.InstanceLemmas.{fits, instances_left, cells_left}
-use Rattle.wu_schema.proofs.StandsLemmas.{none_has}
-use Rattle.wu_schema.proofs.FallLemmas.{has_own}
-use Rattle.wu_schema.proofs.DeleteEffect.{only_row}
-use Rattle.wu_schema.proofs.SelectTexts.{instances_text, instances_tests, instances_shows, instances_reads}
-use Rattle.wu_schema.proofs.ReadAnswers.{shown_answers}
+use Rattle.wu_schema.proofs.SelectTexts.{instances_asked, instances_fits, instances_tests, instances_shows}
+use Rattle.wu_schema.proofs.Parts.{Instances}
+use Rattle.wu_schema.proofs.ReadAnswers.{asked_answers, find_only}
+use Rattle.wu_schema.proofs.OnceLemmas.{one_passes}
+use Rattle.wu_schema.proofs.PlacedLemmas.{table_rises}
 use Rattle.wu_schema.proofs.OrderAnswers.{by_key, pair, passing, sure_sorted}
 
 -- ---- no two workunits have one number
 
-first_only : {X Y : Type 0} (p : X → Bool) (f : X → List Y) (xs : List X) → length (filter p xs) ≤ 1 → flat_map f (filter p xs) ≡ option_map_or f (find p xs) []
-first_only p f [] few = refl
-first_only {X} {Y} p f (x ∷ xs) few = elim (cases_Bool (p x)) [
-  | inl on ↦ let rest : filter p xs ≡ [] = none (filter p xs) (rw on at few) in rw (on, rest) (append-nil (f x))
-  | inr off ↦ rw off (first_only p f xs (rw off at few))
-]
-  where
-    none : (ys : List X) → length (x ∷ ys) ≤ 1 → ys ≡ []
-    none [] h = refl
-    none (y ∷ ys) h = absurd (omega (arith, h))
-
 once_numbered : (n : ℕ) (ws : List Workunit) → IsTable (map stored_workunit ws) → length (filter (λ (w : Workunit). w.number == n) ws) ≤ 1
-once_numbered n ws up = elim (cases_Bool (list_any (λ (w : Workunit). w.number == n) ws)) [
-  | inl some ↦
-      let it = some_has (λ (w : Workunit). w.number == n) ws some in
-      let one = only_row (pos n) (map stored_workunit ws) (stored_workunit it.0) up (mapped_has stored_workunit ws it.0 it.1) (has_own (stored_workunit it.0) (pos n) (ap number (eqb-true _ _ it.2))) in
-      few _ (stored_workunit it.0) (sym (filter-map (has_rowid (pos n)) stored_workunit ws ∙ ap (map stored_workunit) (filter_same _ _ ws (λ w has. number_tied w.number n))) ∙ one)
-  | inr none ↦ rw (filter_none (λ (w : Workunit). w.number == n) ws (all_from (λ (w : Workunit). (w.number == n) ≡ false) ws (λ w has. none_has (λ (v : Workunit). v.number == n) ws w none has))) (omega arith)
-]
-  where
-    few : (vs : List Workunit) (x : Row) → map stored_workunit vs ≡ x ∷ [] → length vs ≤ 1
-    few [] x is = omega arith
-    few (v ∷ []) x is = omega arith
-    few (v ∷ u ∷ vs) x is = absurd (cc)
+once_numbered n ws up = one_passes (λ (w : Workunit). w.number == n) (λ a b. a.number < b.number) ws (λ a b has_a has_b low p q. let same = eqb-true _ _ p ∙ sym (eqb-true _ _ q) in absurd (omega (arith, low, same))) (table_rises ws up)
+
+listed_from : (f : Workunit → List Row) (o : Option Workunit) → flat_map f (option_to_list o) ≡ option_map_or f o []
+listed_from f None = refl
+listed_from f (Some w) = append-nil (f w)
 
 -- ---- by the number there
 
 -- of the cells of an instance its number, and what is shown
-abbrev cell_pair : Row → Output
+abbrev pub cell_pair : Row → Output
 cell_pair c = (column c 1 ∷ [], column c 2 ∷ column c 3 ∷ column c 4 ∷ column c 5 ∷ column c 6 ∷ column c 7 ∷ column c 8 ∷ column c 9 ∷ column c 10 ∷ [])
 
-abbrev pairs_from : ℕ → ℕ → List Instance → List Output
+abbrev pub pairs_from : ℕ → ℕ → List Instance → List Output
 pairs_from w k is = map cell_pair (map (λ (p : ℕ × Instance). instance_cells w p.0 p.1) (enumerate_from k is))
 
 later : (w m k : ℕ) (i : Instance) (is : List Instance) → m < k → AllByRecursion (λ b. by_key (cell_pair (instance_cells w m i)) b ≡ Less) (pairs_from w k is)
 later w m k i [] low = tt
 later w m k i (j ∷ is) low = (number_less m k low, later w m (k + 1) i is (omega (arith, low)))
 
-rising : (w k : ℕ) (is : List Instance) → IsAscending (λ a b. by_key a b ≡ Less) (pairs_from w k is)
+pub rising : (w k : ℕ) (is : List Instance) → IsAscending (λ a b. by_key a b ≡ Less) (pairs_from w k is)
 rising w k [] = tt
 rising w k (i ∷ is) = (later w k (k + 1) i is (omega arith), rising w (k + 1) is)
 
-shown_from : (w k : ℕ) (is : List Instance) → map (λ (o : Output). o.1) (pairs_from w k is) ≡ map instance_row is
+pub shown_from : (w k : ℕ) (is : List Instance) → map (λ (o : Output). o.1) (pairs_from w k is) ≡ map instance_row is
 shown_from w k [] = refl
 shown_from w k (i ∷ is) = ap (λ rows. instance_row i ∷ rows) (shown_from w (k + 1) is)
 
@@ -111,16 +69,15 @@ module _ (tree n : ℕ) where
       ∙ sym (map-map cell_pair (drop 1) (filter (λ r. equal Binary (column r 1) (number n)) rows)) ∙ ap (map cell_pair) (cells_left n (λ b. b) rows)
 
 module _ (old new : State) (world : World) (s : StandsFor old.now world) (n : ℕ) where
-  pub instances_found : (rows : List Row) → Shown instances_text (number n ∷ []) old new rows → rows ≡ instance_rows_of n world
+  pub instances_found : (rows : List Row) → Shown instances_asked.text (number n ∷ []) old new rows → rows ≡ instance_rows_of n world
   instances_found rows h =
-      let has = s.tables.result in
       let tree = s.trees.result in
       let ws = world.workunits in
       let stored = old.now.trees tree in
       let of_n = find (λ (w : Workunit). w.number == n) ws in
-      let read = shown_answers instances_text (number n ∷ []) old new _ _ _ (instances_reads old.now.schema has.0 tree has.1) rows h in
-      let one : filter (fits n (λ b. b)) (flat_map instances_of ws) ≡ found_cells of_n = instances_left n (λ b. b) ws ∙ first_only (λ (w : Workunit). w.number == n) instances_of ws (once_numbered n ws (subst IsTable s.rows.workunits.same s.rows.workunits.shaped.0)) in
+      let read = asked_answers Instances instances_asked instances_fits old new world s tt (number n ∷ []) rows h in
+      let one : filter (fits n (λ b. b)) (flat_map instances_of ws) ≡ found_cells of_n = instances_left n (λ b. b) ws ∙ ap (flat_map instances_of) (find_only (λ (w : Workunit). w.number == n) ws (once_numbered n ws (subst IsTable s.rows.workunits.same s.rows.workunits.shaped.0))) ∙ listed_from instances_of of_n in
       let cells = IsPermutation-map cell_pair _ _ (IsPermutation-filter (fits n (λ b. b)) (flat_map instances_of ws) (map (drop 1) stored) s.rows.instances.same) in
       let same : IsPermutation (map cell_pair (found_cells of_n)) (map (row_pair tree n) (filter (row_passes tree n) stored)) =
       subst (IsPermutation (map cell_pair (found_cells of_n))) (sym (pairs_are tree n stored)) (subst (λ cs. IsPermutation (map cell_pair cs) (map cell_pair (filter (fits n (λ b. b)) (map (drop 1) stored)))) one cells) in
-      sure_sorted tree instances_tests instances_shows 2 (lit (Int (negsuc 0))) (number n ∷ []) old.now rows (map cell_pair (found_cells of_n)) has.1.low (found_rise of_n) same read.answer ∙ found_shown of_n
+      sure_sorted tree instances_tests instances_shows 2 (lit (Int (negsuc 0))) (number n ∷ []) old.now rows (map cell_pair (found_cells of_n)) s.tables.result.1.low (found_rise of_n) same read.answer ∙ found_shown of_n

@@ -1,19 +1,7 @@
 -- The rows of instances, by the workunit that they are of.
-use Rattle.std.proofs.Common.{◌≡◌, inl, inr, ℕ, ◌==◌, List, [], ◌∷◌, ◌++◌, map, drop, filter, Bool, true, false, cond, refl, sym, ap, ◌∙◌}
-use Rattle.std.specs.List.{enumerate_from, flat_map}
-use Rattle.std.proofs.lemmas.Bool.{cases_Bool}
+use Rattle.wu_schema.proofs.Words.{Binary, Bool, Has, HoldsAll, Instance, IsPermutation, IsPermutation-filter, IsShaped-filter, List, Row, Workunit, [], all_from, ap, cases_Bool, column, cond, drop, enumerate_from, equal, false, filter, filter-map, filter_all, filter_none, flat_map, has_mapped, inl, inr, instance_cells, instances_of, map, number, refl, subst, sym, true, ℕ, ◌++◌, ◌==◌, ◌∙◌, ◌∷◌, ◌≡◌}
 use Rattle.std.proofs.lemmas.List.Elements.{filter-append}
-use Rattle.sqlite.specs.Order.{Row, column}
-use Rattle.sqlite_value.specs.declared.keys.Collation.TheVariants.{Binary}
-use Rattle.sqlite_schema.specs.Rules.{equal}
-use Rattle.sqlite_trees.proofs.ListLemmas.{filter-map, filter_all, filter_none}
-use Rattle.sqlite_rules.specs.Lists.{Has}
-use Rattle.sqlite_rules.proofs.ListLemmas.{all_from}
-use Rattle.sqlite_rules.proofs.ProbeLemmas.{has_mapped}
-use Rattle.wu_core.specs.declared.workunit.Instance.{Instance}
-use Rattle.wu_core.specs.declared.workunit.Workunit.{Workunit}
-use Rattle.wu_schema.specs.Stored.{number, instance_cells}
-use Rattle.wu_schema.specs.StandsFor.{instances_of}
+use Rattle.sqlite_trees.specs.declared.store.Shape.TheVariants as shape
 use Rattle.wu_schema.proofs.EqualLemmas.{number_equal}
 use Rattle.wu_schema.proofs.RowLemmas.{filter_same}
 
@@ -50,3 +38,12 @@ module _ (n : ℕ) (keeps : Bool → Bool) where
       behind : (r : Row) → keeps (equal Binary (column r 1) (number n)) ≡ fits (drop 1 r)
       behind [] = refl
       behind (v ∷ r) = refl
+
+  -- of the rows that hold the instances those are left
+  pub instances_hold : (ws : List Workunit) (rows : List Row) → HoldsAll rows (flat_map instances_of ws)
+      → HoldsAll (filter (λ r. keeps (equal Binary (column r 1) (number n))) rows) (flat_map instances_of (filter (λ (w : Workunit). keeps (w.number == n)) ws))
+  instances_hold ws rows held = record {
+    shaped = IsShaped-filter shape.Table _ rows held.shaped;
+    same = subst (λ cells. IsPermutation cells (map (drop 1) (filter (λ r. keeps (equal Binary (column r 1) (number n))) rows))) (instances_left ws)
+        (subst (IsPermutation (filter fits (flat_map instances_of ws))) (sym (cells_left rows)) (IsPermutation-filter fits (flat_map instances_of ws) (map (drop 1) rows) held.same));
+  }

@@ -1,3 +1,4 @@
+pub mod Words
 pub mod CompileLemmas
 pub mod EffectLemmas
 pub mod InsertTexts
@@ -8,15 +9,24 @@ pub mod AnswerLemmas
 pub mod QuietLemmas
 pub mod RowLemmas
 pub mod OneOrder
+pub mod SelectLemmas
 pub mod SelectTexts
 pub mod ReadLemmas
 pub mod EqualLemmas
 pub mod OnceLemmas
 pub mod ReadAnswers
+pub mod AskLemmas
 pub mod ToldLemmas
 pub mod OrderAnswers
 pub mod PutLemmas
 pub mod StandsLemmas
+pub mod Parts
+pub mod PlacedLemmas
+pub mod ListedLemmas
+pub mod SumLemmas
+pub mod CreditEffect
+pub mod StandsWith
+pub mod SameWorld
 pub mod CreateLemmas
 pub mod CreateEffect
 pub mod CreateTexts
@@ -41,3 +51,5 @@ pub mod UpsertEffect
 pub mod NameKey
 pub mod InPlaceLemmas
 pub mod HostEffect
+pub mod StandsOver
+pub mod IndexEffect

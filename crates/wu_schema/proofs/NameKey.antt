@@ -1,19 +1,8 @@
 -- Which rows conflict with a new host: those with its name.
-use Rattle.std.proofs.Common.{◌≡◌, inl, inr, ℕ, ◌==◌, List, [], ◌∷◌, length, find, bytes_eq, Bool, true, false, ◌&&◌, ◌||◌, Some, Ok, refl, sym, ap, subst, ◌∙◌}
-use Rattle.std.proofs.lemmas.Bool.{cases_Bool, and_parts, and_from, eqb-true, eq-eqb}
-use Rattle.sqlite.specs.Order.{Row, column}
-use Rattle.sqlite.specs.Schema.{Schema}
-use Rattle.sqlite.specs.Effect.{Database, IsDatabase}
-use Rattle.sqlite_catalog.specs.Listing.{IsGuarded, automatic}
-use Rattle.sqlite_schema.specs.declared.schema.Index.{Index}
-use Rattle.sqlite_schema.specs.Rules.{equal, agree, guards}
-use Rattle.sqlite_value.specs.Keys.{first_key}
-use Rattle.sqlite_value.specs.declared.keys.Collation.TheVariants.{Binary}
-use Rattle.sqlite_rules.specs.Lists.{Has}
+use Rattle.wu_schema.proofs.Words.{Binary, Bool, Database, Has, Index, IsDatabase, IsGuarded, List, Ok, Row, Schema, Some, [], agree, all_has, and_from, and_parts, ap, automatic, bytes_eq, cases_Bool, column, eq-eqb, eqb-true, equal, false, find, first_key, guards, host_at, inl, inr, is_key_at, key_at, length, refl, some_from, some_has, subst, sym, true, ℕ, ◌&&◌, ◌==◌, ◌||◌, ◌∙◌, ◌∷◌, ◌≡◌}
 use Rattle.sqlite_rules.specs.Keys.{conflicts, shares}
-use Rattle.sqlite_rules.proofs.ListLemmas.{all_has, some_has, some_from, has_found}
-use Rattle.sqlite_resolve.specs.Given.{key_at, is_key_at, are_among}
-use Rattle.wu_schema.specs.Tables.{host_at}
+use Rattle.sqlite_rules.proofs.ListLemmas.{has_found}
+use Rattle.sqlite_resolve.specs.Given.{are_among}
 
 -- a unique index on the name, and each such index compares the bytes
 pub record HasNameKey (schema : Schema) (tree : ℕ) : Type 0 where
@@ -63,10 +52,6 @@ names_key schema tree k =
     let i = some.0 in
     let parts = key_parts i.is_unique (i.table == tree) (length i.columns == 1) (are_among (1 ∷ []) i.columns) (are_among i.columns (1 ∷ [])) is in
     rw (some.1, one_place some.0.columns parts.0 parts.2) refl
-
-and_true : (b : Bool) → (b && true) ≡ b
-and_true true = refl
-and_true false = refl
 
 module _ (schema : Schema) (tree : ℕ) (k : HasNameKey schema tree) (new r : Row) where
   pub conflict_named : conflicts (Some (1 ∷ [])) schema.indexes (host_at tree) new r ≡ true → equal Binary (column r 1) (column new 1) ≡ true

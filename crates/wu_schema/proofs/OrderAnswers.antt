@@ -1,34 +1,14 @@
 -- What a SELECT in the order of the key answers.
-use Rattle.std.proofs.Common.{◌≡◌, ℕ, pos, negsuc, ◌^◌, ◌<◌, nat_le, nat_lt, ◌++◌, List, [], ◌∷◌, length, map, take, filter, find, Option, None, Some, IsSome, option_map, option_to_list, Bool, true, false, cond, if◌then◌else◌, refl, sym, ap, subst, ◌∙◌, arith}
-use Rattle.std.specs.List.{list_all, flat_map}
-use Rattle.std.specs.List.Sorted.{IsPermutation, IsSorted}
-use Rattle.std.specs.declared.cmp.Ordering.{Ordering}
-use Rattle.std.specs.declared.cmp.Ordering.TheVariants.{Less}
+use Rattle.wu_schema.proofs.Words.{Binary, Bool, Database, Int, IsAnswerAs, IsAscending, IsPermutation, IsPermutation-refl, IsPermutation-trans, IsSorted, IsTable, Less, List, Null, Ordering, Output, Query, Row, Shown, Some, StandsFor, State, Term, Workunit, World, [], all_from, all_has, ap, col, column, cond, eval_all, false, filter, find, flat_map, has_filtered, has_mapped, holds, if◌then◌else◌, list_all, lit, map, map-map, nat_le, nat_lt, negsuc, number, on_total, option_map, option_to_list, output, overlay, pos, refl, rowid, stored_workunit, subst, sym, take, true, value_cmp, value_cmp_total, workunit_row, ℕ, ◌++◌, ◌^◌, ◌∙◌, ◌∷◌, ◌≡◌}
 use Rattle.std.specs.Ordering.{on}
-use Rattle.std.proofs.lemmas.Cmp.{on_total}
-use Rattle.std.proofs.lemmas.List.Sorted.{IsPermutation-trans, IsPermutation-refl}
-use Rattle.sqlite_trees.proofs.ListLemmas.{map-map}
-use Rattle.sqlite_value.proofs.OrderLemmas.{value_cmp_total, then-Equal}
-use Rattle.sqlite.specs.declared.types.Value.TheVariants.{Null, Int}
-use Rattle.sqlite.specs.Order.{Row, column, value_cmp}
-use Rattle.sqlite.specs.Term.{Term, lit, holds, eval_all}
-use Rattle.sqlite.specs.Tree.{IsAscending, rowid}
-use Rattle.sqlite_trees.specs.Tree.{IsTable}
-use Rattle.sqlite.specs.Query.{Query, IsSureAnswer, IsAnswerAs, Output, output, output_cmp, page}
-use Rattle.sqlite.specs.Program.{overlay}
-use Rattle.sqlite_rules.proofs.ListLemmas.{all_has, all_from, has_filtered}
-use Rattle.sqlite_rules.proofs.ProbeLemmas.{has_mapped}
-use Rattle.sqlite.specs.Effect.{Database}
-use Rattle.sqlite.specs.State.{State, Shown}
-use Rattle.wu_core.specs.declared.workunit.Workunit.{Workunit}
-use Rattle.wu_core.specs.World.{World}
-use Rattle.wu_schema.specs.Stored.{number, stored_workunit, workunit_row}
+use Rattle.sqlite_value.proofs.OrderLemmas.{then-Equal}
+use Rattle.sqlite.specs.Query.{IsSureAnswer, output_cmp, page}
 use Rattle.wu_schema.specs.Answers.{first_above}
-use Rattle.wu_schema.specs.StandsFor.{StandsFor}
 use Rattle.wu_schema.proofs.EqualLemmas.{number_above}
 use Rattle.wu_schema.proofs.QueryLemmas.{plain_query}
-use Rattle.wu_schema.proofs.SelectTexts.{rising_at, all_text, all_shows, all_reads, above_text, above_tests, above_reads}
-use Rattle.wu_schema.proofs.ReadAnswers.{shown_answers}
+use Rattle.wu_schema.proofs.SelectTexts.{all_asked, all_fits, all_shows, above_asked, above_fits, above_tests}
+use Rattle.wu_schema.proofs.Parts.{Workunits}
+use Rattle.wu_schema.proofs.ReadAnswers.{asked_answers}
 use Rattle.wu_schema.proofs.RowLemmas.{no_test, one_test}
 use Rattle.wu_schema.proofs.OneOrder.{one_order}
 
@@ -37,7 +17,7 @@ by_key = on (λ (o : Output). column o.0 0) value_cmp
 
 module _ (tree : ℕ) (test shows : List Term) (place : ℕ) (limit : Term) (params : Row) where
   abbrev pub sorted : Query
-  sorted = record (plain_query tree test shows) { order = rising_at place; limit = limit }
+  sorted = record (plain_query tree test shows) { order = (col 1 place, record { collation = Binary; descending = false }) ∷ []; limit = limit }
 
   abbrev shown : Row → Row
   shown r = eval_all shows (params ∷ r ∷ [])
@@ -107,12 +87,11 @@ rows_shown [] = refl
 rows_shown (w ∷ ws) = ap (λ all. workunit_row w ∷ all) (rows_shown ws)
 
 module _ (old new : State) (world : World) (s : StandsFor old.now world) where
-  pub workunits_found : (rows : List Row) → Shown all_text [] old new rows → rows ≡ map workunit_row world.workunits
+  pub workunits_found : (rows : List Row) → Shown all_asked.text [] old new rows → rows ≡ map workunit_row world.workunits
   workunits_found rows h =
-      let has = s.tables.workunit in
       let tree = s.trees.workunit in
-      let read = shown_answers all_text [] old new _ _ _ (all_reads old.now.schema has.0 tree has.1) rows h in
-      sure_in_order tree [] all_shows (lit (Int (negsuc 0))) [] old.now rows has.1.low s.rows.workunits.shaped.0 read.answer ∙ ap (map (λ r. eval_all all_shows ([] ∷ r ∷ []))) (no_test (old.now.trees tree) ∙ s.rows.workunits.same) ∙ rows_shown world.workunits
+      let read = asked_answers Workunits all_asked all_fits old new world s tt [] rows h in
+      sure_in_order tree [] all_shows (lit (Int (negsuc 0))) [] old.now rows s.tables.workunit.1.low s.rows.workunits.shaped.0 read.answer ∙ ap (map (λ r. eval_all all_shows ([] ∷ r ∷ []))) (no_test (old.now.trees tree) ∙ s.rows.workunits.same) ∙ rows_shown world.workunits
 
 -- ---- the first above a number
 
@@ -135,19 +114,8 @@ module _ (n : ℕ) where
       go false again = again
 
 module _ (old new : State) (world : World) (s : StandsFor old.now world) (n : ℕ) where
-  pub above_found : (rows : List Row) → Shown above_text (number n ∷ []) old new rows → rows ≡ option_to_list (option_map workunit_row (first_above n world))
+  pub above_found : (rows : List Row) → Shown above_asked.text (number n ∷ []) old new rows → rows ≡ option_to_list (option_map workunit_row (first_above n world))
   above_found rows h =
-      let has = s.tables.workunit in
       let tree = s.trees.workunit in
-      let read = shown_answers above_text (number n ∷ []) old new _ _ _ (above_reads old.now.schema has.0 tree has.1) rows h in
-      sure_in_order tree above_tests all_shows (lit (Int (pos 1))) (number n ∷ []) old.now rows has.1.low s.rows.workunits.shaped.0 read.answer ∙ ap (λ rs. take 1 (map (row_shown n) (filter (exceeds n) rs))) s.rows.workunits.same ∙ first_shown n world.workunits
-
--- what is taken from the end of at most one
-pub only_taken : {X : Type 0} (found rest : List X) (o taken : Option X) → found ≡ option_to_list o → found ≡ rest ++ option_to_list taken → (0 < length found → IsSome taken) → taken ≡ o
-only_taken found rest None None is parts some = refl
-only_taken found [] None (Some y) is parts some = absurd (let e = sym is ∙ parts in cc)
-only_taken found (x ∷ rest) None (Some y) is parts some = absurd (let e = sym is ∙ parts in cc)
-only_taken found rest (Some x) None is parts some = absurd (let no = some (rw is (omega arith)) in cc)
-only_taken found [] (Some x) (Some y) is parts some = let e = sym is ∙ parts in cc
-only_taken found (z ∷ []) (Some x) (Some y) is parts some = absurd (let e = sym is ∙ parts in cc)
-only_taken found (z ∷ y2 ∷ rest) (Some x) (Some y) is parts some = absurd (let e = sym is ∙ parts in cc)
+      let read = asked_answers Workunits above_asked above_fits old new world s tt (number n ∷ []) rows h in
+      sure_in_order tree above_tests all_shows (lit (Int (pos 1))) (number n ∷ []) old.now rows s.tables.workunit.1.low s.rows.workunits.shaped.0 read.answer ∙ ap (λ rs. take 1 (map (row_shown n) (filter (exceeds n) rs))) s.rows.workunits.same ∙ first_shown n world.workunits

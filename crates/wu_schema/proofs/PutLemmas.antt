@@ -1,16 +1,7 @@
 -- A row that is put into a table.
-use Rattle.std.proofs.Common.{◌≡◌, ℕ, ◌<◌, pos, List, [], ◌∷◌, ◌++◌, Bool, true, false, ◌||◌, refl, sym, ap, ◌∙◌, lt→ltb}
-use Rattle.std.specs.List.{AllByRecursion}
-use Rattle.std.specs.List.Sorted.{IsPermutation}
+use Rattle.wu_schema.proofs.Words.{AllByRecursion, Bool, Equal, Greater, Int, IsPermutation, IsPermutation-cons, IsPermutation-refl, IsPermutation-trans, Less, List, Ordering, Row, [], ap, false, is_taken, lt→ltb, pos, put_row, refl, rowid, sym, true, value_cmp, value_cmp-Int, ℕ, ◌++◌, ◌<◌, ◌||◌, ◌∙◌, ◌∷◌, ◌≡◌}
 use Rattle.std.specs.Cmp.{int_cmp_is}
-use Rattle.std.specs.declared.cmp.Ordering.{Ordering}
-use Rattle.std.specs.declared.cmp.Ordering.TheVariants.{Less, Equal, Greater}
-use Rattle.std.proofs.lemmas.List.Sorted.{IsPermutation-trans, IsPermutation-cons, IsPermutation-middle, IsPermutation-refl}
-use Rattle.sqlite_value.proofs.OrderLemmas.{value_cmp-Int}
-use Rattle.sqlite.specs.declared.types.Value.TheVariants.{Int}
-use Rattle.sqlite.specs.Order.{Row, value_cmp}
-use Rattle.sqlite.specs.Tree.{put_row, rowid}
-use Rattle.sqlite.specs.Edit.{is_taken}
+use Rattle.std.proofs.lemmas.List.Sorted.{IsPermutation-middle}
 
 -- a row above all others comes last
 pub put_last : (new : Row) (rows : List Row) → AllByRecursion (λ r. value_cmp (rowid r) (rowid new) ≡ Less) rows → put_row new rows ≡ rows ++ new ∷ []

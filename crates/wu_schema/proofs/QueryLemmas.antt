@@ -1,27 +1,15 @@
 -- Queries on one table.
-use Rattle.std.proofs.Common.{◌≡◌, ℕ, suc, pos, negsuc, List, [], true, false, None, Ok, refl}
-use Rattle.sqlite.specs.Term.{Term, lit, col}
-use Rattle.sqlite.specs.Query.{Query, inner, end}
-use Rattle.sqlite.specs.declared.types.Value.TheVariants.{Int}
-use Rattle.sqlite.specs.Schema.{Schema}
+use Rattle.wu_schema.proofs.Words.{Checked, Column, Core, Int, List, Name, None, Ok, Program, Query, Schema, Select, Sort, Source, Term, [], col, declared, false, lit, named, negsuc, place_of, pos, query_to, refl, suc, true, viewing, ℕ, ◌≡◌}
+use Rattle.sqlite.specs.Query.{inner, end}
 use Rattle.sqlite_schema.specs.declared.schema.Table.{Table}
-use Rattle.sqlite_schema.specs.declared.schema.Column.{Column}
 use Rattle.sqlite_schema.specs.declared.program.Table.{Table as Let}
-use Rattle.sqlite_schema.specs.declared.program.Program.{Program}
-use Rattle.sqlite_schema.specs.Names.{place_of}
 use Rattle.sqlite_ast.specs.declared.Shown.{roll-Shown}
 use Rattle.sqlite_ast.specs.declared.Expr.TheOpen.{Shown-F}
 use Rattle.sqlite_ast.specs.declared.Shown as written-shown
-use Rattle.sqlite_ast.specs.declared.Source.{Source, roll-Source}
+use Rattle.sqlite_ast.specs.declared.Source.{roll-Source}
 use Rattle.sqlite_ast.specs.declared.Origin.TheVariants as origin
-use Rattle.sqlite_ast.specs.declared.Core.{Core}
-use Rattle.sqlite_ast.specs.declared.Sort.{Sort}
-use Rattle.sqlite_ast.specs.declared.Select.{Select}
 use Rattle.sqlite_resolve.specs.declared.scope.Output.{Output}
-use Rattle.sqlite_resolve.specs.Lowering.{Checked}
-use Rattle.sqlite_resolve.specs.Scope.{Name, declared}
-use Rattle.sqlite_resolve.specs.Select.{named}
-use Rattle.sqlite_resolve.specs.Program.{query_to, level, viewing, Shown}
+use Rattle.sqlite_resolve.specs.Program.{level, Shown}
 use Rattle.wu_schema.proofs.ExprLemmas.{column}
 
 abbrev pub plain_query : ℕ → List Term → List Term → Query

@@ -1,25 +1,9 @@
 -- What a SELECT does to a connection, whatever the schema.
-use Rattle.std.proofs.Common.{◌≡◌, inl, inr, ℕ, List, [], Bool, true, false, if◌then◌else◌, None, IsSome, Ok, Err, Result, IfOk, IfErr, OnOk, OnErr, IsErrAnd, refl, sym, ap, subst}
-use Rattle.std.proofs.lemmas.Bool.{cases_Bool}
-use Rattle.sqlite.specs.Order.{Row}
-use Rattle.sqlite.specs.Schema.{Schema}
-use Rattle.sqlite.specs.Command.{Command}
-use Rattle.sqlite.specs.declared.error.Error.{Error}
-use Rattle.sqlite_ast.specs.declared.Select.{Select}
+use Rattle.wu_schema.proofs.Words.{Bool, Checked, Command, CommitsShowing, CompileError, Compiled, Err, Error, FailsToQuery, FailsToShow, Ghosts, HasCleanDisk, Held, IfErr, IfOk, IsBack, IsSome, IsUnchanged, List, Name, NoSuchTable, None, Ok, OnOk, Parsed, QueriesRow, Reads, Result, Row, Schema, Select, Shown, State, Survives, Vec, [], and_then, ap, cases_Bool, compiled, false, first, if_select, if◌then◌else◌, inl, inr, is_select, meaning, planned, reads_listing, returning, state, subst, sym, true, understood, with_command, ℕ, ◌≡◌}
 use Rattle.sqlite_ast.specs.declared.Statement.TheVariants as written
-use Rattle.sqlite_syntax.specs.declared.statement.Parsed.{Parsed}
-use Rattle.sqlite_resolve.specs.declared.compiled.Compiled.{Compiled}
-use Rattle.sqlite_resolve.specs.declared.error.CompileError.{CompileError}
-use Rattle.sqlite_resolve.specs.declared.error.CompileError.TheVariants.{NoSuchTable}
-use Rattle.sqlite_resolve.specs.Lowering.{Checked, and_then}
-use Rattle.sqlite_resolve.specs.Scope.{Name}
-use Rattle.sqlite_resolve.specs.Compile.{first, compiled, planned, meaning, returning, with_command}
 use Rattle.sqlite.specs.Clock.{timed}
-use Rattle.sqlite.specs.Listing.{understood, reads_listing, if_select, is_select}
-use Rattle.sqlite.specs.State.{State, IsUnchanged, Shown, ShowsRows, QueriesRow, FailsToQuery, FailsToShow, CommitsShowing, Survives}
-use Rattle.wu_schema.proofs.SelectTexts.{import_text, import_parsed, import_select, import_first, workunit_text, workunit_parsed, workunit_select, workunit_first, archived_text, archived_parsed, archived_select, archived_first, next_text, next_parsed, next_select, next_first, all_text, all_parsed, all_select, all_first, above_text, above_parsed, above_select, above_first, instances_text, instances_parsed, instances_select, instances_first}
-use Rattle.wu_schema.specs.Calls.{IsBack}
-use Rattle.wu_schema.proofs.CallLemmas.{back_not_run, back_unchanged}
+use Rattle.sqlite.specs.State.{ShowsRows}
+use Rattle.wu_schema.proofs.CallLemmas.{back_not_run, back_unchanged, err_on}
 
 -- the text is a SELECT
 pub record IsSelect (text : List ℕ) : Type 0 where
@@ -92,29 +76,6 @@ module _ (text : List ℕ) (it : IsSelect text) (params : Row) (old new : State)
     crash = λ clean db may. elim (s.crash clean db may) [ inl before ↦ inl before | inr made ↦ absurd (let none = shows_none old.now.schema text it made.0 made.1.is in let some = subst IsSome none made.2 in cc) ];
   }
 
--- ---- our SELECTs
-
-pub import_selects : IsSelect import_text
-import_selects = record { parsed = import_parsed; select = import_select; read = import_first; is = refl }
-
-pub workunit_selects : IsSelect workunit_text
-workunit_selects = record { parsed = workunit_parsed; select = workunit_select; read = workunit_first; is = refl }
-
-pub archived_selects : IsSelect archived_text
-archived_selects = record { parsed = archived_parsed; select = archived_select; read = archived_first; is = refl }
-
-pub next_selects : IsSelect next_text
-next_selects = record { parsed = next_parsed; select = next_select; read = next_first; is = refl }
-
-pub all_selects : IsSelect all_text
-all_selects = record { parsed = all_parsed; select = all_select; read = all_first; is = refl }
-
-pub above_selects : IsSelect above_text
-above_selects = record { parsed = above_parsed; select = above_select; read = above_first; is = refl }
-
-pub instances_selects : IsSelect instances_text
-instances_selects = record { parsed = instances_parsed; select = instances_select; read = instances_first; is = refl }
-
 -- ---- through a result
 
 pub if_ok : {T E : Type 0} (r : Result T E) (P Q : T → Type 0) → ((x : T) → P x → Q x) → IfOk r P → IfOk r Q
@@ -129,6 +90,16 @@ pub if_err : {T E : Type 0} (r : Result T E) (P Q : E → Type 0) → ((e : E) �
 if_err (Ok x) P Q f h = tt
 if_err (Err e) P Q f h = f e h
 
+-- what a SELECT of all rows does to the connection
+pub all_read : {S A : Type 0} (g : Ghosts S) (text : List ℕ) → IsSelect text → (params : Row) (old new : Held S) → (old.in_transaction ≡ false → new.in_transaction ≡ false) → Survives (state g old) (state g new) (CommitsShowing text params (state g old)) → (r : Result (Vec Row A) Error)
+    → (HasCleanDisk (state g new) → IfOk r (λ rows. Shown text params (state g old) (state g new) rows.items)) → (HasCleanDisk (state g new) → IfErr r (FailsToQuery text params (state g old) (state g new))) → Reads g old new r
+all_read g text it params old new mode survives r ok err = record {
+  mode = mode;
+  unchanged = λ clean. on_ok r _ _ (λ rows h. shown_unchanged text it params (state g old) (state g new) rows.items h) (ok clean);
+  back = λ clean. err_on r _ _ (λ e h. failed_back text it params (state g old) (state g new) e h) (err clean);
+  crash = reads_survive text it params (state g old) (state g new) survives;
+}
+
 pub row_ok : (text : List ℕ) (params : Row) (old new : State) (r : Result Row Error) (Q : Row → Type 0) → ((row : Row) → QueriesRow text params old new (Ok row) → Q row) → QueriesRow text params old new r → IfOk r Q
 row_ok text params old new (Ok row) Q f h = f row h
 row_ok text params old new (Err e) Q f h = tt
@@ -136,12 +107,3 @@ row_ok text params old new (Err e) Q f h = tt
 pub row_err : (text : List ℕ) (params : Row) (old new : State) (r : Result Row Error) (Q : Error → Type 0) → ((e : Error) → QueriesRow text params old new (Err e) → Q e) → QueriesRow text params old new r → IfErr r Q
 row_err text params old new (Ok row) Q f h = tt
 row_err text params old new (Err e) Q f h = f e h
-
--- an error that a `?` hands on
-pub err_same : {T E : Type 0} (r : Result T E) (P : E → Type 0) (e : E) → IsErrAnd r (λ x. x ≡ e) → P e → IfErr r P
-err_same (Ok x) P e h p = tt
-err_same (Err d) P e h p = subst P (sym h) p
-
-pub err_on_same : {T E : Type 0} (r : Result T E) (P : Type 0) → P → OnErr r P
-err_on_same (Ok x) P p = tt
-err_on_same (Err d) P p = p

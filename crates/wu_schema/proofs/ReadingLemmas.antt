@@ -1,25 +1,16 @@
 -- How columns and rows read as values, step by step.
-use Rattle.std.proofs.Common.{◌≡◌, ◌⊎◌, ◌≢◌, ℕ, zero, suc, ◌+◌, ◌<◌, ◌≤◌, ◌^◌, pos, List, [], ◌∷◌, ◌++◌, ◌-◌, length, get_or, take, drop, map, Option, Some, None, Result, Ok, Err, IfOk, IfErr, refl, sym, ap, subst, ◌∙◌, inl, inr, arith, add-one}
-use Rattle.std.specs.Prelude.{MatchOption, ⊤}
-use Rattle.std.proofs.lemmas.List.{length-map, map-append, take_more, get_or-map}
-use Rattle.wu_core.specs.declared.import.ImportKind.{ImportKind}
+use Rattle.wu_schema.proofs.Words.{AreVerdicts, Blob, Err, Fault, Gives, IfErr, IfOk, ImportKind, Instance, Int, List, None, NotAProject, Null, Ok, Option, Result, Row, Some, Text, Value, Workunit, [], add-one, ap, arith, column, drop, get_or, inl, inr, instance_row, last_skip, length, length-map, map, map-append, number, number_or_null, pos, refl, subst, suc, sym, take, text_or_null, verdict_digits, workunit_row, zero, ℕ, ⊤, ◌++◌, ◌+◌, ◌-◌, ◌<◌, ◌^◌, ◌∙◌, ◌∷◌, ◌≡◌, ◌≢◌, ◌≤◌, ◌⊎◌}
+use Rattle.std.specs.Prelude.{MatchOption}
+use Rattle.std.proofs.lemmas.List.{take_more, get_or-map}
 use Rattle.std.specs.List.{range_with_len}
-use Rattle.sqlite.specs.Order.{Row, column}
-use Rattle.sqlite.specs.declared.types.Value.{Value}
-use Rattle.sqlite.specs.declared.types.Value.TheVariants.{Null, Int, Text, Blob}
-use Rattle.wu_core.specs.declared.fault.Fault.{Fault}
-use Rattle.wu_core.specs.declared.fault.Fault.TheVariants.{Memory, NotAProject}
-use Rattle.wu_core.specs.Reads.{Gives}
-use Rattle.wu_core.specs.declared.workunit.Workunit.{Workunit}
+use Rattle.wu_core.specs.declared.fault.Fault.TheVariants.{Memory}
 use Rattle.wu_core.specs.Parameters.{Parameters, IsParameters}
-use Rattle.wu_core.specs.declared.workunit.Instance.{Instance}
 use Rattle.wu_core.specs.Limits.{longest_output}
-use Rattle.wu_core.specs.World.{last_skip}
 use Rattle.wu_schema.specs.declared.rows.Moments.{Moments}
 use Rattle.wu_schema.specs.declared.rows.Progress.{Progress}
 use Rattle.wu_schema.specs.declared.rows.States.{States}
-use Rattle.wu_schema.specs.Stored.{instance_row, text_or_null, verdict_digits, number, number_or_null, parameter_cells, workunit_row}
-use Rattle.wu_schema.specs.Reading.{AreMoments, IsHost, MayBeInstance, moment_cells, state_cells, AreVerdicts, columns, progress_cells, IsInput, IsMoment, IsName, IsPlace, IsProgress, IsStoredWorkunit, Restores}
+use Rattle.wu_schema.specs.Stored.{parameter_cells}
+use Rattle.wu_schema.specs.Reading.{AreMoments, IsHost, MayBeInstance, moment_cells, state_cells, columns, progress_cells, IsInput, IsName, IsPlace, IsProgress, IsStoredWorkunit, Restores}
 
 -- a value that can't be read is none that is stored so
 pub unread : {T C : Type 0} (stored_as : T → C) (IsValue : T → Type 0) (stored : C) (fault : Fault)
@@ -48,14 +39,6 @@ place_restores P p v (Err f) ok err fits = unread number_or_null IsPlace v f (el
     readable None is same = inl same
     readable (Some n) is same = inr (n, same, is)
 
-pub moment_unread : (P : Type 0) → P → (v : Value) (f : Fault) → (f ≡ Memory) ⊎ ((f ≡ NotAProject) × (P → ¬ ((v ≡ Null) ⊎ ((n : ℕ) × (v ≡ Int (pos n))))))
-    → Restores number_or_null IsMoment v (Err f)
-moment_unread P p v f err = unread number_or_null IsMoment v f (elim err [ inl memory ↦ inl memory | inr unreadable ↦ inr (unreadable.0, λ o is same. unreadable.1 p (readable o is same)) ])
-  where
-    readable : (o : Option ℕ) → IsMoment o → v ≡ number_or_null o → (v ≡ Null) ⊎ ((n : ℕ) × (v ≡ Int (pos n)))
-    readable None is same = inl same
-    readable (Some n) is same = inr (n, same)
-
 next_column : (v : Value) (row : Row) (a : ℕ) → column (v ∷ row) (a + 1) ≡ column row a
 next_column v row a = rw add-one refl
 
@@ -69,28 +52,28 @@ as_columns [] = refl
 as_columns (v ∷ row) = ap (λ rest. v ∷ rest) (shifted v row 0 (length row) ∙ as_columns row)
 
 -- the progress of a workunit
-progress_of : Workunit → Progress
+abbrev progress_of : Workunit → Progress
 progress_of w = record { error_mask = w.error_mask; canonical = w.canonical; assimilate = w.assimilate; file_delete = w.file_delete; done_at = w.done_at }
-
-error_is : {T : Type 0} (f g : Fault) → ◌≡◌ {A = Result T Fault} (Err f) (Err g) → f ≡ g
-error_is f g is = cc
 
 not_ok : {T U : Type 0} (f : Fault) (t : T) (u : U) → Gives (Err f) (Ok t) → Gives (Err f) (Ok u)
 not_ok f t u (inl ok) = absurd cc
-not_ok f t u (inr memory) = inr (ap (λ g. Err g) (error_is f Memory memory))
+not_ok f t u (inr memory) = let is : f ≡ Memory = cc in inr (ap (λ g. Err g) is)
 
 ok_is : {T : Type 0} (a b : T) → Gives (Ok a) (Ok b) → a ≡ b
 ok_is a b (inl is) = cc
 ok_is a b (inr memory) = absurd cc
 
--- a row whose progress can't be read is no workunit's
-pub workunit_unread : (row : Row) (f : Fault) → Restores progress_cells IsProgress (columns row 10 5) (Err f) → Restores workunit_row IsStoredWorkunit row (Err f)
-unfolding progress_of
-workunit_unread row f progress = record {
+-- a row with a part that can't be read is stored of nothing
+part_unread : {T U : Type 0} (part : T → U) (row : Row) (from count : ℕ) (stored_as : T → Row) (cells : U → Row) (IsValue : T → Type 0) (IsPart : U → Type 0)
+    → ((t : T) → IsValue t → IsPart (part t)) → ((t : T) → columns (stored_as t) from count ≡ cells (part t)) → (f : Fault) → Restores cells IsPart (columns row from count) (Err f) → Restores stored_as IsValue row (Err f)
+part_unread part row from count stored_as cells IsValue IsPart are shown f unread = record {
   value = tt;
-  found = λ w is same. not_ok f (progress_of w) w (progress.found (progress_of w) (record { canonical = is.canonical; stamped = is.stamped }) (subst (λ r. columns r 10 5 ≡ progress_cells (progress_of w)) (sym same) refl));
-  refused = progress.refused;
+  found = λ t is same. not_ok f (part t) t (unread.found (part t) (are t is) (ap (λ r. columns r from count) same ∙ shown t));
+  refused = unread.refused;
 }
+
+pub workunit_unread : (row : Row) (f : Fault) → Restores progress_cells IsProgress (columns row 10 5) (Err f) → Restores workunit_row IsStoredWorkunit row (Err f)
+workunit_unread row = part_unread progress_of row 10 5 workunit_row progress_cells IsStoredWorkunit IsProgress (λ w is. record { canonical = is.canonical; stamped = is.stamped }) (λ w. refl)
 
 joined : (a b c d : Value) (ps qs rs ts : Row) (e g : Value) → a ≡ b → c ≡ d → ps ≡ qs → e ≡ g → rs ≡ ts → a ∷ c ∷ ps ++ (e ∷ rs) ≡ b ∷ d ∷ qs ++ (g ∷ ts)
 joined a b c d ps qs rs ts e g first second third fourth fifth = rw (first, second, third, fourth, fifth) refl
@@ -115,7 +98,6 @@ module _ (row : Row) (n : ℕ) (name : List ℕ) (params : Parameters) (input : 
       → Restores parameter_cells IsParameters (columns row 2 7) (Ok params) → Restores Blob IsInput (column row 9) (Ok input)
       → Restores progress_cells IsProgress (columns row 10 5) (Ok progress)
       → Restores workunit_row IsStoredWorkunit row (Ok read)
-  unfolding progress_of
   workunit_read long number_is name_is params_are input_is progress_is = record {
     value = (stored, record { name = name_is.value.1; parameters = params_are.value.1; input = input_is.value.1; canonical = progress_is.value.1.canonical; stamped = progress_is.value.1.stamped; bare = refl });
     found = λ w is same. inl (ap (λ w. Ok w) (only w is same));
@@ -169,27 +151,17 @@ verdicts_restored kind digits verdicts is are =
     record { value = (sym is, are); found = λ others of_kind same. inl (ap (λ v. Ok v) (same_verdicts verdicts others (is ∙ same))); refused = tt }
 
 -- the states and the moments of an instance
-states_of : Instance → States
+abbrev states_of : Instance → States
 states_of i = record { server_state = i.server_state; outcome = i.outcome; validate_state = i.validate_state; file_delete = i.file_delete }
 
-moments_of : Instance → Moments
+abbrev moments_of : Instance → Moments
 moments_of i = record { sent_at = i.sent_at; deadline = i.deadline; received_at = i.received_at }
 
 pub states_unread : (row : Row) (f : Fault) → Restores state_cells (λ _. ⊤) (columns row 0 4) (Err f) → Restores instance_row MayBeInstance row (Err f)
-unfolding states_of
-states_unread row f states = record {
-  value = tt;
-  found = λ i is same. not_ok f (states_of i) i (states.found (states_of i) tt (subst (λ r. columns r 0 4 ≡ state_cells (states_of i)) (sym same) refl));
-  refused = states.refused;
-}
+states_unread row = part_unread states_of row 0 4 instance_row state_cells MayBeInstance (λ _. ⊤) (λ i is. tt) (λ i. refl)
 
 pub moments_unread : (row : Row) (f : Fault) → Restores moment_cells AreMoments (columns row 5 3) (Err f) → Restores instance_row MayBeInstance row (Err f)
-unfolding moments_of
-moments_unread row f moments = record {
-  value = tt;
-  found = λ i is same. not_ok f (moments_of i) i (moments.found (moments_of i) is.moments (subst (λ r. columns r 5 3 ≡ moment_cells (moments_of i)) (sym same) refl));
-  refused = moments.refused;
-}
+moments_unread row = part_unread moments_of row 5 3 instance_row moment_cells MayBeInstance AreMoments (λ i is. is.moments) (λ i. refl)
 
 joined_four : (a b d e : Value) (ps qs rs ts : Row) → ps ≡ qs → a ≡ b → rs ≡ ts → d ≡ e → ps ++ (a ∷ rs ++ (d ∷ [])) ≡ qs ++ (b ∷ ts ++ (e ∷ []))
 joined_four a b d e ps qs rs ts first second third fourth = rw (first, second, third, fourth) refl
@@ -212,7 +184,6 @@ module _ (row : Row) (states : States) (host : Option (List ℕ)) (moments : Mom
   pub instance_read : length row ≡ 9 → Restores state_cells (λ _. ⊤) (columns row 0 4) (Ok states) → Restores text_or_null IsHost (column row 4) (Ok host)
       → Restores moment_cells AreMoments (columns row 5 3) (Ok moments) → Restores Blob (λ o. length o ≤ longest_output) (column row 8) (Ok output)
       → Restores instance_row MayBeInstance row (Ok read_instance)
-  unfolding states_of moments_of
   instance_read long states_are host_is moments_are output_is = record {
     value = (stored, record { host = host_is.value.1; moments = moments_are.value.1; output = output_is.value.1 });
     found = λ i is same. inl (ap (λ i. Ok i) (only i is same));

@@ -1,15 +1,5 @@
 -- Rows with rowids, and tables that refer to nothing.
-use Rattle.std.proofs.Common.{◌≡◌, inl, inr, ℤ, List, [], ◌∷◌, length, filter, cond, Bool, true, false, ◌&&◌, IsTrue, refl, ap, ◌∙◌, arith}
-use Rattle.sqlite.specs.declared.types.Value.{Value}
-use Rattle.sqlite.specs.declared.types.Value.TheVariants.{Null, Int, Real, Text, Blob}
-use Rattle.sqlite.specs.Order.{Row}
-use Rattle.sqlite.specs.Schema.{Schema}
-use Rattle.sqlite.specs.Table.{Table}
-use Rattle.sqlite_trees.specs.View.{is_int}
-use Rattle.sqlite_schema.specs.declared.schema.Keys.TheVariants.{Enforced}
-use Rattle.sqlite_rules.specs.Lists.{Has}
-use Rattle.wu_schema.proofs.QuietLemmas.{IsChildless}
-use Rattle.wu_schema.specs.Tables.{OwnsTree}
+use Rattle.wu_schema.proofs.Words.{Blob, Bool, Enforced, Has, Int, IsChildless, IsTrue, List, Null, OwnsTree, Real, Row, Schema, Table, Text, Value, [], ap, arith, cond, false, filter, inl, inr, is_int, length, refl, true, ℤ, ◌&&◌, ◌∙◌, ◌∷◌, ◌≡◌}
 
 pub filter_same : {X : Type 0} (p q : X → Bool) (xs : List X) → ((x : X) → Has xs x → p x ≡ q x) → filter p xs ≡ filter q xs
 filter_same p q [] same = refl

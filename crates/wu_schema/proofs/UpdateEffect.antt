@@ -1,61 +1,26 @@
 -- What UPDATE does to the rows, over any schema.
-use Rattle.std.proofs.Common.{◌≡◌, ◌≢◌, inl, inr, ℕ, ℤ, pos, List, [], ◌∷◌, ◌++◌, length, map, codes, slice_get, Option, Some, None, Ok, refl, sym, ap, subst, ◌∙◌}
-use Rattle.std.specs.List.Sorted.{IsPermutation}
-use Rattle.sqlite.specs.declared.types.Value.TheVariants.{Null, Int}
-use Rattle.sqlite.specs.Order.{Row}
-use Rattle.sqlite.specs.Term.{Term}
-use Rattle.sqlite.specs.Table.{Table}
-use Rattle.sqlite.specs.Schema.{Schema}
+use Rattle.wu_schema.proofs.Words.{Answers, Applies, Database, Does, Enforced, Executes, Given, Has, HasTable, Int, IsCalm, IsChildless, IsDatabase, IsPermutation, Keys, Leads, List, Mode, None, Null, Ok, Option, OwnsTree, Program, RefersOnlyTo, Row, Schema, Some, State, Table, Tally, Term, Update, Written, [], all_has, ap, cast_row, codes, edit_of, given, ids_of, inl, inr, length, map, mode_of, one_permutation, pos, project_at, put_all, refl, runs_as, slice_get, statement_of, subst, sym, taken_by, tied_itself, understood, value_cmp_total, without_all, works, ℕ, ℤ, ◌++◌, ◌∙◌, ◌∷◌, ◌≡◌, ◌≢◌}
 use Rattle.sqlite_trees.specs.Tree.{Trees, rowid}
-use Rattle.std.proofs.lemmas.Cmp.{tied_itself}
-use Rattle.sqlite_value.proofs.OrderLemmas.{value_cmp_total}
-use Rattle.sqlite_schema.specs.declared.schema.Keys.{Keys}
-use Rattle.sqlite_schema.specs.declared.schema.Keys.TheVariants.{Enforced}
-use Rattle.sqlite_schema.specs.declared.schema.Reference.{Reference}
-use Rattle.sqlite_schema.specs.Rules.{ParentKey, parent_key}
-use Rattle.sqlite_schema.specs.declared.program.Program.{Program}
-use Rattle.sqlite.specs.Command.TheVariants.{Update}
-use Rattle.sqlite.specs.Edit.{Edit, Applies, edit_of, taken_by, without_all, put_all}
-use Rattle.sqlite.specs.Rowids.TheVariants.{Given}
-use Rattle.sqlite.specs.Cast.{cast_row}
-use Rattle.sqlite_rules.specs.Action.{Writes as Edits, Leads, works}
-use Rattle.sqlite_rules.specs.Calls.{ids_of}
-use Rattle.sqlite_rules.specs.Lists.{Has}
-use Rattle.sqlite_rules.proofs.ListLemmas.{all_has}
-use Rattle.sqlite_rules.proofs.PlaceLemmas.{given}
-use Rattle.sqlite.specs.Effect.{Database, IsDatabase, Answers}
-use Rattle.sqlite.specs.Rows.{Written}
-use Rattle.sqlite.specs.Does.{Tally, Does}
-use Rattle.sqlite.specs.Listing.{understood}
-use Rattle.sqlite.specs.State.{State, mode_of, Executes}
-use Rattle.sqlite.specs.declared.run.Mode.{Mode}
-use Rattle.sqlite.proofs.Callers.{statement_of, runs_as, one_permutation}
-use Rattle.wu_schema.specs.Tables.{project_at, HasTable, OwnsTree}
+use Rattle.sqlite.specs.Edit.{Edit}
+use Rattle.sqlite_rules.specs.Action.{Writes as Edits}
 use Rattle.wu_schema.proofs.EffectLemmas.{went, same_value}
 use Rattle.wu_schema.proofs.QueryLemmas.{plain_query, alone}
 use Rattle.wu_schema.proofs.RowLemmas.{childless}
 use Rattle.wu_schema.proofs.AnswerLemmas.{answers_are, meeting, showing}
-use Rattle.wu_schema.proofs.QuietLemmas.{has_work, IsChildless, RefersOnlyTo, quiet}
-use Rattle.wu_schema.proofs.UpdateLemmas.{update_text, update_is, update_plain, new_row}
+use Rattle.wu_schema.proofs.QuietLemmas.{has_work, quiet}
+use Rattle.wu_schema.proofs.UpdateLemmas.{update_text, update_compiles, new_row}
 use Rattle.wu_schema.proofs.InsertEffect.{cast_null, cast_int, also, no_more}
 
 -- ---- which tables the actions of one step leave alone
 
 module _ (schema : Schema) (keys : Keys) where
-  -- what the table refers to never becomes a child, and is not the tree that is written
-  pub record IsCalm (at : Table) (source : ℕ) : Type 0 where
-    pub parent : ℕ
-    pub childless : IsChildless schema keys parent
-    pub only : RefersOnlyTo schema keys at.tree parent
-    pub past : (t : Table) (ref : Reference) (key : ParentKey) → Has schema.tables t → t.tree ≡ at.tree → Has t.references ref → parent_key schema.tables ref ≡ Some key → key.0 ≢ source
-
   -- of a write that is done, the step, what its actions lead to, and the trees that they leave
   pub record HasStepped (db : Trees) (edit : Edit) (next : Trees) : Type 0 where
     pub mid : Trees
     pub applied : Applies schema keys db edit mid
     pub steps : ℕ
     pub leads : Leads schema keys steps mid ([] ++ works schema keys 0 edit.table.tree (taken_by db edit) edit.news) (Ok next)
-    pub calm : (at : Table) → Has schema.tables at → IsCalm at edit.table.tree → next at.tree ≡ mid at.tree
+    pub calm : (at : Table) → Has schema.tables at → IsCalm schema keys at edit.table.tree → next at.tree ≡ mid at.tree
 
   pub stepped : (db next : Trees) (edit : Edit) → Edits schema keys db edit (Ok next) → HasStepped db edit next
   stepped db next edit (inl refused) = absurd (let e = refused.2 in cc)
@@ -154,7 +119,7 @@ module _ (old new : State) (at tree : ℕ) (has : HasTable old.now.schema (codes
   pub updates_project : (count : ℕ) → Executes update_text (Int n ∷ []) old new (Ok count) → Sets old.now new.now (project_at tree) [] new_row (Int n ∷ [])
   updates_project count h =
       let schema = old.now.schema in
-      let ran = runs_as update_text (Int n ∷ []) old new schema refl (Update at (alone (plain_query tree [] new_row))) (update_is schema at tree has) (update_plain schema at tree has) count h in
+      let ran = runs_as update_text (Int n ∷ []) old new schema refl (Update at (alone (plain_query tree [] new_row))) (update_compiles schema at tree has).is (update_compiles schema at tree has).plain count h in
       update_sets old.now new.now old.step_limit (mode_of old) refl ran.sound (Int n ∷ []) (statement_of update_text (understood schema update_text)) (codes "project") at (project_at tree) has stands [] new_row ran.tally ran.changed
 
   -- the one row has the new number

@@ -1,21 +1,7 @@
 -- What an upsert does to the rows, over any schema.
-use Rattle.std.proofs.Common.{◌≡◌, inl, inr, ℕ, ℤ, ◌/◌, List, [], ◌∷◌, length, slice_get, false, Option, Some, None, Ok, refl, ap, subst, ◌∙◌}
-use Rattle.sqlite.specs.Order.{Row}
-use Rattle.sqlite.specs.Term.{Term}
-use Rattle.sqlite.specs.Table.{Table}
+use Rattle.wu_schema.proofs.Words.{Abort, AreConflicts, Chosen, Database, Does, InsertOr, List, Meets, Mode, None, Ok, Option, Row, Some, Table, Tally, Term, Upsert, Upserts, Values, Written, [], ap, cast_row, count_of, false, inl, inr, length, refl, slice_get, stamped, subst, value_rows, with_rowid, ℕ, ℤ, ◌/◌, ◌∙◌, ◌∷◌, ◌≡◌}
 use Rattle.sqlite_trees.specs.Tree.{Trees}
-use Rattle.sqlite.specs.Source.TheVariants.{Values}
-use Rattle.sqlite.specs.Command.TheVariants.{InsertOr}
-use Rattle.sqlite_schema.specs.declared.command.Conflict.TheVariants.{Abort}
-use Rattle.sqlite_schema.specs.declared.command.Upsert.{Upsert}
-use Rattle.sqlite.specs.Edit.{with_rowid}
-use Rattle.sqlite.specs.Rowids.TheVariants.{Chosen}
-use Rattle.sqlite.specs.Cast.{cast_row}
-use Rattle.sqlite_rules.specs.Keys.{AreConflicts}
-use Rattle.sqlite.specs.Effect.{Database, value_rows}
-use Rattle.sqlite.specs.Rows.{Task, Written, nothing, stamped, count_of, Meets, Upserts, Judged, Tries, TriesEach}
-use Rattle.sqlite.specs.Does.{Tally, Does}
-use Rattle.sqlite.specs.declared.run.Mode.{Mode}
+use Rattle.sqlite.specs.Rows.{Task, nothing, Judged, Tries, TriesEach}
 use Rattle.wu_schema.proofs.EffectLemmas.{went, same_value, chosen, passed}
 
 abbrev pub task_of : Option ℕ → Mode → Row → Database → Table → Task

@@ -1,40 +1,17 @@
 -- What an upsert compiles to, over any schema.
-use Rattle.std.proofs.Common.{◌≡◌, ℕ, suc, ◌-◌, nat_lt, pos, List, [], ◌∷◌, ◌++◌, codes, length, slice_get, true, Some, None, Ok, refl}
-use Rattle.sqlite.specs.Term.{Term, lit, col, op2}
-use Rattle.sqlite.specs.declared.types.Value.TheVariants.{Null, Int}
-use Rattle.sqlite.specs.Schema.{Schema}
+use Rattle.wu_schema.proofs.Words.{Abort, Carried, Column, Context, Expr, Expr-F, HasTable, Inner, InsertOr, Int, List, Name, None, Null, Ok, Parsed, Rows, Schema, Some, Term, Values, [], codes, col, column_named, declared, everything, first, got_last, got_still, host_at, key_at, length, lit, lower_to, nat_lt, needs, new_rows, nothing, op2, pipeline, place_of, planned, pos, refl, roll-Expr, simple, slice_get, suc, true, ℕ, ◌++◌, ◌-◌, ◌∷◌, ◌≡◌}
 use Rattle.sqlite_schema.specs.declared.schema.Table.{Table}
-use Rattle.sqlite_schema.specs.declared.schema.Column.{Column}
-use Rattle.sqlite_schema.specs.Names.{column_named, place_of}
 use Rattle.sqlite_sql.specs.declared.ops.BinaryOp.TheVariants as by
 use Rattle.sqlite_sql.specs.declared.ops.ArithOp.TheVariants as arith
 use Rattle.sqlite.specs.Kind.TheVariants as Kind
-use Rattle.sqlite.specs.Command.TheVariants.{InsertOr}
-use Rattle.sqlite.specs.Source.TheVariants.{Values}
-use Rattle.sqlite_schema.specs.declared.command.Conflict.TheVariants.{Abort}
 use Rattle.sqlite_schema.specs.declared.command.Upsert as made
-use Rattle.sqlite_ast.specs.declared.Expr.{Expr, roll-Expr}
-use Rattle.sqlite_ast.specs.declared.Expr.TheOpen.{Expr-F}
 use Rattle.sqlite_ast.specs.declared.Binary.TheVariants as binary
-use Rattle.sqlite_ast.specs.declared.Rows.{Rows}
 use Rattle.sqlite_ast.specs.declared.Rows.TheVariants as rows
 use Rattle.sqlite_ast.specs.declared.Upsert.{Upsert}
 use Rattle.sqlite_ast.specs.declared.Conflict.TheVariants as conflict
 use Rattle.sqlite_ast.specs.declared.Statement.TheVariants as written
-use Rattle.sqlite_syntax.specs.declared.statement.Parsed.{Parsed}
-use Rattle.sqlite_draft.specs.declared.join.Step.TheVariants.{Inner}
-use Rattle.sqlite_resolve.specs.declared.state.Carried.{Carried}
-use Rattle.sqlite_resolve.specs.Lowering.{nothing}
-use Rattle.sqlite_resolve.specs.Scope.{Name, Context, declared}
-use Rattle.sqlite_resolve.specs.Expr.{lower_to}
-use Rattle.sqlite_resolve.specs.Compile.{first, planned, compiled, with_command, new_rows}
-use Rattle.sqlite_resolve.specs.Given.{given, with_given, given_level, nested, key_at, is_key_at, update, upsert, upserts}
-use Rattle.sqlite_resolve.specs.Write.{simple, level_of, updated_in, places}
-use Rattle.sqlite_resolve.specs.Program.{program}
-use Rattle.sqlite_rules.proofs.ActionLemmas.{got_still, got_last}
-use Rattle.sqlite_tied.specs.Compute.{everything}
-use Rattle.wu_schema.specs.Pipeline.{pipeline}
-use Rattle.wu_schema.specs.Tables.{host_at, HasTable, needs}
+use Rattle.sqlite_resolve.specs.Given.{given, with_given, given_level, nested, update, upsert, upserts}
+use Rattle.sqlite_resolve.specs.Write.{level_of, updated_in, places}
 use Rattle.wu_schema.proofs.SelectTexts.{CompilesTo, compiles_to}
 use Rattle.wu_schema.proofs.ExprLemmas.{column, parameter, so_far, same, lower_step}
 use Rattle.wu_schema.proofs.QueryLemmas.{plain_query, alone}
@@ -137,13 +114,9 @@ module _ (schema : Schema) (at tree : ℕ) (has : HasTable schema (codes "host")
   abbrev at_place : List Term
   at_place = same (col 1 0) (col 0 2) ∷ []
 
-  upsert_program : program schema [] (simple (Inner tree ∷ []) at_place upsert_row) ≡ Ok (alone (plain_query tree at_place upsert_row))
-  unfolding pipeline
-  upsert_program = rw (has.low, has.stands)
-
   upsert_update : update schema at (host_at tree) 2 clause ≡ Ok (Some (alone (plain_query tree at_place upsert_row)))
-  unfolding Rattle.sqlite_resolve.specs.Given.update Rattle.sqlite_resolve.specs.Given.do_update
-  upsert_update = rw (upsert_drafted, upsert_program)
+  unfolding Rattle.sqlite_resolve.specs.Given.update Rattle.sqlite_resolve.specs.Given.do_update pipeline
+  upsert_update = rw (upsert_drafted, has.low, has.stands)
 
   abbrev pub upsert_clauses : List made.Upsert
   upsert_clauses = record { target = Some (1 ∷ []); update = Some (alone (plain_query tree at_place upsert_row)) } ∷ []

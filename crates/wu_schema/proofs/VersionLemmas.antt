@@ -1,35 +1,11 @@
 -- What the question for the version answers.
-use Rattle.std.proofs.Common.{◌≡◌, ◌⊎◌, inl, inr, ℕ, ◌≤◌, List, [], ◌∷◌, map, codes, Option, None, Some, Ok, Err, Result, IfErr, refl, sym, subst, ap, ◌∙◌, arith}
-use Rattle.std.specs.List.Sorted.{IsPermutation}
-use Rattle.std.proofs.lemmas.List.Sorted.{IsPermutation-sym}
-use Rattle.sqlite.specs.Order.{Row}
-use Rattle.sqlite.specs.Schema.{Schema}
-use Rattle.sqlite_schema.specs.declared.program.Program.{Program}
-use Rattle.sqlite.specs.Command.{Command}
+use Rattle.wu_schema.proofs.Words.{Command, CompileError, Database, Err, Error, FailsToQuery, FailsToShow, Fault, Gives, HasProject, HasVersion, IfErr, Integer, IsFailure, IsFree, IsNotRun, IsPermutation, IsPermutation-sym, IsUnchanged, List, NoSuchTable, None, NotAProject, Ok, Option, Program, RefusesQuery, Result, Row, Schema, Shown, Some, StandsFor, State, StoreError, World, [], ap, arith, codes, column_named, fault_of, inl, inr, map, may, needs, number, one_permutation, pipeline, project_at, refl, store_error, subst, sym, understood, version_text, ℕ, ◌∙◌, ◌∷◌, ◌≡◌, ◌≤◌, ◌⊎◌}
 use Rattle.sqlite.specs.Command.TheVariants as command
-use Rattle.sqlite.specs.Effect.{Database, RefusesQuery, RefusesToRead}
-use Rattle.sqlite_trees.specs.declared.error.StoreError.{StoreError}
+use Rattle.sqlite.specs.Effect.{RefusesToRead}
 use Rattle.sqlite_trees.specs.declared.error.StoreError.TheVariants as kind
-use Rattle.sqlite.specs.declared.error.Error.{Error}
 use Rattle.sqlite.specs.declared.error.Error.TheVariants.{SqlInputError, InvalidQuery}
-use Rattle.sqlite.specs.Listing.{understood}
-use Rattle.sqlite.specs.State.{State, store_error, IsUnchanged, Shown, FailsToQuery, FailsToShow, IsNotRun}
 use Rattle.sqlite.specs.Clock.{timed}
-use Rattle.sqlite.proofs.Callers.{one_permutation}
-use Rattle.sqlite.specs.Kind.TheVariants.{Integer}
-use Rattle.sqlite_resolve.specs.declared.error.CompileError.{CompileError}
-use Rattle.sqlite_resolve.specs.declared.error.CompileError.TheVariants.{NoSuchTable}
-use Rattle.wu_core.specs.World.{World}
-use Rattle.wu_core.specs.Reads.{Gives}
-use Rattle.wu_core.specs.declared.fault.Fault.{Fault}
-use Rattle.wu_core.specs.declared.fault.Fault.TheVariants.{NotAProject}
-use Rattle.sqlite_schema.specs.Names.{column_named}
-use Rattle.wu_schema.specs.Pipeline.{pipeline}
-use Rattle.wu_schema.specs.Stored.{number}
-use Rattle.wu_schema.specs.StandsFor.{StandsFor, IsFree}
-use Rattle.wu_schema.specs.Faults.{fault_of, IsFailure}
-use Rattle.wu_schema.specs.Tables.{may, needs, project_at}
-use Rattle.wu_schema.specs.Versions.{version_text, IsMissing, project_cells, rows_of_project, AreOfVersion, HasVersion, TellsMissing, LacksProject, HasProject}
+use Rattle.wu_schema.specs.Versions.{IsMissing, project_cells, rows_of_project, AreOfVersion, TellsMissing, LacksProject}
 use Rattle.wu_schema.proofs.AnswerLemmas.{answers_are, meeting, showing}
 use Rattle.wu_schema.proofs.CallLemmas.{serves_after}
 use Rattle.wu_schema.proofs.ReadAnswers.{shown_answers}
@@ -42,26 +18,18 @@ version_selects = record { parsed = version_parsed; select = version_select; rea
 
 -- ---- the three columns of a project that stands, and its row
 
-pub one_named : (tree : ℕ) → column_named (project_at tree) (codes "one") ≡ Some 0
+pub columns_named : (tree : ℕ) → (column_named (project_at tree) (codes "one") ≡ Some 0) × (column_named (project_at tree) (codes "version") ≡ Some 1) × (column_named (project_at tree) (codes "next_number") ≡ Some 2)
 unfolding pipeline
-one_named tree = refl
-
-pub version_named : (tree : ℕ) → column_named (project_at tree) (codes "version") ≡ Some 1
-unfolding pipeline
-version_named tree = refl
-
-pub next_named : (tree : ℕ) → column_named (project_at tree) (codes "next_number") ≡ Some 2
-unfolding pipeline
-next_named tree = refl
+columns_named tree = (refl, refl, refl)
 
 abbrev pub project_of : (db : Database) (world : World) → StandsFor db world → HasProject db.schema
 project_of db world s = record {
   at = s.tables.project.0;
   table = project_at s.trees.project;
   found = s.tables.project.1;
-  one = (0, may (codes "one") Integer, one_named s.trees.project, refl);
-  version = (1, needs (codes "version") Integer, version_named s.trees.project, refl);
-  next_number = (2, needs (codes "next_number") Integer, next_named s.trees.project, refl);
+  one = (0, may (codes "one") Integer, (columns_named s.trees.project).0, refl);
+  version = (1, needs (codes "version") Integer, (columns_named s.trees.project).1, refl);
+  next_number = (2, needs (codes "next_number") Integer, (columns_named s.trees.project).2, refl);
 }
 
 pub project_row : (db : Database) (world : World) (s : StandsFor db world) → AreOfVersion (rows_of_project db (project_of db world s)) world.version
@@ -104,11 +72,7 @@ query_serves text it params old new e (inr h) is =
 module _ (fault : CompileError) (e : Error) (is : e ≡ SqlInputError fault) where
   never_store : (cause : StoreError) → ¬ (e ≡ store_error cause)
   never_store kind.OutOfMemory h = absurd (let no = sym is ∙ h in cc)
-  never_store kind.Io h = absurd (let no = sym is ∙ h in cc)
-  never_store kind.Corrupt h = absurd (let no = sym is ∙ h in cc)
-  never_store kind.Full h = absurd (let no = sym is ∙ h in cc)
-  never_store kind.Broken h = absurd (let no = sym is ∙ h in cc)
-  never_store kind.Unstorable h = absurd (let no = sym is ∙ h in cc)
+  never_store _ h = absurd (let no = sym is ∙ h in cc)
 
   never_query : (limit : Option ℕ) (db : Database) (p : Program) (params : Row) → ¬ RefusesQuery limit db p params e
   never_query limit db p params (inl typed) = absurd (let no = sym is ∙ typed.0 in cc)
@@ -121,23 +85,7 @@ module _ (fault : CompileError) (e : Error) (is : e ≡ SqlInputError fault) whe
   never_read : (limit : Option ℕ) (c : Command) (db : Database) (params : Row) → ¬ RefusesToRead limit c db params e
   never_read limit (command.Select q names) db params h = never_query limit db q params h
   never_read limit (command.Rows values width names) db params h = absurd (let no = sym is ∙ h.0 in cc)
-  never_read limit (command.Insert at from) db params h = never_other h
-  never_read limit (command.InsertOr at how from clauses) db params h = never_other h
-  never_read limit (command.Update at q) db params h = never_other h
-  never_read limit (command.Delete at q) db params h = never_other h
-  never_read limit command.CreateTable db params h = never_other h
-  never_read limit (command.CreateIndex at) db params h = never_other h
-  never_read limit (command.DropTable at) db params h = never_other h
-  never_read limit (command.DropIndex at) db params h = never_other h
-  never_read limit command.Begin db params h = never_other h
-  never_read limit command.Commit db params h = never_other h
-  never_read limit command.Rollback db params h = never_other h
-  never_read limit (command.Savepoint name) db params h = never_other h
-  never_read limit (command.Release name) db params h = never_other h
-  never_read limit (command.RollbackTo name) db params h = never_other h
-  never_read limit command.Nothing db params h = never_other h
-  never_read limit command.CreateView db params h = never_other h
-  never_read limit (command.DropView at) db params h = never_other h
+  never_read limit _ db params h = never_other h
 
 same_text : (a b : CompileError) → ◌≡◌ {A = Error} (SqlInputError a) (SqlInputError b) → a ≡ b
 same_text a b h = cc
@@ -216,21 +164,6 @@ pub stored_is : (db : Database) (world : World) (s : StandsFor db world) (found 
 stored_is db world s found (version, at, (positive, of)) = at ∙ ap Some (one_version _ version world.version of (project_row db world s))
 
 -- a clause of each fault, from one of the result
-module _ (result : Result (Option ℕ) Fault) (db : Database) (unlimited : Type 0) where
-  pub none_taken : ((has : HasProject db.schema) (version : ℕ) → HasVersion db has version → IfErr result IsFailure)
-      → IfErr result (λ fault. (has : HasProject db.schema) (version : ℕ) → HasVersion db has version → unlimited → IsFailure fault)
-  none_taken fails = go result fails
-    where
-      go : (r : Result (Option ℕ) Fault) → ((has : HasProject db.schema) (version : ℕ) → HasVersion db has version → IfErr r IsFailure)
-          → IfErr r (λ fault. (has : HasProject db.schema) (version : ℕ) → HasVersion db has version → unlimited → IsFailure fault)
-      go (Ok found) f = tt
-      go (Err fault) f = λ has version of limit. f has version of
-
-  pub none_refused : ((world : World) → StandsFor db world → 1 ≤ world.version → IfErr result IsFailure)
-      → IfErr result (λ fault. (world : World) → StandsFor db world → 1 ≤ world.version → unlimited → IsFailure fault)
-  none_refused fails = go result fails
-    where
-      go : (r : Result (Option ℕ) Fault) → ((world : World) → StandsFor db world → 1 ≤ world.version → IfErr r IsFailure)
-          → IfErr r (λ fault. (world : World) → StandsFor db world → 1 ≤ world.version → unlimited → IsFailure fault)
-      go (Ok found) f = tt
-      go (Err fault) f = λ world s positive limit. f world s positive
+pub none_fails : {A : Type 0} {B : A → Type 0} {C : (a : A) → B a → Type 0} (r : Result (Option ℕ) Fault) (unlimited : Type 0) → ((a : A) (b : B a) → C a b → IfErr r IsFailure) → IfErr r (λ fault. (a : A) (b : B a) → C a b → unlimited → IsFailure fault)
+none_fails (Ok found) unlimited fails = tt
+none_fails (Err fault) unlimited fails = λ a b c limit. fails a b c

@@ -1,34 +1,12 @@
 -- What the question for the version compiles to, over a schema with the project and over one without.
-use Rattle.std.proofs.Common.{◌≡◌, ℕ, suc, ◌+◌, pos, negsuc, List, [], ◌∷◌, codes, length, Bool, if◌then◌else◌, is_some, true, false, Some, None, Ok, Err, refl, arith}
+use Rattle.wu_schema.proofs.Words.{Bool, Column, Core, Draft, Err, HasProject, Inner, Int, IsFree, List, Name, NoSuchTable, None, Ok, Parsed, Query, Schema, Select, Some, Table, Term, [], accepts_program, arith, codes, col, compiled, declared, everything, false, first, if◌then◌else◌, is_key, is_some, length, lit, named, negsuc, nothing, pipeline, place_of, planned, pos, program, query, query_to, refl, roll-Core, roll-Select, row_classes, simple, suc, true, understood, version_text, viewing, ℕ, ◌+◌, ◌∷◌, ◌≡◌}
 use Rattle.std.specs.Prelude.{slice_get}
-use Rattle.sqlite.specs.Term.{Term, lit, col}
-use Rattle.sqlite.specs.Query.{Query}
-use Rattle.sqlite.specs.declared.types.Value.TheVariants.{Int}
-use Rattle.sqlite.specs.Schema.{Schema}
-use Rattle.sqlite.specs.Table.{Table}
-use Rattle.sqlite_schema.specs.Names.{is_key, place_of}
 use Rattle.sqlite.specs.Command.TheVariants as command
-use Rattle.sqlite_ast.specs.declared.Core.{Core, roll-Core}
-use Rattle.sqlite_ast.specs.declared.Select.{Select, roll-Select}
 use Rattle.sqlite_ast.specs.declared.Statement.TheVariants as written
-use Rattle.sqlite_syntax.specs.declared.statement.Parsed.{Parsed}
-use Rattle.sqlite_draft.specs.declared.join.Step.TheVariants.{Inner}
-use Rattle.sqlite_draft.specs.declared.query.Draft.{Draft}
-use Rattle.sqlite_resolve.specs.declared.error.CompileError.TheVariants.{NoSuchTable}
-use Rattle.sqlite_typing.specs.Types.{accepts_program, class_in, row_classes}
+use Rattle.sqlite_typing.specs.Types.{class_in}
 use Rattle.std.proofs.lemmas.Option.{slice_get-map}
-use Rattle.sqlite_schema.specs.declared.schema.Column.{Column}
-use Rattle.sqlite_resolve.specs.Lowering.{nothing}
-use Rattle.sqlite_resolve.specs.Scope.{Name, declared}
-use Rattle.sqlite_resolve.specs.Compile.{first, planned, compiled}
-use Rattle.sqlite_resolve.specs.Write.{simple}
-use Rattle.sqlite_resolve.specs.Select.{named}
-use Rattle.sqlite_resolve.specs.Program.{program, query, query_to, viewing, Shown}
-use Rattle.sqlite.specs.Listing.{understood, listing_schema}
-use Rattle.sqlite_tied.specs.Compute.{everything}
-use Rattle.wu_schema.specs.Pipeline.{pipeline}
-use Rattle.wu_schema.specs.StandsFor.{IsFree}
-use Rattle.wu_schema.specs.Versions.{version_text, HasProject}
+use Rattle.sqlite_resolve.specs.Program.{Shown}
+use Rattle.sqlite.specs.Listing.{listing_schema}
 use Rattle.wu_schema.proofs.ExprLemmas.{column_lowers}
 use Rattle.wu_schema.proofs.QueryLemmas.{plain_query, alone, viewing_is, query_step, one, from_table}
 use Rattle.wu_schema.proofs.SelectTexts.{CompilesTo, compiles_to}
@@ -108,13 +86,9 @@ module _ (schema : Schema) (has : HasProject schema) where
     column_typed has.table has.next_number.0 has.next_number.1 has.next_number.3,
   )
 
-  version_program : program schema [] version_draft ≡ Ok (alone version_query)
-  unfolding program
-  version_program = rw version_accepted refl
-
   version_planned : planned schema version_parsed ≡ Ok ([], (command.Select (alone version_query) version_names, None))
-  unfolding Rattle.sqlite_resolve.specs.Compile.planned Rattle.sqlite_resolve.specs.Compile.meaning Rattle.sqlite_resolve.specs.Compile.returning Rattle.sqlite_resolve.specs.Compile.command Rattle.sqlite_resolve.specs.Compile.read Rattle.sqlite_resolve.specs.Compile.timed
-  version_planned = rw (version_queried, version_program)
+  unfolding Rattle.sqlite_resolve.specs.Compile.planned Rattle.sqlite_resolve.specs.Compile.meaning Rattle.sqlite_resolve.specs.Compile.returning Rattle.sqlite_resolve.specs.Compile.command Rattle.sqlite_resolve.specs.Compile.read Rattle.sqlite_resolve.specs.Compile.timed program
+  version_planned = rw (version_queried, version_accepted)
 
   pub version_reads : CompilesTo schema version_text version_parsed (command.Select (alone version_query) version_names)
   version_reads = compiles_to schema version_text version_parsed _ version_first version_planned
@@ -122,25 +96,13 @@ module _ (schema : Schema) (has : HasProject schema) where
 -- ---- no table or view of the project's name
 
 module _ (schema : Schema) (free : IsFree schema (codes "project")) where
-  free_named : named schema version_core ([]) (lit (Int (negsuc 0)), lit (Int (pos 0))) ≡ Err NoSuchTable
-  unfolding pipeline
-  free_named = rw (free.table, free.view)
-
-  free_viewing : viewing (query_to 15) schema version_core ([]) (lit (Int (negsuc 0)), lit (Int (pos 0))) 64 schema [] ≡ Err NoSuchTable
-  unfolding viewing
-  free_viewing = rw free_named
-
   free_queried : query schema version_select ≡ Err NoSuchTable
-  unfolding pipeline
-  free_queried = rw (query_step 15 schema version_select [], free_viewing)
-
-  free_planned : planned schema version_parsed ≡ Err NoSuchTable
-  unfolding Rattle.sqlite_resolve.specs.Compile.planned Rattle.sqlite_resolve.specs.Compile.meaning Rattle.sqlite_resolve.specs.Compile.returning Rattle.sqlite_resolve.specs.Compile.command Rattle.sqlite_resolve.specs.Compile.read Rattle.sqlite_resolve.specs.Compile.timed
-  free_planned = rw free_queried
+  unfolding pipeline viewing
+  free_queried = rw (query_step 15 schema version_select [], free.table, free.view)
 
   free_compiled : compiled schema version_text ≡ Err NoSuchTable
-  unfolding compiled
-  free_compiled = rw (version_first, free_planned)
+  unfolding compiled Rattle.sqlite_resolve.specs.Compile.planned Rattle.sqlite_resolve.specs.Compile.meaning Rattle.sqlite_resolve.specs.Compile.returning Rattle.sqlite_resolve.specs.Compile.command Rattle.sqlite_resolve.specs.Compile.read Rattle.sqlite_resolve.specs.Compile.timed
+  free_compiled = rw (version_first, free_queried)
 
 listing_free : IsFree listing_schema (codes "project")
 unfolding listing_schema everything

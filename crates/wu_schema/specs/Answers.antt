@@ -1,5 +1,5 @@
 -- What the reads ask of a world.
-use Rattle.std.specs.Prelude.{ℕ, ◌==◌, nat_lt, List, [], map, filter, find, bytes_eq, Bool, Option}
+use Rattle.std.specs.Prelude.{ℕ, ◌==◌, nat_lt, List, [], ◌∷◌, map, filter, find, bytes_eq, Bool, Option, option_map}
 use Rattle.std.specs.List.{list_any}
 use Rattle.std.specs.Option.{option_map_or}
 use Rattle.sqlite.specs.Order.{Row}
@@ -7,7 +7,7 @@ use Rattle.wu_core.specs.declared.workunit.Workunit.{Workunit}
 use Rattle.wu_core.specs.declared.workunit.Archived.{Archived}
 use Rattle.wu_core.specs.declared.import.ImportKind.{ImportKind}
 use Rattle.wu_core.specs.World.{World, is_import}
-use Rattle.wu_schema.specs.Stored.{kept_cells, instance_row}
+use Rattle.wu_schema.specs.Stored.{number, kept_cells, instance_row, workunit_row}
 
 -- a workunit of this name is present
 abbrev pub has_name : List ℕ → World → Bool
@@ -21,9 +21,25 @@ was_archived name world = list_any (λ (a : Archived). bytes_eq a.name name) wor
 abbrev pub kept_of : ImportKind → List ℕ → World → List Row
 kept_of kind name world = map kept_cells (filter (is_import kind name) world.imports)
 
+-- the row of the project's next number
+abbrev pub next_row : World → Row
+next_row world = number world.next_number ∷ []
+
+-- the rows of all workunits, in order of number
+abbrev pub all_rows : World → List Row
+all_rows world = map workunit_row world.workunits
+
+-- the row of the workunit of this name, if one is present
+abbrev pub row_named : List ℕ → World → Option Row
+row_named name world = option_map workunit_row (find (λ (w : Workunit). bytes_eq w.name name) world.workunits)
+
 -- the first workunit above this number
 abbrev pub first_above : ℕ → World → Option Workunit
 first_above number world = find (λ (w : Workunit). nat_lt number w.number) world.workunits
+
+-- the row of the first workunit above this number, if there is one
+abbrev pub row_above : ℕ → World → Option Row
+row_above number world = option_map workunit_row (first_above number world)
 
 -- the rows of the instances of the workunit of this number, in order of theirs; none where it is not there
 abbrev pub instance_rows_of : ℕ → World → List Row

@@ -1,9 +1,17 @@
 -- What a call does to a connection, and what a crash may then leave.
-use Rattle.std.specs.Prelude.{◌≡◌, ◌⊎◌, IsTrue}
+use Rattle.std.specs.Prelude.{◌≡◌, ◌⊎◌, ℕ, false, List, Vec, None, Ok, Result, OnOk, OnErr, IfOk, IfErr, IsTrue}
+use Rattle.sqlite.specs.Order.{Row}
 use Rattle.sqlite.specs.Tree.{Trees}
-use Rattle.sqlite.specs.State.{State, HasCleanDisk, Survives, KeepsCommit}
+use Rattle.sqlite.specs.State.{State, HasCleanDisk, IsUnchanged, Survives, KeepsCommit, Executes}
+use Rattle.sqlite.specs.Held.{Held, state}
+use Rattle.sqlite.specs.Store.{Ghosts}
 use Rattle.sqlite.specs.Effect.{Database}
+use Rattle.sqlite.specs.declared.error.Error.{Error}
+use Rattle.sqlite.specs.declared.transaction.Transaction.{Transaction}
+use Rattle.wu_core.specs.World.{World}
+use Rattle.wu_schema.specs.Faults.{fault_of, IsFailure}
 use Rattle.wu_schema.specs.Made.{MakesProject}
+use Rattle.wu_schema.specs.StandsFor.{StandsFor}
 
 -- a crash leaves these tables and no others
 pub record LeavesOnly (s : State) (trees : Trees) : Type 0 where
@@ -34,6 +42,53 @@ pub record IsBack (old new : State) : Type 0 where
   pub now : IsTrue new.is_open → (new.now ≡ old.now) ⊎ (new.now ≡ old.committed)
   pub committed : IsTrue new.is_open → new.committed ≡ old.committed
 
+-- What a question does to a connection, whatever it answers: it begins no transaction, changes nothing, commits nothing.
+pub record Reads {S T E : Type 0} (g : Ghosts S) (old new : Held S) (result : Result T E) : Type 0 where
+  pub mode : old.in_transaction ≡ false → new.in_transaction ≡ false
+  pub unchanged : HasCleanDisk (state g new) → OnOk result (IsUnchanged (state g old) (state g new))
+  pub back : HasCleanDisk (state g new) → OnErr result (IsBack (state g old) (state g new))
+  pub crash : Survives (state g old) (state g new) (λ _. ⊥)
+
+-- with Ok, this holds of the answer and of each world that the tables stand for
+abbrev pub Tells : {S T : Type 0} → Ghosts S → Held S → Held S → Result T Error → (T → World → Type 0) → Type 0
+Tells g old new result Is = HasCleanDisk (state g new) → IfOk result (λ found. (world : World) → StandsFor (state g old).now world → Is found world)
+
+-- the answer is what such a world has
+abbrev pub Answers : {S T : Type 0} → Ghosts S → Held S → Held S → Result T Error → (World → T) → Type 0
+Answers g old new result answer = Tells g old new result (λ found world. found ≡ answer world)
+
+-- the rows of the answer are those that such a world has
+abbrev pub AnswersRows : {S A : Type 0} → Ghosts S → Held S → Held S → Result (Vec Row A) Error → (World → List Row) → Type 0
+AnswersRows g old new result answer = Tells g old new result (λ found world. found.items ≡ answer world)
+
+-- where the tables stand for a world and steps have no limit, only memory, the disk or size may fail
+abbrev pub OnlyFails : {S T : Type 0} → Ghosts S → Held S → Held S → Result T Error → Type 0
+OnlyFails g old new result = HasCleanDisk (state g new) → IfErr result (λ e. (world : World) → StandsFor (state g old).now world → old.step_limit ≡ None → IsFailure (fault_of e))
+
+-- What a statement inside a transaction does to it, whatever it answers.
+pub record Writes {S T E : Type 0} (g : Ghosts S) (old new : Transaction S) (result : Result T E) : Type 0 where
+  pub same_reference : new.conn.ghost_name ≡ old.conn.ghost_name
+  pub part : IsPart (state g old.conn.now) (state g new.conn.now)
+  pub inside : HasCleanDisk (state g new.conn.now) → OnOk result (IsTrue (state g new.conn.now).in_transaction)
+
+-- the text ran with these parameters
+abbrev pub HasRun : List ℕ → Row → State → State → Type 0
+HasRun sql params old new = (count : ℕ) × Executes sql params old new (Ok count)
+
+-- What any number of statements inside a transaction do to it: with Ok it is still there, where it was there.
+pub record Works {S T E : Type 0} (g : Ghosts S) (old new : Transaction S) (result : Result T E) : Type 0 where
+  pub same_reference : new.conn.ghost_name ≡ old.conn.ghost_name
+  pub part : IsPart (state g old.conn.now) (state g new.conn.now)
+  pub stays : HasCleanDisk (state g new.conn.now) → OnOk result (IsTrue old.conn.now.in_transaction → IsTrue new.conn.now.in_transaction)
+
+-- with Ok, this is made of what the transaction showed
+abbrev pub Does : {S T E : Type 0} → (g : Ghosts S) → Transaction S → Transaction S → Result T E → (Database → Database → Type 0) → Type 0
+Does g old new result Makes = HasCleanDisk (state g new.conn.now) → OnOk result (Makes (state g old.conn.now).now (state g new.conn.now).now)
+
+-- with Ok, tables that stood for a world stand for this one
+abbrev pub Changes : {S T E : Type 0} → (g : Ghosts S) → Transaction S → Transaction S → Result T E → (World → World) → Type 0
+Changes g old new result change = Does g old new result (λ before after. (world : World) → StandsFor before world → StandsFor after (change world))
+
 -- Acknowledged: what the transaction makes of the database is committed, and a crash leaves exactly the tables with it.
 pub record IsDone (Makes : Database → Database → Type 0) (old new : State) : Type 0 where
   pub was_open : IsTrue old.is_open
@@ -41,6 +96,10 @@ pub record IsDone (Makes : Database → Database → Type 0) (old new : State) :
   pub makes : Makes old.now new.now
   pub committed : new.committed ≡ new.now
   pub left : LeavesOnly new new.now.trees
+
+-- these trees are those of what is made of a database
+abbrev pub IsMade : (Database → Database → Type 0) → Database → Trees → Type 0
+IsMade Makes old trees = (after : Database) × (after.trees ≡ trees) × Makes old after
 
 -- a fresh project is made
 abbrev pub IsCreated : State → State → Type 0

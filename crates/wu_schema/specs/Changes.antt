@@ -1,16 +1,81 @@
 -- What each change of version 1 makes of a world.
-use Rattle.std.specs.Prelude.{ℕ, ◌<◌, ◌==◌, not, List, [], ◌∷◌, ◌++◌, filter}
-use Rattle.std.specs.List.{AllByRecursion}
+use Rattle.std.specs.Prelude.{◌≡◌, ◌≢◌, ℕ, ◌<◌, ◌==◌, true, false, not, List, [], ◌∷◌, ◌++◌, length, map, filter, find, Some, option_map, if◌then◌else◌}
+use Rattle.std.specs.List.{AllByRecursion, list_any}
+use Rattle.std.specs.Ordering.{nat_cmp, match_ordering}
+use Rattle.sqlite.specs.declared.types.Value.TheVariants.{Null, Int}
+use Rattle.sqlite.specs.Order.{Row}
+use Rattle.sqlite.specs.Edit.{next_rowid}
+use Rattle.sqlite.specs.Table.{Table}
+use Rattle.sqlite_schema.specs.declared.schema.Keys.TheVariants.{Enforced}
+use Rattle.sqlite_rules.specs.Lists.{Has}
+use Rattle.sqlite.specs.Effect.{Database, IsDatabase}
+use Rattle.wu_core.specs.declared.workunit.Archived.{Archived}
+use Rattle.wu_core.specs.declared.workunit.Grant.{Grant}
+use Rattle.wu_core.specs.declared.workunit.Instance.{Instance}
 use Rattle.wu_core.specs.declared.workunit.Workunit.{Workunit}
+use Rattle.wu_core.specs.Hosts.{hosts_of}
 use Rattle.wu_core.specs.World.{World, Import}
+use Rattle.wu_schema.specs.Stored.{grant_cells}
+use Rattle.wu_schema.specs.Tables.{ProjectTrees, HasTables}
+use Rattle.wu_schema.specs.StandsFor.{StandsFor, HoldsAll, host_of}
+use Rattle.wu_schema.specs.Made.{PutsOne}
+use Rattle.wu_schema.specs.Calm.{IsCalm}
 
 -- with a workunit more
 abbrev pub with_workunit : Workunit → World → World
 with_workunit w world = record world { workunits = world.workunits ++ w ∷ [] }
 
+-- a workunit before it has instances
+abbrev pub bare : Workunit → Workunit
+bare w = record w { instances = [] }
+
+-- a workunit at its place in order of number, and in place of the one that has its number
+abbrev pub placed : Workunit → List Workunit → List Workunit
+placed w [] = w ∷ []
+placed w (v ∷ vs) = match_ordering (nat_cmp v.number w.number) (v ∷ placed w vs) (w ∷ vs) (w ∷ v ∷ vs)
+
+-- with it at its place
+abbrev pub with_placed : Workunit → World → World
+with_placed w world = record world { workunits = placed w world.workunits }
+
+-- no workunit has this number
+abbrev pub LacksNumber : ℕ → List Workunit → Type 0
+LacksNumber number ws = list_any (λ (w : Workunit). w.number == number) ws ≡ false
+
+abbrev pub HasNumber : ℕ → List Workunit → Type 0
+HasNumber number ws = list_any (λ (w : Workunit). w.number == number) ws ≡ true
+
+-- with it in place of the one of its number
+abbrev pub with_replaced : Workunit → World → World
+with_replaced w world = record world { workunits = map (λ v. if v.number == w.number then w else v) world.workunits }
+
 -- without the workunit of this number, and so without its instances
 abbrev pub without_workunit : ℕ → World → World
 without_workunit number world = record world { workunits = filter (λ (w : Workunit). not (w.number == number)) world.workunits }
+
+-- the workunit, with an instance more where it has this number
+abbrev pub and_instance : ℕ → Instance → Workunit → Workunit
+and_instance number i w = if w.number == number then record w { instances = w.instances ++ i ∷ [] } else w
+
+-- with an instance more behind those of the workunit of this number
+abbrev pub with_instance : ℕ → Instance → World → World
+with_instance number i world = record world { workunits = map (and_instance number i) world.workunits }
+
+-- the workunit of this number has so many instances
+abbrev pub HasInstances : ℕ → ℕ → List Workunit → Type 0
+HasInstances number n ws = option_map (λ (w : Workunit). length w.instances) (find (λ (w : Workunit). w.number == number) ws) ≡ Some n
+
+-- the instance is added, where its number is the next one of its workunit
+abbrev pub AddsInstance : ℕ → ℕ → Instance → Database → Database → Type 0
+AddsInstance number n i old new = (world : World) → StandsFor old world → HasInstances number n world.workunits → StandsFor new (with_instance number i world)
+
+-- with a grant more
+abbrev pub with_grant : Grant → World → World
+with_grant g world = record world { grants = world.grants ++ g ∷ [] }
+
+-- with an archived row more
+abbrev pub with_archived : Archived → World → World
+with_archived a world = record world { archived = world.archived ++ a ∷ [] }
 
 -- with an import more
 abbrev pub with_import : Import → World → World
@@ -23,3 +88,22 @@ with_next next world = record world { next_number = next }
 -- the number is above those of all workunits
 abbrev pub IsAbove : ℕ → List Workunit → Type 0
 IsAbove number = AllByRecursion (λ (w : Workunit). w.number < number)
+
+-- a list of hosts' rows has what these grants give
+abbrev pub HoldsHosts : List Row → List Grant → Type 0
+HoldsHosts rows grants = HoldsAll rows (map (host_of grants) (hosts_of grants))
+
+-- the row of a grant is put behind those that are there
+abbrev pub PutsGrant : Grant → Database → Database → Type 0
+PutsGrant g old new = (t : ProjectTrees) → HasTables old.schema t → PutsOne old new t.grant (Int (next_rowid (old.trees t.grant)) ∷ Null ∷ grant_cells g)
+
+-- a grant's host has its credit and one grant more, and each table that no action leads to is as it was
+pub record IsCredited (g : Grant) (t : ProjectTrees) (grants : List Grant) (old new : Database) : Type 0 where
+  pub schema : new.schema ≡ old.schema
+  pub hosts : HoldsHosts (new.trees t.host) (grants ++ g ∷ [])
+  pub others : (u : Table) → Has old.schema.tables u → u.tree ≢ t.host → IsCalm old.schema Enforced u t.host → new.trees u.tree ≡ old.trees u.tree
+  pub sound : IsDatabase new
+
+-- whatever grants the rows of hosts stood for
+abbrev pub Credits : Grant → Database → Database → Type 0
+Credits g old new = (t : ProjectTrees) (grants : List Grant) → HasTables old.schema t → IsDatabase old → HoldsHosts (old.trees t.host) grants → IsCredited g t grants old new

@@ -3,9 +3,12 @@ pub mod Stored
 pub mod Pipeline
 pub mod Tables
 pub mod StandsFor
-pub mod Changes
+pub mod Calm
 pub mod Calls
 pub mod Reading
 pub mod Answers
 pub mod Made
+pub mod Changes
 pub mod Versions
+pub mod Worlds
+pub mod Indexes

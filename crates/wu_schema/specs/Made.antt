@@ -1,7 +1,8 @@
 -- What the statements that make a project do to a database.
-use Rattle.std.specs.Prelude.{◌≡◌, ◌≢◌, ◌⊎◌, ℕ, ◌+◌, ◌<◌, List, [], ◌∷◌, length, codes, false}
+use Rattle.std.specs.Prelude.{◌≡◌, ◌≢◌, ◌⊎◌, ℕ, ℤ, pos, ◌+◌, ◌<◌, List, [], ◌∷◌, length, codes, false}
 use Rattle.std.specs.List.{AllByRecursion}
 use Rattle.sqlite.specs.Order.{Row}
+use Rattle.sqlite.specs.declared.types.Value.TheVariants.{Null, Int}
 use Rattle.sqlite.specs.Table.{Table}
 use Rattle.sqlite.specs.Tree.{Trees, put_row}
 use Rattle.sqlite.specs.Edit.{is_taken}
@@ -42,10 +43,22 @@ pub record HasMade (old new : Database) (named : Named) : Type 0 where
       → Has old.schema.indexes i ⊎ (Has (automatics (named.1 (next_tree old.schema)) 0 (next_tree old.schema + 1) (named.1 (next_tree old.schema)).uniques) i ⊎ (next_tree old.schema < i.table))
   pub sound : IsDatabase new
 
+-- the table of this name is made
+abbrev pub MakesTable : Named → Database → Database → Type 0
+MakesTable named old new = HasMade old new named
+
 -- one after another
 abbrev pub MakesAll : Database → Database → List Named → Type 0
 MakesAll old new [] = new ≡ old
 MakesAll old new (named ∷ more) = (mid : Database) × HasMade old mid named × MakesAll mid new more
+
+-- these tables are made, in this order
+abbrev pub MakesTables : List Named → Database → Database → Type 0
+MakesTables made old new = MakesAll old new made
+
+-- the row of a fresh project of this version is put in
+abbrev pub PutsProject : ℤ → Database → Database → Type 0
+PutsProject version old new = (at tree : ℕ) → HasTable old.schema (codes "project") at (project_at tree) → PutsOne old new tree (Int (pos 1) ∷ Null ∷ Int version ∷ Int (pos 1) ∷ [])
 
 -- of a project and its workunits
 abbrev pub work_tables : List Named

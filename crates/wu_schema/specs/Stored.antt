@@ -53,14 +53,20 @@ instance_row i =
 abbrev pub instance_cells : ℕ → ℕ → Instance → Row
 instance_cells workunit n i = number workunit ∷ number n ∷ instance_row i
 
--- a grant as the table keeps it, by its place in the list, from 1
+-- the columns of a grant after its place
+abbrev pub grant_cells : Grant → Row
+grant_cells g = number g.workunit ∷ number g.n ∷ Text g.host ∷ number g.credit ∷ []
+
+-- as the table keeps it, by its place in the list, from 1
 abbrev pub stored_grant : ℕ × Grant → Row
-stored_grant p = number p.0 ∷ Null ∷ number p.1.workunit ∷ number p.1.n ∷ Text p.1.host ∷ number p.1.credit ∷ []
+stored_grant p = number p.0 ∷ Null ∷ grant_cells p.1
+
+-- the columns of an archived workunit after its place
+abbrev pub archived_cells : Archived → Row
+archived_cells a = number a.number ∷ Text a.name ∷ number (error_mask_code a.error_mask) ∷ number_or_null a.canonical ∷ Blob a.output ∷ number a.done_at ∷ []
 
 abbrev pub stored_archived : ℕ × Archived → Row
-stored_archived p =
-    number p.0 ∷ Null ∷ number p.1.number ∷ Text p.1.name ∷ number (error_mask_code p.1.error_mask) ∷ number_or_null p.1.canonical
-    ∷ Blob p.1.output ∷ number p.1.done_at ∷ []
+stored_archived p = number p.0 ∷ Null ∷ archived_cells p.1
 
 -- a host's name, its credit and the number of its grants
 abbrev pub host_cells : List ℕ → ℕ → ℕ → Row

@@ -1,109 +1,82 @@
 //! The creation of a project, in one transaction.
 
-ghost use Rattle.std.specs.Prelude.{◌≡◌, ℕ, [], ◌∷◌, false, pos, codes, IsTrue, OnOk, OnErr, IfErr};
+ghost use Rattle.std.specs.Prelude.{◌≡◌, false, codes, OnOk, OnErr, IfErr};
 ghost use Rattle.sqlite.specs.State.{HasCleanDisk, Survives};
 ghost use Rattle.sqlite.specs.Held.{state};
-ghost use Rattle.sqlite.specs.declared.types.Value.TheVariants.{Null, Int};
-ghost use Rattle.wu_schema.specs.Tables.{HasTable, project_at, workunit_at, result_at, grant_at, host_at, archived_at, import_at};
-ghost use Rattle.wu_schema.specs.Made.{HasMade, MakesAll, MakesProject, PutsOne, IsProjectBeside, work_tables, record_tables};
-ghost use Rattle.wu_schema.specs.Calls.{IsPart, IsCreated, IsUndone, IsRefused};
+ghost use Rattle.wu_schema.specs.Tables.{project_at, workunit_at, result_at, grant_at, host_at, archived_at, import_at};
+ghost use Rattle.wu_schema.specs.Made.{MakesTable, MakesTables, MakesProject, PutsProject, IsProjectBeside, work_tables, record_tables};
+ghost use Rattle.wu_schema.specs.Calls.{Writes, Does, IsCreated, IsUndone, IsRefused};
 ghost use Rattle.wu_schema.specs.Faults.{IsTold};
 
-use crate::fault::{commit_fault_of, fault_after};
 use crate::texts::{
     CREATE_ARCHIVED, CREATE_CREDIT_GRANT, CREATE_HOST, CREATE_IMPORT, CREATE_PROJECT,
     CREATE_RESULT, CREATE_WORKUNIT, INSERT_PROJECT,
 };
+use crate::transaction::{Work, execute, transact};
 use crate::version::PRESENT_VERSION;
 use sqlite::{Alter, Connection, Error, Transaction, params};
 use wu_core::Fault;
 
 fn create_project<S: Alter>(tx: &mut Transaction<'_, S>) -> Result<(), Error>
-    ensures same_reference { tx.new.conn.ghost_name ≡ tx.old.conn.ghost_name }
-    ensures part { IsPart (state S.Store tx.old.conn.now) (state S.Store tx.new.conn.now) }
-    ensures inside { HasCleanDisk (state S.Store tx.new.conn.now) → OnOk result (IsTrue (state S.Store tx.new.conn.now).in_transaction) }
-    ensures makes { HasCleanDisk (state S.Store tx.new.conn.now) → OnOk result (HasMade (state S.Store tx.old.conn.now).now (state S.Store tx.new.conn.now).now (codes "project", project_at)) }
+    ensures writes { Writes S.Store tx.old tx.new result }
+    ensures makes { Does S.Store tx.old tx.new result (MakesTable (codes "project", project_at)) }
 {
-    tx.execute(CREATE_PROJECT, &[])?;
-    Ok(())
+    execute(tx, CREATE_PROJECT, &[])
 }
 
 fn create_workunit<S: Alter>(tx: &mut Transaction<'_, S>) -> Result<(), Error>
-    ensures same_reference { tx.new.conn.ghost_name ≡ tx.old.conn.ghost_name }
-    ensures part { IsPart (state S.Store tx.old.conn.now) (state S.Store tx.new.conn.now) }
-    ensures inside { HasCleanDisk (state S.Store tx.new.conn.now) → OnOk result (IsTrue (state S.Store tx.new.conn.now).in_transaction) }
-    ensures makes { HasCleanDisk (state S.Store tx.new.conn.now) → OnOk result (HasMade (state S.Store tx.old.conn.now).now (state S.Store tx.new.conn.now).now (codes "workunit", workunit_at)) }
+    ensures writes { Writes S.Store tx.old tx.new result }
+    ensures makes { Does S.Store tx.old tx.new result (MakesTable (codes "workunit", workunit_at)) }
 {
-    tx.execute(CREATE_WORKUNIT, &[])?;
-    Ok(())
+    execute(tx, CREATE_WORKUNIT, &[])
 }
 
 fn create_result<S: Alter>(tx: &mut Transaction<'_, S>) -> Result<(), Error>
-    ensures same_reference { tx.new.conn.ghost_name ≡ tx.old.conn.ghost_name }
-    ensures part { IsPart (state S.Store tx.old.conn.now) (state S.Store tx.new.conn.now) }
-    ensures inside { HasCleanDisk (state S.Store tx.new.conn.now) → OnOk result (IsTrue (state S.Store tx.new.conn.now).in_transaction) }
-    ensures makes { HasCleanDisk (state S.Store tx.new.conn.now) → OnOk result (HasMade (state S.Store tx.old.conn.now).now (state S.Store tx.new.conn.now).now (codes "result", result_at)) }
+    ensures writes { Writes S.Store tx.old tx.new result }
+    ensures makes { Does S.Store tx.old tx.new result (MakesTable (codes "result", result_at)) }
 {
-    tx.execute(CREATE_RESULT, &[])?;
-    Ok(())
+    execute(tx, CREATE_RESULT, &[])
 }
 
 fn create_credit_grant<S: Alter>(tx: &mut Transaction<'_, S>) -> Result<(), Error>
-    ensures same_reference { tx.new.conn.ghost_name ≡ tx.old.conn.ghost_name }
-    ensures part { IsPart (state S.Store tx.old.conn.now) (state S.Store tx.new.conn.now) }
-    ensures inside { HasCleanDisk (state S.Store tx.new.conn.now) → OnOk result (IsTrue (state S.Store tx.new.conn.now).in_transaction) }
-    ensures makes { HasCleanDisk (state S.Store tx.new.conn.now) → OnOk result (HasMade (state S.Store tx.old.conn.now).now (state S.Store tx.new.conn.now).now (codes "credit_grant", grant_at)) }
+    ensures writes { Writes S.Store tx.old tx.new result }
+    ensures makes { Does S.Store tx.old tx.new result (MakesTable (codes "credit_grant", grant_at)) }
 {
-    tx.execute(CREATE_CREDIT_GRANT, &[])?;
-    Ok(())
+    execute(tx, CREATE_CREDIT_GRANT, &[])
 }
 
 fn create_host<S: Alter>(tx: &mut Transaction<'_, S>) -> Result<(), Error>
-    ensures same_reference { tx.new.conn.ghost_name ≡ tx.old.conn.ghost_name }
-    ensures part { IsPart (state S.Store tx.old.conn.now) (state S.Store tx.new.conn.now) }
-    ensures inside { HasCleanDisk (state S.Store tx.new.conn.now) → OnOk result (IsTrue (state S.Store tx.new.conn.now).in_transaction) }
-    ensures makes { HasCleanDisk (state S.Store tx.new.conn.now) → OnOk result (HasMade (state S.Store tx.old.conn.now).now (state S.Store tx.new.conn.now).now (codes "host", host_at)) }
+    ensures writes { Writes S.Store tx.old tx.new result }
+    ensures makes { Does S.Store tx.old tx.new result (MakesTable (codes "host", host_at)) }
 {
-    tx.execute(CREATE_HOST, &[])?;
-    Ok(())
+    execute(tx, CREATE_HOST, &[])
 }
 
 fn create_archived<S: Alter>(tx: &mut Transaction<'_, S>) -> Result<(), Error>
-    ensures same_reference { tx.new.conn.ghost_name ≡ tx.old.conn.ghost_name }
-    ensures part { IsPart (state S.Store tx.old.conn.now) (state S.Store tx.new.conn.now) }
-    ensures inside { HasCleanDisk (state S.Store tx.new.conn.now) → OnOk result (IsTrue (state S.Store tx.new.conn.now).in_transaction) }
-    ensures makes { HasCleanDisk (state S.Store tx.new.conn.now) → OnOk result (HasMade (state S.Store tx.old.conn.now).now (state S.Store tx.new.conn.now).now (codes "archived", archived_at)) }
+    ensures writes { Writes S.Store tx.old tx.new result }
+    ensures makes { Does S.Store tx.old tx.new result (MakesTable (codes "archived", archived_at)) }
 {
-    tx.execute(CREATE_ARCHIVED, &[])?;
-    Ok(())
+    execute(tx, CREATE_ARCHIVED, &[])
 }
 
 fn create_import<S: Alter>(tx: &mut Transaction<'_, S>) -> Result<(), Error>
-    ensures same_reference { tx.new.conn.ghost_name ≡ tx.old.conn.ghost_name }
-    ensures part { IsPart (state S.Store tx.old.conn.now) (state S.Store tx.new.conn.now) }
-    ensures inside { HasCleanDisk (state S.Store tx.new.conn.now) → OnOk result (IsTrue (state S.Store tx.new.conn.now).in_transaction) }
-    ensures makes { HasCleanDisk (state S.Store tx.new.conn.now) → OnOk result (HasMade (state S.Store tx.old.conn.now).now (state S.Store tx.new.conn.now).now (codes "import", import_at)) }
+    ensures writes { Writes S.Store tx.old tx.new result }
+    ensures makes { Does S.Store tx.old tx.new result (MakesTable (codes "import", import_at)) }
 {
-    tx.execute(CREATE_IMPORT, &[])?;
-    Ok(())
+    execute(tx, CREATE_IMPORT, &[])
 }
 
 fn insert_project<S: Alter>(tx: &mut Transaction<'_, S>, version: i64) -> Result<(), Error>
-    ensures same_reference { tx.new.conn.ghost_name ≡ tx.old.conn.ghost_name }
-    ensures part { IsPart (state S.Store tx.old.conn.now) (state S.Store tx.new.conn.now) }
-    ensures inside { HasCleanDisk (state S.Store tx.new.conn.now) → OnOk result (IsTrue (state S.Store tx.new.conn.now).in_transaction) }
-    ensures puts { HasCleanDisk (state S.Store tx.new.conn.now) → OnOk result ((at tree : ℕ) → HasTable (state S.Store tx.old.conn.now).now.schema (codes "project") at (project_at tree) → PutsOne (state S.Store tx.old.conn.now).now (state S.Store tx.new.conn.now).now tree (Int (pos 1) ∷ Null ∷ Int version ∷ Int (pos 1) ∷ [])) }
+    ensures writes { Writes S.Store tx.old tx.new result }
+    ensures puts { Does S.Store tx.old tx.new result (PutsProject version) }
 {
-    tx.execute(INSERT_PROJECT, params![version])?;
-    Ok(())
+    execute(tx, INSERT_PROJECT, params![version])
 }
 
 /// The tables of a project and of its workunits.
 fn create_work<S: Alter>(tx: &mut Transaction<'_, S>) -> Result<(), Error>
-    ensures same_reference { tx.new.conn.ghost_name ≡ tx.old.conn.ghost_name }
-    ensures part { IsPart (state S.Store tx.old.conn.now) (state S.Store tx.new.conn.now) }
-    ensures inside { HasCleanDisk (state S.Store tx.new.conn.now) → OnOk result (IsTrue (state S.Store tx.new.conn.now).in_transaction) }
-    ensures makes { HasCleanDisk (state S.Store tx.new.conn.now) → OnOk result (MakesAll (state S.Store tx.old.conn.now).now (state S.Store tx.new.conn.now).now work_tables) }
+    ensures writes { Writes S.Store tx.old tx.new result }
+    ensures makes { Does S.Store tx.old tx.new result (MakesTables work_tables) }
 {
     create_project(tx)?;
     create_workunit(tx)?;
@@ -112,10 +85,8 @@ fn create_work<S: Alter>(tx: &mut Transaction<'_, S>) -> Result<(), Error>
 
 /// The tables of what is kept for good.
 fn create_records<S: Alter>(tx: &mut Transaction<'_, S>) -> Result<(), Error>
-    ensures same_reference { tx.new.conn.ghost_name ≡ tx.old.conn.ghost_name }
-    ensures part { IsPart (state S.Store tx.old.conn.now) (state S.Store tx.new.conn.now) }
-    ensures inside { HasCleanDisk (state S.Store tx.new.conn.now) → OnOk result (IsTrue (state S.Store tx.new.conn.now).in_transaction) }
-    ensures makes { HasCleanDisk (state S.Store tx.new.conn.now) → OnOk result (MakesAll (state S.Store tx.old.conn.now).now (state S.Store tx.new.conn.now).now record_tables) }
+    ensures writes { Writes S.Store tx.old tx.new result }
+    ensures makes { Does S.Store tx.old tx.new result (MakesTables record_tables) }
 {
     create_credit_grant(tx)?;
     create_host(tx)?;
@@ -125,36 +96,23 @@ fn create_records<S: Alter>(tx: &mut Transaction<'_, S>) -> Result<(), Error>
 
 /// All tables of version 1, with the row of a fresh project.
 fn create_all<S: Alter>(tx: &mut Transaction<'_, S>) -> Result<(), Error>
-    ensures same_reference { tx.new.conn.ghost_name ≡ tx.old.conn.ghost_name }
-    ensures part { IsPart (state S.Store tx.old.conn.now) (state S.Store tx.new.conn.now) }
-    ensures inside { HasCleanDisk (state S.Store tx.new.conn.now) → OnOk result (IsTrue (state S.Store tx.new.conn.now).in_transaction) }
-    ensures makes { HasCleanDisk (state S.Store tx.new.conn.now) → OnOk result (MakesProject (state S.Store tx.old.conn.now).now (state S.Store tx.new.conn.now).now) }
+    ensures writes { Writes S.Store tx.old tx.new result }
+    ensures makes { Does S.Store tx.old tx.new result MakesProject }
 {
     create_work(tx)?;
     create_records(tx)?;
     insert_project(tx, PRESENT_VERSION as i64)
 }
 
-/// What stopped a transaction: a statement, which rolled it back, or its commit.
-enum Stopped {
-    Statement(Error),
-    Commit(Error),
-}
+/// The creation of a project, as the work of one transaction.
+#[derive(Clone, Copy)]
+struct Creation;
 
-fn create_and_commit<S: Alter>(conn: &mut Connection<S>) -> Result<(), Stopped>
-    requires { conn.old.in_transaction ≡ false }
-    ensures mode { conn.new.in_transaction ≡ false }
-    ensures done { HasCleanDisk (state S.Store conn.new) → OnOk result (IsCreated (state S.Store conn.old) (state S.Store conn.new)) }
-    ensures undone { HasCleanDisk (state S.Store conn.new) → OnErr result (IsUndone (state S.Store conn.old) (state S.Store conn.new)) }
-    ensures crash { Survives (state S.Store conn.old) (state S.Store conn.new) (IsProjectBeside (state S.Store conn.old).now) }
-{
-    let mut tx = conn.transaction();
-    if let Err(error) = create_all(&mut tx) {
-        return Err(Stopped::Statement(error));
-    }
-    match tx.commit() {
-        Ok(()) => Ok(()),
-        Err(error) => Err(Stopped::Commit(error)),
+impl Work for Creation {
+    ghost makes = { λ _. MakesProject };
+
+    fn run<S: Alter>(&self, tx: &mut Transaction<'_, S>) -> Result<(), Error> {
+        create_all(tx)
     }
 }
 
@@ -171,9 +129,5 @@ pub fn create<S: Alter>(conn: &mut Connection<S>) -> Result<(), Fault>
     ensures crash { Survives (state S.Store conn.old) (state S.Store conn.new) (IsProjectBeside (state S.Store conn.old).now) }
     ensures told { IfErr result IsTold }
 {
-    match create_and_commit(conn) {
-        Ok(()) => Ok(()),
-        Err(Stopped::Statement(error)) => Err(fault_after(conn, &error)),
-        Err(Stopped::Commit(error)) => Err(commit_fault_of(&error)),
-    }
+    transact(conn, &Creation)
 }

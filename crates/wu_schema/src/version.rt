@@ -1,14 +1,14 @@
 //! Which version a project has.
 
-ghost use Rattle.std.specs.Prelude.{◌≡◌, ◌⊎◌, ◌≤◌, ℕ, false, None, Some, Ok, IfSome, IfOk, IfErr, OnOk, OnErr};
+ghost use Rattle.std.specs.Prelude.{◌≡◌, ◌⊎◌, ◌≤◌, ℕ, None, Some, Ok, IfSome, IfOk, IfErr, OnOk};
 ghost use Rattle.std.specs.List.Sorted.{IsPermutation};
-ghost use Rattle.sqlite.specs.State.{HasCleanDisk, IsUnchanged, Survives};
+ghost use Rattle.sqlite.specs.State.{HasCleanDisk, IsUnchanged};
 ghost use Rattle.sqlite.specs.Held.{state};
 ghost use Rattle.wu_core.specs.declared.fault.Fault.TheVariants.{Memory, NotAProject};
 ghost use Rattle.wu_core.specs.Reads.{Gives};
 ghost use Rattle.wu_core.specs.World.{World};
 ghost use Rattle.wu_schema.specs.StandsFor.{StandsFor};
-ghost use Rattle.wu_schema.specs.Calls.{IsBack};
+ghost use Rattle.wu_schema.specs.Calls.{Reads};
 ghost use Rattle.wu_schema.specs.Faults.{fault_of, IsFailure, IsTold};
 ghost use Rattle.wu_schema.specs.Versions.{rows_of_project, AreOfVersion, HasProject, HasVersion, LacksProject, TellsMissing};
 
@@ -23,11 +23,8 @@ pub const PRESENT_VERSION: u64 = 1;
 
 /// The rows of the table `project`.
 fn project_rows<S: Alter>(conn: &mut Connection<S>) -> Result<Vec<Row>, Error>
-    ensures mode { conn.old.in_transaction ≡ false → conn.new.in_transaction ≡ false }
-    ensures unchanged { HasCleanDisk (state S.Store conn.new) → OnOk result (IsUnchanged (state S.Store conn.old) (state S.Store conn.new)) }
+    ensures reads { Reads S.Store conn.old conn.new result }
     ensures serves { HasCleanDisk (state S.Store conn.new) → IfErr result (λ e. fault_of e ≡ NotAProject → IsUnchanged (state S.Store conn.old) (state S.Store conn.new)) }
-    ensures back { HasCleanDisk (state S.Store conn.new) → OnErr result (IsBack (state S.Store conn.old) (state S.Store conn.new)) }
-    ensures crash { Survives (state S.Store conn.old) (state S.Store conn.new) (λ _. ⊥) }
     ensures answers { HasCleanDisk (state S.Store conn.new) → IfOk result (λ rows. (has : HasProject (state S.Store conn.old).now.schema) → IsPermutation (rows_of_project (state S.Store conn.old).now has) rows.items) }
     ensures told { HasCleanDisk (state S.Store conn.new) → IfErr result (λ e. HasProject (state S.Store conn.old).now.schema → conn.old.step_limit ≡ None → IsFailure (fault_of e)) }
     ensures there { HasCleanDisk (state S.Store conn.new) → OnOk result (¬ LacksProject (state S.Store conn.old).now.schema) }
@@ -64,11 +61,8 @@ fn version_after(error: &Error) -> Result<Option<u64>, Fault>
 ///
 /// A table of that form with other than one row, or with a row of no project, is `NotAProject`.
 pub fn version_of<S: Alter>(conn: &mut Connection<S>) -> Result<Option<u64>, Fault>
-    ensures mode { conn.old.in_transaction ≡ false → conn.new.in_transaction ≡ false }
-    ensures unchanged { HasCleanDisk (state S.Store conn.new) → OnOk result (IsUnchanged (state S.Store conn.old) (state S.Store conn.new)) }
+    ensures reads { Reads S.Store conn.old conn.new result }
     ensures serves { HasCleanDisk (state S.Store conn.new) → IfErr result (λ fault. fault ≡ NotAProject → IsUnchanged (state S.Store conn.old) (state S.Store conn.new)) }
-    ensures back { HasCleanDisk (state S.Store conn.new) → OnErr result (IsBack (state S.Store conn.old) (state S.Store conn.new)) }
-    ensures crash { Survives (state S.Store conn.old) (state S.Store conn.new) (λ _. ⊥) }
     ensures told { IfErr result IsTold }
     ensures positive { IfOk result (λ found. IfSome found (λ version. 1 ≤ version)) }
     ensures answers { HasCleanDisk (state S.Store conn.new) → IfOk result (λ found. (has : HasProject (state S.Store conn.old).now.schema) → (version : ℕ) × (found ≡ Some version) × HasVersion (state S.Store conn.old).now has version) }

@@ -1,9 +1,13 @@
 //! Statements that no command runs yet, over the tables of a project.
 
-use crate::setting::{answers, fresh, imports, runs};
+use crate::setting::{answers, bytes, fresh, imports, runs};
 use sqlite::{Connection, MemStore};
 use std::process::Abort;
-use wu_schema::{delete_workunit, instance_rows, workunit_row_above};
+use wu_core::{Archived, ErrorMask, Grant, Instance, Moment, Name};
+use wu_schema::{
+    delete_workunit, insert_archived, insert_grant, insert_instance, instance_rows,
+    workunit_row_above, workunit_row_named,
+};
 
 /// The jobs file of two workunits.
 const TWO_JOBS: &[u8] = b"name,input\njob_1,00ff\njob_2,\n";
@@ -39,6 +43,136 @@ fn number_above(rt: &impl Abort, conn: &mut Connection<MemStore>, number: u64) -
 fn has_instances(rt: &impl Abort, conn: &mut Connection<MemStore>, workunit: u64, count: usize) {
     let rows = instance_rows(conn, workunit).expect(rt, "an answer");
     assert_eq!(rt; rows.len(), count);
+}
+
+fn named(rt: &(impl Abort + AllocGlobal), text: &str) -> Name {
+    Name::read(rt.alloc(), text.as_bytes()).expect(rt, "a name")
+}
+
+/// The number of the workunit of this name.
+fn number_named(
+    rt: &(impl Abort + AllocGlobal),
+    conn: &mut Connection<MemStore>,
+    name: &str,
+) -> Option<i64> {
+    let name = named(rt, name);
+    match workunit_row_named(conn, &name).expect(rt, "an answer") {
+        Some(row) => Some(row.get(0).expect(rt, "a number")),
+        None => None,
+    }
+}
+
+/// Adds a grant for an instance of the first workunit; whether it was added.
+fn granted(
+    rt: &(impl Abort + AllocGlobal),
+    conn: &mut Connection<MemStore>,
+    n: u32,
+    host: &str,
+    credit: u64,
+) -> bool {
+    let grant = Grant {
+        workunit: 1,
+        n,
+        host: named(rt, host),
+        credit,
+    };
+    assert!(rt; conn.is_autocommit());
+    let mut tx = conn.transaction();
+    let added = insert_grant(&mut tx, &grant).is_ok();
+    tx.commit().is_ok() && added
+}
+
+/// Adds an archived row.
+fn archives(
+    rt: &(impl Abort + AllocGlobal),
+    conn: &mut Connection<MemStore>,
+    number: u64,
+    name: &str,
+) {
+    let archived = Archived {
+        number,
+        name: named(rt, name),
+        error_mask: ErrorMask::from_code(16).expect(rt, "a mask"),
+        canonical: None,
+        output: bytes(rt, b""),
+        done_at: Moment::new(5).expect(rt, "a moment"),
+    };
+    assert!(rt; conn.is_autocommit());
+    let mut tx = conn.transaction();
+    insert_archived(&mut tx, &archived).expect(rt, "a row");
+    tx.commit().expect(rt, "a commit");
+}
+
+#[test]
+fn a_host_has_the_sums_of_its_grants(rt: HostRuntime) {
+    let mut conn = two_jobs(&rt);
+    assert!(rt; granted(&rt, &mut conn, 0, "h1", 3));
+    assert!(rt; granted(&rt, &mut conn, 1, "h2", 4));
+    assert!(rt; granted(&rt, &mut conn, 2, "h1", 5));
+    answers(
+        &rt,
+        &mut conn,
+        "SELECT total * 10 + grants FROM host WHERE name = 'h1'",
+        82,
+    );
+    answers(&rt, &mut conn, "SELECT count(*) FROM host", 2);
+    answers(
+        &rt,
+        &mut conn,
+        "SELECT seq FROM credit_grant WHERE n = 2",
+        3,
+    );
+}
+
+#[test]
+fn a_total_past_64_bits_is_refused(rt: HostRuntime) {
+    let mut conn = two_jobs(&rt);
+    assert!(rt; granted(&rt, &mut conn, 0, "h1", 9_223_372_036_854_775_806));
+    assert!(rt; granted(&rt, &mut conn, 1, "h1", 1));
+    assert!(rt; !granted(&rt, &mut conn, 2, "h1", 1));
+}
+
+#[test]
+fn archived_rows_stand_in_order_of_their_making(rt: HostRuntime) {
+    let mut conn = two_jobs(&rt);
+    archives(&rt, &mut conn, 2, "job_2");
+    archives(&rt, &mut conn, 1, "job_1");
+    answers(
+        &rt,
+        &mut conn,
+        "SELECT seq FROM archived WHERE number = 1",
+        2,
+    );
+    answers(
+        &rt,
+        &mut conn,
+        "SELECT error_mask FROM archived WHERE seq = 1",
+        16,
+    );
+}
+
+#[test]
+fn an_instance_comes_behind_the_others(rt: HostRuntime) {
+    let mut conn = two_jobs(&rt);
+    let instance = Instance::unsent(rt.alloc());
+    assert!(rt; conn.is_autocommit());
+    let mut tx = conn.transaction();
+    insert_instance(&mut tx, 2, 1, &instance).expect(&rt, "a row");
+    tx.commit().expect(&rt, "a commit");
+    has_instances(&rt, &mut conn, 2, 2);
+    answers(
+        &rt,
+        &mut conn,
+        "SELECT server_state FROM result WHERE n = 1 AND workunit = 2",
+        2,
+    );
+}
+
+#[test]
+fn a_workunit_is_found_by_its_name(rt: HostRuntime) {
+    let mut conn = two_jobs(&rt);
+    assert_eq!(rt; number_named(&rt, &mut conn, "job_2"), Some(2));
+    assert_eq!(rt; number_named(&rt, &mut conn, "job_3"), None);
 }
 
 #[test]

@@ -14,7 +14,7 @@ returns-in-Ok-true-clause-taken g c clean world stands =
 
 pub returns-in-Ok-clause-taken : goal.returns-in-Ok-clause-taken
 returns-in-Ok-clause-taken g c clean world stands =
-    let first : _ = c.in-Ok-false.ensures.unchanged (omega (arith, c.has_archived.ensures.crash.clean)) in
-    let absent : has_name c.args.name.now world ≡ false = sym (c.in-Ok-false.ensures.answers (omega (arith, c.has_archived.ensures.crash.clean)) world stands) ∙ c.in-Ok-false.field-0-test in
+    let first : _ = c.in-Ok-false.ensures.reads.unchanged (omega (arith, c.has_archived.ensures.reads.crash.clean)) in
+    let absent : has_name c.args.name.now world ≡ false = sym (c.in-Ok-false.ensures.answers (omega (arith, c.has_archived.ensures.reads.crash.clean)) world stands) ∙ c.in-Ok-false.field-0-test in
     let still : StandsFor (state g.S.Store c.has_workunit.new.conn).now world = subst (λ (d : Database). StandsFor d world) (sym first.0.now_is) stands in
     c.in-Ok.ensures.answers clean world still ∙ sym (taken_is world c.args.name.now ∙ ap (λ b. b || was_archived c.args.name.now world) absent)

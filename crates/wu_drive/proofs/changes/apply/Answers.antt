@@ -1,24 +1,33 @@
 use Rattle.std.proofs.Common.{rules, ◌≡◌, length, take, refl, arith, ◌∙◌}
 use Rattle.std.proofs.Math.Seq.{take-length}
-use Rattle.wu_schema.proofs.CallLemmas.{part_none, part_then}
+use Rattle.wu_schema.proofs.CallLemmas.{never_ok, part_none, part_then}
 use Rattle.wu_drive.proofs.ChangingLemmas.{makes_none, makes_more}
 use Rattle.wu_drive.proofs.changes.apply.Goals as goal
 
 pub loop-change-init : goal.loop-change-init
-loop-change-init g c = (refl, part_none _, λ _. makes_none _)
-
-pub returns-in_err-make-clause-part : goal.returns-in_err-make-clause-part
-returns-in_err-make-clause-part g c = part_then _ _ _ c.loop-change.invariant.1 c.make.ensures.part
+loop-change-init g c = (refl, part_none _, λ _. (λ within. within, makes_none _))
 
 pub loop-change-preserved : goal.loop-change-preserved
-loop-change-preserved g c = (
-  c.make.ensures.same_reference ∙ c.loop-change.invariant.0,
-  part_then _ _ _ c.loop-change.invariant.1 c.make.ensures.part,
-  λ clean. makes_more c.args.changes.now c.loop-change.change-index c.change-item.result c.change-item.result _ _ _ (search rules) (omega (arith, c.loop-change-test.true)) (c.loop-change.invariant.2 (omega (arith, c.make.ensures.part.survives.clean))) (c.in_ok-make.ensures.ok clean),
-)
+loop-change-preserved g c =
+    let before = c.loop-change.invariant in
+    let wrote = c.make.ensures.writes in (
+      wrote.same_reference ∙ before.0,
+      part_then _ _ _ before.1 wrote.part,
+      λ clean. (
+        λ within. c.in_ok-make.ensures.writes.inside clean,
+        makes_more c.args.changes.now c.loop-change.change-index c.change-item.result c.change-item.result _ _ _ (search rules) (omega (arith, c.loop-change-test.true)) (before.2 (omega (arith, wrote.part.survives.clean))).1 (c.in_ok-make.ensures.makes clean),
+      ),
+    )
 
-pub returns-clause-ok : goal.returns-clause-ok
-returns-clause-ok g c clean =
+pub returns-in_err-make-clause-works : goal.returns-in_err-make-clause-works
+returns-in_err-make-clause-works g c =
+    let before = c.loop-change.invariant in
+    let wrote = c.make.ensures.writes in
+    record { same_reference = wrote.same_reference ∙ before.0; part = part_then _ _ _ before.1 wrote.part; stays = λ clean. never_ok c.from_residual.result _ _ c.from_residual.ensures.1 }
+
+pub returns : goal.returns
+returns g c =
     let at_end : c.loop-change.change-index ≡ length c.args.changes.now = omega (arith, c.loop-change-test.false, c.loop-change.auto.change-index-end) in
     let whole : take c.loop-change.change-index c.args.changes.now ≡ c.args.changes.now = rw at_end (take-length c.args.changes.now) in
-    rw whole at (c.loop-change.invariant.2 clean)
+    let before = c.loop-change.invariant in
+    record { works = record { same_reference = before.0; part = before.1; stays = λ clean. (before.2 clean).0 }; makes = λ clean. rw whole at (before.2 clean).1 }

@@ -1,5 +1,4 @@
-use Rattle.std.proofs.Common.{arith}
-use Rattle.sqlite.specs.Held.{state}
+use Rattle.wu_schema.proofs.Words.{arith, state}
 use Rattle.wu_schema.proofs.CallLemmas.{ok_on}
 use Rattle.wu_schema.proofs.MadeLemmas.{all_made}
 use Rattle.wu_schema.proofs.creation.create_all.Goals as goal
@@ -11,4 +10,4 @@ returns-clause-makes g c clean =
     let last = c.insert_project.ensures in
     ok_on c.insert_project.result _ _ (λ puts.
     all_made (state g.S.Store c.args.tx.now.conn.now).now (state g.S.Store c.create_work.new.tx.conn.now).now (state g.S.Store c.create_records.new.tx.conn.now).now (state g.S.Store c.insert_project.new.tx.conn.now).now
-    (work.makes (omega (arith, clean, last.part.survives.clean, records.part.survives.clean))) (records.makes (omega (arith, clean, last.part.survives.clean))) puts) (last.puts clean)
+    (work.makes (omega (arith, clean, last.writes.part.survives.clean, records.writes.part.survives.clean))) (records.makes (omega (arith, clean, last.writes.part.survives.clean))) puts) (last.puts clean)

@@ -1,5 +1,4 @@
-use Rattle.std.proofs.Common.{[]}
-use Rattle.sqlite.specs.Held.{state}
+use Rattle.wu_schema.proofs.Words.{[], state}
 use Rattle.wu_schema.proofs.CallLemmas.{back_not_run}
 use Rattle.wu_schema.proofs.fault.probe.Goals as goal
 

@@ -1,4 +1,4 @@
-use Rattle.std.proofs.Common.{rules}
+use Rattle.wu_schema.proofs.Words.{rules}
 use Rattle.wu_schema.proofs.ReadingLemmas.{place_restores}
 use Rattle.wu_schema.proofs.rows.place_at.Goals as goal
 

@@ -1,7 +1,5 @@
-use Rattle.std.proofs.Common.{rules, arith, ◌≡◌, ◌≤◌, ◌∷◌, ◌++◌, [], inr, refl, ◌∙◌, take_all}
+use Rattle.wu_schema.proofs.Words.{NotAProject, [], arith, inr, last_skip, refl, rules, take_all, ◌++◌, ◌∙◌, ◌∷◌, ◌≡◌, ◌≤◌}
 use Rattle.std.proofs.lemmas.List.Elements.{All-push}
-use Rattle.wu_core.specs.declared.fault.Fault.TheVariants.{NotAProject}
-use Rattle.wu_core.specs.World.{last_skip}
 use Rattle.wu_schema.proofs.ReadingLemmas.{no_digit, unread, verdicts_more, verdicts_restored}
 use Rattle.wu_schema.proofs.rows.verdicts_from.Goals as goal
 

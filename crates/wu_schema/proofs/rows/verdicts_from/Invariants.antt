@@ -1,6 +1,4 @@
-use Rattle.std.proofs.Common.{◌≡◌, take}
-use Rattle.wu_schema.specs.Stored.{verdict_digits}
-use Rattle.wu_schema.specs.Reading.{AreVerdicts}
+use Rattle.wu_schema.proofs.Words.{AreVerdicts, take, verdict_digits, ◌≡◌}
 use Rattle.wu_schema.proofs.rows.verdicts_from.Given as goal
 
 abbrev pub invariant-loop-digit : goal.invariant-loop-digit

@@ -1,5 +1,4 @@
-use Rattle.std.proofs.Common.{rules}
-use Rattle.std.proofs.lemmas.Result.{err_from_is_err_and}
+use Rattle.wu_schema.proofs.Words.{err_from_is_err_and, rules}
 use Rattle.wu_schema.proofs.ReadingLemmas.{workunit_read, workunit_unread}
 use Rattle.wu_schema.proofs.rows.workunit_from.Goals as goal
 

@@ -1,25 +1,16 @@
-use Rattle.std.proofs.Common.{[]}
-use Rattle.sqlite.specs.Held.{state}
-use Rattle.wu_schema.specs.Versions.{version_text}
-use Rattle.wu_schema.proofs.ReadLemmas.{shown_unchanged, failed_back, reads_survive, if_ok, if_err, on_ok}
-use Rattle.wu_schema.proofs.CallLemmas.{err_on}
+use Rattle.wu_schema.proofs.Words.{[], state, version_text}
+use Rattle.wu_schema.proofs.ReadLemmas.{all_read, if_ok, if_err, on_ok}
 use Rattle.wu_schema.proofs.VersionLemmas.{version_selects, version_found, version_told, version_there, version_absent, version_missing, query_serves}
 use Rattle.wu_schema.proofs.version.project_rows.Goals as goal
 
-pub returns-clause-unchanged : goal.returns-clause-unchanged
-returns-clause-unchanged g c clean =
-    on_ok c.query_all.result _ _ (λ rows h. shown_unchanged version_text version_selects [] (state g.S.Store c.args.conn.now) (state g.S.Store c.query_all.new.self) rows.items h) (c.query_all.ensures.ok clean)
+pub returns-clause-reads : goal.returns-clause-reads
+returns-clause-reads g c =
+    let q = c.query_all.ensures in
+    all_read g.S.Store version_text version_selects _ c.args.conn.now c.query_all.new.self q.mode q.survives c.query_all.result q.ok q.err
 
 pub returns-clause-serves : goal.returns-clause-serves
 returns-clause-serves g c clean =
     if_err c.query_all.result _ _ (λ e h is. query_serves version_text version_selects [] (state g.S.Store c.args.conn.now) (state g.S.Store c.query_all.new.self) e h is) (c.query_all.ensures.err clean)
-
-pub returns-clause-back : goal.returns-clause-back
-returns-clause-back g c clean =
-    err_on c.query_all.result _ _ (λ e h. failed_back version_text version_selects [] (state g.S.Store c.args.conn.now) (state g.S.Store c.query_all.new.self) e h) (c.query_all.ensures.err clean)
-
-pub returns-clause-crash : goal.returns-clause-crash
-returns-clause-crash g c = reads_survive version_text version_selects [] (state g.S.Store c.args.conn.now) (state g.S.Store c.query_all.new.self) c.query_all.ensures.survives
 
 pub returns-clause-answers : goal.returns-clause-answers
 returns-clause-answers g c clean =

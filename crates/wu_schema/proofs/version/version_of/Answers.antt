@@ -1,8 +1,6 @@
-use Rattle.std.proofs.Common.{inl, inr, sym, subst}
-use Rattle.sqlite.specs.Held.{state}
-use Rattle.wu_schema.specs.Faults.{IsFailure}
+use Rattle.wu_schema.proofs.Words.{HasProject, HasVersion, IsFailure, StandsFor, World, inl, inr, state, subst, sym, ℕ, ◌≤◌}
 use Rattle.wu_schema.proofs.ReadLemmas.{if_ok, if_err}
-use Rattle.wu_schema.proofs.VersionLemmas.{has_understood, none_refused, none_taken, project_of, project_row, rows_refused, rows_stored, stored_is}
+use Rattle.wu_schema.proofs.VersionLemmas.{has_understood, none_fails, project_of, project_row, rows_refused, rows_stored, stored_is}
 use Rattle.wu_schema.proofs.version.version_of.Goals as goal
 
 pub returns-in-Ok-clause-answers : goal.returns-in-Ok-clause-answers
@@ -25,7 +23,7 @@ returns-in-Err-clause-stored g c clean =
 
 pub returns-in-Ok-clause-taken : goal.returns-in-Ok-clause-taken
 returns-in-Ok-clause-taken g c clean =
-    none_taken c.version_in.result (state g.S.Store c.args.conn.now).now _ (λ has version of.
+    none_fails {A = HasProject (state g.S.Store c.args.conn.now).now.schema} {B = λ has. ℕ} {C = HasVersion (state g.S.Store c.args.conn.now).now} c.version_in.result _ (λ has version of.
     rows_refused _ c.in-Ok.rows.items c.as_slice.result.now c.as_slice.ensures.value (c.in-Ok.ensures.answers clean has) c.version_in.result version of c.version_in.ensures.found)
 
 pub returns-in-Err-clause-taken : goal.returns-in-Err-clause-taken
@@ -34,7 +32,7 @@ returns-in-Err-clause-taken g c clean =
 
 pub returns-in-Ok-clause-refused : goal.returns-in-Ok-clause-refused
 returns-in-Ok-clause-refused g c clean =
-    none_refused c.version_in.result (state g.S.Store c.args.conn.now).now _ (λ world s positive.
+    none_fails {A = World} {B = StandsFor (state g.S.Store c.args.conn.now).now} {C = λ world s. 1 ≤ world.version} c.version_in.result _ (λ world s positive.
     let has = project_of (state g.S.Store c.args.conn.now).now world s in
     rows_refused _ c.in-Ok.rows.items c.as_slice.result.now c.as_slice.ensures.value (c.in-Ok.ensures.answers clean has) c.version_in.result world.version
     (positive, project_row (state g.S.Store c.args.conn.now).now world s) c.version_in.ensures.found)

@@ -1,0 +1,13 @@
+-- When two worlds are one.
+use Rattle.std.specs.Prelude.{◌≡◌}
+use Rattle.std.specs.List.Sorted.{IsPermutation}
+use Rattle.wu_core.specs.World.{World}
+
+-- the worlds are one, but for the order of their imports
+pub record SameWorld (a b : World) : Type 0 where
+  pub workunits : a.workunits ≡ b.workunits
+  pub grants : a.grants ≡ b.grants
+  pub archived : a.archived ≡ b.archived
+  pub imports : IsPermutation a.imports b.imports
+  pub next_number : a.next_number ≡ b.next_number
+  pub version : a.version ≡ b.version

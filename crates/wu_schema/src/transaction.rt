@@ -1,0 +1,81 @@
+//! One transaction: the work that is done in it, and what holds at each exit.
+
+ghost use Rattle.std.specs.Prelude.{◌≡◌, false, OnOk, OnErr, IfErr};
+ghost use Rattle.sqlite.specs.State.{HasCleanDisk, Survives};
+ghost use Rattle.sqlite.specs.Held.{state};
+ghost use Rattle.sqlite.specs.Values.{bound};
+ghost use Rattle.sqlite.specs.Effect.{Database};
+ghost use Rattle.wu_schema.specs.Calls.{Writes, Works, Does, HasRun, IsDone, IsMade, IsUndone, IsRefused};
+ghost use Rattle.wu_schema.specs.Faults.{IsTold};
+
+use crate::fault::{commit_fault_of, fault_after};
+use sqlite::{Alter, Connection, Error, Transaction};
+use sqlite_value::value::ValueRef;
+use wu_core::Fault;
+
+/// Runs one statement.
+pub(crate) fn execute<S: Alter>(
+    tx: &mut Transaction<'_, S>,
+    sql: &str,
+    params: &[ValueRef<'_>],
+) -> Result<(), Error>
+    ensures writes { Writes S.Store tx.old tx.new result }
+    ensures ran { HasCleanDisk (state S.Store tx.new.conn.now) → OnOk result
+        (HasRun sql.now (bound params.now) (state S.Store tx.old.conn.now) (state S.Store tx.new.conn.now)) }
+{
+    tx.execute(sql, params)?;
+    Ok(())
+}
+
+/// What is done in one transaction.
+pub trait Work {
+    /// What it makes of a database.
+    ghost makes: { Self → Database → Database → Type 0 };
+
+    fn run<S: Alter>(&self, tx: &mut Transaction<'_, S>) -> Result<(), Error>
+        ensures works { Works S.Store tx.old tx.new result }
+        ensures makes { Does S.Store tx.old tx.new result (makes self.now) };
+}
+
+/// What stopped a transaction: a statement, which rolled it back, or its commit.
+enum Stopped {
+    Statement(Error),
+    Commit(Error),
+}
+
+fn run_and_commit<S: Alter, W: Work>(conn: &mut Connection<S>, work: &W) -> Result<(), Stopped>
+    requires { conn.old.in_transaction ≡ false }
+    ensures mode { conn.new.in_transaction ≡ false }
+    ensures done { HasCleanDisk (state S.Store conn.new) → OnOk result (IsDone (W.makes work.now) (state S.Store conn.old) (state S.Store conn.new)) }
+    ensures undone { HasCleanDisk (state S.Store conn.new) → OnErr result (IsUndone (state S.Store conn.old) (state S.Store conn.new)) }
+    ensures crash { Survives (state S.Store conn.old) (state S.Store conn.new) (IsMade (W.makes work.now) (state S.Store conn.old).now) }
+{
+    let mut tx = conn.transaction();
+    if let Err(error) = work.run(&mut tx) {
+        return Err(Stopped::Statement(error));
+    }
+    match tx.commit() {
+        Ok(()) => Ok(()),
+        Err(error) => Err(Stopped::Commit(error)),
+    }
+}
+
+/// Does all of the work in one transaction.
+///
+/// `NotAProject` says that a statement was refused, and that all is as before. After `Memory` or `Broken` an open may
+/// find what was, or what the work makes.
+pub fn transact<S: Alter, W: Work>(conn: &mut Connection<S>, work: &W) -> Result<(), Fault>
+    requires { conn.old.in_transaction ≡ false }
+    ensures mode { conn.new.in_transaction ≡ false }
+    ensures done { HasCleanDisk (state S.Store conn.new) → OnOk result (IsDone (W.makes work.now) (state S.Store conn.old) (state S.Store conn.new)) }
+    ensures refused { HasCleanDisk (state S.Store conn.new) → IfErr result (λ fault. fault ≡ Fault.NotAProject → IsRefused (state S.Store conn.old) (state S.Store conn.new)) }
+    ensures undone { HasCleanDisk (state S.Store conn.new) → OnErr result (IsUndone (state S.Store conn.old) (state S.Store conn.new)) }
+    ensures told { IfErr result IsTold }
+    ensures crash { Survives (state S.Store conn.old) (state S.Store conn.new) (IsMade (W.makes work.now) (state S.Store conn.old).now) }
+{
+    match run_and_commit(conn, work) {
+        Ok(()) => Ok(()),
+        Err(Stopped::Statement(error)) => Err(fault_after(conn, &error)),
+        Err(Stopped::Commit(error)) => Err(commit_fault_of(&error)),
+    }
+}
