@@ -7,6 +7,7 @@ pub mod Names
 pub mod Parameters
 pub mod Reads
 pub mod ResultNames
+pub mod Statuses
 pub mod Templates
 pub mod Workunit
 pub mod Words

@@ -9,9 +9,25 @@ last_moment = 4102444799
 abbrev pub longest_delay : ℕ
 longest_delay = 31536000
 
+-- the greatest least age of a purge, in seconds: 365 days
+abbrev pub longest_age : ℕ
+longest_age = 31536000
+
 -- the longest delay after the last moment
 abbrev pub last_deadline : ℕ
 last_deadline = 4133980799
+
+-- bytes of a name
+abbrev pub longest_name : ℕ
+longest_name = 64
+
+-- the quorum of a workunit, and the target that a template may set
+abbrev pub highest_quorum : ℕ
+highest_quorum = 20
+
+-- what a valid result may be worth
+abbrev pub most_credit : ℕ
+most_credit = 1000000
 
 -- instances of one workunit
 abbrev pub most_instances : ℕ

@@ -4,6 +4,7 @@ use Rattle.std.specs.Char.{is_ascii_alphanumeric, is_ascii_digit}
 use Rattle.std.specs.List.{list_all}
 use Rattle.wu_core.specs.declared.fault.Fault.{Fault}
 use Rattle.wu_core.specs.declared.fault.Fault.TheVariants.{BadName}
+use Rattle.wu_core.specs.Limits.{longest_name}
 
 -- an ASCII letter, a digit, '_' (95), '.' (46) or '-' (45)
 abbrev pub is_name_byte : ℕ → Bool
@@ -11,7 +12,7 @@ is_name_byte byte = is_ascii_alphanumeric byte || byte == 95 || byte == 46 || by
 
 -- 1 to 64 such bytes
 abbrev pub is_name : List ℕ → Bool
-is_name text = nat_le 1 (length text) && nat_le (length text) 64 && list_all is_name_byte text
+is_name text = nat_le 1 (length text) && nat_le (length text) longest_name && list_all is_name_byte text
 
 -- the text as a name
 abbrev pub name_of : List ℕ → Result (List ℕ) Fault

@@ -1,5 +1,6 @@
 -- The parameters of a workunit, and their ranges.
 use Rattle.std.specs.Prelude.{ℕ, ◌≤◌, nat_le, Bool, false, ◌&&◌, ℤ, pos, negsuc, List, [], ◌∷◌}
+use Rattle.wu_core.specs.Limits.{highest_quorum, highest_target, longest_delay, most_credit, most_instances}
 
 pub record Parameters : Type 0 where
   pub min_quorum : ℕ
@@ -12,13 +13,13 @@ pub record Parameters : Type 0 where
 
 -- the ranges of a workunit, whose target the validator may raise
 pub record IsParameters (p : Parameters) : Type 0 where
-  pub min_quorum : (1 ≤ p.min_quorum) × (p.min_quorum ≤ 20)
-  pub target_nresults : (p.min_quorum ≤ p.target_nresults) × (p.target_nresults ≤ 101)
-  pub max_error_results : p.max_error_results ≤ 100
-  pub max_total_results : (1 ≤ p.max_total_results) × (p.max_total_results ≤ 100)
-  pub max_success_results : p.max_success_results ≤ 100
-  pub delay_bound : (1 ≤ p.delay_bound) × (p.delay_bound ≤ 31536000)
-  pub credit : p.credit ≤ 1000000
+  pub min_quorum : (1 ≤ p.min_quorum) × (p.min_quorum ≤ highest_quorum)
+  pub target_nresults : (p.min_quorum ≤ p.target_nresults) × (p.target_nresults ≤ highest_target)
+  pub max_error_results : p.max_error_results ≤ most_instances
+  pub max_total_results : (1 ≤ p.max_total_results) × (p.max_total_results ≤ most_instances)
+  pub max_success_results : p.max_success_results ≤ most_instances
+  pub delay_bound : (1 ≤ p.delay_bound) × (p.delay_bound ≤ longest_delay)
+  pub credit : p.credit ≤ most_credit
 
 -- what a template that sets nothing gives
 abbrev pub default_parameters : Parameters

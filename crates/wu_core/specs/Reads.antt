@@ -1,7 +1,11 @@
 -- What a call gives that may want memory.
-use Rattle.std.specs.Prelude.{◌≡◌, ◌⊎◌, Result, Err}
+use Rattle.std.specs.Prelude.{◌≡◌, ◌⊎◌, Result, Err, IfErr}
 use Rattle.wu_core.specs.declared.fault.Fault.{Fault}
 use Rattle.wu_core.specs.declared.fault.Fault.TheVariants.{Memory}
+
+-- it fails only for want of memory
+abbrev pub FailsForMemory : {T : Type 0} → Result T Fault → Type 0
+FailsForMemory result = IfErr result (λ fault. fault ≡ Memory)
 
 -- exactly this result, or want of memory
 abbrev pub Gives : {T : Type 0} → Result T Fault → Result T Fault → Type 0

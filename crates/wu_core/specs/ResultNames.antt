@@ -1,5 +1,6 @@
 -- Texts that name an instance.
-use Rattle.std.specs.Prelude.{◌≡◌, ◌≤◌, ◌<◌, ◌+◌, ℕ, length, slice_index, ◌==◌, Bool, true, false, ◌&&◌, if◌then◌else◌, List, Option, Some, None, Result, Ok, Err}
+use Rattle.std.specs.Prelude.{◌≡◌, ◌≤◌, ◌<◌, ◌+◌, ℕ, length, slice_index, ◌==◌, Bool, true, false, ◌&&◌, if◌then◌else◌, List, ◌++◌, codes, Option, Some, None, Result, Ok, Err}
+use Rattle.std.specs.Fmt.{decimal}
 use Rattle.std.specs.List.{list_any, before_last, after_last}
 use Rattle.wu_core.specs.declared.fault.Fault.{Fault}
 use Rattle.wu_core.specs.declared.fault.Fault.TheVariants.{BadName}
@@ -13,6 +14,10 @@ is_underscore byte = byte == 95
 abbrev pub instance_of : List ℕ → Option ℕ → Result ResultName Fault
 instance_of name (Some n) = Ok (record { workunit = name; n = n })
 instance_of name None = Err BadName
+
+-- a workunit's name, '_' and the place in decimal
+abbrev pub result_name_text : ResultName → List ℕ
+result_name_text name = name.workunit ++ codes "_" ++ decimal name.n
 
 -- a workunit's name before the last '_', and a place after it
 abbrev pub result_name_of : List ℕ → Result ResultName Fault

@@ -4,6 +4,7 @@ use Rattle.wu_core.specs.declared.fault.Fault.{Fault}
 use Rattle.wu_core.specs.declared.fault.Fault.TheVariants.{BadTemplate}
 use Rattle.wu_core.specs.declared.fault.TemplateKey.{TemplateKey}
 use Rattle.wu_core.specs.declared.fault.TemplateKey.TheVariants as key
+use Rattle.wu_core.specs.Limits.{highest_quorum, longest_delay, most_credit, most_instances}
 use Rattle.wu_core.specs.Parameters.{Parameters, is_between}
 
 -- a whole number in the range
@@ -19,13 +20,13 @@ number_of None = 0
 -- each key with whether its value is in the range of a template, in the order of the fields; the target is at least the quorum
 abbrev pub range_tests : (TemplateKey → Option ℤ) → List (TemplateKey × Bool)
 range_tests value =
-    (key.MinQuorum, is_whole_between 1 20 (value key.MinQuorum))
-    ∷ (key.TargetNresults, is_whole_between 1 20 (value key.TargetNresults) && is_whole_between (number_of (value key.MinQuorum)) 20 (value key.TargetNresults))
-    ∷ (key.MaxErrorResults, is_whole_between 0 100 (value key.MaxErrorResults))
-    ∷ (key.MaxTotalResults, is_whole_between 1 100 (value key.MaxTotalResults))
-    ∷ (key.MaxSuccessResults, is_whole_between 0 100 (value key.MaxSuccessResults))
-    ∷ (key.DelayBound, is_whole_between 1 31536000 (value key.DelayBound))
-    ∷ (key.Credit, is_whole_between 0 1000000 (value key.Credit))
+    (key.MinQuorum, is_whole_between 1 highest_quorum (value key.MinQuorum))
+    ∷ (key.TargetNresults, is_whole_between 1 highest_quorum (value key.TargetNresults) && is_whole_between (number_of (value key.MinQuorum)) highest_quorum (value key.TargetNresults))
+    ∷ (key.MaxErrorResults, is_whole_between 0 most_instances (value key.MaxErrorResults))
+    ∷ (key.MaxTotalResults, is_whole_between 1 most_instances (value key.MaxTotalResults))
+    ∷ (key.MaxSuccessResults, is_whole_between 0 most_instances (value key.MaxSuccessResults))
+    ∷ (key.DelayBound, is_whole_between 1 longest_delay (value key.DelayBound))
+    ∷ (key.Credit, is_whole_between 0 most_credit (value key.Credit))
     ∷ []
 
 -- the parameters with these values

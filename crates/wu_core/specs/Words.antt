@@ -10,6 +10,8 @@ use Rattle.wu_core.specs.declared.states.Assimilate.{Assimilate}
 use Rattle.wu_core.specs.declared.states.Assimilate.TheVariants as assimilate
 use Rattle.wu_core.specs.declared.states.FileDelete.{FileDelete}
 use Rattle.wu_core.specs.declared.states.FileDelete.TheVariants as file_delete
+use Rattle.wu_core.specs.declared.states.Status.{Status}
+use Rattle.wu_core.specs.declared.states.Status.TheVariants as status
 use Rattle.wu_core.specs.declared.fault.TemplateKey.{TemplateKey}
 use Rattle.wu_core.specs.declared.fault.TemplateKey.TheVariants as key
 use Rattle.wu_core.specs.declared.fault.FileCause.{FileCause}
@@ -54,6 +56,12 @@ file_delete_word file_delete.Init = codes "INIT"
 file_delete_word file_delete.Ready = codes "READY"
 file_delete_word file_delete.Done = codes "DONE"
 file_delete_word file_delete.Error = codes "ERROR"
+
+-- how a host says that an instance ended
+abbrev pub status_word : Status → List ℕ
+status_word status.Success = codes "success"
+status_word status.ClientError = codes "client_error"
+status_word status.Detached = codes "detached"
 
 -- a template's keys, and what is wrong with a whole document
 abbrev pub template_key_word : TemplateKey → List ℕ

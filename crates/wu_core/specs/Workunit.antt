@@ -1,7 +1,8 @@
 -- Workunits and their instances.
-use Rattle.std.specs.Prelude.{List, [], ◌++◌, length, take, drop, None}
+use Rattle.std.specs.Prelude.{ℕ, List, [], ◌++◌, length, take, drop, slice_set, None}
 use Rattle.std.specs.Borrow.{Lends, MutBor, Fml, Array}
 use Rattle.wu_core.specs.declared.workunit.Instance.{Instance}
+use Rattle.wu_core.specs.declared.workunit.Workunit.{Workunit}
 use Rattle.wu_core.specs.contracts.workunit.Instance as instance
 use Rattle.wu_core.specs.contracts.workunit.Instances as instances
 use Rattle.wu_core.specs.declared.states.ServerState.TheVariants as server
@@ -22,6 +23,10 @@ fresh = record {
   received_at = None;
   output = [];
 }
+
+-- the instance of this number changed
+abbrev pub with_instance : Workunit → ℕ → Instance → Workunit
+with_instance w n instance = record w { instances = slice_set w.instances n instance }
 
 -- the list with its first places as written; what is written in place has the list's length, so it is all of it
 abbrev pub overwritten : List Instance → List Instance → List Instance

@@ -2,7 +2,9 @@
 
 ghost use Rattle.std.specs.Prelude.{◌≡◌, Some};
 ghost use Rattle.wu_core.specs.Words.{template_key_word, file_cause_word};
+ghost use Rattle.wu_core.specs.declared.fault.Fault.TheVariants.{Memory};
 
+use std::alloc::{AllocError, AllocFailed};
 use std::fmt;
 use thiserror::Error;
 
@@ -151,6 +153,22 @@ pub enum Fault {
     /// The output took no more bytes.
     #[error("F17 Output")]
     Output,
+}
+
+impl From<AllocError> for Fault {
+    ghost from_gives = { λ _ fault. fault ≡ Memory };
+
+    fn from(_error: AllocError) -> Fault {
+        Fault::Memory
+    }
+}
+
+impl<T: Drop> From<AllocFailed<T>> for Fault {
+    ghost from_gives = { λ _ fault. fault ≡ Memory };
+
+    fn from(_error: AllocFailed<T>) -> Fault {
+        Fault::Memory
+    }
 }
 
 #[cfg(test)]

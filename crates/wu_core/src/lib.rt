@@ -4,6 +4,7 @@
 mod bytes;
 mod fault;
 mod import;
+mod limits;
 mod mask;
 mod moment;
 mod name;
@@ -14,9 +15,13 @@ mod workunit;
 pub use bytes::Bytes;
 pub use fault::{Fault, FileCause, TemplateKey};
 pub use import::ImportKind;
+pub use limits::{
+    HIGHEST_QUORUM, HIGHEST_TARGET, LAST_DEADLINE, LAST_MOMENT, LONGEST_AGE, LONGEST_DELAY,
+    LONGEST_INPUT, LONGEST_NAME, LONGEST_OUTPUT, MOST_CREDIT, MOST_INSTANCES, MOST_WORKUNITS,
+};
 pub use mask::ErrorMask;
 pub use moment::{Deadline, Moment};
 pub use name::{Name, ResultName};
 pub use params::Params;
-pub use states::{Assimilate, FileDelete, Outcome, ServerState, ValidateState};
+pub use states::{Assimilate, FileDelete, Outcome, ServerState, Status, ValidateState};
 pub use workunit::{Archived, Grant, Instance, Instances, Workunit};

@@ -3,6 +3,7 @@
 ghost use Rattle.std.specs.Prelude.{◌≡◌, ℕ, ◌+◌, ◌<◌, ◌≤◌, ◌↔◌, IsTrue, SomeIff};
 ghost use Rattle.wu_core.specs.Limits.{last_moment, last_deadline, longest_delay};
 
+use crate::limits::{LAST_DEADLINE, LAST_MOMENT};
 use std::marker::Model;
 
 /// A moment that is handed in: 0 to 4102444799, the last second of the year 2099.
@@ -22,11 +23,18 @@ impl Model for Moment {
 }
 
 impl Moment {
+    /// The first moment: 1970-01-01T00:00:00Z.
+    pub fn first() -> Self
+        ensures { result ≡ 0 }
+    {
+        Moment { seconds: 0 }
+    }
+
     /// The moment so many seconds after the start of 1970, if it is not after the year 2099.
     pub fn new(seconds: u64) -> Option<Self>
         ensures { SomeIff result (seconds ≤ last_moment) seconds }
     {
-        if seconds <= 4_102_444_799 {
+        if seconds <= LAST_MOMENT {
             Some(Moment { seconds })
         } else {
             None
@@ -72,7 +80,7 @@ impl Deadline {
     pub fn new(seconds: u64) -> Option<Self>
         ensures { SomeIff result (seconds ≤ last_deadline) seconds }
     {
-        if seconds <= 4_133_980_799 {
+        if seconds <= LAST_DEADLINE {
             Some(Deadline { seconds })
         } else {
             None

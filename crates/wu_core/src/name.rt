@@ -7,7 +7,9 @@ ghost use Rattle.wu_core.specs.Reads.{Gives};
 ghost use Rattle.wu_core.specs.ResultNames.{result_name_of, IsFreeFrom, IsLastUnderscore};
 
 use crate::fault::Fault;
+use crate::limits::LONGEST_NAME;
 use std::alloc::{AllocError, Global};
+use std::fmt;
 use std::marker::Model;
 
 /// A name of a workunit, a host or an import: 1 to 64 bytes, each an ASCII letter, a digit, `_`, `.` or `-`.
@@ -45,7 +47,7 @@ fn may_all_stand_in_name(text: &[u8]) -> bool
 fn is_name(text: &[u8]) -> bool
     ensures { result ≡ is_name text.now }
 {
-    1 <= text.len() && text.len() <= 64 && may_all_stand_in_name(text)
+    1 <= text.len() && text.len() <= LONGEST_NAME && may_all_stand_in_name(text)
 }
 
 impl Name {
@@ -59,10 +61,9 @@ impl Name {
         let Ok(text) = std::str::from_utf8(text) else {
             return Err(Fault::BadName);
         };
-        match String::from_str(alloc, text) {
-            Ok(text) => Ok(Name { text }),
-            Err(_) => Err(Fault::Memory),
-        }
+        Ok(Name {
+            text: String::from_str(alloc, text)?,
+        })
     }
 
     pub fn as_str(&self) -> &str
@@ -101,6 +102,16 @@ impl Eq for Name {
     ghost laws = { nat_list_eq_equiv };
 }
 
+impl fmt::Display for Name {
+    ghost use Rattle.std.specs.Prelude.{Some};
+
+    ghost output = { λ name. Some name };
+
+    fn fmt<W: fmt::Write>(&self, f: &mut fmt::Formatter<W>) -> fmt::Result {
+        f.write_str(self.as_str())
+    }
+}
+
 /// The name of an instance: that of its workunit, and its place among the workunit's instances, 0 to 99.
 #[derive(Debug, Drop)]
 pub struct ResultName {
@@ -127,6 +138,17 @@ fn last_underscore(text: &[u8]) -> Option<usize>
     ensures found { IfSome result (IsLastUnderscore text.now) }
 {
     text.iter().rposition(|byte| *byte == b'_')
+}
+
+impl fmt::Display for ResultName {
+    ghost use Rattle.std.specs.Prelude.{Some};
+    ghost use Rattle.wu_core.specs.ResultNames.{result_name_text};
+
+    ghost output = { λ name. Some (result_name_text name) };
+
+    fn fmt<W: fmt::Write>(&self, f: &mut fmt::Formatter<W>) -> fmt::Result {
+        write!(f, "{}_{}", self.workunit, self.n)
+    }
 }
 
 impl ResultName {
@@ -182,6 +204,8 @@ mod tests {
                 Ok(name) => {
                     assert_eq!(rt; name.workunit.as_str(), workunit);
                     assert_eq!(rt; name.n, n);
+                    let printed = format!(in rt.alloc(); "{name}").expect(&rt, "memory");
+                    assert_eq!(rt; printed.as_str(), text);
                 }
                 Err(fault) => panic!(rt; "{text}: {fault:?}"),
             }

@@ -1,11 +1,17 @@
 //! The parameters of a workunit.
 
-ghost use Rattle.std.specs.Prelude.{◌≡◌, ◌≤◌, false, pos, IfSome, IfNone, IfOk, IfErr};
+ghost use Rattle.std.specs.Prelude.{◌≡◌, ◌≤◌, false, pos, IfSome, IfNone, IfOk, IfErr, OnErr};
+ghost use Rattle.wu_core.specs.Limits.{highest_quorum, highest_target, longest_delay, most_credit, most_instances};
 ghost use Rattle.wu_core.specs.Parameters.{default_parameters, is_between, IsParameters, Parameters, values_of};
 ghost use Rattle.wu_core.specs.Templates.{is_whole_between, listed, template_parameters, whole_at};
 ghost use Rattle.wu_core.specs.declared.fault.Fault.TheVariants.{BadTemplate};
 
+use crate::fault::TemplateKey::{
+    Credit, DelayBound, MaxErrorResults, MaxSuccessResults, MaxTotalResults, MinQuorum,
+    TargetNresults,
+};
 use crate::fault::{Fault, TemplateKey};
+use crate::limits::{HIGHEST_QUORUM, HIGHEST_TARGET, LONGEST_DELAY, MOST_CREDIT, MOST_INSTANCES};
 use std::marker::Model;
 
 /// How many results a workunit wants, how many it bears, how long each may take and what it is worth.
@@ -72,7 +78,8 @@ fn in_range(value: i64, low: u32, high: u32) -> Option<u32>
 /// The value of a template's key, where it is a whole number in the range; else the key at fault.
 fn template_value(key: TemplateKey, value: Option<i64>, low: u32, high: u32) -> Result<u32, Fault>
     ensures within { IfOk result (λ n. (low ≤ n) × (n ≤ high) × (value ≡ Some (pos n))) }
-    ensures outside { IfErr result (λ e. (e ≡ BadTemplate key) × (is_whole_between low high value ≡ false)) }
+    ensures key { IfErr result (λ fault. fault ≡ BadTemplate key) }
+    ensures outside { OnErr result (is_whole_between low high value ≡ false) }
 {
     match value {
         Some(value) => in_range(value, low, high).ok_or(Fault::BadTemplate(key)),
@@ -103,15 +110,15 @@ impl Params {
         ensures { result ≡ template_parameters (whole_at values) }
     {
         let [quorum, target, errors, total, successes, delay, credit] = values;
-        let min_quorum = template_value(TemplateKey::MinQuorum, quorum, 1, 20)?;
+        let min_quorum = template_value(MinQuorum, quorum, 1, HIGHEST_QUORUM)?;
         Ok(Params {
             min_quorum,
-            target_nresults: template_value(TemplateKey::TargetNresults, target, min_quorum, 20)?,
-            max_error_results: template_value(TemplateKey::MaxErrorResults, errors, 0, 100)?,
-            max_total_results: template_value(TemplateKey::MaxTotalResults, total, 1, 100)?,
-            max_success_results: template_value(TemplateKey::MaxSuccessResults, successes, 0, 100)?,
-            delay_bound: template_value(TemplateKey::DelayBound, delay, 1, 31_536_000)?,
-            credit: template_value(TemplateKey::Credit, credit, 0, 1_000_000)?,
+            target_nresults: template_value(TargetNresults, target, min_quorum, HIGHEST_QUORUM)?,
+            max_error_results: template_value(MaxErrorResults, errors, 0, MOST_INSTANCES)?,
+            max_total_results: template_value(MaxTotalResults, total, 1, MOST_INSTANCES)?,
+            max_success_results: template_value(MaxSuccessResults, successes, 0, MOST_INSTANCES)?,
+            delay_bound: template_value(DelayBound, delay, 1, LONGEST_DELAY)?,
+            credit: template_value(Credit, credit, 0, MOST_CREDIT)?,
         })
     }
 
@@ -122,22 +129,22 @@ impl Params {
         ensures valued { IfSome result (λ p. values_of p ≡ values) }
     {
         let [quorum, target, errors, total, successes, delay, credit] = values;
-        let min_quorum = in_range(quorum, 1, 20)?;
+        let min_quorum = in_range(quorum, 1, HIGHEST_QUORUM)?;
         Some(Params {
             min_quorum,
-            target_nresults: in_range(target, min_quorum, 101)?,
-            max_error_results: in_range(errors, 0, 100)?,
-            max_total_results: in_range(total, 1, 100)?,
-            max_success_results: in_range(successes, 0, 100)?,
-            delay_bound: in_range(delay, 1, 31_536_000)?,
-            credit: in_range(credit, 0, 1_000_000)?,
+            target_nresults: in_range(target, min_quorum, HIGHEST_TARGET)?,
+            max_error_results: in_range(errors, 0, MOST_INSTANCES)?,
+            max_total_results: in_range(total, 1, MOST_INSTANCES)?,
+            max_success_results: in_range(successes, 0, MOST_INSTANCES)?,
+            delay_bound: in_range(delay, 1, LONGEST_DELAY)?,
+            credit: in_range(credit, 0, MOST_CREDIT)?,
         })
     }
 
     /// Results that have to be there before the validator looks: 1 to 20.
     pub fn min_quorum(self) -> u32
         ensures value { result ≡ self.min_quorum }
-        ensures within { (1 ≤ result) × (result ≤ 20) }
+        ensures within { (1 ≤ result) × (result ≤ highest_quorum) }
     {
         self.min_quorum
     }
@@ -145,7 +152,7 @@ impl Params {
     /// Results that are wanted: at least the quorum, at most 101.
     pub fn target_nresults(self) -> u32
         ensures value { result ≡ self.target_nresults }
-        ensures within { (self.min_quorum ≤ result) × (result ≤ 101) }
+        ensures within { (self.min_quorum ≤ result) × (result ≤ highest_target) }
     {
         self.target_nresults
     }
@@ -153,7 +160,7 @@ impl Params {
     /// Errors that the workunit bears: 0 to 100.
     pub fn max_error_results(self) -> u32
         ensures value { result ≡ self.max_error_results }
-        ensures within { result ≤ 100 }
+        ensures within { result ≤ most_instances }
     {
         self.max_error_results
     }
@@ -161,7 +168,7 @@ impl Params {
     /// Instances that may be made: 1 to 100.
     pub fn max_total_results(self) -> u32
         ensures value { result ≡ self.max_total_results }
-        ensures within { (1 ≤ result) × (result ≤ 100) }
+        ensures within { (1 ≤ result) × (result ≤ most_instances) }
     {
         self.max_total_results
     }
@@ -169,7 +176,7 @@ impl Params {
     /// Successes without a consensus that the workunit bears: 0 to 100.
     pub fn max_success_results(self) -> u32
         ensures value { result ≡ self.max_success_results }
-        ensures within { result ≤ 100 }
+        ensures within { result ≤ most_instances }
     {
         self.max_success_results
     }
@@ -177,7 +184,7 @@ impl Params {
     /// Seconds from the sending of an instance to its deadline: 1 to 31536000.
     pub fn delay_bound(self) -> u32
         ensures value { result ≡ self.delay_bound }
-        ensures within { (1 ≤ result) × (result ≤ 31536000) }
+        ensures within { (1 ≤ result) × (result ≤ longest_delay) }
     {
         self.delay_bound
     }
@@ -185,14 +192,14 @@ impl Params {
     /// What a valid result is worth: 0 to 1000000.
     pub fn credit(self) -> u32
         ensures value { result ≡ self.credit }
-        ensures within { result ≤ 1000000 }
+        ensures within { result ≤ most_credit }
     {
         self.credit
     }
 
     /// The parameters with another target.
     pub fn with_target(self, target_nresults: u32) -> Self
-        requires { (self.min_quorum ≤ target_nresults) × (target_nresults ≤ 101) }
+        requires { (self.min_quorum ≤ target_nresults) × (target_nresults ≤ highest_target) }
         ensures { result ≡ record self { target_nresults = target_nresults } }
     {
         Params {

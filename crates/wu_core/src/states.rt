@@ -1,8 +1,11 @@
 //! BOINC's states of a workunit and of its instances, with BOINC's numbers and words.
 
-ghost use Rattle.std.specs.Prelude.{◌≡◌};
-ghost use Rattle.wu_core.specs.Words.{server_state_word, outcome_word, validate_state_word, assimilate_word, file_delete_word};
+ghost use Rattle.std.specs.Prelude.{◌≡◌, Some};
+ghost use Rattle.wu_core.specs.Words.{server_state_word, outcome_word, validate_state_word, assimilate_word, file_delete_word, status_word};
 ghost use Rattle.wu_core.specs.Codes.{Decodes, server_state_code, outcome_code, validate_state_code, assimilate_code, file_delete_code};
+ghost use Rattle.wu_core.specs.Statuses.{status_of, outcome_of};
+
+use std::fmt;
 
 /// Where an instance is on its way to a volunteer's machine and back.
 #[derive(Clone, Copy, Debug, PartialEq, Eq)]
@@ -44,6 +47,14 @@ impl ServerState {
             ServerState::InProgress => "IN_PROGRESS",
             ServerState::Over => "OVER",
         }
+    }
+}
+
+impl fmt::Display for ServerState {
+    ghost output = { λ state. Some (server_state_word state) };
+
+    fn fmt<W: fmt::Write>(&self, f: &mut fmt::Formatter<W>) -> fmt::Result {
+        f.write_str(ServerState::word(*self))
     }
 }
 
@@ -102,6 +113,14 @@ impl Outcome {
     }
 }
 
+impl fmt::Display for Outcome {
+    ghost output = { λ outcome. Some (outcome_word outcome) };
+
+    fn fmt<W: fmt::Write>(&self, f: &mut fmt::Formatter<W>) -> fmt::Result {
+        f.write_str(Outcome::word(*self))
+    }
+}
+
 /// What the validator found of an instance.
 #[derive(Clone, Copy, Debug, PartialEq, Eq)]
 pub enum ValidateState {
@@ -151,6 +170,14 @@ impl ValidateState {
     }
 }
 
+impl fmt::Display for ValidateState {
+    ghost output = { λ state. Some (validate_state_word state) };
+
+    fn fmt<W: fmt::Write>(&self, f: &mut fmt::Formatter<W>) -> fmt::Result {
+        f.write_str(ValidateState::word(*self))
+    }
+}
+
 /// Whether a workunit waits for the assimilator.
 #[derive(Clone, Copy, Debug, PartialEq, Eq)]
 pub enum Assimilate {
@@ -188,6 +215,14 @@ impl Assimilate {
             Assimilate::Ready => "READY",
             Assimilate::Done => "DONE",
         }
+    }
+}
+
+impl fmt::Display for Assimilate {
+    ghost output = { λ state. Some (assimilate_word state) };
+
+    fn fmt<W: fmt::Write>(&self, f: &mut fmt::Formatter<W>) -> fmt::Result {
+        f.write_str(Assimilate::word(*self))
     }
 }
 
@@ -231,5 +266,68 @@ impl FileDelete {
             FileDelete::Done => "DONE",
             FileDelete::Error => "ERROR",
         }
+    }
+}
+
+impl fmt::Display for FileDelete {
+    ghost output = { λ state. Some (file_delete_word state) };
+
+    fn fmt<W: fmt::Write>(&self, f: &mut fmt::Formatter<W>) -> fmt::Result {
+        f.write_str(FileDelete::word(*self))
+    }
+}
+
+/// How a host says that an instance ended.
+#[derive(Clone, Copy, Debug, PartialEq, Eq)]
+pub enum Status {
+    Success,
+    ClientError,
+    Detached,
+}
+
+impl Status {
+    /// The word that a file of reports has.
+    pub fn word(self) -> &'static str
+        ensures { result.now ≡ status_word self }
+    {
+        match self {
+            Status::Success => "success",
+            Status::ClientError => "client_error",
+            Status::Detached => "detached",
+        }
+    }
+
+    /// The status of this word, if it is the word of one.
+    pub fn from_word(word: &[u8]) -> Option<Self>
+        ensures { result ≡ status_of word.now }
+    {
+        if word == b"success".as_slice() {
+            Some(Status::Success)
+        } else if word == b"client_error".as_slice() {
+            Some(Status::ClientError)
+        } else if word == b"detached".as_slice() {
+            Some(Status::Detached)
+        } else {
+            None
+        }
+    }
+
+    /// How an instance ended that is reported so.
+    pub fn outcome(self) -> Outcome
+        ensures { result ≡ outcome_of self }
+    {
+        match self {
+            Status::Success => Outcome::Success,
+            Status::ClientError => Outcome::ClientError,
+            Status::Detached => Outcome::ClientDetached,
+        }
+    }
+}
+
+impl fmt::Display for Status {
+    ghost output = { λ status. Some (status_word status) };
+
+    fn fmt<W: fmt::Write>(&self, f: &mut fmt::Formatter<W>) -> fmt::Result {
+        f.write_str(Status::word(*self))
     }
 }

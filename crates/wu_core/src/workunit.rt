@@ -1,6 +1,8 @@
 //! Workunits, their instances, grants of credit and archived rows.
 
-ghost use Rattle.std.specs.Prelude.{◌≡◌, ◌+◌, ◌≤◌, [], ◌++◌, length, replicate, vec_len, OnOk, OnErr};
+ghost use Rattle.std.specs.Prelude.{◌≡◌, ◌↔◌, ◌+◌, ◌≤◌, [], ◌++◌, length, replicate, vec_len, IsTrue, OnOk, OnErr};
+ghost use Rattle.std.specs.Iterator.Adapters.{IterYieldsInOrder};
+ghost use Rattle.std.specs.Slice.Iter.{iter_rest};
 ghost use Rattle.wu_core.specs.Limits.{most_instances};
 ghost use Rattle.wu_core.specs.Workunit.{fresh};
 
@@ -12,6 +14,7 @@ use crate::params::Params;
 use crate::states::{Assimilate, FileDelete, Outcome, ServerState, ValidateState};
 use std::alloc::{AllocError, Global};
 use std::marker::Model;
+use std::slice::Iter;
 
 /// One copy of a workunit's job, for one host. Its place in the workunit's list is its number n.
 #[derive(Debug, Drop)]
@@ -117,6 +120,21 @@ impl Instances {
         ensures within { result ≤ most_instances }
     {
         self.items.len()
+    }
+
+    pub fn is_empty(&self) -> bool
+        ensures { IsTrue result ↔ (self.now ≡ []) }
+    {
+        self.items.is_empty()
+    }
+
+    /// The instances in order of their numbers.
+    pub fn iter(&self) -> Iter<'_, Instance>
+        ensures rest { iter_rest result ≡ self.now }
+        ensures within { length (iter_rest result) ≤ most_instances }
+        ensures runs { IterYieldsInOrder Instance }
+    {
+        self.items.as_slice().iter()
     }
 
     pub fn as_slice(&self) -> &[Instance]

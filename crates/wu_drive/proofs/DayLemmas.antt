@@ -1,11 +1,20 @@
--- The year, the month and the day that a text counts out are those of the date with that day number.
-use Rattle.std.proofs.Common.{◌≡◌, ℕ, zero, suc, ◌+◌, ◌/◌, ◌%◌, ◌<◌, ◌≤◌, Bool, true, false, cond, List, ◌++◌, refl, sym, ap, ◌∙◌, arith, ℤ, pos, negsuc, ◌<ℤ◌, ◌≤ℤ◌, unsigned_abs, int_le, inl, inr}
+-- The year, the month and the day that a text counts out are those of the date with that day number; what jiff prints of
+-- a moment is that text.
+use Rattle.std.proofs.Common.{◌≡◌, ℕ, zero, suc, ◌+◌, ◌/◌, ◌%◌, ◌<◌, ◌≤◌, Bool, true, false, cond, List, ◌∷◌, ◌++◌, None, append_assoc, refl, sym, ap, ◌∙◌, arith, ℤ, pos, negsuc, ◌*ℤ◌, ◌<ℤ◌, ◌≤ℤ◌, unsigned_abs, int_le, inl, inr}
 use Rattle.std.specs.Prelude.{codes}
 use Rattle.std.specs.List.{count_by, range_with_len}
 use Rattle.std.proofs.lemmas.List.Sums.{sum_by-cons}
 use Rattle.std.proofs.lemmas.Bool.{cases_lt}
 use Rattle.std.proofs.lemmas.Int.{by_lt_z, ints}
 use Rattle.jiff_core.specs.Calendar.{day_count, days_from_civil}
+use Rattle.jiff_core.specs.Time.{time_seconds}
+use Rattle.jiff_core.specs.declared.civil.time.Time.{Time}
+use Rattle.jiff_core.specs.declared.timestamp.Timestamp.{Timestamp}
+use Rattle.jiff_core.proofs.DateTimeLemmas.{civil_nanos-parts}
+use Rattle.jiff_fmt.specs.declared.temporal.printer.DateTimePrinter.{DateTimePrinter}
+use Rattle.jiff_fmt.specs.Printer.{options, IsTimestampText}
+use Rattle.jiff_fmt.specs.Text.{time_text, year_text, zulu_text}
+use Rattle.jiff_fmt.specs.Text as printed
 use Rattle.jiff_core.specs.Date.{epoch_day}
 use Rattle.jiff_core.specs.declared.civil.date.Date.{Date}
 use Rattle.jiff_core.proofs.SignedLemmas.{signed_arith}
@@ -90,7 +99,7 @@ month_not_begun : (d : Date) (k : ℕ) → d.month < k → day_count d.year d.mo
 month_not_begun d k h = day_count-lt_month d.year d.month d.day k 1 (civil d) (omega arith) h
 
 -- a day from 1970 to 2100 has a year from 1970 to 2100
-pub year_range : (d : Date) (day : ℕ) → epoch_day d ≡ pos day → day ≤ 47_846 → (pos 1970 ≤ℤ d.year) × (d.year ≤ℤ pos 2100)
+year_range : (d : Date) (day : ℕ) → epoch_day d ≡ pos day → day ≤ 47_846 → (pos 1970 ≤ℤ d.year) × (d.year ≤ℤ pos 2100)
 year_range d day e h =
     let counted = days_from_civil-day_count d.year d.month d.day in
     let low : pos 1970 ≤ℤ d.year = by_lt_z d.year (pos 1970)
@@ -121,7 +130,7 @@ year_counted d day y e same low high =
     (λ k from to. starts_by day (pos k) 1 1 d e (year_begun d k (omega (arith, signed_arith))))
     (λ k from to. starts_after day (pos k) 1 1 d e (year_not_begun d k (omega (arith, signed_arith))))
 
-pub year_of_day-is : (d : Date) (day : ℕ) → epoch_day d ≡ pos day → day ≤ 47_846 → year_of_day day ≡ unsigned_abs d.year
+year_of_day-is : (d : Date) (day : ℕ) → epoch_day d ≡ pos day → day ≤ 47_846 → year_of_day day ≡ unsigned_abs d.year
 unfolding year_of_day
 year_of_day-is d day e h =
     let range = year_range d day e h in
@@ -135,7 +144,7 @@ month_counted d day e =
     (λ k from to. starts_by day d.year k 1 d e (month_begun d k from to))
     (λ k from to. starts_after day d.year k 1 d e (month_not_begun d k from))
 
-pub month_of_day-is : (d : Date) (day : ℕ) → epoch_day d ≡ pos day → pos (unsigned_abs d.year) ≡ d.year → month_of_day (unsigned_abs d.year) day ≡ d.month
+month_of_day-is : (d : Date) (day : ℕ) → epoch_day d ≡ pos day → pos (unsigned_abs d.year) ≡ d.year → month_of_day (unsigned_abs d.year) day ≡ d.month
 unfolding month_of_day
 month_of_day-is d day e same =
     ap (λ y. count_by (λ month. int_le (days_from_civil y month 1) (pos day)) (range_with_len 1 12)) same ∙ from_one _ _ (month_counted d day e)
@@ -148,26 +157,49 @@ month_from_1970 d low =
     (λ le. let same : d.year ≡ pos 1970 = omega (arith, signed_arith) in rw same (omega arith)) in
     not_negative _ (omega (arith, signed_arith, days_from_civil-day_count d.year d.month 1, day_count-day_of_year d.year d.month 1 (omega arith), day_count-epoch))
 
-pub day_of_month-is : (d : Date) (day : ℕ) → epoch_day d ≡ pos day → pos 1970 ≤ℤ d.year → pos (unsigned_abs d.year) ≡ d.year → day_of_month (unsigned_abs d.year) d.month day ≡ d.day
+day_of_month-is : (d : Date) (day : ℕ) → epoch_day d ≡ pos day → pos 1970 ≤ℤ d.year → pos (unsigned_abs d.year) ≡ d.year → day_of_month (unsigned_abs d.year) d.month day ≡ d.day
 day_of_month-is d day e low same =
     let first = month_from_1970 d low in
     let moved = days_from_civil-day d.year d.month d.day 1 d.day_in.0 (omega arith) in
     rw same (omega (arith, signed_arith, d.day_in.0))
 
 -- the text of the day is that of the date
-pub date_text-is : (d : Date) (day : ℕ) → epoch_day d ≡ pos day → day ≤ 47_846
+date_text-is : (d : Date) (day : ℕ) → epoch_day d ≡ pos day → day ≤ 47_846
     → date_text day ≡ four_digits (unsigned_abs d.year) ++ codes "-" ++ two_digits d.month ++ codes "-" ++ two_digits d.day
 date_text-is d day e h =
     let range = year_range d day e h in
     let same = from_1970 d.year range.0 in
     rw (year_of_day-is d day e h, month_of_day-is d day e same, day_of_month-is d day e range.0 same) refl
 
--- and that of a moment is that of its date and its time of day
-pub moment_text-is : (d : Date) (moment : ℕ) (date clock : List ℕ) → epoch_day d ≡ pos (moment / 86400) → moment ≤ last_moment
-    → date ≡ four_digits (unsigned_abs d.year) ++ codes "-" ++ two_digits d.month ++ codes "-" ++ two_digits d.day
-    → clock ≡ clock_text (moment % 86400)
-    → moment_text moment ≡ date ++ codes "T" ++ clock ++ codes "Z"
+-- what jiff prints of the date, of a time of day without a fraction and of a moment is the same text
+year_text-is : (year : ℤ) → pos 0 ≤ℤ year → year_text year ≡ four_digits (unsigned_abs year)
+year_text-is (pos n) h = refl
+year_text-is (negsuc n) h = absurd (omega (arith, signed_arith))
+
+time_text-is : (t : Time) → t.subsec_nanosecond ≡ 0 → time_text None t ≡ clock_text (time_seconds t)
+time_text-is t whole =
+    let hour : t.hour ≡ time_seconds t / 3600 = omega (arith, t.minute_in, t.second_in) in
+    let minute : t.minute ≡ time_seconds t / 60 % 60 = omega (arith, t.minute_in, t.second_in) in
+    let second : t.second ≡ time_seconds t % 60 = omega (arith, t.second_in) in
+    rw (whole, ← hour, ← minute, ← second) refl
+
+joined : (date₁ date₂ clock₁ clock₂ : List ℕ) → date₁ ≡ date₂ → clock₁ ≡ clock₂
+    → date₁ ++ 84 ∷ clock₁ ++ codes "Z" ≡ date₂ ++ codes "T" ++ clock₂ ++ codes "Z"
+joined date₁ date₂ clock₁ clock₂ e1 e2 = rw (e1, e2) (simp append_assoc)
+
+pub timestamp_text-is : (printer : DateTimePrinter) (t : Timestamp) (moment : ℕ) (text : List ℕ) → options printer ≡ (false, 84, None)
+    → t.nanosecond ≡ pos moment *ℤ pos 1_000_000_000 → moment ≤ last_moment → IsTimestampText printer t text → text ≡ moment_text moment
 unfolding moment_text
-moment_text-is d moment date clock e within date_is clock_is =
-    ap (λ l. l ++ codes "T" ++ clock_text (moment % 86400) ++ codes "Z") (date_text-is d (moment / 86400) e (omega arith) ∙ sym date_is)
-    ∙ ap (λ l. date ++ codes "T" ++ l ++ codes "Z") (sym clock_is)
+timestamp_text-is printer t moment text plain at within (shown, same, is) =
+    let time = shown.time in
+    let parts = civil_nanos-parts shown in
+    let day : epoch_day shown.date ≡ pos (moment / 86400) = omega (arith, signed_arith, parts, time.hour_in, time.minute_in, time.second_in, time.subsec_in) in
+    let seconds : time_seconds time ≡ moment % 86400 = omega (arith, signed_arith, parts, time.hour_in, time.minute_in, time.second_in, time.subsec_in) in
+    let whole : time.subsec_nanosecond ≡ 0 = omega (arith, signed_arith, parts, time.hour_in, time.minute_in, time.second_in, time.subsec_in) in
+    let range = year_range shown.date (moment / 86400) day (omega arith) in
+    let date_is : printed.date_text shown.date ≡ date_text (moment / 86400) =
+    ap (λ year. year ++ codes "-" ++ two_digits shown.date.month ++ codes "-" ++ two_digits shown.date.day) (year_text-is shown.date.year (omega (arith, signed_arith, range.0)))
+    ∙ sym (date_text-is shown.date (moment / 86400) day (omega arith)) in
+    let time_is : time_text None time ≡ clock_text (moment % 86400) = time_text-is time whole ∙ ap clock_text seconds in
+    is ∙ ap (λ o. printed.datetime_text o.0 o.1 o.2 shown ++ zulu_text o.0) plain
+    ∙ joined (printed.date_text shown.date) (date_text (moment / 86400)) (time_text None time) (clock_text (moment % 86400)) date_is time_is

@@ -7,17 +7,16 @@ use Rattle.sqlite.specs.State.{State}
 use Rattle.wu_core.specs.declared.fault.Fault.{Fault}
 use Rattle.wu_core.specs.declared.fault.Fault.TheVariants.{Output}
 use Rattle.wu_core.specs.World.{World}
-use Rattle.wu_drive.specs.declared.command.Answer.{Answer}
-use Rattle.wu_drive.specs.declared.command.Command.{Command}
-use Rattle.wu_drive.specs.declared.command.Command.TheVariants as command
+use Rattle.wu_passes.specs.declared.command.Answer.{Answer}
+use Rattle.wu_passes.specs.declared.command.Command.{Command}
+use Rattle.wu_passes.specs.declared.command.Command.TheVariants as command
 use Rattle.wu_drive.specs.declared.runs.Run.{Run}
 use Rattle.wu_drive.specs.Driving.{AnswerAll, Drives, IsDriving, world_after}
-use Rattle.wu_drive.specs.Machine.{fold_steps, reply, step}
-use Rattle.wu_drive.specs.Planning.{IsProject, IsStoreFault, request_of}
-use Rattle.wu_drive.specs.Requests.{Request}
-use Rattle.wu_drive.specs.Standing.{GoesOn, Runs, Stands}
-use Rattle.wu_drive.specs.Writing.{reply_of_answer}
-use Rattle.wu_drive.proofs.BatchLemmas.{keeps_project}
+use Rattle.wu_passes.specs.Machine.{fold_steps, reply, step}
+use Rattle.wu_passes.specs.Planning.{IsProject, IsStoreFault, request_of, reply_of_answer}
+use Rattle.wu_passes.specs.Requests.{Request}
+use Rattle.wu_passes.specs.Standing.{GoesOn, Runs, Stands}
+use Rattle.wu_passes.proofs.BatchLemmas.{keeps_project}
 
 pub fold_more : (world : World) (requests : List Request) (one : Request) → fold_steps world (requests ++ one ∷ []) ≡ step (fold_steps world requests) one
 fold_more world [] one = refl
@@ -37,7 +36,7 @@ next_world world commands i command d low there =
     ∙ ap (λ rs. fold_steps world rs) (map-append request_of (take i commands) (command ∷ [])) ∙ fold_more world (map request_of (take i commands)) (request_of command)
 
 keeps_by : (world : World) (command : Command) → IsProject world → IsProject (step world (request_of command))
-keeps_by world (command.Batch name template file) project = keeps_project world project name template file
+keeps_by world (command.Batch batch) project = keeps_project world project batch.name batch.template batch.file
 
 pub keeps_all : (world : World) (commands : List Command) → IsProject world → IsProject (fold_steps world (map request_of commands))
 keeps_all world [] project = project

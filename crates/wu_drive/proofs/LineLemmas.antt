@@ -1,11 +1,10 @@
 -- The pieces of a line, one after another, are the line.
 use Rattle.std.proofs.Common.{◌≡◌, ℕ, List, [], ◌++◌, ◌-◌, length, Option, decimal, append_assoc}
 use Rattle.std.specs.Prelude.{codes}
-use Rattle.wu_core.specs.declared.import.ImportKind.TheVariants as kind
 use Rattle.wu_core.specs.declared.workunit.Workunit.{Workunit}
 use Rattle.wu_core.specs.Mask.{error_mask_code}
 use Rattle.wu_core.specs.Words.{assimilate_word, file_delete_word}
-use Rattle.wu_drive.specs.Texts.{applied_count, import_text, moment_text, number_or_dash, or_dash, rows_text, skip_lines, workunit_line}
+use Rattle.wu_drive.specs.Texts.{applied_count, batch_text, moment_text, number_or_dash, or_dash, rows_text, skip_lines, workunit_line}
 
 -- the pieces of a workunit's line
 abbrev pub workunit_pieces : (number : ℕ) (name : List ℕ) (input quorum target errors total successes delay credit mask : ℕ) (canonical : Option ℕ) (assimilate delete : List ℕ) (done : Option ℕ) → List ℕ
@@ -29,7 +28,7 @@ workunit_pieces-are w name input quorum target errors total successes delay cred
     rw (e1, e2, e3, e4, e5, e6, e7, e8, e9, e10, e11, e12) (simp append_assoc)
 
 pub batch_pieces-are : (name : List ℕ) (first : ℕ) (verdicts word number : List ℕ) → word ≡ name → number ≡ number_or_dash first
-    → import_text kind.Batch name first verdicts ≡ codes "batch " ++ (word ++ (codes ": " ++ (decimal (length verdicts) ++ (codes " added, first " ++ (number ++ (codes "\n" ++ []))))))
+    → batch_text name first verdicts ≡ codes "batch " ++ (word ++ (codes ": " ++ (decimal (length verdicts) ++ (codes " added, first " ++ (number ++ (codes "\n" ++ []))))))
 batch_pieces-are name first verdicts word number e1 e2 = rw (e1, e2) (simp append_assoc)
 
 -- the first line of the answer to a file of rows

@@ -1,18 +1,20 @@
 -- A list of commands over a session: what was answered, and what the tables then stand for.
-use Rattle.std.specs.Prelude.{◌≡◌, ◌⊎◌, ◌≤◌, ℕ, Bool, true, false, List, [], ◌∷◌, ◌++◌, if◌then◌else◌, length, map, option_map, take, slice_get, Some, None, Ok, Err, ⊤}
-use Rattle.sqlite.specs.State.{State}
+use Rattle.std.specs.Prelude.{◌≡◌, ◌⊎◌, ◌≤◌, ℕ, Bool, true, false, List, [], ◌∷◌, ◌++◌, if◌then◌else◌, length, map, option_map, take, slice_get, IfSome, Some, None, Ok, Err, ⊤}
+use Rattle.sqlite.specs.State.{State, HasCleanDisk}
+use Rattle.sqlite_trees.specs.declared.store.Store.{Ghosts}
 use Rattle.sqlite.specs.Tree.{Trees}
-use Rattle.wu_drive.specs.Changing.{FoundAs}
-use Rattle.wu_drive.specs.Sessions.{Lived, Session, world_of_life}
+use Rattle.wu_passes.specs.Committing.{FoundAs}
+use Rattle.wu_passes.specs.Sessions.{Lived, Session, world_of_life}
 use Rattle.wu_core.specs.World.{World}
 use Rattle.wu_core.specs.declared.fault.Fault.{Fault}
-use Rattle.wu_core.specs.declared.fault.Fault.TheVariants.{Output}
-use Rattle.wu_drive.specs.Machine.{fold_steps, reply, step}
-use Rattle.wu_drive.specs.Planning.{IsProject, IsStoreFault, request_of}
-use Rattle.wu_drive.specs.Standing.{GoesOn, HasEnded}
-use Rattle.wu_drive.specs.Writing.{reply_of_answer}
-use Rattle.wu_drive.specs.declared.command.Answer.{Answer}
-use Rattle.wu_drive.specs.declared.command.Command.{Command}
+use Rattle.wu_core.specs.declared.fault.Fault.TheVariants.{Ended, Output}
+use Rattle.wu_passes.specs.Machine.{fold_steps, reply, step}
+use Rattle.wu_passes.specs.Planning.{IsProject, IsStoreFault, request_of, reply_of_answer}
+use Rattle.wu_passes.specs.Standing.{GoesOn, HasEnded}
+use Rattle.wu_passes.specs.declared.command.Answer.{Answer}
+use Rattle.wu_passes.specs.declared.command.Command.{Command}
+use Rattle.wu_passes.specs.declared.project.Project.{Project}
+use Rattle.wu_passes.specs.Projects.{GoesStill, has_ended, IsOver, state_of}
 use Rattle.wu_drive.specs.declared.runs.Run.{Run}
 
 -- the answers are the machine's replies, one after another
@@ -60,3 +62,21 @@ session_of commands run has_ended = record {
 abbrev pub Lengthens : World → List Lived → Session → State → Type 0
 Lengthens start life session new =
     (db : Trees) → new.may_leave db → (is_cut_in : Bool) × FoundAs db (world_of_life start (life ++ record { session = session; is_cut_in = is_cut_in } ∷ []))
+
+-- so a run drives a project of any world over which its session goes on, where the disk does not fail
+abbrev pub DrivesProject : {S : Type 0} {store : Ghosts S} → Project S store → Project S store → List Command → List Answer → Run → Type 0
+DrivesProject old new commands answers run =
+    GoesStill old → HasCleanDisk (state_of new) → (world : World) → IsProject world → GoesOn (state_of old) world
+    → Drives world commands answers run (has_ended new) (state_of new)
+
+-- and lengthens any life that led to that world
+abbrev pub LengthensLife : {S : Type 0} {store : Ghosts S} → Project S store → Project S store → List Command → Run → Type 0
+LengthensLife old new commands run =
+    GoesStill old → HasCleanDisk (state_of new) → (start : World) (life : List Lived) → IsProject (world_of_life start life)
+    → GoesOn (state_of old) (world_of_life start life)
+    → Lengthens start life (session_of commands run (has_ended new)) (state_of new)
+
+-- over a session that had ended nothing is done or written, and that is why the run ended, unless there was no command
+abbrev pub DrivesNothing : {S W : Type 0} {store : Ghosts S} → Project S store → Project S store → W → W → Run → Type 0
+DrivesNothing old new out_old out_new run =
+    IsOver old → (new ≡ old) × (out_new ≡ out_old) × (run.acknowledged ≡ 0) × IfSome run.end (λ fault. fault ≡ Ended)

@@ -1,62 +1,11 @@
--- Worked examples of the machine: worlds as they stand, and what is asked of them.
-use Rattle.std.specs.Prelude.{ℕ, List, [], ◌∷◌, Some, codes, map}
-use Rattle.wu_core.specs.declared.workunit.Instance.{Instance}
+-- Worked examples of texts: what is printed.
+use Rattle.std.specs.Prelude.{[], ◌∷◌}
 use Rattle.wu_core.specs.declared.workunit.Workunit.{Workunit}
 use Rattle.wu_core.specs.declared.workunit.Archived.{Archived}
 use Rattle.wu_core.specs.Parameters.{default_parameters}
-use Rattle.wu_core.specs.Workunit.{fresh}
 use Rattle.wu_core.specs.World.{World, empty_world}
-use Rattle.wu_feed.specs.declared.jobs.Job.{Job}
-use Rattle.wu_rules.specs.Rows.{credit, h2, job, out, aa, h1, masked, cancelled_mask, too_many_errors, unneeded}
+use Rattle.wu_rules.specs.Examples.{credit, h1, h2, job, masked, too_many_errors}
 use Rattle.wu_rules.specs.Assimilation.{archived_row}
-use Rattle.wu_drive.specs.Rows.{SendRow, ReportRow, Succeeded}
-
-abbrev pub job_1 : List ℕ
-job_1 = codes "job_1"
-
--- a world of these workunits
-abbrev pub with_workunits : List Workunit → World
-with_workunits workunits = record empty_world { workunits = workunits; next_number = 10 }
-
--- the workunit of this number and name, with these instances
-abbrev pub numbered : ℕ → List ℕ → List Instance → Workunit
-numbered number name instances = record (job default_parameters instances) { number = number; name = name }
-
--- sent to this host an hour after noon, half an hour later or earlier
-abbrev pub due_at : ℕ → Instance
-due_at deadline = record (out h1) { deadline = Some deadline }
-
--- three workunits whose instances are late, the third one first
-abbrev pub three_late : World
-three_late = with_workunits
-    (numbered 1 (codes "a1") (due_at 1772973000 ∷ fresh ∷ [])
-    ∷ numbered 2 (codes "a2") (due_at 1772973000 ∷ fresh ∷ [])
-    ∷ numbered 3 (codes "a3") (due_at 1772971200 ∷ fresh ∷ [])
-    ∷ [])
-
-abbrev pub numbers_of : List Workunit → List ℕ
-numbers_of = map (λ w. w.number)
-
--- one instance is out to the first host, the other waits
-abbrev pub one_out : World
-one_out = with_workunits (job default_parameters (out h1 ∷ fresh ∷ []) ∷ [])
-
-abbrev pub sent_row : ℕ → List ℕ → SendRow
-sent_row n host = record { workunit = job_1; n = n; host = host; moment = 1772370000 }
-
--- a success of one byte
-abbrev pub reported_row : List ℕ → ℕ → List ℕ → ℕ → ReportRow
-reported_row workunit n host moment = record { workunit = workunit; n = n; host = host; moment = moment; status = Succeeded; output = aa }
-
--- a workunit that was cancelled, archived and purged
-abbrev pub one_archived : World
-one_archived = record empty_world {
-  archived = archived_row (masked cancelled_mask (job default_parameters (unneeded ∷ []))) 1772409600 ∷ [];
-  next_number = 2;
-}
-
-abbrev pub one_job : List Job
-one_job = record { name = job_1; input = 0 ∷ 255 ∷ [] } ∷ []
 
 -- a workunit as a batch adds it
 abbrev pub new_job : Workunit

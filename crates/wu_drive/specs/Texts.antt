@@ -16,7 +16,7 @@ use Rattle.wu_core.specs.Mask.{error_mask_code}
 use Rattle.wu_core.specs.Words.{server_state_word, outcome_word, validate_state_word, assimilate_word, file_delete_word, template_key_word, file_cause_word}
 use Rattle.wu_core.specs.World.{World}
 use Rattle.wu_rules.specs.Instances.{is_unsent, is_in_progress, is_over}
-use Rattle.wu_drive.specs.Requests.{Pass, Transition, Validate, Assimilate, Delete, Purge, Reply, Imported, Passed, Cancelled, Upgraded}
+use Rattle.wu_passes.specs.Requests.{Pass, Transition, Validate, Assimilate, Delete, Purge, Reply, Imported, Passed, Cancelled, Upgraded}
 
 abbrev pub line_end : List ℕ
 line_end = 10 ∷ []
@@ -110,15 +110,20 @@ skip_lines word verdicts = flat_map (skip_line word) (enumerate_from 2 verdicts)
 abbrev pub applied_count : List ℕ → ℕ
 applied_count verdicts = count_by (λ verdict. verdict == 0) verdicts
 
+-- how many rows of a file were applied and how many skipped, and why each of these was
 abbrev pub rows_text : List ℕ → List ℕ → (ℕ → List ℕ) → List ℕ → List ℕ
 rows_text word name skip_word verdicts =
     word ++ codes " " ++ name ++ codes ": " ++ decimal (applied_count verdicts) ++ codes " applied, "
     ++ decimal (length verdicts - applied_count verdicts) ++ codes " skipped" ++ line_end
     ++ skip_lines skip_word verdicts
 
-abbrev pub import_text : ImportKind → List ℕ → ℕ → List ℕ → List ℕ
-import_text kind.Batch name first verdicts =
+-- how many workunits a batch added, and the number of the first
+abbrev pub batch_text : List ℕ → ℕ → List ℕ → List ℕ
+batch_text name first verdicts =
     codes "batch " ++ name ++ codes ": " ++ decimal (length verdicts) ++ codes " added, first " ++ number_or_dash first ++ line_end
+
+abbrev pub import_text : ImportKind → List ℕ → ℕ → List ℕ → List ℕ
+import_text kind.Batch name first verdicts = batch_text name first verdicts
 import_text kind.Sent name first verdicts = rows_text (codes "sent") name send_skip_word verdicts
 import_text kind.Reported name first verdicts = rows_text (codes "reported") name report_skip_word verdicts
 

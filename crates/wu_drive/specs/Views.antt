@@ -1,11 +1,21 @@
 -- What is shown of a project.
-use Rattle.std.specs.Prelude.{◌≡◌, ◌⊎◌}
+use Rattle.std.specs.Prelude.{◌≡◌, ◌⊎◌, ℕ, List, map, flat_map, Option, Result, Err}
+use Rattle.sqlite.specs.Order.{Row}
+use Rattle.sqlite.specs.State.{HasCleanDisk}
+use Rattle.sqlite_trees.specs.declared.store.Store.{Ghosts}
 use Rattle.wu_core.specs.declared.fault.Fault.{Fault}
-use Rattle.wu_core.specs.declared.fault.Fault.TheVariants.{Memory, NotAProject, Output}
+use Rattle.wu_core.specs.declared.fault.Fault.TheVariants.{Ended, Memory, NotAProject, Output}
+use Rattle.wu_core.specs.declared.workunit.Workunit.{Workunit}
+use Rattle.wu_core.specs.World.{World}
+use Rattle.wu_schema.specs.Stored.{workunit_row}
 use Rattle.wu_drive.specs.declared.views.View.{View}
 use Rattle.wu_drive.specs.declared.views.View.TheVariants as view
-use Rattle.wu_drive.specs.Planning.{IsStoreFault}
-use Rattle.wu_drive.specs.Texts.{Sight, Workunits}
+use Rattle.wu_passes.specs.Planning.{IsStoreFault}
+use Rattle.wu_passes.specs.Standing.{GoesOn}
+use Rattle.wu_passes.specs.declared.project.Project.{Project}
+use Rattle.wu_passes.specs.Projects.{GoesStill, IsOver, state_of}
+use Rattle.wu_drive.specs.Texts.{Sight, Workunits, view_text, workunit_line}
+use Rattle.wu_drive.specs.Writing.{WritesTo}
 
 -- what a view looks at
 abbrev pub sight_of : View → Sight
@@ -18,3 +28,20 @@ IsRowFault fault = (fault ≡ Output) ⊎ ((fault ≡ Memory) ⊎ (fault ≡ Not
 -- the text can't be written, or the store can't be read
 abbrev pub IsViewFault : Fault → Type 0
 IsViewFault fault = (fault ≡ Output) ⊎ IsStoreFault fault
+
+-- the lines of the workunits that rows stand for are written
+abbrev pub WritesWorkunits : {W T : Type 0} → (W → Option (List ℕ)) → List Row → W → W → Result T Fault → Type 0
+WritesWorkunits contents rows out_old out_new result =
+    (workunits : List Workunit) → rows ≡ map workunit_row workunits
+    → WritesTo contents out_old out_new (flat_map workunit_line workunits) result
+
+-- where a session goes on over a world and the disk does not fail, a view's text of that world is written
+abbrev pub Shows : {S W T : Type 0} {store : Ghosts S} → (W → Option (List ℕ)) → Project S store → Project S store → W → W → View → Result T Fault → Type 0
+Shows contents old new out_old out_new view result =
+    GoesStill old → HasCleanDisk (state_of new) → (world : World) → GoesOn (state_of old) world
+    → WritesTo contents out_old out_new (view_text world (sight_of view)) result
+
+-- where a session had ended, that is the answer, and neither the project nor the writer is touched
+abbrev pub RefusesEnded : {S W T : Type 0} {store : Ghosts S} → (W → Option (List ℕ)) → Project S store → Project S store → W → W → Result T Fault → Type 0
+RefusesEnded contents old new out_old out_new result =
+    IsOver old → (result ≡ Err Ended) × (new ≡ old) × (contents out_new ≡ contents out_old)

@@ -4,14 +4,13 @@ use Rattle.std.specs.Fmt.{decimal}
 use Rattle.std.specs.Io.KnownBytes.{Appends}
 use Rattle.wu_drive.specs.declared.output.Piece.{Piece}
 use Rattle.wu_drive.specs.declared.output.Piece.TheVariants.{Text, Number, Place, When}
-use Rattle.wu_drive.specs.declared.command.Answer.{Answer}
-use Rattle.wu_drive.specs.declared.command.Answer.TheVariants as answer
-use Rattle.wu_drive.specs.declared.replies.Rows.{Rows}
-use Rattle.wu_drive.specs.declared.replies.Rows.TheVariants.{Sent, Reported}
+use Rattle.wu_passes.specs.declared.command.Answer.{Answer}
+use Rattle.wu_passes.specs.Planning.{reply_of_answer}
+use Rattle.wu_drive.specs.declared.replies.AppliedFile.{AppliedFile}
+use Rattle.wu_drive.specs.declared.replies.AppliedFile.TheVariants.{Sends, Reports}
 use Rattle.wu_core.specs.declared.fault.Fault.TheVariants.{Output}
 use Rattle.wu_drive.specs.declared.runs.Run.{Run}
-use Rattle.wu_drive.specs.Requests.{Reply, Imported}
-use Rattle.wu_drive.specs.Texts.{or_dash, moment_text, reply_text, send_skip_word, report_skip_word}
+use Rattle.wu_drive.specs.Texts.{or_dash, moment_text, reply_text, rows_text, send_skip_word, report_skip_word, skip_line, skip_lines}
 
 -- some beginning of the bytes was appended
 abbrev pub AppendsFront : Option (List ℕ) → Option (List ℕ) → List ℕ → Type 0
@@ -21,6 +20,10 @@ AppendsFront old new bytes = (count : ℕ) × Appends old new (take count bytes)
 abbrev pub Writes : {T E : Type 0} → Option (List ℕ) → Option (List ℕ) → List ℕ → Result T E → Type 0
 Writes old new bytes result = MatchResult result (λ _. Appends old new bytes) (λ _. AppendsFront old new bytes)
 
+-- so it is with the contents of a writer before a call and after it
+abbrev pub WritesTo : {W T E : Type 0} → (W → Option (List ℕ)) → W → W → List ℕ → Result T E → Type 0
+WritesTo contents old new text result = Writes (contents old) (contents new) text result
+
 -- the text of a piece
 abbrev pub piece_text : Piece → List ℕ
 piece_text (Text text) = text.now
@@ -28,23 +31,35 @@ piece_text (Number number) = decimal number
 piece_text (Place place) = or_dash decimal place
 piece_text (When moment) = or_dash moment_text moment
 
--- the word of the file in an answer
-abbrev pub rows_word : Rows → List ℕ
-rows_word Sent = codes "sent"
-rows_word Reported = codes "reported"
+-- the word of an applied file in its answer
+abbrev pub file_word : AppliedFile → List ℕ
+file_word Sends = codes "sent"
+file_word Reports = codes "reported"
 
--- why a row was skipped
-abbrev pub skip_word : Rows → ℕ → List ℕ
-skip_word Sent = send_skip_word
-skip_word Reported = report_skip_word
+-- why a row of it was skipped
+abbrev pub skip_word : AppliedFile → ℕ → List ℕ
+skip_word Sends = send_skip_word
+skip_word Reports = report_skip_word
 
--- the reply that an answer stands for
-abbrev pub reply_of_answer : Answer → Reply
-reply_of_answer (answer.Imported kind name first verdicts) = Imported kind name first verdicts
+-- the line of a row of it, if the row was skipped
+abbrev pub skipped_line : AppliedFile → ℕ → ℕ → List ℕ
+skipped_line file row verdict = skip_line (skip_word file) (row, verdict)
+
+-- a line for each of its rows that was skipped
+abbrev pub skipped_lines : AppliedFile → List ℕ → List ℕ
+skipped_lines file verdicts = skip_lines (skip_word file) verdicts
+
+-- its answer: how many rows were applied and how many skipped, and a line for each of these
+abbrev pub applied_text : AppliedFile → List ℕ → List ℕ → List ℕ
+applied_text file name verdicts = rows_text (file_word file) name (skip_word file) verdicts
+
+-- the text of an answer
+abbrev pub answer_text : Answer → List ℕ
+answer_text answer = reply_text (reply_of_answer answer)
 
 -- the texts of answers, in order
 abbrev pub answers_text : List Answer → List ℕ
-answers_text answers = flat_map (λ answer. reply_text (reply_of_answer answer)) answers
+answers_text answers = flat_map answer_text answers
 
 -- a run wrote the texts of as many answers as it acknowledged; only where it ended with Output was the last text cut
 pub record WritesAnswers (old new : Option (List ℕ)) (answers : List Answer) (run : Run) : Type 0 where

@@ -1,20 +1,22 @@
 //! The texts of answers.
 
-ghost use Rattle.std.specs.Prelude.{◌≡◌, IfErr};
+ghost use Rattle.std.specs.Prelude.{◌≡◌, IsOkUnless};
 ghost use Rattle.wu_core.specs.declared.fault.Fault.TheVariants.{Output};
-ghost use Rattle.wu_drive.specs.Texts.{applied_count, import_text, number_or_dash, reply_text, report_skip_word, rows_text, send_skip_word, skip_line, skip_lines};
-ghost use Rattle.wu_drive.specs.Writing.{piece_text, reply_of_answer, rows_word, skip_word, Writes};
+ghost use Rattle.wu_drive.specs.Texts.{applied_count, batch_text, number_or_dash, report_skip_word, send_skip_word};
+ghost use Rattle.wu_drive.specs.Writing.{answer_text, applied_text, file_word, piece_text, skip_word, skipped_line, skipped_lines, WritesTo};
 
-use crate::command::Answer;
 use crate::output::{Piece, flush, write_pieces};
 use std::io::Write;
 use wu_core::{Fault, ImportKind, Name};
+use wu_passes::Answer;
 
-/// What an imported file of rows holds.
-#[derive(Clone, Copy, Debug, PartialEq, Eq)]
-enum Rows {
-    Sent,
-    Reported,
+/// An imported file whose rows are applied one by one, or skipped.
+#[derive(Clone, Copy, Debug)]
+enum AppliedFile {
+    /// Instances that were sent to hosts.
+    Sends,
+    /// Results that hosts reported.
+    Reports,
 }
 
 /// Why a row of sends was skipped.
@@ -41,30 +43,30 @@ fn report_skip_word(verdict: u8) -> &'static str
     }
 }
 
-/// The word of the file in an answer.
-fn rows_word(rows: Rows) -> &'static str
-    ensures { result.now ≡ rows_word rows }
+/// The word of a file in its answer.
+fn file_word(file: AppliedFile) -> &'static str
+    ensures { result.now ≡ file_word file }
 {
-    match rows {
-        Rows::Sent => "sent",
-        Rows::Reported => "reported",
+    match file {
+        AppliedFile::Sends => "sent",
+        AppliedFile::Reports => "reported",
     }
 }
 
 /// Why a row was skipped.
-fn skip_word(rows: Rows, verdict: u8) -> &'static str
-    ensures { result.now ≡ skip_word rows verdict }
+fn skip_word(file: AppliedFile, verdict: u8) -> &'static str
+    ensures { result.now ≡ skip_word file verdict }
 {
-    match rows {
-        Rows::Sent => send_skip_word(verdict),
-        Rows::Reported => report_skip_word(verdict),
+    match file {
+        AppliedFile::Sends => send_skip_word(verdict),
+        AppliedFile::Reports => report_skip_word(verdict),
     }
 }
 
 /// Writes the line of a row, if it was skipped.
-fn write_skip<W: Write>(out: &mut W, rows: Rows, row: u64, verdict: u8) -> Result<(), Fault>
-    ensures bytes { Writes (W.contents out.old) (W.contents out.new) (skip_line (skip_word rows) (row, verdict)) result }
-    ensures fault { IfErr result (λ fault. fault ≡ Output) }
+fn write_skip<W: Write>(out: &mut W, file: AppliedFile, row: u64, verdict: u8) -> Result<(), Fault>
+    ensures bytes { WritesTo W.contents out.old out.new (skipped_line file row verdict) result }
+    ensures fault { IsOkUnless result Output }
 {
     if verdict == 0 {
         return Ok(());
@@ -75,19 +77,19 @@ fn write_skip<W: Write>(out: &mut W, rows: Rows, row: u64, verdict: u8) -> Resul
             Piece::Text("  row "),
             Piece::Number(row),
             Piece::Text(": "),
-            Piece::Text(skip_word(rows, verdict)),
+            Piece::Text(skip_word(file, verdict)),
             Piece::Text("\n"),
         ],
     )
 }
 
 /// Writes a line for each row that was skipped. The first row after the header is row 2.
-fn write_skips<W: Write>(out: &mut W, rows: Rows, verdicts: &[u8]) -> Result<(), Fault>
-    ensures bytes { Writes (W.contents out.old) (W.contents out.new) (skip_lines (skip_word rows) verdicts.now) result }
-    ensures fault { IfErr result (λ fault. fault ≡ Output) }
+fn write_skips<W: Write>(out: &mut W, file: AppliedFile, verdicts: &[u8]) -> Result<(), Fault>
+    ensures bytes { WritesTo W.contents out.old out.new (skipped_lines file verdicts.now) result }
+    ensures fault { IsOkUnless result Output }
 {
     for (place, verdict) in verdicts.iter().enumerate() {
-        write_skip(out, rows, place as u64 + 2, *verdict)?;
+        write_skip(out, file, place as u64 + 2, *verdict)?;
     }
     Ok(())
 }
@@ -100,15 +102,21 @@ fn applied_count(verdicts: &[u8]) -> usize
 }
 
 /// Writes how many rows of a file were applied and how many skipped, and why each of these was.
-fn write_rows<W: Write>(out: &mut W, rows: Rows, name: &Name, verdicts: &[u8]) -> Result<(), Fault>
-    ensures bytes { Writes (W.contents out.old) (W.contents out.new) (rows_text (rows_word rows) name.now (skip_word rows) verdicts.now) result }
-    ensures fault { IfErr result (λ fault. fault ≡ Output) }
+fn write_applied<W: Write>(
+    out: &mut W,
+    file: AppliedFile,
+    name: &Name,
+    verdicts: &[u8],
+) -> Result<(), Fault>
+    ensures bytes { WritesTo W.contents out.old out.new
+        (applied_text file name.now verdicts.now) result }
+    ensures fault { IsOkUnless result Output }
 {
     let applied = applied_count(verdicts);
     write_pieces(
         out,
         &[
-            Piece::Text(rows_word(rows)),
+            Piece::Text(file_word(file)),
             Piece::Text(" "),
             Piece::Text(name.as_str()),
             Piece::Text(": "),
@@ -118,7 +126,7 @@ fn write_rows<W: Write>(out: &mut W, rows: Rows, name: &Name, verdicts: &[u8]) -
             Piece::Text(" skipped\n"),
         ],
     )?;
-    write_skips(out, rows, verdicts)
+    write_skips(out, file, verdicts)
 }
 
 /// The number, or `-` for 0.
@@ -134,8 +142,9 @@ fn number_or_dash(number: u64) -> Piece<'static>
 
 /// Writes how many workunits a batch added, and the first one's number.
 fn write_batch<W: Write>(out: &mut W, name: &Name, first: u64, verdicts: &[u8]) -> Result<(), Fault>
-    ensures bytes { Writes (W.contents out.old) (W.contents out.new) (import_text ImportKind.Batch name.now first verdicts.now) result }
-    ensures fault { IfErr result (λ fault. fault ≡ Output) }
+    ensures bytes { WritesTo W.contents out.old out.new
+        (batch_text name.now first verdicts.now) result }
+    ensures fault { IsOkUnless result Output }
 {
     write_pieces(
         out,
@@ -153,8 +162,8 @@ fn write_batch<W: Write>(out: &mut W, name: &Name, first: u64, verdicts: &[u8]) 
 
 /// Writes the text of an answer.
 fn write_text<W: Write>(out: &mut W, answer: &Answer) -> Result<(), Fault>
-    ensures bytes { Writes (W.contents out.old) (W.contents out.new) (reply_text (reply_of_answer answer.now)) result }
-    ensures fault { IfErr result (λ fault. fault ≡ Output) }
+    ensures bytes { WritesTo W.contents out.old out.new (answer_text answer.now) result }
+    ensures fault { IsOkUnless result Output }
 {
     let Answer::Imported {
         kind,
@@ -165,15 +174,15 @@ fn write_text<W: Write>(out: &mut W, answer: &Answer) -> Result<(), Fault>
     let verdicts = verdicts.as_slice();
     match kind {
         ImportKind::Batch => write_batch(out, name, *first, verdicts),
-        ImportKind::Sent => write_rows(out, Rows::Sent, name, verdicts),
-        ImportKind::Reported => write_rows(out, Rows::Reported, name, verdicts),
+        ImportKind::Sent => write_applied(out, AppliedFile::Sends, name, verdicts),
+        ImportKind::Reported => write_applied(out, AppliedFile::Reports, name, verdicts),
     }
 }
 
 /// Writes the text of an answer, and flushes.
 pub fn write_answer<W: Write>(out: &mut W, answer: &Answer) -> Result<(), Fault>
-    ensures bytes { Writes (W.contents out.old) (W.contents out.new) (reply_text (reply_of_answer answer.now)) result }
-    ensures fault { IfErr result (λ fault. fault ≡ Output) }
+    ensures bytes { WritesTo W.contents out.old out.new (answer_text answer.now) result }
+    ensures fault { IsOkUnless result Output }
 {
     write_text(out, answer)?;
     flush(out)

@@ -1,26 +1,19 @@
 //! Lists of commands, and the demonstration.
 
-ghost use Rattle.std.specs.Prelude.{◌≡◌, ◌≤◌, true, false, IfSome, List, length};
-ghost use Rattle.sqlite_trees.specs.View.{doubt};
-ghost use Rattle.sqlite.specs.State.{HasCleanDisk};
-ghost use Rattle.sqlite.specs.Held.{state};
-ghost use Rattle.wu_core.specs.declared.fault.Fault.TheVariants.{Ended};
-ghost use Rattle.wu_core.specs.World.{World};
-ghost use Rattle.wu_drive.specs.Driving.{Drives, Lengthens, session_of};
-ghost use Rattle.wu_drive.specs.Planning.{IsProject};
-ghost use Rattle.wu_drive.specs.Sessions.{Lived, world_of_life};
-ghost use Rattle.wu_drive.specs.Standing.{GoesOn};
-ghost use Rattle.wu_drive.specs.declared.command.Answer.{Answer};
+ghost use Rattle.std.specs.Prelude.{◌≡◌, ◌≤◌, List, length};
+ghost use Rattle.wu_drive.specs.Driving.{DrivesNothing, DrivesProject, LengthensLife};
 ghost use Rattle.wu_drive.specs.Writing.{WritesAnswers};
+ghost use Rattle.wu_passes.specs.declared.command.Answer.{Answer};
+ghost use Rattle.wu_passes.specs.Projects.{state_of};
+ghost use Rattle.wu_passes.specs.Standing.{KeepsDoubt};
 
-use crate::command::Command;
-use crate::project::Project;
 use crate::replies::write_answer;
 use crate::views::{View, show};
 use sqlite::{Alter, Connection};
 use std::alloc::Global;
 use std::io::Write;
 use wu_core::{Bytes, Fault, Name};
+use wu_passes::{Batch, Command, Project};
 
 /// How far a list of commands went.
 #[derive(Clone, Copy, Debug, PartialEq, Eq)]
@@ -43,10 +36,12 @@ pub fn drive<S: Alter, W: Write>(
     commands: &[Command],
     out: &mut W,
 ) -> Run
-    ensures answers { (answers : List Answer) × WritesAnswers (W.contents out.old) (W.contents out.new) answers result × (project.old.has_ended ≡ false → HasCleanDisk (state S.Store project.new.conn) → (world : World) → IsProject world → GoesOn (state S.Store project.old.conn) world → Drives world commands.now answers result project.new.has_ended (state S.Store project.new.conn)) }
-    ensures lives { project.old.has_ended ≡ false → HasCleanDisk (state S.Store project.new.conn) → (start : World) (life : List Lived) → IsProject (world_of_life start life) → GoesOn (state S.Store project.old.conn) (world_of_life start life) → Lengthens start life (session_of commands.now result project.new.has_ended) (state S.Store project.new.conn) }
-    ensures ended { project.old.has_ended ≡ true → (project.new ≡ project.old) × (out.new ≡ out.old) × (result.acknowledged ≡ 0) × IfSome result.end (λ fault. fault ≡ Ended) }
-    ensures clean { doubt (state S.Store project.old.conn).is_clean ≤ doubt (state S.Store project.new.conn).is_clean }
+    ensures answers { (answers : List Answer)
+        × WritesAnswers (W.contents out.old) (W.contents out.new) answers result
+        × DrivesProject project.old project.new commands.now answers result }
+    ensures lives { LengthensLife project.old project.new commands.now result }
+    ensures ended { DrivesNothing project.old project.new out.old out.new result }
+    ensures clean { KeepsDoubt (state_of project.old) (state_of project.new) }
     ensures count { result.acknowledged ≤ length commands.now }
     ensures all { result.end ≡ None → result.acknowledged ≡ length commands.now }
 {
@@ -77,20 +72,18 @@ pub fn drive<S: Alter, W: Write>(
 
 /// The batch of the demonstration: one job of two bytes.
 fn demo_batch(alloc: Global) -> Result<Command, Fault> {
-    let file = Vec::from_slice(alloc, b"name,input\njob_1,00ff\n").map_err(|_| Fault::Memory)?;
-    Ok(Command::Batch {
+    let file = Vec::from_slice(alloc, b"name,input\njob_1,00ff\n")?;
+    Ok(Command::Batch(Batch {
         name: Name::read(alloc, b"b1")?,
         template: Bytes::new(alloc),
         file: Bytes::from_vec(file),
-    })
+    }))
 }
 
+/// Runs the demonstration, up to its first fault.
 fn run_demo<W: Write>(alloc: Global, out: &mut W) -> Result<(), Fault> {
     let conn = Connection::open_in_memory(alloc).map_err(|_| Fault::Memory)?;
-    let mut project = match Project::adopt(conn) {
-        Ok(project) => project,
-        Err((_, fault)) => return Err(fault),
-    };
+    let mut project = Project::adopt(conn).map_err(|(_, fault)| fault)?;
     let commands = [demo_batch(alloc)?];
     match drive(alloc, &mut project, &commands, out).end {
         Some(fault) => Err(fault),

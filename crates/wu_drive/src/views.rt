@@ -1,23 +1,20 @@
 //! The views of a project, as text.
 
-ghost use Rattle.std.specs.Prelude.{◌≡◌, true, false, List, map, flat_map, Err, IfErr};
-ghost use Rattle.sqlite.specs.Held.{state};
-ghost use Rattle.sqlite.specs.State.{HasCleanDisk};
+ghost use Rattle.std.specs.Prelude.{◌≡◌, Err, IfErr, IsOkUnless};
 ghost use Rattle.wu_core.specs.declared.fault.Fault.TheVariants.{Output};
-ghost use Rattle.wu_core.specs.World.{World};
-ghost use Rattle.wu_schema.specs.Stored.{workunit_row};
-ghost use Rattle.wu_drive.specs.Standing.{GoesOn};
-ghost use Rattle.wu_drive.specs.Texts.{view_text, workunit_line, Workunits};
-ghost use Rattle.wu_drive.specs.Views.{IsRowFault, IsViewFault, sight_of};
-ghost use Rattle.wu_drive.specs.Writing.{Writes};
+ghost use Rattle.wu_drive.specs.Projects.{EndsAsBroken, KeepsWorld};
+ghost use Rattle.wu_drive.specs.Texts.{workunit_line};
+ghost use Rattle.wu_drive.specs.Views.{IsRowFault, IsViewFault, RefusesEnded, Shows, WritesWorkunits};
+ghost use Rattle.wu_drive.specs.Writing.{WritesTo};
+ghost use Rattle.wu_passes.specs.Projects.{GoesStill, IsOver};
 
 use crate::output::{Piece, flush, write_pieces};
-use crate::project::Project;
 use sqlite::{Alter, Row};
 use std::alloc::Global;
 use std::io::Write;
 use wu_core::{Fault, Workunit};
-use wu_schema::workunit_from;
+use wu_passes::Project;
+use wu_store::workunit_from;
 
 /// A view of a project.
 #[derive(Clone, Copy, Debug, PartialEq, Eq)]
@@ -28,8 +25,8 @@ pub enum View {
 
 /// Writes the line of a workunit.
 fn write_workunit<W: Write>(out: &mut W, workunit: &Workunit) -> Result<(), Fault>
-    ensures bytes { Writes (W.contents out.old) (W.contents out.new) (workunit_line workunit.now) result }
-    ensures fault { IfErr result (λ fault. fault ≡ Output) }
+    ensures bytes { WritesTo W.contents out.old out.new (workunit_line workunit.now) result }
+    ensures fault { IsOkUnless result Output }
 {
     let params = workunit.params;
     write_pieces(
@@ -71,18 +68,12 @@ fn write_workunit<W: Write>(out: &mut W, workunit: &Workunit) -> Result<(), Faul
 
 /// Writes the lines of the workunits that rows stand for. A row that stands for none is `NotAProject`.
 fn write_workunits<W: Write>(alloc: Global, rows: &[Row], out: &mut W) -> Result<(), Fault>
-    ensures text { (workunits : List Workunit) → rows.now ≡ map workunit_row workunits → Writes (W.contents out.old) (W.contents out.new) (flat_map workunit_line workunits) result }
+    ensures text { WritesWorkunits W.contents rows.now out.old out.new result }
     ensures fault { IfErr result IsRowFault }
 {
     for row in rows {
-        let workunit = match workunit_from(alloc, row) {
-            Ok(workunit) => workunit,
-            Err(fault) => return Err(fault),
-        };
-        match write_workunit(out, &workunit) {
-            Ok(()) => {}
-            Err(fault) => return Err(fault),
-        }
+        let workunit = workunit_from(alloc, row)?;
+        write_workunit(out, &workunit)?;
     }
     Ok(())
 }
@@ -93,21 +84,16 @@ fn show_workunits<S: Alter, W: Write>(
     project: &mut Project<S>,
     out: &mut W,
 ) -> Result<(), Fault>
-    ensures text { project.old.has_ended ≡ false → HasCleanDisk (state S.Store project.new.conn) → (world : World) → GoesOn (state S.Store project.old.conn) world → Writes (W.contents out.old) (W.contents out.new) (view_text world Workunits) result }
-    ensures goes { HasCleanDisk (state S.Store project.new.conn) → (world : World) → GoesOn (state S.Store project.old.conn) world → GoesOn (state S.Store project.new.conn) world }
-    ensures ended { project.old.has_ended ≡ true → (result ≡ Err Fault.Ended) × (project.new ≡ project.old) × (W.contents out.new ≡ W.contents out.old) }
-    ensures ends { project.old.has_ended ≡ false → project.new.has_ended ≡ true → result ≡ Err Fault.Broken }
-    ensures broken { result ≡ Err Fault.Broken → project.new.has_ended ≡ true }
-    ensures fault { project.old.has_ended ≡ false → IfErr result IsViewFault }
+    ensures text { Shows W.contents project.old project.new out.old out.new View.Workunits result }
+    ensures goes { KeepsWorld project.old project.new }
+    ensures ended { RefusesEnded W.contents project.old project.new out.old out.new result }
+    ensures ends { EndsAsBroken project.old project.new result }
+    ensures broken { result ≡ Err Fault.Broken → IsOver project.new }
+    ensures fault { GoesStill project.old → IfErr result IsViewFault }
 {
-    let rows = match project.workunit_rows() {
-        Ok(rows) => rows,
-        Err(fault) => return Err(fault),
-    };
-    match write_workunits(alloc, rows.as_slice(), out) {
-        Ok(()) => flush(out),
-        Err(fault) => Err(fault),
-    }
+    let rows = project.workunit_rows()?;
+    write_workunits(alloc, rows.as_slice(), out)?;
+    flush(out)
 }
 
 /// Writes the lines of a view. It changes no table; a failure of the disk ends the session.
@@ -119,12 +105,12 @@ pub fn show<S: Alter, W: Write>(
     view: View,
     out: &mut W,
 ) -> Result<(), Fault>
-    ensures text { project.old.has_ended ≡ false → HasCleanDisk (state S.Store project.new.conn) → (world : World) → GoesOn (state S.Store project.old.conn) world → Writes (W.contents out.old) (W.contents out.new) (view_text world (sight_of view)) result }
-    ensures goes { HasCleanDisk (state S.Store project.new.conn) → (world : World) → GoesOn (state S.Store project.old.conn) world → GoesOn (state S.Store project.new.conn) world }
-    ensures ended { project.old.has_ended ≡ true → (result ≡ Err Fault.Ended) × (project.new ≡ project.old) × (W.contents out.new ≡ W.contents out.old) }
-    ensures ends { project.old.has_ended ≡ false → project.new.has_ended ≡ true → result ≡ Err Fault.Broken }
-    ensures broken { result ≡ Err Fault.Broken → project.new.has_ended ≡ true }
-    ensures fault { project.old.has_ended ≡ false → IfErr result IsViewFault }
+    ensures text { Shows W.contents project.old project.new out.old out.new view result }
+    ensures goes { KeepsWorld project.old project.new }
+    ensures ended { RefusesEnded W.contents project.old project.new out.old out.new result }
+    ensures ends { EndsAsBroken project.old project.new result }
+    ensures broken { result ≡ Err Fault.Broken → IsOver project.new }
+    ensures fault { GoesStill project.old → IfErr result IsViewFault }
 {
     match view {
         View::Workunits => show_workunits(alloc, project, out),

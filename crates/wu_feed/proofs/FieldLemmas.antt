@@ -1,7 +1,7 @@
 -- The fields of a row, place by place.
 use Rattle.std.proofs.Common.{◌≡◌, ℕ, true, false, List, [], ◌∷◌, Option, Some, None, option_map, is_some, refl}
 use Rattle.csv.specs.Records.{field_at}
-use Rattle.wu_feed.specs.Rows.{two_of}
+use Rattle.wu_feed.specs.Fields.{two_of}
 
 pub no_first : (fields : List (List ℕ)) → None ≡ field_at fields 0 → None ≡ two_of fields
 unfolding field_at

@@ -2,4 +2,5 @@ mod FieldLemmas
 mod JobLemmas
 mod MomentLemmas
 mod RecordLemmas
+mod RowLemmas
 mod TemplateLemmas

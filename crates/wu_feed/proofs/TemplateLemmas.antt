@@ -11,7 +11,8 @@ use Rattle.toml.specs.View.{members_view}
 use Rattle.toml.specs.declared.value.Value.{Value}
 use Rattle.wu_core.specs.Templates.{template_parameters, whole_at}
 use Rattle.wu_core.specs.declared.fault.TemplateKey.TheVariants as key
-use Rattle.wu_feed.specs.Templates.{document_of, has_only_keys, is_key, longest_template, value_in}
+use Rattle.wu_feed.specs.Limits.{longest_template}
+use Rattle.wu_feed.specs.Templates.{document_of, has_only_keys, is_key, value_in}
 
 short_text : (text : List ℕ) → length text ≤ 65536 → nat_le (length text) longest_template ≡ true
 short_text text short = grind (arith, nat_tests)

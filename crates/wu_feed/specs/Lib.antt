@@ -1,5 +1,9 @@
+pub mod Fields
 pub mod Inputs
 pub mod Jobs
+pub mod Limits
 pub mod Moments
+pub mod Reports
 pub mod Rows
+pub mod Sends
 pub mod Templates

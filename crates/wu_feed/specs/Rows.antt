@@ -1,7 +1,46 @@
--- The fields of a row.
-use Rattle.std.specs.Prelude.{ℕ, List, [], ◌∷◌, Option, Some, None}
+-- The rows of a file under its header, as `csv` reads their records. Records are numbered from 1, the header.
+use Rattle.std.specs.Prelude.{ℕ, ◌+◌, nat_lt, Bool, true, false, ◌&&◌, if◌then◌else◌, bytes_eq, List, [], ◌∷◌, length, take, Result, Ok, Err}
+use Rattle.csv.specs.Reading.{default_config, records, strip_bom}
+use Rattle.wu_core.specs.declared.fault.Fault.{Fault}
+use Rattle.wu_core.specs.declared.fault.Fault.TheVariants.{BadFile}
+use Rattle.wu_core.specs.declared.fault.FileCause.TheVariants as cause
+use Rattle.wu_feed.specs.Limits.{last_row, longest_file, most_records}
 
--- the fields of a row of two
-abbrev pub two_of : List (List ℕ) → Option (List ℕ × List ℕ)
-two_of (first ∷ second ∷ []) = Some (first, second)
-two_of _ = None
+-- the records of a text, each with its fields
+abbrev pub records_of : List ℕ → List (List (List ℕ))
+records_of text = records default_config (strip_bom text)
+
+-- those that are read of it: one more than a file may have
+abbrev pub first_records_of : List ℕ → List (List (List ℕ))
+first_records_of text = take most_records (records_of text)
+
+-- the header has these fields, in this order
+abbrev pub is_header : List (List ℕ) → List (List ℕ) → Bool
+is_header [] [] = true
+is_header (name ∷ names) (field ∷ fields) = bytes_eq field name && is_header names fields
+is_header _ _ = false
+
+-- what the row of this number is, by its fields; a row after the last one is none
+abbrev pub row_at : {R : Type 0} → (ℕ → List (List ℕ) → Result R Fault) → ℕ → List (List ℕ) → Result R Fault
+row_at row_of number fields = if nat_lt last_row number then Err (BadFile number cause.TooManyRows) else row_of number fields
+
+-- a row before others
+abbrev pub with_first : {R : Type 0} → Result R Fault → Result (List R) Fault → Result (List R) Fault
+with_first (Err fault) rows = Err fault
+with_first (Ok row) (Err fault) = Err fault
+with_first (Ok row) (Ok rows) = Ok (row ∷ rows)
+
+-- the rows of records that are numbered from this one, or the first faulty row
+unfoldable pub rows_from : {R : Type 0} → (ℕ → List (List ℕ) → Result R Fault) → ℕ → List (List (List ℕ)) → Result (List R) Fault
+rows_from row_of number [] = Ok []
+rows_from row_of number (fields ∷ more) = with_first (row_at row_of number fields) (rows_from row_of (number + 1) more)
+
+-- the header and the rows
+abbrev pub rows_under : {R : Type 0} → List (List ℕ) → (ℕ → List (List ℕ) → Result R Fault) → List (List (List ℕ)) → Result (List R) Fault
+rows_under names row_of [] = Err (BadFile 1 cause.Header)
+rows_under names row_of (header ∷ more) = if is_header names header then rows_from row_of 2 more else Err (BadFile 1 cause.Header)
+
+-- the rows of a file with this header, or its first faulty row and the first cause there
+abbrev pub rows_of_file : {R : Type 0} → List (List ℕ) → (ℕ → List (List ℕ) → Result R Fault) → List ℕ → Result (List R) Fault
+rows_of_file names row_of file =
+    if nat_lt longest_file (length file) then Err (BadFile 0 cause.TooLong) else rows_under names row_of (records_of file)

@@ -1,5 +1,5 @@
 -- Templates, as `toml` reads their documents.
-use Rattle.std.specs.Prelude.{ℕ, nat_le, Bool, true, ◌&&◌, ◌||◌, if◌then◌else◌, ℤ, pos, bytes_eq, codes, List, length, Option, Some, None, Result, Err}
+use Rattle.std.specs.Prelude.{◌≡◌, ℕ, nat_le, Bool, true, ◌&&◌, ◌||◌, if◌then◌else◌, ℤ, pos, bytes_eq, codes, List, length, Option, Some, None, Result, Err}
 use Rattle.std.specs.Str.{is_utf8}
 use Rattle.toml.specs.Data.{Data, Members, no_members, member, as_integer, get_member}
 use Rattle.toml.specs.Parse.{parse_document}
@@ -9,14 +9,15 @@ use Rattle.wu_core.specs.declared.fault.Fault.{Fault}
 use Rattle.wu_core.specs.declared.fault.Fault.TheVariants.{BadTemplate}
 use Rattle.wu_core.specs.declared.fault.TemplateKey.{TemplateKey}
 use Rattle.wu_core.specs.declared.fault.TemplateKey.TheVariants as key
-
--- bytes of a template
-abbrev pub longest_template : ℕ
-longest_template = 65536
+use Rattle.wu_feed.specs.Limits.{longest_template}
 
 -- the document that a text is
 abbrev pub document_of : List ℕ → Option Members
 document_of text = if nat_le (length text) longest_template && is_utf8 text then parse_document text else None
+
+-- the text is no document, and this is its fault
+abbrev pub IsNoDocument : List ℕ → Fault → Type 0
+IsNoDocument text fault = (fault ≡ BadTemplate key.Document) × (document_of text ≡ None)
 
 -- a key that a template may have
 abbrev pub is_key : List ℕ → Bool

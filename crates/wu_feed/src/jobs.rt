@@ -1,17 +1,22 @@
 //! Files of jobs: a header `name,input`, and a row for each job.
 
-ghost use Rattle.std.specs.Prelude.{◌≡◌, ◌≤◌, All, IfOk, List, length, map};
+ghost use Rattle.std.specs.Prelude.{◌≡◌, ◌↔◌, ◌≤◌, ◌<◌, ◌^◌, All, IfOk, IsTrue, List, [], length, map};
+ghost use Rattle.std.specs.Iterator.Adapters.{IterYieldsInOrder};
+ghost use Rattle.std.specs.Slice.Iter.{iter_rest};
 ghost use Rattle.csv.specs.Records.{fields_of};
 ghost use Rattle.wu_core.specs.Limits.{longest_input};
 ghost use Rattle.wu_core.specs.Reads.{Gives};
 ghost use Rattle.wu_feed.specs.Inputs.{input_of};
-ghost use Rattle.wu_feed.specs.Jobs.{is_jobs_header, job_of, jobs_from, jobs_of_records, jobs_of_file};
+ghost use Rattle.wu_feed.specs.Limits.{most_rows};
+ghost use Rattle.wu_feed.specs.Jobs.{is_jobs_header, job_at, jobs_from, jobs_of_records, jobs_of_file};
 
+use crate::limits::{LAST_ROW, LONGEST_FILE};
 use crate::records;
 use csv::ByteRecord;
 use std::alloc::Global;
 use std::marker::Model;
-use wu_core::{Bytes, Fault, FileCause, Name};
+use std::slice::Iter;
+use wu_core::{Bytes, Fault, FileCause, LONGEST_INPUT, Name};
 
 /// A job of a batch: the name of its workunit, and its input of at most 4,096 bytes.
 #[derive(Debug, Drop)]
@@ -59,16 +64,22 @@ impl Jobs {
     {
         self.items.len()
     }
+
+    pub fn is_empty(&self) -> bool
+        ensures { IsTrue result ↔ (self.now ≡ []) }
+    {
+        self.items.is_empty()
+    }
+
+    /// The jobs in the order of their rows.
+    pub fn iter(&self) -> Iter<'_, Job>
+        ensures rest { iter_rest result ≡ self.now }
+        ensures fits { length (iter_rest result) < 2 ^ 64 }
+        ensures runs { IterYieldsInOrder Job }
+    {
+        self.items.as_slice().iter()
+    }
 }
-
-/// The longest file, in bytes.
-const LONGEST_FILE: usize = 1_048_576;
-
-/// The longest input, in bytes.
-const LONGEST_INPUT: usize = 4_096;
-
-/// The number of the last row that a file may have. The header is row 1.
-const LAST_ROW: u32 = 1_001;
 
 /// The bytes of hex digits of either case, if they are an input; no digits are none.
 fn read_input(alloc: Global, text: &[u8]) -> Result<Option<Bytes>, Fault>
@@ -77,13 +88,14 @@ fn read_input(alloc: Global, text: &[u8]) -> Result<Option<Bytes>, Fault>
     match hex::decode(alloc, text) {
         Ok(bytes) if bytes.len() <= LONGEST_INPUT => Ok(Some(Bytes::from_vec(bytes))),
         Err(hex::FromHexError::OutOfMemory) => Err(Fault::Memory),
+        // No hex, or too long: the row's fault is its reader's to tell.
         _ => Ok(None),
     }
 }
 
 /// The job of a row: its name, and then its input. The first cause for which there is none is that of `BadFile`.
 fn read_job(alloc: Global, number: u32, row: &ByteRecord) -> Result<Job, Fault>
-    ensures { Gives result (job_of number (fields_of row.now)) }
+    ensures { Gives result (job_at number (fields_of row.now)) }
 {
     if number > LAST_ROW {
         return Err(records::fault_at(number, FileCause::TooManyRows));
@@ -94,6 +106,7 @@ fn read_job(alloc: Global, number: u32, row: &ByteRecord) -> Result<Job, Fault>
     let name = match Name::read(alloc, name) {
         Ok(name) => name,
         Err(Fault::Memory) => return Err(Fault::Memory),
+        // No name: told with the row.
         Err(_) => return Err(records::fault_at(number, FileCause::Name)),
     };
     match read_input(alloc, input)? {
@@ -110,9 +123,7 @@ fn read_rows(alloc: Global, rows: &[ByteRecord]) -> Result<Jobs, Fault>
     let mut number = 2;
     for row in rows {
         let job = read_job(alloc, number, row)?;
-        if jobs.push(job).is_err() {
-            return Err(Fault::Memory);
-        }
+        jobs.push(job)?;
         number += 1;
     }
     Ok(Jobs::from_vec(jobs))
@@ -143,7 +154,7 @@ fn read_records(alloc: Global, records: &[ByteRecord]) -> Result<Jobs, Fault>
 /// the header; 0 for the file's length) and the first cause there, from left to right.
 pub fn read_jobs(alloc: Global, file: &[u8]) -> Result<Jobs, Fault>
     ensures exact { Gives result (jobs_of_file file.now) }
-    ensures few { IfOk result (λ jobs. length jobs ≤ 1000) }
+    ensures few { IfOk result (λ jobs. length jobs ≤ most_rows) }
     ensures short { IfOk result (All (λ job. length job.input ≤ longest_input)) }
 {
     if file.len() > LONGEST_FILE {

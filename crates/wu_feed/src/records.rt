@@ -1,24 +1,23 @@
 //! The records of a file, header and rows.
 
-ghost use Rattle.std.specs.Prelude.{◌≡◌, take, map, option_map, IfOk, IfErr};
-ghost use Rattle.csv.specs.Reading.{default_config, records, strip_bom};
+ghost use Rattle.std.specs.Prelude.{◌≡◌, map, option_map, IfOk};
 ghost use Rattle.csv.specs.Records.{fields_of};
-ghost use Rattle.wu_core.specs.declared.fault.Fault.TheVariants.{BadFile, Memory};
-ghost use Rattle.wu_feed.specs.Rows.{two_of};
+ghost use Rattle.wu_core.specs.declared.fault.Fault.TheVariants.{BadFile};
+ghost use Rattle.wu_core.specs.Reads.{FailsForMemory};
+ghost use Rattle.wu_feed.specs.Fields.{two_of};
+ghost use Rattle.wu_feed.specs.Rows.{first_records_of};
 
+use crate::limits::MOST_RECORDS;
 use csv::{ByteRecord, ReaderBuilder};
 use std::alloc::Global;
 use wu_core::{Fault, FileCause};
-
-/// A header, the 1,000 rows that a file may have, and one more.
-pub const MOST_RECORDS: usize = 1_002;
 
 /// The records of a text, or the first 1,002 where it has more. The only fault is `Memory`.
 ///
 /// Records of different lengths are all read: their reader tells what is wrong with a row.
 pub fn first_records(alloc: Global, text: &[u8]) -> Result<Vec<ByteRecord>, Fault>
-    ensures found { IfOk result (λ v. map fields_of v.items ≡ take 1002 (records default_config (strip_bom text.now))) }
-    ensures refused { IfErr result (λ fault. fault ≡ Memory) }
+    ensures found { IfOk result (λ rows. map fields_of rows.items ≡ first_records_of text.now) }
+    ensures refused { FailsForMemory result }
 {
     let reader = ReaderBuilder::new()
         .has_headers(false)
@@ -30,9 +29,7 @@ pub fn first_records(alloc: Global, text: &[u8]) -> Result<Vec<ByteRecord>, Faul
         let Ok(record) = record else {
             return Err(Fault::Memory);
         };
-        if records.push(record).is_err() {
-            return Err(Fault::Memory);
-        }
+        records.push(record)?;
         if records.len() == MOST_RECORDS {
             return Ok(records);
         }

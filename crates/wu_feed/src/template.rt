@@ -1,30 +1,28 @@
 //! Templates: TOML documents that set the parameters of a batch's workunits.
 
-ghost use Rattle.std.specs.Prelude.{◌≡◌, ◌⊎◌, Some, None, string_bytes, IfOk, IfErr};
+ghost use Rattle.std.specs.Prelude.{◌≡◌, ◌⊎◌, Some, string_bytes, IfOk, IfErr};
 ghost use Rattle.std.specs.BTreeMap.{keys};
 ghost use Rattle.std.specs.List.{list_all};
 ghost use Rattle.toml.specs.Data.{get_member};
 ghost use Rattle.toml.specs.View.{table_view};
 ghost use Rattle.wu_core.specs.Reads.{Gives};
-ghost use Rattle.wu_core.specs.declared.fault.Fault.TheVariants.{BadTemplate, Memory};
-ghost use Rattle.wu_core.specs.declared.fault.TemplateKey.TheVariants.{Document};
-ghost use Rattle.wu_feed.specs.Templates.{document_of, document_parameters, is_key, template_of, value_or};
+ghost use Rattle.wu_core.specs.declared.fault.Fault.TheVariants.{Memory};
+ghost use Rattle.wu_feed.specs.Templates.{IsNoDocument, document_of, document_parameters, is_key, template_of, value_or};
 
+use crate::limits::LONGEST_TEMPLATE;
 use std::alloc::Global;
 use toml::Table;
 use wu_core::{Fault, Params, TemplateKey};
 
-/// The longest template, in bytes.
-const LONGEST_TEMPLATE: usize = 65_536;
-
 /// The document that the text is. Any other text is `BadTemplate`.
 fn read_document(alloc: Global, text: &[u8]) -> Result<Table, Fault>
     ensures read { IfOk result (λ table. document_of text.now ≡ Some (table_view table)) }
-    ensures refused { IfErr result (λ fault. (fault ≡ Memory) ⊎ ((fault ≡ BadTemplate Document) × (document_of text.now ≡ None))) }
+    ensures refused { IfErr result (λ fault. (fault ≡ Memory) ⊎ IsNoDocument text.now fault) }
 {
     if text.len() > LONGEST_TEMPLATE {
         return Err(Fault::BadTemplate(TemplateKey::Document));
     }
+    // The reader has one error for both; it tells which.
     match toml::table_from_slice(alloc, text) {
         Ok(table) => Ok(table),
         Err(error) if error.is_memory() => Err(Fault::Memory),

@@ -1,12 +1,4 @@
-pub mod Awake
-pub mod Changed
-pub mod Granting
 pub mod InPlace
-pub mod Judged
-pub mod Kept
 pub mod Lists
 pub mod Outputs
-pub mod Planned
-pub mod Settled
-pub mod Spent
 pub mod Timing

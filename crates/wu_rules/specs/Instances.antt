@@ -127,3 +127,7 @@ readied_assimilate a = if is_init_assimilate a then assimilate.Ready else a
 -- a file that may go, and was not yet named for deletion, is
 abbrev pub readied_file : Bool → FileDelete → FileDelete
 readied_file may_go f = if may_go && is_init_file f then file_delete.Ready else f
+
+-- an instance with its output named for deletion if it may go
+abbrev pub output_readied : Bool → Instance → Instance
+output_readied may_go i = record i { file_delete = readied_file may_go i.file_delete }

@@ -1,9 +1,11 @@
 pub mod Assimilation
 pub mod Cancelling
 pub mod Counts
+pub mod Examples
 pub mod Instances
-pub mod Laws
-pub mod Rows
+pub mod Reporting
+pub mod Sending
 pub mod Transition
 pub mod Validation
+pub mod Verdicts
 pub mod Waking

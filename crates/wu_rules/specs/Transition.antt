@@ -5,7 +5,7 @@ use Rattle.std.specs.Option.{option_map_or}
 use Rattle.wu_core.specs.declared.workunit.Instance.{Instance}
 use Rattle.wu_core.specs.declared.workunit.Workunit.{Workunit}
 use Rattle.wu_core.specs.Workunit.{fresh}
-use Rattle.wu_rules.specs.Instances.{is_over, is_viable, timed_out, given_up, readied_assimilate, is_done_assimilate, readied_file}
+use Rattle.wu_rules.specs.Instances.{is_over, is_viable, timed_out, given_up, readied_assimilate, is_done_assimilate, readied_file, output_readied}
 use Rattle.wu_rules.specs.Counts.{unsent, in_progress, errors, kept, is_clear, is_undecided}
 use Rattle.wu_rules.specs.Validation.{is_to_validate}
 
@@ -74,7 +74,7 @@ may_output_go canonical is_all_finished n i =
 
 abbrev pub with_output_readied : Option ℕ → Bool → ℕ → Instance → Instance
 with_output_readied canonical is_all_finished n i =
-    record i { file_delete = readied_file (may_output_go canonical is_all_finished n i) i.file_delete }
+    output_readied (may_output_go canonical is_all_finished n i) i
 
 abbrev pub outputs_readied : Option ℕ → List Instance → List Instance
 outputs_readied canonical instances =

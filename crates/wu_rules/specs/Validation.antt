@@ -37,12 +37,16 @@ judged is_equal i = if is_viable i then record i { validate_state = verdict is_e
 abbrev pub judged_by : List ℕ → Instance → Instance
 judged_by output i = judged (bytes_eq i.output output) i
 
+-- all are judged by the output of the one of this number
+abbrev pub all_judged : ℕ → List Instance → List Instance
+all_judged n instances = map (judged_by (output_at instances n)) instances
+
 -- the canonical result is that of this number
 abbrev pub agreed_on : Workunit → ℕ → Workunit
 agreed_on w n = record w {
   canonical = Some n;
   assimilate = readied_assimilate w.assimilate;
-  instances = map (judged_by (output_at w.instances n)) w.instances;
+  instances = all_judged n w.instances;
 }
 
 -- without a consensus each viable success is inconclusive
@@ -80,9 +84,12 @@ judged_late is_gone is_equal i = if is_new i then record i { validate_state = la
 abbrev pub judged_late_by : Bool → List ℕ → Instance → Instance
 judged_late_by is_gone output i = judged_late is_gone (bytes_eq i.output output) i
 
+abbrev pub all_judged_late : Bool → ℕ → List Instance → List Instance
+all_judged_late is_gone n instances = map (judged_late_by is_gone (output_at instances n)) instances
+
 abbrev pub judged_after : Workunit → ℕ → Workunit
 judged_after w n = record w {
-  instances = map (judged_late_by (is_deleted_at w.instances n) (output_at w.instances n)) w.instances;
+  instances = all_judged_late (is_deleted_at w.instances n) n w.instances;
 }
 
 abbrev pub decided : Workunit → Option ℕ → Workunit
@@ -117,12 +124,15 @@ abbrev pub grants_decided : Workunit → Option ℕ → List Grant
 grants_decided w (Some n) = grants_by w (output_at w.instances n)
 grants_decided w None = []
 
+abbrev pub grants_by_consensus : Workunit → List Grant
+grants_by_consensus w = grants_decided w (consensus w)
+
 abbrev pub grants_after : Workunit → ℕ → List Grant
 grants_after w n = if is_deleted_at w.instances n then [] else grants_by w (output_at w.instances n)
 
 abbrev pub granted_by : Workunit → Option ℕ → List Grant
 granted_by w (Some n) = grants_after w n
-granted_by w None = grants_decided w (consensus w)
+granted_by w None = grants_by_consensus w
 
 -- what the validator grants
 unfoldable pub grants : Workunit → List Grant

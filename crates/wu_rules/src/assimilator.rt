@@ -1,7 +1,7 @@
 //! The assimilator.
 
-ghost use Rattle.std.specs.Prelude.{◌≡◌, IfOk, IfErr, OnOk};
-ghost use Rattle.wu_core.specs.declared.fault.Fault.TheVariants.{Memory};
+ghost use Rattle.std.specs.Prelude.{◌≡◌, IfOk, OnOk, OnErr};
+ghost use Rattle.wu_core.specs.Reads.{FailsForMemory};
 ghost use Rattle.wu_rules.specs.Assimilation.{canonical_output, archived_row, archived, assimilated};
 
 use crate::validator::output_at;
@@ -43,14 +43,13 @@ pub fn assimilate(
 ) -> Result<Option<Archived>, Fault>
     ensures image { OnOk result (workunit.new ≡ assimilated workunit.old now) }
     ensures archived { IfOk result (λ row. row ≡ archived workunit.old now) }
-    ensures err { IfErr result (λ fault. (fault ≡ Memory) × (workunit.new ≡ workunit.old)) }
+    ensures fault { FailsForMemory result }
+    ensures unchanged { OnErr result (workunit.new ≡ workunit.old) }
 {
     if workunit.assimilate != Assimilate::Ready {
         return Ok(None);
     }
-    let Ok(row) = archived_row(alloc, workunit, now) else {
-        return Err(Fault::Memory);
-    };
+    let row = archived_row(alloc, workunit, now)?;
     workunit.assimilate = Assimilate::Done;
     workunit.done_at = Some(now);
     Ok(Some(row))

@@ -4,7 +4,7 @@ ghost use Rattle.std.specs.Prelude.{◌≡◌, map};
 ghost use Rattle.wu_rules.specs.Instances.{timed_out, closed, given_up, readied_assimilate};
 
 use crate::instance::{is_overdue, is_unsent, is_viable};
-use wu_core::{Assimilate, Instance, Instances, Outcome, ServerState, ValidateState};
+use wu_core::{Assimilate, Instance, Instances, Moment, Outcome, ServerState, ValidateState};
 
 /// Ends an instance that waits to be sent, since it is not needed.
 pub fn close(instance: &mut Instance)
@@ -25,7 +25,7 @@ pub fn close_all(instances: &mut Instances)
 }
 
 /// Ends an instance whose deadline has passed.
-pub fn time_out(instance: &mut Instance, now: u64)
+pub fn time_out(instance: &mut Instance, now: Moment)
     ensures { instance.new ≡ timed_out now instance.old }
 {
     if is_overdue(instance, now) {
@@ -34,7 +34,7 @@ pub fn time_out(instance: &mut Instance, now: u64)
     }
 }
 
-pub fn time_out_all(instances: &mut Instances, now: u64)
+pub fn time_out_all(instances: &mut Instances, now: Moment)
     ensures { instances.new ≡ map (timed_out now) instances.old }
 {
     'each: for instance in instances.as_mut_slice() {

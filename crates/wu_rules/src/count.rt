@@ -1,6 +1,7 @@
 //! Counts over all instances of a workunit, and what they decide.
 
 ghost use Rattle.std.specs.Prelude.{◌≡◌, ◌≤◌, filter, length};
+ghost use Rattle.wu_core.specs.Limits.{most_instances};
 ghost use Rattle.wu_rules.specs.Instances.{is_error, is_in_progress, timed_out};
 ghost use Rattle.wu_rules.specs.Counts.{unsent, in_progress, errors, kept, viable, has_new_success, is_clear, is_undecided};
 ghost use Rattle.wu_rules.specs.Transition.{timed};
@@ -9,7 +10,7 @@ ghost use Rattle.wu_rules.specs.Validation.{is_to_validate};
 use crate::instance::{
     is_error, is_in_progress, is_kept, is_new, is_overdue, is_unsent, is_viable,
 };
-use wu_core::{ErrorMask, Instance, Workunit};
+use wu_core::{ErrorMask, Instance, Moment, Workunit};
 
 /// Whether no bit of the mask is set.
 pub fn is_clear(mask: ErrorMask) -> bool
@@ -27,11 +28,10 @@ pub fn is_undecided(workunit: &Workunit) -> bool
 
 pub fn unsent_count(workunit: &Workunit) -> usize
     ensures value { result ≡ unsent workunit.now }
-    ensures within { result ≤ 100 }
+    ensures within { result ≤ most_instances }
 {
     workunit
         .instances
-        .as_slice()
         .iter()
         .filter(|instance| is_unsent(instance))
         .count()
@@ -40,11 +40,10 @@ pub fn unsent_count(workunit: &Workunit) -> usize
 /// Successes that were not found invalid.
 pub fn kept_count(workunit: &Workunit) -> usize
     ensures value { result ≡ kept workunit.now }
-    ensures within { result ≤ 100 }
+    ensures within { result ≤ most_instances }
 {
     workunit
         .instances
-        .as_slice()
         .iter()
         .filter(|instance| is_kept(instance))
         .count()
@@ -53,25 +52,24 @@ pub fn kept_count(workunit: &Workunit) -> usize
 /// Successes without a final verdict.
 pub fn viable_count(workunit: &Workunit) -> usize
     ensures value { result ≡ length (viable workunit.now) }
-    ensures within { result ≤ 100 }
+    ensures within { result ≤ most_instances }
 {
     workunit
         .instances
-        .as_slice()
         .iter()
         .filter(|instance| is_viable(instance))
         .count()
 }
 
 /// Whether the instance counts as an error once what is overdue has timed out.
-fn is_error_at(instance: &Instance, now: u64) -> bool
+fn is_error_at(instance: &Instance, now: Moment) -> bool
     ensures { result ≡ is_error (timed_out now instance.now) }
 {
     !is_overdue(instance, now) && is_error(instance)
 }
 
 /// How many of the instances count as errors once what is overdue has timed out.
-fn count_errors(instances: &[Instance], now: u64) -> usize
+fn count_errors(instances: &[Instance], now: Moment) -> usize
     ensures { result ≡ length (filter (λ i. is_error (timed_out now i)) instances.now) }
 {
     instances
@@ -81,21 +79,21 @@ fn count_errors(instances: &[Instance], now: u64) -> usize
 }
 
 /// Errors, once what is overdue has timed out.
-pub fn error_count(workunit: &Workunit, now: u64) -> usize
+pub fn error_count(workunit: &Workunit, now: Moment) -> usize
     ensures { result ≡ errors (timed workunit.now now) }
 {
     count_errors(workunit.instances.as_slice(), now)
 }
 
 /// Whether the instance is in progress once what is overdue has timed out.
-fn is_in_progress_at(instance: &Instance, now: u64) -> bool
+fn is_in_progress_at(instance: &Instance, now: Moment) -> bool
     ensures { result ≡ is_in_progress (timed_out now instance.now) }
 {
     !is_overdue(instance, now) && is_in_progress(instance)
 }
 
 /// How many of the instances are in progress once what is overdue has timed out.
-fn count_in_progress(instances: &[Instance], now: u64) -> usize
+fn count_in_progress(instances: &[Instance], now: Moment) -> usize
     ensures value { result ≡ length (filter (λ i. is_in_progress (timed_out now i)) instances.now) }
     ensures within { result ≤ length instances.now }
 {
@@ -106,9 +104,9 @@ fn count_in_progress(instances: &[Instance], now: u64) -> usize
 }
 
 /// Instances in progress, once what is overdue has timed out.
-pub fn in_progress_count(workunit: &Workunit, now: u64) -> usize
+pub fn in_progress_count(workunit: &Workunit, now: Moment) -> usize
     ensures value { result ≡ in_progress (timed workunit.now now) }
-    ensures within { result ≤ 100 }
+    ensures within { result ≤ most_instances }
 {
     count_in_progress(workunit.instances.as_slice(), now)
 }
@@ -116,11 +114,7 @@ pub fn in_progress_count(workunit: &Workunit, now: u64) -> usize
 pub fn has_new_success(workunit: &Workunit) -> bool
     ensures { result ≡ has_new_success workunit.now }
 {
-    workunit
-        .instances
-        .as_slice()
-        .iter()
-        .any(|instance| is_new(instance))
+    workunit.instances.iter().any(|instance| is_new(instance))
 }
 
 /// Whether the validator looks at the workunit: it has no error and a new success, and has a canonical result already or

@@ -41,7 +41,6 @@ fn has_output_to_delete(instances: &Instances) -> bool
     ensures { result ≡ list_any (λ i. is_ready_file i.file_delete) instances.now }
 {
     instances
-        .as_slice()
         .iter()
         .any(|instance| instance.file_delete == FileDelete::Ready)
 }

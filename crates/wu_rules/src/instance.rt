@@ -3,7 +3,7 @@
 ghost use Rattle.std.specs.Prelude.{◌≡◌};
 ghost use Rattle.wu_rules.specs.Instances.{is_unsent, is_in_progress, is_over, is_success, is_new, is_viable, is_kept, is_error, is_overdue};
 
-use wu_core::{FileDelete, Instance, Outcome, ServerState, ValidateState};
+use wu_core::{FileDelete, Instance, Moment, Outcome, ServerState, ValidateState};
 
 /// Whether the instance waits to be sent.
 pub fn is_unsent(instance: &Instance) -> bool
@@ -63,11 +63,11 @@ pub fn is_error(instance: &Instance) -> bool
 }
 
 /// Whether the instance is in progress with a deadline before now.
-pub fn is_overdue(instance: &Instance, now: u64) -> bool
+pub fn is_overdue(instance: &Instance, now: Moment) -> bool
     ensures { result ≡ is_overdue now instance.now }
 {
     match instance.deadline {
-        Some(deadline) => is_in_progress(instance) && deadline.seconds() < now,
+        Some(deadline) => is_in_progress(instance) && deadline.is_before(now),
         None => false,
     }
 }

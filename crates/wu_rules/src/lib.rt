@@ -1,4 +1,5 @@
-//! The rules on one workunit: transitioner, validator, assimilator, file deleter, purge and cancelling.
+//! The rules on one workunit: transitioner, validator, assimilator, file deleter, purge and cancelling; and the verdicts on what
+//! is said to be sent or reported.
 #![tactic(auto)]
 
 mod assimilator;
@@ -7,11 +8,10 @@ mod change;
 mod count;
 mod deleter;
 mod instance;
-pub mod laws;
 mod purge;
-pub mod rows;
 mod transitioner;
 mod validator;
+mod verdicts;
 mod waking;
 
 pub use assimilator::assimilate;
@@ -21,4 +21,5 @@ pub use deleter::{delete_files, wants_deletion};
 pub use purge::purgeable;
 pub use transitioner::transition;
 pub use validator::validate;
+pub use verdicts::{ReportVerdict, SendVerdict};
 pub use waking::wake_of;

@@ -3,6 +3,7 @@
 ghost use Rattle.std.specs.Prelude.{◌≡◌, ◌+◌, ◌≤◌, nat_le, false};
 ghost use Rattle.std.specs.List.{list_all};
 ghost use Rattle.std.specs.Option.{option_map_or};
+ghost use Rattle.wu_core.specs.Limits.{longest_age};
 ghost use Rattle.wu_rules.specs.Assimilation.{is_spent, is_purgeable};
 
 use crate::instance::is_over;
@@ -18,15 +19,12 @@ fn is_spent(instance: &Instance) -> bool
 fn is_all_spent(instances: &Instances) -> bool
     ensures { result ≡ list_all is_spent instances.now }
 {
-    instances
-        .as_slice()
-        .iter()
-        .all(|instance| is_spent(instance))
+    instances.iter().all(|instance| is_spent(instance))
 }
 
 /// Whether a moment so many seconds after this one has come.
 fn has_aged(done_at: Option<Moment>, now: Moment, min_age: u64) -> bool
-    requires { min_age ≤ 31536000 }
+    requires { min_age ≤ longest_age }
     ensures { result ≡ option_map_or (λ moment. nat_le (moment + min_age) now) done_at false }
 {
     match done_at {
@@ -35,11 +33,11 @@ fn has_aged(done_at: Option<Moment>, now: Moment, min_age: u64) -> bool
     }
 }
 
-/// Whether the workunit may be purged: it was assimilated at least so many seconds ago, all its instances are over, and its
-/// input and outputs are deleted.
+/// Whether the workunit may be purged: it was assimilated at least `min_age` seconds ago (0 to a year of 365 days), all its
+/// instances are over, and its input and outputs are deleted.
 #[tactic(auto, unfolding(crate::specs::Assimilation::is_purgeable))]
 pub fn purgeable(workunit: &Workunit, now: Moment, min_age: u64) -> bool
-    requires { min_age ≤ 31536000 }
+    requires { min_age ≤ longest_age }
     ensures { result ≡ is_purgeable workunit.now now min_age }
 {
     workunit.assimilate == Assimilate::Done

@@ -1,9 +1,10 @@
 //! The transitioner.
 
-ghost use Rattle.std.specs.Prelude.{◌≡◌, ◌+◌, ◌≤◌, ◌||◌, length, OnOk, IfErr};
+ghost use Rattle.std.specs.Prelude.{◌≡◌, ◌+◌, ◌≤◌, ◌||◌, length, OnOk, OnErr};
 ghost use Rattle.std.specs.List.{list_all};
-ghost use Rattle.wu_core.specs.declared.fault.Fault.TheVariants.{Memory};
-ghost use Rattle.wu_rules.specs.Instances.{is_over, readied_file};
+ghost use Rattle.wu_core.specs.Limits.{most_instances};
+ghost use Rattle.wu_core.specs.Reads.{FailsForMemory};
+ghost use Rattle.wu_rules.specs.Instances.{is_over, readied_file, output_readied};
 ghost use Rattle.wu_rules.specs.Transition.{timed, has_too_many_errors, is_open, needed, allowed, added, is_idle, has_too_many_total, extended, settled, is_finished, may_output_go, outputs_readied, readied, transitioned};
 
 use crate::change::{give_up_all, ready_assimilate, time_out_all};
@@ -24,7 +25,7 @@ pub struct Plan {
 }
 
 /// Results that are still wanted, once what is overdue has timed out.
-fn needed_count(workunit: &Workunit, now: u64) -> usize
+fn needed_count(workunit: &Workunit, now: Moment) -> usize
     ensures { result ≡ needed (timed workunit.now now) }
 {
     let awaited = unsent_count(workunit) + in_progress_count(workunit, now) + kept_count(workunit);
@@ -34,14 +35,14 @@ fn needed_count(workunit: &Workunit, now: u64) -> usize
 /// Instances that may still be made.
 fn allowed_count(workunit: &Workunit) -> usize
     ensures value { result ≡ allowed workunit.now }
-    ensures room { length workunit.now.instances + result ≤ 100 }
+    ensures room { length workunit.now.instances + result ≤ most_instances }
 {
     (workunit.params.max_total_results() as usize).saturating_sub(workunit.instances.len())
 }
 
 #[tactic(auto, using(crate::proofs::Timing::timings))]
 /// Whether the workunit waits for nobody and has nothing to validate, once what is overdue has timed out.
-fn is_idle(workunit: &Workunit, now: u64) -> bool
+fn is_idle(workunit: &Workunit, now: Moment) -> bool
     ensures { result ≡ is_idle (timed workunit.now now) }
 {
     unsent_count(workunit) == 0
@@ -50,11 +51,11 @@ fn is_idle(workunit: &Workunit, now: u64) -> bool
 }
 
 /// What the transitioner is to do with the workunit.
-pub fn plan_of(workunit: &Workunit, now: u64) -> Plan
+pub fn plan_of(workunit: &Workunit, now: Moment) -> Plan
     ensures errors { result.has_too_many_errors ≡ has_too_many_errors (timed workunit.now now) }
     ensures total { result.has_too_many_total ≡ has_too_many_total (timed workunit.now now) }
     ensures added { result.added ≡ added (timed workunit.now now) }
-    ensures room { length workunit.now.instances + result.added ≤ 100 }
+    ensures room { length workunit.now.instances + result.added ≤ most_instances }
 {
     let is_undecided = is_undecided(workunit);
     let has_too_many_errors = error_count(workunit, now)
@@ -75,7 +76,7 @@ pub fn plan_at_once(workunit: &Workunit) -> Plan
     ensures total { result.has_too_many_total ≡ has_too_many_total workunit.now }
     ensures added { result.added ≡ added workunit.now }
 {
-    plan_of(workunit, 0)
+    plan_of(workunit, Moment::first())
 }
 
 /// Sets the new bits.
@@ -94,14 +95,13 @@ fn mark(mask: &mut ErrorMask, plan: Plan)
 }
 
 /// Times out what is overdue, makes the new instances and sets the new bits. For want of memory nothing changes.
-fn extend(alloc: Global, workunit: &mut Workunit, now: u64) -> Result<(), Fault>
+fn extend(alloc: Global, workunit: &mut Workunit, now: Moment) -> Result<(), Fault>
     ensures ok { OnOk result (workunit.new ≡ extended (timed workunit.old now)) }
-    ensures err { IfErr result (λ fault. (fault ≡ Memory) × (workunit.new ≡ workunit.old)) }
+    ensures fault { FailsForMemory result }
+    ensures unchanged { OnErr result (workunit.new ≡ workunit.old) }
 {
     let plan = plan_of(workunit, now);
-    let Ok(()) = workunit.instances.add_unsent(alloc, plan.added) else {
-        return Err(Fault::Memory);
-    };
+    workunit.instances.add_unsent(alloc, plan.added)?;
     time_out_all(&mut workunit.instances, now);
     mark(&mut workunit.error_mask, plan);
     Ok(())
@@ -150,7 +150,7 @@ fn ready_file(file_delete: &mut FileDelete, may_go: bool)
 
 /// Names the output of an instance for deletion if it may go.
 fn ready_output(instance: &mut Instance, may_go: bool)
-    ensures { instance.new ≡ record instance.old { file_delete = readied_file may_go instance.old.file_delete } }
+    ensures { instance.new ≡ output_readied may_go instance.old }
 {
     ready_file(&mut instance.file_delete, may_go);
 }
@@ -159,20 +159,14 @@ fn ready_output(instance: &mut Instance, may_go: bool)
 pub fn is_all_finished(instances: &Instances) -> bool
     ensures { result ≡ list_all is_finished instances.now }
 {
-    instances
-        .as_slice()
-        .iter()
-        .all(|instance| is_finished(instance))
+    instances.iter().all(|instance| is_finished(instance))
 }
 
 /// Whether all instances are over.
 pub fn is_all_over(instances: &Instances) -> bool
     ensures { result ≡ list_all is_over instances.now }
 {
-    instances
-        .as_slice()
-        .iter()
-        .all(|instance| is_over(instance))
+    instances.iter().all(|instance| is_over(instance))
 }
 
 /// Names the outputs that may go for deletion.
@@ -202,9 +196,10 @@ fn ready(workunit: &mut Workunit)
 #[tactic(auto, unfolding(crate::specs::Transition::transitioned))]
 pub fn transition(alloc: Global, workunit: &mut Workunit, now: Moment) -> Result<(), Fault>
     ensures ok { OnOk result (workunit.new ≡ transitioned workunit.old now) }
-    ensures err { IfErr result (λ fault. (fault ≡ Memory) × (workunit.new ≡ workunit.old)) }
+    ensures fault { FailsForMemory result }
+    ensures unchanged { OnErr result (workunit.new ≡ workunit.old) }
 {
-    extend(alloc, workunit, now.seconds())?;
+    extend(alloc, workunit, now)?;
     settle(workunit);
     ready(workunit);
     Ok(())

@@ -1,11 +1,12 @@
 //! The validator.
 
-ghost use Rattle.std.specs.Prelude.{◌≡◌, ◌≤◌, ◌<◌, ◌++◌, length, filter, bytes_eq, map, IfOk, IfErr, IfSome, OnOk, OnErr};
+ghost use Rattle.std.specs.Prelude.{◌≡◌, ◌≤◌, ◌<◌, ◌++◌, length, filter, bytes_eq, map, IfOk, IfSome, OnOk, OnErr};
 ghost use Rattle.std.specs.Option.{option_to_list};
-ghost use Rattle.wu_core.specs.declared.fault.Fault.TheVariants.{Memory};
+ghost use Rattle.wu_core.specs.Limits.{most_instances};
+ghost use Rattle.wu_core.specs.Reads.{FailsForMemory};
 ghost use Rattle.wu_rules.specs.Instances.{is_viable};
 ghost use Rattle.wu_rules.specs.Counts.{agreeing, is_agreed, consensus};
-ghost use Rattle.wu_rules.specs.Validation.{output_at, is_deleted_at, verdict, judged, judged_by, agreed_on, doubted, doubted_or_closed, left_open, judged_late, judged_late_by, judged_after, decided, validated_by, validated, grant_of, granted_to, is_judged, grants_by, grants_decided, grants_after, granted_by, grants};
+ghost use Rattle.wu_rules.specs.Validation.{output_at, is_deleted_at, verdict, judged, all_judged, agreed_on, doubted, doubted_or_closed, left_open, judged_late, all_judged_late, judged_after, decided, validated, grant_of, granted_to, is_judged, grants_by, grants_by_consensus, grants_after, grants};
 
 use crate::change::{close, ready_assimilate};
 use crate::count::{viable_count, wants_validation};
@@ -43,11 +44,10 @@ fn is_agreed(workunit: &Workunit, instance: &Instance) -> bool
 /// The number of the first viable success on which enough agree.
 fn consensus(workunit: &Workunit) -> Option<usize>
     ensures value { result ≡ consensus workunit.now }
-    ensures within { IfSome result (λ n. n < 100) }
+    ensures within { IfSome result (λ n. n < most_instances) }
 {
     workunit
         .instances
-        .as_slice()
         .iter()
         .position(|instance| is_agreed(workunit, instance))
 }
@@ -85,7 +85,7 @@ fn is_judged(workunit: &Workunit, instance: &Instance) -> bool
 
 /// The credit of an instance for its host, if it has one.
 fn grant_of(workunit: &Workunit, n: usize, instance: &Instance) -> Result<Option<Grant>, AllocError>
-    requires { n < 100 }
+    requires { n < most_instances }
     ensures { IfOk result (λ grant. grant ≡ grant_of workunit.now n instance.now) }
 {
     match &instance.host {
@@ -106,7 +106,7 @@ fn granted_to(
     n: usize,
     instance: &Instance,
 ) -> Result<Option<Grant>, AllocError>
-    requires { n < 100 }
+    requires { n < most_instances }
     ensures { IfOk result (λ grant. grant ≡ granted_to workunit.now output.now n instance.now) }
 {
     if is_judged(workunit, instance) && agrees(instance, output) {
@@ -182,7 +182,7 @@ fn agrees_at(instances: &[Instance], k: usize, n: usize) -> bool
 
 /// Judges all viable successes by the output of one instance.
 fn judge_all(instances: &mut Instances, n: usize)
-    ensures { instances.new ≡ map (judged_by (output_at instances.old n)) instances.old }
+    ensures { instances.new ≡ all_judged n instances.old }
 {
     let slice = instances.as_mut_slice();
     'each: for k in 0..slice.len() {
@@ -193,7 +193,7 @@ fn judge_all(instances: &mut Instances, n: usize)
 
 /// Judges all successes that came after the decision by the output of one instance, or finds that it is gone.
 fn judge_all_late(instances: &mut Instances, n: usize, is_gone: bool)
-    ensures { instances.new ≡ map (judged_late_by is_gone (output_at instances.old n)) instances.old }
+    ensures { instances.new ≡ all_judged_late is_gone n instances.old }
 {
     let slice = instances.as_mut_slice();
     'each: for k in 0..slice.len() {
@@ -240,7 +240,7 @@ fn doubt_or_close_all(instances: &mut Instances)
 
 /// Makes the result of this number the canonical one.
 fn agree_on(workunit: &mut Workunit, n: usize)
-    requires { n < 100 }
+    requires { n < most_instances }
     ensures { workunit.new ≡ agreed_on workunit.old n }
 {
     workunit.canonical = Some(n as u32);
@@ -269,7 +269,7 @@ fn leave_open(workunit: &mut Workunit)
 fn judge_after(alloc: Global, workunit: &mut Workunit, n: usize) -> Result<Vec<Grant>, AllocError>
     ensures image { OnOk result (workunit.new ≡ judged_after workunit.old n) }
     ensures grants { IfOk result (λ list. list.items ≡ grants_after workunit.old n) }
-    ensures err { OnErr result (workunit.new ≡ workunit.old) }
+    ensures unchanged { OnErr result (workunit.new ≡ workunit.old) }
 {
     let instances = workunit.instances.as_slice();
     let is_gone = is_deleted_at(instances, n);
@@ -285,8 +285,8 @@ fn judge_after(alloc: Global, workunit: &mut Workunit, n: usize) -> Result<Vec<G
 /// Decides, or leaves the workunit open.
 fn decide(alloc: Global, workunit: &mut Workunit) -> Result<Vec<Grant>, AllocError>
     ensures image { OnOk result (workunit.new ≡ decided workunit.old (consensus workunit.old)) }
-    ensures grants { IfOk result (λ list. list.items ≡ grants_decided workunit.old (consensus workunit.old)) }
-    ensures err { OnErr result (workunit.new ≡ workunit.old) }
+    ensures grants { IfOk result (λ list. list.items ≡ grants_by_consensus workunit.old) }
+    ensures unchanged { OnErr result (workunit.new ≡ workunit.old) }
 {
     match consensus(workunit) {
         Some(n) => {
@@ -308,17 +308,15 @@ fn decide(alloc: Global, workunit: &mut Workunit) -> Result<Vec<Grant>, AllocErr
 pub fn validate(alloc: Global, workunit: &mut Workunit) -> Result<Vec<Grant>, Fault>
     ensures image { OnOk result (workunit.new ≡ validated workunit.old) }
     ensures grants { IfOk result (λ list. list.items ≡ grants workunit.old) }
-    ensures err { IfErr result (λ fault. (fault ≡ Memory) × (workunit.new ≡ workunit.old)) }
+    ensures fault { FailsForMemory result }
+    ensures unchanged { OnErr result (workunit.new ≡ workunit.old) }
 {
     if !wants_validation(workunit) {
         return Ok(Vec::new(alloc));
     }
-    let granted = match workunit.canonical {
-        Some(n) => judge_after(alloc, workunit, n as usize),
-        None => decide(alloc, workunit),
+    let list = match workunit.canonical {
+        Some(n) => judge_after(alloc, workunit, n as usize)?,
+        None => decide(alloc, workunit)?,
     };
-    match granted {
-        Ok(list) => Ok(list),
-        Err(_) => Err(Fault::Memory),
-    }
+    Ok(list)
 }

@@ -1,6 +1,9 @@
 -- Which rows a query on one table answers.
-use Rattle.wu_schema.proofs.Words.{Answers, Database, IsAnswerAs, IsPermutation, IsPermutation-map, List, Null, Output, Row, Term, [], ap, cond, eval_all, false, filter, flat_map, holds, if◌then◌else◌, list_all, map, nat_le, output, overlay, refl, subst, sym, true, ℕ, ◌++◌, ◌^◌, ◌∙◌, ◌∷◌, ◌≡◌}
+use Rattle.wu_schema.proofs.Words.{Answers, Name, Ok, Parsed, QueriesRow, Query, Shown, State, Database, IsAnswerAs, IsPermutation, IsPermutation-map, List, Null, Output, Row, Term, [], ap, cond, eval_all, false, filter, flat_map, holds, if◌then◌else◌, list_all, map, nat_le, output, overlay, refl, subst, sym, true, ℕ, ◌++◌, ◌^◌, ◌∙◌, ◌∷◌, ◌≡◌}
+use Rattle.sqlite.specs.Command.TheVariants.{Select}
+use Rattle.sqlite.proofs.Callers.{reads_as, first_as}
 use Rattle.wu_schema.proofs.QueryLemmas.{plain_query, alone}
+use Rattle.wu_schema.proofs.SelectLemmas.{CompilesTo}
 
 -- the rows that meet the condition, as the query shows them
 abbrev pub meeting : List Term → Row → List Row → List Row
@@ -27,3 +30,13 @@ module _ (tree : ℕ) (test project : List Term) (params : Row) where
       let first : map (λ (o : Output). o.1) a.kept ≡ showing project params (meeting test params (db.trees tree)) =
       ap (map (λ (o : Output). o.1)) (a.distinct ∙ ap (map (output (plain_query tree test project))) a.grouped) ∙ scanned (overlay db.trees [] tree) ∙ ap (λ rs. showing project params (meeting test params rs)) base in
       subst (λ xs. IsPermutation xs rows) first (subst (IsPermutation (map (λ (o : Output). o.1) a.kept)) (sym a.shown) all)
+
+-- what a SELECT shows, and its first row, are its answers
+module _ (text : List ℕ) (params : Row) (old new : State) (p : Parsed) (q : Query) (names : List Name) (it : CompilesTo old.now.schema text p (Select (alone q) names)) where
+  pub shown_answers : (rows : List Row) → Shown text params old new rows → Answers old.now (alone q) params rows
+  shown_answers rows h = reads_as text params old new old.now.schema refl (Select (alone q) names) it.is it.plain it.unlisted rows h
+
+  pub row_answers : (row : Row) → QueriesRow text params old new (Ok row) → (tail : List Row) × Answers old.now (alone q) params (row ∷ tail)
+  row_answers row h =
+      let first = first_as text params old new old.now.schema refl (Select (alone q) names) it.is it.plain it.unlisted row h in
+      (first.1.0, record { typed = first.0; answer = first.1.1 })

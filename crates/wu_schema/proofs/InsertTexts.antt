@@ -1,5 +1,5 @@
--- INSERTs of one row: what such a text compiles to, over any schema in which its name finds the table; and each text, with its fit.
-use Rattle.wu_schema.proofs.Words.{Checked, Err, HasTable, Insert, Int, List, Name, None, Null, Ok, Parsed, Row, Rows, Schema, Statement, Table, Term, Values, [], append-nil, archived_at, codes, col, everything, false, first, grant_at, import_at, length, lit, new_rows, planned, pos, project_at, refl, result_at, small, stamped, subst, workunit_at, ℕ, ◌+◌, ◌∷◌, ◌≡◌}
+-- INSERTs of one row: what such a text compiles to, over any schema in which its name finds the table; and the text of a fresh project's row.
+use Rattle.wu_schema.proofs.Words.{Checked, Err, HasTable, Insert, Int, List, Name, None, Null, Ok, Parsed, Row, Rows, Schema, Statement, Table, Term, Values, [], append-nil, codes, col, everything, false, first, length, lit, new_rows, planned, pos, project_at, refl, small, stamped, subst, ℕ, ◌+◌, ◌∷◌, ◌≡◌}
 use Rattle.sqlite_ast.specs.declared.Rows.TheVariants as rows
 use Rattle.sqlite_ast.specs.declared.Statement.TheVariants as written
 use Rattle.wu_schema.proofs.CompileLemmas.{insert_planned, insert_parsed}
@@ -48,60 +48,6 @@ module _ (schema : Schema) (title : Name) (at : ℕ) (table : ℕ → Table) (tr
 
   pub put_compiles : CompilesTo schema q.text (put_parsed title q) (Insert at (Values q.terms (length q.terms)))
   put_compiles = compiles_to schema q.text (put_parsed title q) _ fits.read put_planned
-
--- ---- a workunit
-
-abbrev pub workunit_put : Put
-workunit_put = record {
-  text = codes "INSERT INTO workunit (number, name, min_quorum, target_nresults, max_error_results, max_total_results, max_success_results, delay_bound, credit, input, error_mask, canonical, assimilate, file_delete, done_at) VALUES (?1, ?2, ?3, ?4, ?5, ?6, ?7, ?8, ?9, ?10, ?11, ?12, ?13, ?14, ?15)";
-  terms = col 0 0 ∷ lit Null ∷ col 0 1 ∷ col 0 2 ∷ col 0 3 ∷ col 0 4 ∷ col 0 5 ∷ col 0 6 ∷ col 0 7 ∷ col 0 8 ∷ col 0 9 ∷ col 0 10 ∷ col 0 11 ∷ col 0 12 ∷ col 0 13 ∷ col 0 14 ∷ [];
-}
-
-pub workunit_fits : PutFits (codes "workunit") workunit_at workunit_put
-unfolding everything
-workunit_fits = record { read = refl; made = λ schema tree. refl; formats = λ tree. refl; bare = λ tree. refl; plain = λ tree params. append-nil params }
-
--- ---- an instance
-
-abbrev pub instance_put : Put
-instance_put = record {
-  text = codes "INSERT INTO result (workunit, n, server_state, outcome, validate_state, file_delete, host, sent_at, deadline, received_at, output) VALUES (?1, ?2, ?3, ?4, ?5, ?6, ?7, ?8, ?9, ?10, ?11)";
-  terms = lit Null ∷ col 0 0 ∷ col 0 1 ∷ col 0 2 ∷ col 0 3 ∷ col 0 4 ∷ col 0 5 ∷ col 0 6 ∷ col 0 7 ∷ col 0 8 ∷ col 0 9 ∷ col 0 10 ∷ [];
-}
-
-pub instance_fits : PutFits (codes "result") result_at instance_put
-unfolding everything
-instance_fits = record { read = refl; made = λ schema tree. refl; formats = λ tree. refl; bare = λ tree. refl; plain = λ tree params. append-nil params }
-
--- ---- a grant
-
-abbrev pub grant_put : Put
-grant_put = record { text = codes "INSERT INTO credit_grant (workunit, n, host, credit) VALUES (?1, ?2, ?3, ?4)"; terms = lit Null ∷ lit Null ∷ col 0 0 ∷ col 0 1 ∷ col 0 2 ∷ col 0 3 ∷ [] }
-
-pub grant_fits : PutFits (codes "credit_grant") grant_at grant_put
-unfolding everything
-grant_fits = record { read = refl; made = λ schema tree. refl; formats = λ tree. refl; bare = λ tree. refl; plain = λ tree params. append-nil params }
-
--- ---- an archived row
-
-abbrev pub archived_put : Put
-archived_put = record {
-  text = codes "INSERT INTO archived (number, name, error_mask, canonical, output, done_at) VALUES (?1, ?2, ?3, ?4, ?5, ?6)";
-  terms = lit Null ∷ lit Null ∷ col 0 0 ∷ col 0 1 ∷ col 0 2 ∷ col 0 3 ∷ col 0 4 ∷ col 0 5 ∷ [];
-}
-
-pub archived_fits : PutFits (codes "archived") archived_at archived_put
-unfolding everything
-archived_fits = record { read = refl; made = λ schema tree. refl; formats = λ tree. refl; bare = λ tree. refl; plain = λ tree params. append-nil params }
-
--- ---- an import
-
-abbrev pub import_put : Put
-import_put = record { text = codes "INSERT INTO import (kind, name, template, content, first_number, verdicts) VALUES (?1, ?2, ?3, ?4, ?5, ?6)"; terms = lit Null ∷ col 0 0 ∷ col 0 1 ∷ col 0 2 ∷ col 0 3 ∷ col 0 4 ∷ col 0 5 ∷ [] }
-
-pub import_fits : PutFits (codes "import") import_at import_put
-unfolding everything
-import_fits = record { read = refl; made = λ schema tree. refl; formats = λ tree. refl; bare = λ tree. refl; plain = λ tree params. append-nil params }
 
 -- ---- the row of a fresh project
 

@@ -5,7 +5,7 @@ use Rattle.sqlite_trees.specs.declared.store.Shape.TheVariants as shape
 use Rattle.wu_schema.specs.StandsFor.{HasRows, host_of}
 use Rattle.wu_schema.proofs.QuietLemmas.{same_some}
 use Rattle.wu_schema.proofs.RowLemmas.{childless}
-use Rattle.wu_schema.proofs.UpdateEffect.{calm_bare, calm_child}
+use Rattle.wu_schema.proofs.CalmLemmas.{calm_bare, calm_child}
 use Rattle.wu_schema.proofs.StandsLemmas.{is_there, IsChild, ChildrenAre, refers_by, only_work, KeepsBut}
 
 -- ---- the parts

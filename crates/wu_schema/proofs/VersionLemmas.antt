@@ -8,7 +8,7 @@ use Rattle.sqlite.specs.Clock.{timed}
 use Rattle.wu_schema.specs.Versions.{IsMissing, project_cells, rows_of_project, AreOfVersion, TellsMissing, LacksProject}
 use Rattle.wu_schema.proofs.AnswerLemmas.{answers_are, meeting, showing}
 use Rattle.wu_schema.proofs.CallLemmas.{serves_after}
-use Rattle.wu_schema.proofs.ReadAnswers.{shown_answers}
+use Rattle.wu_schema.proofs.AnswerLemmas.{shown_answers}
 use Rattle.wu_schema.proofs.ReadLemmas.{IsSelect, shows_none}
 use Rattle.wu_schema.proofs.ToldLemmas.{query_told, never_over, failed_told}
 use Rattle.wu_schema.proofs.VersionTexts.{version_accepted, version_first, version_parsed, version_select, version_query, version_names, version_tests, version_shows, version_reads, free_understood}

@@ -9,7 +9,7 @@ use Rattle.sqlite_resolve.specs.Program.{Shown}
 use Rattle.sqlite.specs.Listing.{listing_schema}
 use Rattle.wu_schema.proofs.ExprLemmas.{column_lowers}
 use Rattle.wu_schema.proofs.QueryLemmas.{plain_query, alone, viewing_is, query_step, one, from_table}
-use Rattle.wu_schema.proofs.SelectTexts.{CompilesTo, compiles_to}
+use Rattle.wu_schema.proofs.SelectLemmas.{CompilesTo, compiles_to}
 
 abbrev version_core : Core
 version_core = roll-Core (record { distinct = false; shown = one (codes "one") ∷ one (codes "version") ∷ one (codes "next_number") ∷ []; from = from_table (codes "project") ∷ []; filter = None; group = []; having = None })

@@ -116,13 +116,10 @@ pub use Rattle.wu_core.specs.declared.workunit.Archived.{Archived}
 pub use Rattle.wu_core.specs.declared.workunit.Grant.{Grant}
 pub use Rattle.wu_core.specs.declared.workunit.Instance.{Instance}
 pub use Rattle.wu_core.specs.declared.workunit.Workunit.{Workunit}
-pub use Rattle.wu_schema.specs.Answers.{has_name, instance_rows_of, kept_of, next_row, row_named, was_archived}
 pub use Rattle.wu_schema.specs.Calls.{HasRun, IsBack, IsPart, IsUndone, Reads}
-pub use Rattle.wu_schema.specs.Changes.{HasInstances, PutsGrant, bare, with_archived, with_import, with_instance, with_next, with_placed, without_workunit}
 pub use Rattle.wu_schema.specs.Faults.{IsFailure, fault_of}
 pub use Rattle.wu_schema.specs.Made.{HasMade, PutsOne}
 unfoldable pub use Rattle.wu_schema.specs.Pipeline.{pipeline}
-pub use Rattle.wu_schema.specs.Reading.{AreVerdicts}
 pub use Rattle.wu_schema.specs.StandsFor.{HoldsAll, IsFree, ListsAll, StandsFor, instances_of}
 pub use Rattle.wu_schema.specs.Stored.{archived_cells, grant_cells, import_cells, instance_cells, instance_row, number, number_or_null, stored_archived, stored_grant, stored_project, stored_workunit, text_or_null, verdict_digits, workunit_row}
 pub use Rattle.wu_schema.specs.Tables.{HasNamed, HasTable, HasTables, OwnsTree, ProjectTrees, archived_at, grant_at, host_at, import_at, may, needs, project_at, result_at, workunit_at}

@@ -8,6 +8,8 @@ use Rattle.sqlite.specs.Store.{Ghosts}
 use Rattle.sqlite.specs.Effect.{Database}
 use Rattle.sqlite.specs.declared.error.Error.{Error}
 use Rattle.sqlite.specs.declared.transaction.Transaction.{Transaction}
+use Rattle.wu_core.specs.declared.fault.Fault.{Fault}
+use Rattle.wu_core.specs.declared.fault.Fault.TheVariants.{NotAProject}
 use Rattle.wu_core.specs.World.{World}
 use Rattle.wu_schema.specs.Faults.{fault_of, IsFailure}
 use Rattle.wu_schema.specs.Made.{MakesProject}
@@ -49,8 +51,35 @@ pub record Reads {S T E : Type 0} (g : Ghosts S) (old new : Held S) (result : Re
   pub back : HasCleanDisk (state g new) → OnErr result (IsBack (state g old) (state g new))
   pub crash : Survives (state g old) (state g new) (λ _. ⊥)
 
+-- with Ok, this holds of the database that was shown and of the answer
+abbrev pub OnAnswer : {S T E : Type 0} → Ghosts S → Held S → Held S → Result T E → (Database → T → Type 0) → Type 0
+OnAnswer g old new result Is = HasCleanDisk (state g new) → IfOk result (Is (state g old).now)
+
+-- with a refusal, this holds of the database that was shown and of the refusal
+abbrev pub OnFault : {S T E : Type 0} → Ghosts S → Held S → Held S → Result T E → (Database → E → Type 0) → Type 0
+OnFault g old new result Is = HasCleanDisk (state g new) → IfErr result (Is (state g old).now)
+
+-- `NotAProject` says that the connection serves, and that all is as it was
+abbrev pub Serves : {S : Type 0} → Ghosts S → Held S → Held S → Fault → Type 0
+Serves g old new fault = HasCleanDisk (state g new) → fault ≡ NotAProject → IsUnchanged (state g old) (state g new)
+
+abbrev pub ServesOn : {S T : Type 0} → Ghosts S → Held S → Held S → Result T Fault → Type 0
+ServesOn g old new result = HasCleanDisk (state g new) → IfErr result (λ fault. fault ≡ NotAProject → IsUnchanged (state g old) (state g new))
+
+-- the same of an error that would be told so
+abbrev pub ServesAfter : {S T : Type 0} → Ghosts S → Held S → Held S → Result T Error → Type 0
+ServesAfter g old new result = HasCleanDisk (state g new) → IfErr result (λ e. fault_of e ≡ NotAProject → IsUnchanged (state g old) (state g new))
+
+-- while the connection is open, it shows what it showed, or the last commit
+abbrev pub GoesBack : {S : Type 0} → Ghosts S → Held S → Held S → Type 0
+GoesBack g old new = HasCleanDisk (state g new) → IsBack (state g old) (state g new)
+
+-- nothing is committed: a stop leaves what it left before
+abbrev pub CommitsNothing : {S : Type 0} → Ghosts S → Held S → Held S → Type 0
+CommitsNothing g old new = Survives (state g old) (state g new) (λ _. ⊥)
+
 -- with Ok, this holds of the answer and of each world that the tables stand for
-abbrev pub Tells : {S T : Type 0} → Ghosts S → Held S → Held S → Result T Error → (T → World → Type 0) → Type 0
+abbrev pub Tells : {S T E : Type 0} → Ghosts S → Held S → Held S → Result T E → (T → World → Type 0) → Type 0
 Tells g old new result Is = HasCleanDisk (state g new) → IfOk result (λ found. (world : World) → StandsFor (state g old).now world → Is found world)
 
 -- the answer is what such a world has
@@ -74,6 +103,10 @@ pub record Writes {S T E : Type 0} (g : Ghosts S) (old new : Transaction S) (res
 -- the text ran with these parameters
 abbrev pub HasRun : List ℕ → Row → State → State → Type 0
 HasRun sql params old new = (count : ℕ) × Executes sql params old new (Ok count)
+
+-- with Ok, the text ran in the transaction
+abbrev pub Runs : {S T E : Type 0} → Ghosts S → Transaction S → Transaction S → Result T E → List ℕ → Row → Type 0
+Runs g old new result sql params = HasCleanDisk (state g new.conn.now) → OnOk result (HasRun sql params (state g old.conn.now) (state g new.conn.now))
 
 -- What any number of statements inside a transaction do to it: with Ok it is still there, where it was there.
 pub record Works {S T E : Type 0} (g : Ghosts S) (old new : Transaction S) (result : Result T E) : Type 0 where
@@ -100,6 +133,22 @@ pub record IsDone (Makes : Database → Database → Type 0) (old new : State) :
 -- these trees are those of what is made of a database
 abbrev pub IsMade : (Database → Database → Type 0) → Database → Trees → Type 0
 IsMade Makes old trees = (after : Database) × (after.trees ≡ trees) × Makes old after
+
+-- What a transaction that makes this does to a connection: with Ok it is made and committed,
+abbrev pub Commits : {S T E : Type 0} → Ghosts S → Held S → Held S → Result T E → (Database → Database → Type 0) → Type 0
+Commits g old new result Makes = HasCleanDisk (state g new) → OnOk result (IsDone Makes (state g old) (state g new))
+
+-- a refused statement leaves all as before, and the connection serves,
+abbrev pub Refuses : {S T : Type 0} → Ghosts S → Held S → Held S → Result T Fault → Type 0
+Refuses g old new result = HasCleanDisk (state g new) → IfErr result (λ fault. fault ≡ NotAProject → IsRefused (state g old) (state g new))
+
+-- any fault leaves the tables as before, while the connection is open,
+abbrev pub Undoes : {S T E : Type 0} → Ghosts S → Held S → Held S → Result T E → Type 0
+Undoes g old new result = HasCleanDisk (state g new) → OnErr result (IsUndone (state g old) (state g new))
+
+-- and whatever it answers, a stop leaves what it left before, or what is made.
+abbrev pub MayMake : {S : Type 0} → Ghosts S → Held S → Held S → (Database → Database → Type 0) → Type 0
+MayMake g old new Makes = Survives (state g old) (state g new) (IsMade Makes (state g old).now)
 
 -- a fresh project is made
 abbrev pub IsCreated : State → State → Type 0

@@ -5,10 +5,7 @@ pub mod Tables
 pub mod StandsFor
 pub mod Calm
 pub mod Calls
-pub mod Reading
-pub mod Answers
 pub mod Made
-pub mod Changes
 pub mod Versions
-pub mod Worlds
 pub mod Indexes
+pub mod Restoring

@@ -1,11 +1,9 @@
 //! The creation of a project, in one transaction.
 
-ghost use Rattle.std.specs.Prelude.{◌≡◌, false, codes, OnOk, OnErr, IfErr};
-ghost use Rattle.sqlite.specs.State.{HasCleanDisk, Survives};
-ghost use Rattle.sqlite.specs.Held.{state};
+ghost use Rattle.std.specs.Prelude.{◌≡◌, false, codes, IfErr};
 ghost use Rattle.wu_schema.specs.Tables.{project_at, workunit_at, result_at, grant_at, host_at, archived_at, import_at};
-ghost use Rattle.wu_schema.specs.Made.{MakesTable, MakesTables, MakesProject, PutsProject, IsProjectBeside, work_tables, record_tables};
-ghost use Rattle.wu_schema.specs.Calls.{Writes, Does, IsCreated, IsUndone, IsRefused};
+ghost use Rattle.wu_schema.specs.Made.{MakesTable, MakesTables, MakesProject, PutsProject, work_tables, record_tables};
+ghost use Rattle.wu_schema.specs.Calls.{Writes, Does, Commits, MayMake, Refuses, Undoes};
 ghost use Rattle.wu_schema.specs.Faults.{IsTold};
 
 use crate::texts::{
@@ -123,10 +121,10 @@ impl Work for Creation {
 pub fn create<S: Alter>(conn: &mut Connection<S>) -> Result<(), Fault>
     requires { conn.old.in_transaction ≡ false }
     ensures mode { conn.new.in_transaction ≡ false }
-    ensures done { HasCleanDisk (state S.Store conn.new) → OnOk result (IsCreated (state S.Store conn.old) (state S.Store conn.new)) }
-    ensures refused { HasCleanDisk (state S.Store conn.new) → IfErr result (λ fault. fault ≡ Fault.NotAProject → IsRefused (state S.Store conn.old) (state S.Store conn.new)) }
-    ensures undone { HasCleanDisk (state S.Store conn.new) → OnErr result (IsUndone (state S.Store conn.old) (state S.Store conn.new)) }
-    ensures crash { Survives (state S.Store conn.old) (state S.Store conn.new) (IsProjectBeside (state S.Store conn.old).now) }
+    ensures done { Commits S.Store conn.old conn.new result MakesProject }
+    ensures refused { Refuses S.Store conn.old conn.new result }
+    ensures undone { Undoes S.Store conn.old conn.new result }
+    ensures crash { MayMake S.Store conn.old conn.new MakesProject }
     ensures told { IfErr result IsTold }
 {
     transact(conn, &Creation)

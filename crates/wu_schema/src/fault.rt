@@ -1,10 +1,8 @@
 //! An error of the store as a fault.
 
 ghost use Rattle.std.specs.Prelude.{◌≡◌, false};
-ghost use Rattle.sqlite.specs.State.{HasCleanDisk, IsUnchanged, Survives};
-ghost use Rattle.sqlite.specs.Held.{state};
 ghost use Rattle.wu_schema.specs.Faults.{fault_of, commit_fault_of, IsTold};
-ghost use Rattle.wu_schema.specs.Calls.{IsBack};
+ghost use Rattle.wu_schema.specs.Calls.{CommitsNothing, GoesBack, Serves};
 
 use sqlite::{Alter, Connection, Error, ErrorCode};
 use sqlite_resolve::CompileError;
@@ -45,9 +43,9 @@ pub fn commit_fault_of(error: &Error) -> Fault
 fn probe<S: Alter>(conn: &mut Connection<S>) -> Fault
     ensures mode { conn.old.in_transaction ≡ false → conn.new.in_transaction ≡ false }
     ensures kind { IsTold result }
-    ensures serves { HasCleanDisk (state S.Store conn.new) → result ≡ Fault.NotAProject → IsUnchanged (state S.Store conn.old) (state S.Store conn.new) }
-    ensures back { HasCleanDisk (state S.Store conn.new) → IsBack (state S.Store conn.old) (state S.Store conn.new) }
-    ensures crash { Survives (state S.Store conn.old) (state S.Store conn.new) (λ _. ⊥) }
+    ensures serves { Serves S.Store conn.old conn.new result }
+    ensures back { GoesBack S.Store conn.old conn.new }
+    ensures crash { CommitsNothing S.Store conn.old conn.new }
 {
     if let Err(error) = conn.prepare("SELECT 1") {
         return commit_fault_of(&error);
@@ -62,9 +60,9 @@ pub fn fault_after<S: Alter>(conn: &mut Connection<S>, error: &Error) -> Fault
     ensures mode { conn.old.in_transaction ≡ false → conn.new.in_transaction ≡ false }
     ensures kind { result ≡ Fault.NotAProject → fault_of error.now ≡ Fault.NotAProject }
     ensures told { IsTold result }
-    ensures serves { HasCleanDisk (state S.Store conn.new) → result ≡ Fault.NotAProject → IsUnchanged (state S.Store conn.old) (state S.Store conn.new) }
-    ensures back { HasCleanDisk (state S.Store conn.new) → IsBack (state S.Store conn.old) (state S.Store conn.new) }
-    ensures crash { Survives (state S.Store conn.old) (state S.Store conn.new) (λ _. ⊥) }
+    ensures serves { Serves S.Store conn.old conn.new result }
+    ensures back { GoesBack S.Store conn.old conn.new }
+    ensures crash { CommitsNothing S.Store conn.old conn.new }
 {
     match fault_of(error) {
         Fault::NotAProject => probe(conn),

@@ -1,11 +1,9 @@
 //! One transaction: the work that is done in it, and what holds at each exit.
 
-ghost use Rattle.std.specs.Prelude.{◌≡◌, false, OnOk, OnErr, IfErr};
-ghost use Rattle.sqlite.specs.State.{HasCleanDisk, Survives};
-ghost use Rattle.sqlite.specs.Held.{state};
+ghost use Rattle.std.specs.Prelude.{◌≡◌, false, IfErr};
 ghost use Rattle.sqlite.specs.Values.{bound};
 ghost use Rattle.sqlite.specs.Effect.{Database};
-ghost use Rattle.wu_schema.specs.Calls.{Writes, Works, Does, HasRun, IsDone, IsMade, IsUndone, IsRefused};
+ghost use Rattle.wu_schema.specs.Calls.{Writes, Works, Does, Runs, Commits, MayMake, Refuses, Undoes};
 ghost use Rattle.wu_schema.specs.Faults.{IsTold};
 
 use crate::fault::{commit_fault_of, fault_after};
@@ -13,15 +11,14 @@ use sqlite::{Alter, Connection, Error, Transaction};
 use sqlite_value::value::ValueRef;
 use wu_core::Fault;
 
-/// Runs one statement.
-pub(crate) fn execute<S: Alter>(
+/// Runs one statement inside a transaction.
+pub fn execute<S: Alter>(
     tx: &mut Transaction<'_, S>,
     sql: &str,
     params: &[ValueRef<'_>],
 ) -> Result<(), Error>
     ensures writes { Writes S.Store tx.old tx.new result }
-    ensures ran { HasCleanDisk (state S.Store tx.new.conn.now) → OnOk result
-        (HasRun sql.now (bound params.now) (state S.Store tx.old.conn.now) (state S.Store tx.new.conn.now)) }
+    ensures ran { Runs S.Store tx.old tx.new result sql.now (bound params.now) }
 {
     tx.execute(sql, params)?;
     Ok(())
@@ -46,9 +43,9 @@ enum Stopped {
 fn run_and_commit<S: Alter, W: Work>(conn: &mut Connection<S>, work: &W) -> Result<(), Stopped>
     requires { conn.old.in_transaction ≡ false }
     ensures mode { conn.new.in_transaction ≡ false }
-    ensures done { HasCleanDisk (state S.Store conn.new) → OnOk result (IsDone (W.makes work.now) (state S.Store conn.old) (state S.Store conn.new)) }
-    ensures undone { HasCleanDisk (state S.Store conn.new) → OnErr result (IsUndone (state S.Store conn.old) (state S.Store conn.new)) }
-    ensures crash { Survives (state S.Store conn.old) (state S.Store conn.new) (IsMade (W.makes work.now) (state S.Store conn.old).now) }
+    ensures done { Commits S.Store conn.old conn.new result (W.makes work.now) }
+    ensures undone { Undoes S.Store conn.old conn.new result }
+    ensures crash { MayMake S.Store conn.old conn.new (W.makes work.now) }
 {
     let mut tx = conn.transaction();
     if let Err(error) = work.run(&mut tx) {
@@ -67,11 +64,11 @@ fn run_and_commit<S: Alter, W: Work>(conn: &mut Connection<S>, work: &W) -> Resu
 pub fn transact<S: Alter, W: Work>(conn: &mut Connection<S>, work: &W) -> Result<(), Fault>
     requires { conn.old.in_transaction ≡ false }
     ensures mode { conn.new.in_transaction ≡ false }
-    ensures done { HasCleanDisk (state S.Store conn.new) → OnOk result (IsDone (W.makes work.now) (state S.Store conn.old) (state S.Store conn.new)) }
-    ensures refused { HasCleanDisk (state S.Store conn.new) → IfErr result (λ fault. fault ≡ Fault.NotAProject → IsRefused (state S.Store conn.old) (state S.Store conn.new)) }
-    ensures undone { HasCleanDisk (state S.Store conn.new) → OnErr result (IsUndone (state S.Store conn.old) (state S.Store conn.new)) }
+    ensures done { Commits S.Store conn.old conn.new result (W.makes work.now) }
+    ensures refused { Refuses S.Store conn.old conn.new result }
+    ensures undone { Undoes S.Store conn.old conn.new result }
     ensures told { IfErr result IsTold }
-    ensures crash { Survives (state S.Store conn.old) (state S.Store conn.new) (IsMade (W.makes work.now) (state S.Store conn.old).now) }
+    ensures crash { MayMake S.Store conn.old conn.new (W.makes work.now) }
 {
     match run_and_commit(conn, work) {
         Ok(()) => Ok(()),

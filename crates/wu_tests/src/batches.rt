@@ -34,6 +34,20 @@ fn a_repeated_batch_answers_as_before(rt: HostRuntime) {
     answers(&rt, &mut conn, "SELECT next_number FROM project", 2);
 }
 
+/// Files, each with what is printed for its first fault.
+const BAD_FILES: [(&[u8], &str); 7] = [
+    (b"job_1,00ff\n", "F3 BadFile 1 header"),
+    (b"", "F3 BadFile 1 header"),
+    (b"input,name\n", "F3 BadFile 1 header"),
+    (
+        b"name,input\njob_1,00ff\njob_2,00,1\n",
+        "F3 BadFile 3 fields",
+    ),
+    (b"name,input\njob\xff,0\n", "F3 BadFile 2 name"),
+    (b"name,input\njob_1,0\n", "F3 BadFile 2 input"),
+    (b"name,input\njob_1,00\njob_1,00\n", "F5 WorkunitUsed 3"),
+];
+
 #[test]
 fn files_are_refused_at_their_first_fault(rt: HostRuntime) {
     let mut project = fresh(&rt);
@@ -44,20 +58,8 @@ fn files_are_refused_at_their_first_fault(rt: HostRuntime) {
         b"name,input\n",
         "batch b0: 0 added, first -\n",
     );
-    let cases: [(&[u8], &str); 7] = [
-        (b"job_1,00ff\n", "F3 BadFile 1 header"),
-        (b"", "F3 BadFile 1 header"),
-        (b"input,name\n", "F3 BadFile 1 header"),
-        (
-            b"name,input\njob_1,00ff\njob_2,00,1\n",
-            "F3 BadFile 3 fields",
-        ),
-        (b"name,input\njob\xff,0\n", "F3 BadFile 2 name"),
-        (b"name,input\njob_1,0\n", "F3 BadFile 2 input"),
-        (b"name,input\njob_1,00\njob_1,00\n", "F5 WorkunitUsed 3"),
-    ];
-    for (file, text) in cases {
-        imports(&rt, &mut project, "b1", file, text);
+    for (file, text) in &BAD_FILES {
+        imports(&rt, &mut project, "b1", *file, *text);
     }
     assert!(rt; !project.ended());
     shows(&rt, &mut project, "");
@@ -90,17 +92,19 @@ fn a_taken_name_is_refused(rt: HostRuntime) {
     );
 }
 
+/// Templates, each with what is printed for it, in this order.
+const TEMPLATES: [(&[u8], &str); 4] = [
+    (b"quorum = 3\n", "F2 BadTemplate unknown"),
+    (b"min_quorum = 3\n", "F2 BadTemplate target_nresults"),
+    (b"min_quorum =\n", "F2 BadTemplate document"),
+    (b"credit = 0\n", ONE_ADDED),
+];
+
 #[test]
 fn a_template_sets_parameters_or_is_refused(rt: HostRuntime) {
     let mut project = fresh(&rt);
-    let cases: [(&[u8], &str); 4] = [
-        (b"quorum = 3\n", "F2 BadTemplate unknown"),
-        (b"min_quorum = 3\n", "F2 BadTemplate target_nresults"),
-        (b"min_quorum =\n", "F2 BadTemplate document"),
-        (b"credit = 0\n", ONE_ADDED),
-    ];
-    for (template, text) in cases {
-        says(&rt, &mut project, "b1", template, ONE_JOB, text);
+    for (template, text) in &TEMPLATES {
+        says(&rt, &mut project, "b1", *template, ONE_JOB, *text);
     }
     let shown = workunits(&rt, &mut project);
     assert!(rt; shown.as_str().contains(" delay=604800 credit=0 "));

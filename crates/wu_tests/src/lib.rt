@@ -1,5 +1,5 @@
-//! Whole projects: the laws of a project through stops; and tests: the worked examples of a batch, what stands in a
-//! database that is adopted, what a stop of a file's calls leaves, and lives of a batch each.
+//! Tests of whole projects: the worked examples of a batch, what stands in a database that is adopted, what a stop of a
+//! file's calls leaves, and lives of a batch each.
 #![tactic(auto)]
 
 #[cfg(test)]
@@ -8,7 +8,6 @@ mod adoption;
 mod batches;
 #[cfg(test)]
 mod lives;
-mod reopening;
 #[cfg(test)]
 mod setting;
 #[cfg(test)]
@@ -17,5 +16,3 @@ mod statements;
 mod stops;
 #[cfg(test)]
 mod writers;
-
-pub use reopening::{drive_stop_and_open, live, live_all, stop_and_open};

@@ -1,11 +1,17 @@
 //! Lives of a project over two files in memory: a batch, a stop, and a batch over what is found.
+//!
+//! What a test does is written for any disk, and what it asks of a store stands in a few functions over any store: that
+//! the store over two files serves is proved again at each call of such a function.
 
-use crate::reopening::{drive_stop_and_open, live, live_all, stop_and_open};
-use crate::setting::{ONE_JOB, ONE_WORKUNIT, adopted, batch, imports, shows, shows_lines};
-use sqlite::{Connection, FileStore, Files, Options};
-use sqlite_disk::Memory;
+use crate::setting::{
+    ONE_JOB, ONE_WORKUNIT, TWO_WORKUNITS, adopted, batch, imports, is_bytes, is_count, is_run,
+    opened, shows, shows_lines,
+};
+use sqlite::{Alter, Connection, FileStore, Files, Options};
+use sqlite_disk::{Crash, Disk, Memory};
 use std::process::Abort;
 use wu_drive::{Command, Project, Run};
+use wu_lives::{drive_stop_and_open, live, live_all, stop_and_open};
 
 /// What the batch of one job prints.
 const FIRST_ADDED: &str = "batch b1: 1 added, first 1\n";
@@ -16,21 +22,28 @@ const SECOND_JOB: &[u8] = b"name,input\njob_2,\n";
 /// What the batch of the other file prints after the first.
 const SECOND_ADDED: &str = "batch b2: 1 added, first 2\n";
 
-/// A connection over two empty files.
-fn opened(rt: &(impl Abort + AllocGlobal)) -> Connection<FileStore<Memory>> {
-    let files = Files {
+/// Two empty files.
+fn empty_files(rt: &(impl Abort + AllocGlobal)) -> Files<Memory> {
+    Files {
         log: Memory::new(rt.alloc()),
         db: Memory::new(rt.alloc()),
-    };
-    assert!(rt; files.may_be_used());
-    Connection::open_files(rt.alloc(), files, Options::new(1))
-        .ok()
-        .expect(rt, "an open")
+    }
 }
 
-/// A fresh project over two files.
-fn begun(rt: &(impl Abort + AllocGlobal)) -> Project<FileStore<Memory>> {
-    adopted(rt, opened(rt))
+/// The project of a connection over files.
+fn resumed<D: Disk + Drop>(
+    rt: &(impl Abort + AllocGlobal),
+    conn: Connection<FileStore<D>>,
+) -> Project<FileStore<D>> {
+    adopted(rt, conn)
+}
+
+/// A project over two files, fresh where they are empty.
+fn begun<D: Disk + Drop>(
+    rt: &(impl Abort + AllocGlobal),
+    files: Files<D>,
+) -> Project<FileStore<D>> {
+    resumed(rt, opened(rt, files).ok().expect(rt, "an open"))
 }
 
 /// A list of the one batch.
@@ -38,63 +51,82 @@ fn first(rt: &(impl Abort + AllocGlobal)) -> [Command; 1] {
     [batch(rt, "b1", b"", ONE_JOB)]
 }
 
-/// Sees that a run did its one command.
-fn did_one(rt: &impl Abort, run: Run) {
-    assert_eq!(rt;
-        run,
-        Run {
-            acknowledged: 1,
-            end: None
-        }
-    );
+/// Sees that a run did its one command, the first batch, and wrote its text.
+fn did_first(rt: &impl Abort, run: Run, out: &[u8]) {
+    let whole = Run {
+        acknowledged: 1,
+        end: None,
+    };
+    is_run(rt, run, whole);
+    is_bytes(rt, out, FIRST_ADDED.as_bytes());
 }
 
-/// Sees that the project has the first batch, and takes the other.
-fn goes_on(rt: &(impl Abort + AllocGlobal), mut project: Project<FileStore<Memory>>) {
-    shows(rt, &mut project, ONE_WORKUNIT);
+/// Takes the first batch, and gives the connection back.
+fn takes_first<S: Alter>(
+    rt: &(impl Abort + AllocGlobal),
+    mut project: Project<S>,
+) -> Connection<S> {
     imports(rt, &mut project, "b1", ONE_JOB, FIRST_ADDED);
-    imports(rt, &mut project, "b2", SECOND_JOB, SECOND_ADDED);
-    shows_lines(rt, &mut project, 2);
+    project.release()
+}
+
+/// Sees that the project shows these workunits, and takes both batches, again where it has them.
+fn takes_both<S: Alter>(rt: &(impl Abort + AllocGlobal), project: &mut Project<S>, shown: &str) {
+    shows(rt, project, shown);
+    imports(rt, project, "b1", ONE_JOB, FIRST_ADDED);
+    imports(rt, project, "b2", SECOND_JOB, SECOND_ADDED);
+    shows_lines(rt, project, 2);
+}
+
+/// Goes on so with a project over files.
+fn goes_on<D: Disk + Drop>(
+    rt: &(impl Abort + AllocGlobal),
+    mut project: Project<FileStore<D>>,
+    shown: &str,
+) {
+    takes_both(rt, &mut project, shown);
+}
+
+/// Stops after a batch, and goes on.
+fn finds_a_batch<D: Crash + Drop>(rt: &(impl Abort + AllocGlobal), files: Files<D>) {
+    let conn = takes_first(rt, begun(rt, files));
+    let again = stop_and_open(rt.alloc(), conn, Options::new(2));
+    goes_on(rt, resumed(rt, again.expect(rt, "an open")), ONE_WORKUNIT);
 }
 
 #[test]
 fn a_batch_is_found_after_a_stop(rt: HostRuntime) {
-    let mut project = begun(&rt);
-    imports(&rt, &mut project, "b1", ONE_JOB, FIRST_ADDED);
-    let again = stop_and_open(rt.alloc(), project.release(), Options::new(2));
-    goes_on(&rt, adopted(&rt, again.expect(&rt, "an open")));
+    finds_a_batch(&rt, empty_files(&rt));
+}
+
+/// Runs a list, stops, and goes on.
+fn finds_a_list<D: Crash + Drop>(rt: &(impl Abort + AllocGlobal), files: Files<D>) {
+    let mut out = Vec::new(rt.alloc());
+    let project = begun(rt, files);
+    let again = drive_stop_and_open(rt.alloc(), project, &first(rt), &mut out, Options::new(2));
+    let (run, conn) = again.expect(rt, "an open");
+    did_first(rt, run, out.as_slice());
+    goes_on(rt, resumed(rt, conn), ONE_WORKUNIT);
 }
 
 #[test]
 fn a_list_is_found_after_a_stop(rt: HostRuntime) {
+    finds_a_list(&rt, empty_files(&rt));
+}
+
+/// Lives a life, and goes on in its session.
+fn lives_on<D: Crash + Drop>(rt: &(impl Abort + AllocGlobal), files: Files<D>) {
     let mut out = Vec::new(rt.alloc());
-    let again = drive_stop_and_open(
-        rt.alloc(),
-        begun(&rt),
-        &first(&rt),
-        &mut out,
-        Options::new(2),
-    );
-    let (run, conn) = again.expect(&rt, "an open");
-    did_one(&rt, run);
-    assert_eq!(&rt; out.as_slice(), FIRST_ADDED.as_bytes());
-    goes_on(&rt, adopted(&rt, conn));
+    let project = begun(rt, files);
+    let lived = live(rt.alloc(), project, &first(rt), &mut out, Options::new(2));
+    let (run, project) = lived.expect(rt, "a life");
+    did_first(rt, run, out.as_slice());
+    goes_on(rt, project, ONE_WORKUNIT);
 }
 
 #[test]
 fn a_session_goes_on_after_a_stop(rt: HostRuntime) {
-    let mut out = Vec::new(rt.alloc());
-    let lived = live(
-        rt.alloc(),
-        begun(&rt),
-        &first(&rt),
-        &mut out,
-        Options::new(2),
-    );
-    let (run, project) = lived.expect(&rt, "a life");
-    did_one(&rt, run);
-    assert_eq!(&rt; out.as_slice(), FIRST_ADDED.as_bytes());
-    goes_on(&rt, project);
+    lives_on(&rt, empty_files(&rt));
 }
 
 /// A life of one batch.
@@ -107,16 +139,28 @@ fn life(rt: &(impl Abort + AllocGlobal), name: &str, file: &[u8]) -> Vec<Command
     commands
 }
 
+/// Lives two lives, of a batch each.
+fn lives_twice<D: Crash + Drop>(rt: &(impl Abort + AllocGlobal), files: Files<D>) {
+    let lives = [life(rt, "b1", ONE_JOB), life(rt, "b2", SECOND_JOB)];
+    let mut out = Vec::new(rt.alloc());
+    let lived = live_all(
+        rt.alloc(),
+        begun(rt, files),
+        &lives,
+        &mut out,
+        Options::new(2),
+    );
+    let (runs, project) = lived.expect(rt, "lives");
+    is_count(rt, runs.len(), 2);
+    is_bytes(
+        rt,
+        out.as_slice(),
+        b"batch b1: 1 added, first 1\nbatch b2: 1 added, first 2\n",
+    );
+    goes_on(rt, project, TWO_WORKUNITS);
+}
+
 #[test]
 fn a_life_goes_on_from_the_one_before(rt: HostRuntime) {
-    let lives = [life(&rt, "b1", ONE_JOB), life(&rt, "b2", SECOND_JOB)];
-    let mut out = Vec::new(rt.alloc());
-    let lived = live_all(rt.alloc(), begun(&rt), &lives, &mut out, Options::new(2));
-    let (runs, mut project) = lived.expect(&rt, "lives");
-    assert_eq!(&rt; runs.len(), 2);
-    assert_eq!(&rt;
-        out.as_slice(),
-        b"batch b1: 1 added, first 1\nbatch b2: 1 added, first 2\n".as_slice()
-    );
-    shows_lines(&rt, &mut project, 2);
+    lives_twice(&rt, empty_files(&rt));
 }

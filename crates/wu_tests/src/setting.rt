@@ -1,9 +1,10 @@
-//! Projects in memory, and what they print.
+//! Projects in memory and over files, and what they print.
 
-use sqlite::{Alter, Connection, MemStore};
+use sqlite::{Alter, Connection, FileStore, Files, MemStore, Options};
+use sqlite_disk::Disk;
 use std::process::Abort;
 use wu_core::{Bytes, Fault, Name};
-use wu_drive::{Command, Project, View, drive, show};
+use wu_drive::{Batch, Command, Project, Run, View, drive, show};
 
 /// The jobs file of the worked examples.
 pub const ONE_JOB: &[u8] = b"name,input\njob_1,00ff\n";
@@ -12,8 +13,42 @@ pub const ONE_JOB: &[u8] = b"name,input\njob_1,00ff\n";
 pub const ONE_WORKUNIT: &str =
     "1 job_1 input=2 quorum=2 target=2 max_error=3 max_total=10 max_success=6 delay=604800 credit=1 mask=0 canonical=- assimilate=INIT delete=INIT done=-\n";
 
+/// The view of that workunit, and of a second one without input.
+pub const TWO_WORKUNITS: &str =
+    "1 job_1 input=2 quorum=2 target=2 max_error=3 max_total=10 max_success=6 delay=604800 credit=1 mask=0 canonical=- assimilate=INIT delete=INIT done=-\n2 job_2 input=0 quorum=2 target=2 max_error=3 max_total=10 max_success=6 delay=604800 credit=1 mask=0 canonical=- assimilate=INIT delete=INIT done=-\n";
+
 pub fn memory(rt: &(impl Abort + AllocGlobal)) -> Connection<MemStore> {
     Connection::open_in_memory(rt.alloc()).expect(rt, "memory")
+}
+
+/// Sees that this text was printed.
+pub fn is_text(rt: &impl Abort, seen: &str, text: &str) {
+    assert_eq!(rt; seen, text);
+}
+
+/// Sees that these bytes were written.
+pub fn is_bytes(rt: &impl Abort, seen: &[u8], bytes: &[u8]) {
+    assert_eq!(rt; seen, bytes);
+}
+
+/// Sees that it is so many.
+pub fn is_count(rt: &impl Abort, seen: usize, count: usize) {
+    assert_eq!(rt; seen, count);
+}
+
+/// Sees that it is this number.
+pub fn is_number(rt: &impl Abort, seen: i64, number: i64) {
+    assert_eq!(rt; seen, number);
+}
+
+/// Sees that it is this fault.
+pub fn is_fault(rt: &impl Abort, seen: Fault, fault: Fault) {
+    assert_eq!(rt; seen, fault);
+}
+
+/// Sees how far a list of commands went.
+pub fn is_run(rt: &impl Abort, seen: Run, run: Run) {
+    assert_eq!(rt; seen, run);
 }
 
 /// The project of a connection.
@@ -29,9 +64,21 @@ pub fn refused(rt: &impl Abort, conn: Connection<MemStore>, why: Fault) -> Conne
     match Project::adopt(conn) {
         Ok(_) => panic!(rt; "adopted"),
         Err((conn, fault)) => {
-            assert_eq!(rt; fault, why);
+            is_fault(rt, fault, why);
             conn
         }
+    }
+}
+
+/// A connection over the files, or the files where their calls stop.
+pub fn opened<D: Disk + Drop>(
+    rt: &(impl Abort + AllocGlobal),
+    files: Files<D>,
+) -> Result<Connection<FileStore<D>>, Files<D>> {
+    assert!(rt; files.may_be_used());
+    match Connection::open_files(rt.alloc(), files, Options::new(1)) {
+        Ok(conn) => Ok(conn),
+        Err((_, left)) => Err(left.into_files()),
     }
 }
 
@@ -45,11 +92,11 @@ pub fn bytes(rt: &(impl Abort + AllocGlobal), items: &[u8]) -> Bytes {
 
 /// A batch of this name, template and file.
 pub fn batch(rt: &(impl Abort + AllocGlobal), name: &str, template: &[u8], file: &[u8]) -> Command {
-    Command::Batch {
+    Command::Batch(Batch {
         name: Name::read(rt.alloc(), name.as_bytes()).expect(rt, "a name"),
         template: bytes(rt, template),
         file: bytes(rt, file),
-    }
+    })
 }
 
 /// What the project prints for a command: the text of its answer, or the line of its fault.
@@ -75,8 +122,8 @@ pub fn says<S: Alter>(
     file: &[u8],
     text: &str,
 ) {
-    let command = batch(rt, name, template, file);
-    assert_eq!(rt; printed(rt, project, command).as_str(), text);
+    let seen = printed(rt, project, batch(rt, name, template, file));
+    is_text(rt, seen.as_str(), text);
 }
 
 /// Sees that the project prints this for a batch with an empty template.
@@ -99,7 +146,7 @@ pub fn workunits<S: Alter>(rt: &(impl Abort + AllocGlobal), project: &mut Projec
 
 /// Sees that this is the view of workunits.
 pub fn shows<S: Alter>(rt: &(impl Abort + AllocGlobal), project: &mut Project<S>, text: &str) {
-    assert_eq!(rt; workunits(rt, project).as_str(), text);
+    is_text(rt, workunits(rt, project).as_str(), text);
 }
 
 /// Sees that the view of workunits has so many lines.
@@ -108,7 +155,8 @@ pub fn shows_lines<S: Alter>(
     project: &mut Project<S>,
     count: usize,
 ) {
-    assert_eq!(rt; workunits(rt, project).as_str().lines().count(), count);
+    let seen = workunits(rt, project);
+    is_count(rt, seen.as_str().lines().count(), count);
 }
 
 /// Runs statements of a test's own.
@@ -116,9 +164,13 @@ pub fn runs<S: Alter>(rt: &impl Abort, conn: &mut Connection<S>, sql: &str) {
     conn.execute_batch(sql).expect(rt, "a statement")
 }
 
-/// Sees that a query of a test answers this number.
-pub fn answers<S: Alter>(rt: &impl Abort, conn: &mut Connection<S>, sql: &str, number: i64) {
+/// The number that a query of a test answers.
+pub fn number<S: Alter>(rt: &impl Abort, conn: &mut Connection<S>, sql: &str) -> i64 {
     let row = conn.query_row(sql, &[]).expect(rt, "a row");
-    let seen: i64 = row.get(0).expect(rt, "a number");
-    assert_eq!(rt; seen, number);
+    row.get(0).expect(rt, "a number")
+}
+
+/// Sees that a query of a test answers this number.
+pub fn answers<S: Alter>(rt: &impl Abort, conn: &mut Connection<S>, sql: &str, expected: i64) {
+    is_number(rt, number(rt, conn, sql), expected);
 }

@@ -1,10 +1,10 @@
 //! Statements that no command runs yet, over the tables of a project.
 
-use crate::setting::{answers, bytes, fresh, imports, runs};
+use crate::setting::{answers, bytes, fresh, imports, is_count, runs};
 use sqlite::{Connection, MemStore};
 use std::process::Abort;
 use wu_core::{Archived, ErrorMask, Grant, Instance, Moment, Name};
-use wu_schema::{
+use wu_store::{
     delete_workunit, insert_archived, insert_grant, insert_instance, instance_rows,
     workunit_row_above, workunit_row_named,
 };
@@ -31,6 +31,11 @@ fn two_jobs(rt: &(impl Abort + AllocGlobal)) -> Connection<MemStore> {
     conn
 }
 
+/// Sees that this number was found, or none.
+fn is_found(rt: &impl Abort, seen: Option<i64>, number: Option<i64>) {
+    assert_eq!(rt; seen, number);
+}
+
 /// The least number of a workunit above this one.
 fn number_above(rt: &impl Abort, conn: &mut Connection<MemStore>, number: u64) -> Option<i64> {
     match workunit_row_above(conn, number).expect(rt, "an answer") {
@@ -42,7 +47,7 @@ fn number_above(rt: &impl Abort, conn: &mut Connection<MemStore>, number: u64) -
 /// Sees that a workunit has so many instances.
 fn has_instances(rt: &impl Abort, conn: &mut Connection<MemStore>, workunit: u64, count: usize) {
     let rows = instance_rows(conn, workunit).expect(rt, "an answer");
-    assert_eq!(rt; rows.len(), count);
+    is_count(rt, rows.len(), count);
 }
 
 fn named(rt: &(impl Abort + AllocGlobal), text: &str) -> Name {
@@ -171,8 +176,8 @@ fn an_instance_comes_behind_the_others(rt: HostRuntime) {
 #[test]
 fn a_workunit_is_found_by_its_name(rt: HostRuntime) {
     let mut conn = two_jobs(&rt);
-    assert_eq!(rt; number_named(&rt, &mut conn, "job_2"), Some(2));
-    assert_eq!(rt; number_named(&rt, &mut conn, "job_3"), None);
+    is_found(&rt, number_named(&rt, &mut conn, "job_2"), Some(2));
+    is_found(&rt, number_named(&rt, &mut conn, "job_3"), None);
 }
 
 #[test]
@@ -190,9 +195,9 @@ fn a_deletion_takes_the_instances_along(rt: HostRuntime) {
 #[test]
 fn the_least_number_above_is_found(rt: HostRuntime) {
     let mut conn = two_jobs(&rt);
-    assert_eq!(rt; number_above(&rt, &mut conn, 0), Some(1));
-    assert_eq!(rt; number_above(&rt, &mut conn, 1), Some(2));
-    assert_eq!(rt; number_above(&rt, &mut conn, 2), None);
+    is_found(&rt, number_above(&rt, &mut conn, 0), Some(1));
+    is_found(&rt, number_above(&rt, &mut conn, 1), Some(2));
+    is_found(&rt, number_above(&rt, &mut conn, 2), None);
 }
 
 #[test]

@@ -2,8 +2,10 @@
 //!
 //! An open of what is left finds all of the adoption or of the batch, or nothing of it.
 
-use crate::setting::{adopted, answers, batch, imports, says, shows};
-use sqlite::{Alter, Connection, FileStore, Files, Options};
+use crate::setting::{
+    TWO_WORKUNITS, adopted, answers, batch, imports, is_fault, number, opened, says, shows,
+};
+use sqlite::{Alter, Connection, FileStore, Files};
 use sqlite_disk::{Crash, Disk, Fuse, Memory};
 use std::process::Abort;
 use wu_core::Fault;
@@ -24,7 +26,7 @@ enum Loss {
 }
 
 /// What is asked of the files: to adopt an empty database, or to run the batch over a fresh project.
-#[derive(Clone, Copy, Drop, PartialEq, Eq)]
+#[derive(Clone, Copy, Drop)]
 enum Task {
     Adopt,
     Batch,
@@ -38,10 +40,6 @@ const TWO_JOBS: &[u8] = b"name,input\njob_1,00ff\njob_2,\n";
 
 /// What the batch prints.
 const TWO_ADDED: &str = "batch b: 2 added, first 1\n";
-
-/// The view of the two workunits.
-const TWO_WORKUNITS: &str =
-    "1 job_1 input=2 quorum=2 target=2 max_error=3 max_total=10 max_success=6 delay=604800 credit=1 mask=0 canonical=- assimilate=INIT delete=INIT done=-\n2 job_2 input=0 quorum=2 target=2 max_error=3 max_total=10 max_success=6 delay=604800 credit=1 mask=0 canonical=- assimilate=INIT delete=INIT done=-\n";
 
 /// What each table holds: a query, its answer in a fresh project, and its answer after the batch.
 const TABLES: [(&str, i64, i64); 13] = [
@@ -78,28 +76,20 @@ const TABLES: [(&str, i64, i64); 13] = [
 
 /// Sees that each table is that of a fresh project, or else that of the project after the batch.
 fn has_tables<S: Alter>(rt: &impl Abort, conn: &mut Connection<S>, is_fresh: bool) {
-    for (sql, before, after) in TABLES {
-        answers(rt, conn, sql, if is_fresh { before } else { after });
+    for (sql, before, after) in &TABLES {
+        answers(rt, conn, sql, if is_fresh { *before } else { *after });
     }
-}
-
-/// The number that a query of a test answers.
-fn number<S: Alter>(rt: &impl Abort, conn: &mut Connection<S>, sql: &str) -> i64 {
-    let row = conn.query_row(sql, &[]).expect(rt, "a row");
-    row.get(0).expect(rt, "a number")
 }
 
 /// Whether the batch is answered with `Ok`. Else the fault is `Broken`, and the session has ended.
 fn runs_batch<S: Alter>(rt: &(impl Abort + AllocGlobal), project: &mut Project<S>) -> bool {
     let command = batch(rt, "b", b"", TWO_JOBS);
-    match project.run(rt.alloc(), &command) {
-        Ok(_) => {
-            assert!(rt; !project.ended());
-            true
-        }
-        Err(fault) => {
-            assert_eq!(rt; fault, Fault::Broken);
-            assert!(rt; project.ended());
+    let end = project.run(rt.alloc(), &command).err();
+    assert!(rt; project.ended() == end.is_some());
+    match end {
+        None => true,
+        Some(fault) => {
+            is_fault(rt, fault, Fault::Broken);
             says(rt, project, "b", b"", TWO_JOBS, "F16 Ended");
             false
         }
@@ -114,11 +104,14 @@ fn does<S: Alter>(
 ) -> (Connection<S>, bool) {
     match Project::adopt(conn) {
         Ok(mut project) => {
-            let was_done = task == Task::Adopt || runs_batch(rt, &mut project);
+            let was_done = match task {
+                Task::Adopt => true,
+                Task::Batch => runs_batch(rt, &mut project),
+            };
             (project.release(), was_done)
         }
         Err((conn, fault)) => {
-            assert_eq!(rt; fault, Fault::Broken);
+            is_fault(rt, fault, Fault::Broken);
             (conn, false)
         }
     }
@@ -183,6 +176,17 @@ fn recovers<S: Alter + Drop>(
     }
 }
 
+/// Opens the files, whose calls do not stop, and recovers. All that a store is asked for stands behind this one call.
+fn recovers_over<D: Disk + Drop>(
+    rt: &(impl Abort + AllocGlobal),
+    files: Files<D>,
+    task: Task,
+    was_done: bool,
+) {
+    let conn = opened(rt, files).ok().expect(rt, "an open");
+    recovers(rt, conn, task, was_done);
+}
+
 /// The two files, where the calls on this one stop after so many.
 fn fused(log: Memory, db: Memory, side: Side, calls: u64) -> Files<Fuse<Memory>> {
     let (log_calls, db_calls) = match side {
@@ -229,22 +233,10 @@ fn remains(
     }
 }
 
-/// A connection over the files, or the files where their calls stop.
-fn opened(
-    rt: &(impl Abort + AllocGlobal),
-    files: Files<Fuse<Memory>>,
-) -> Result<Connection<FileStore<Fuse<Memory>>>, Files<Fuse<Memory>>> {
-    assert!(rt; files.may_be_used());
-    match Connection::open_files(rt.alloc(), files, Options::new(1)) {
-        Ok(conn) => Ok(conn),
-        Err((_, left)) => Err(left.into_files()),
-    }
-}
-
 /// The files that a run gave back, and how far it came.
 #[derive(Drop)]
-struct Left {
-    files: Files<Fuse<Memory>>,
+struct Left<D: Disk> {
+    files: Files<D>,
     /// Whether the task was answered with `Ok`.
     was_done: bool,
     /// Whether the close was answered with `Ok`.
@@ -252,7 +244,7 @@ struct Left {
 }
 
 /// Closes a connection as far as its files let it.
-fn closed(conn: Connection<FileStore<Fuse<Memory>>>, was_done: bool) -> Left {
+fn closed<D: Disk + Drop>(conn: Connection<FileStore<D>>, was_done: bool) -> Left<D> {
     match conn.close_files() {
         Ok(files) => Left {
             files,
@@ -267,20 +259,17 @@ fn closed(conn: Connection<FileStore<Fuse<Memory>>>, was_done: bool) -> Left {
     }
 }
 
-/// Does the task, and closes as far as the files let it.
-fn does_and_closes(
-    rt: &(impl Abort + AllocGlobal),
-    conn: Connection<FileStore<Fuse<Memory>>>,
-    task: Task,
-) -> Left {
-    let (conn, was_done) = does(rt, conn, task);
-    closed(conn, was_done)
-}
-
 /// Opens the files, does the task, and closes, as far as the files let it.
-fn does_over(rt: &(impl Abort + AllocGlobal), files: Files<Fuse<Memory>>, task: Task) -> Left {
+fn does_over<D: Disk + Drop>(
+    rt: &(impl Abort + AllocGlobal),
+    files: Files<D>,
+    task: Task,
+) -> Left<D> {
     match opened(rt, files) {
-        Ok(conn) => does_and_closes(rt, conn, task),
+        Ok(conn) => {
+            let (conn, was_done) = does(rt, conn, task);
+            closed(conn, was_done)
+        }
         Err(files) => Left {
             files,
             was_done: false,
@@ -295,18 +284,10 @@ fn is_blown(file: &mut Fuse<Memory>) -> bool {
 }
 
 /// Whether the calls on either file have stopped. If not, each step was answered with `Ok`.
-fn was_stopped(rt: &impl Abort, left: &mut Left) -> bool {
+fn was_stopped(rt: &impl Abort, left: &mut Left<Fuse<Memory>>) -> bool {
     let is_stopped = is_blown(&mut left.files.log) || is_blown(&mut left.files.db);
     assert!(rt; is_stopped || left.was_done && left.was_closed);
     is_stopped
-}
-
-/// A connection over the files, whose calls do not stop.
-fn reopened(
-    rt: &(impl Abort + AllocGlobal),
-    files: Files<Fuse<Memory>>,
-) -> Connection<FileStore<Fuse<Memory>>> {
-    opened(rt, files).ok().expect(rt, "an open")
 }
 
 /// Does the task over the files until their calls stop, and recovers from it. Whether the calls stopped.
@@ -323,8 +304,7 @@ fn stops(
         was_done,
         was_closed: _,
     } = left;
-    let conn = reopened(rt, remains(rt, files, loss));
-    recovers(rt, conn, task, was_done);
+    recovers_over(rt, remains(rt, files, loss), task, was_done);
     is_stopped
 }
 

@@ -1,6 +1,8 @@
 //! Writers that fail.
 
-use crate::setting::{ONE_JOB, ONE_WORKUNIT, batch, fresh, imports, shows};
+use crate::setting::{
+    ONE_JOB, ONE_WORKUNIT, batch, fresh, imports, is_bytes, is_fault, is_run, shows,
+};
 use sqlite::MemStore;
 use std::alloc::Global;
 use std::io;
@@ -54,14 +56,12 @@ fn cuts_a_text(rt: &(impl Abort + AllocGlobal), fails: bool) {
         batch(rt, "b2", b"", b"name,input\njob_2,\n"),
     ];
     let run = drive(rt.alloc(), &mut project, &commands, &mut out);
-    assert_eq!(rt;
-        run,
-        Run {
-            acknowledged: 1,
-            end: Some(Fault::Output)
-        }
-    );
-    assert_eq!(rt; out.taken.as_slice(), b"batch b1: ".as_slice());
+    let cut = Run {
+        acknowledged: 1,
+        end: Some(Fault::Output),
+    };
+    is_run(rt, run, cut);
+    is_bytes(rt, out.taken.as_slice(), b"batch b1: ");
     shows(rt, &mut project, ONE_WORKUNIT);
     assert!(rt; !project.ended());
 }
@@ -76,8 +76,8 @@ fn a_command_counts_though_its_text_is_cut(rt: HostRuntime) {
 fn cuts_a_view(rt: &(impl Abort + AllocGlobal), project: &mut Project<MemStore>, fails: bool) {
     let mut out = Narrow::new(rt.alloc(), 17, fails);
     let end = show(rt.alloc(), project, View::Workunits, &mut out);
-    assert_eq!(rt; end, Err(Fault::Output));
-    assert_eq!(rt; out.taken.as_slice(), b"1 job_1 input=2 q".as_slice());
+    is_fault(rt, end.err().expect(rt, "a fault"), Fault::Output);
+    is_bytes(rt, out.taken.as_slice(), b"1 job_1 input=2 q");
 }
 
 #[test]

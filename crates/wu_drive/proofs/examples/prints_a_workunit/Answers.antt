@@ -2,7 +2,7 @@ use Rattle.std.proofs.Common.{◌≡◌, refl}
 use Rattle.std.specs.Fmt.{digits}
 use Rattle.std.specs.Prelude.{codes}
 use Rattle.jiff_core.specs.Calendar.{days_of_years, days_of_months, day_count, days_from_civil}
-use Rattle.wu_rules.specs.Rows.{due, sending}
+use Rattle.wu_rules.specs.Examples.{due, sending}
 use Rattle.wu_drive.specs.Texts.{year_of_day, month_of_day, moment_text}
 use Rattle.wu_drive.proofs.examples.prints_a_workunit.Goals as goal
 

@@ -15,7 +15,7 @@ returns-in_err-write_skip-clause-bytes g c =
     let i = c.loop-place.place in
     let rows = enumerate_from 2 verdicts in
     let row : ℕ × ℕ = (i + 2, get_or verdicts i 0) in
-    let line = skip_line (skip_word c.args.rows) in
+    let line = skip_line (skip_word c.args.file) in
     let within : i < length rows = omega (arith, length-enumerate_from 2 verdicts) in
     let split = flat_map_at line rows i row within (row_at verdicts i row c.loop-place-test.true refl refl) in
     let part = AppendsFront-after _ _ _ (flat_map line (take i rows)) (line row) c.loop-place.invariant c.in_err-write_skip.ensures.bytes in
@@ -28,7 +28,7 @@ loop-place-preserved g c =
     let i = c.loop-place.place in
     let rows = enumerate_from 2 verdicts in
     let row : ℕ × ℕ = (i + 2, get_or verdicts i 0) in
-    let line = skip_line (skip_word c.args.rows) in
+    let line = skip_line (skip_word c.args.file) in
     let within : i < length rows = omega (arith, length-enumerate_from 2 verdicts) in
     let next = flat_map_next line rows i row within (row_at verdicts i row c.loop-place-test.true refl refl) in
     subst (Appends _ _) (sym next) (Appends-trans _ _ _ (flat_map line (take i rows)) (line row) c.loop-place.invariant c.in_ok-write_skip.ensures.bytes)

@@ -7,4 +7,4 @@ use Rattle.wu_drive.proofs.replies.write_skips.Given as goal
 
 abbrev pub invariant-loop-place : goal.invariant-loop-place
 invariant-loop-place g l =
-    Appends (g.W.Write.contents l.initial.out) (g.W.Write.contents l.out) (flat_map (skip_line (skip_word l.rows)) (take l.place (enumerate_from 2 l.verdicts)))
+    Appends (g.W.Write.contents l.initial.out) (g.W.Write.contents l.out) (flat_map (skip_line (skip_word l.file)) (take l.place (enumerate_from 2 l.verdicts)))

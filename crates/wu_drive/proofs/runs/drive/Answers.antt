@@ -2,12 +2,12 @@ use Rattle.std.proofs.Common.{rules, ◌≡◌, ◌+◌, [], ◌∷◌, ◌++◌
 use Rattle.std.specs.Io.KnownBytes.{Appends}
 use Rattle.std.proofs.KnownBytes.{Appends-trans}
 use Rattle.sqlite.specs.State.{HasCleanDisk}
-use Rattle.sqlite.specs.Held.{state}
 use Rattle.wu_core.specs.declared.fault.Fault.TheVariants.{Output}
 use Rattle.wu_drive.proofs.AnswerLemmas.{all_written, answers_text-more, last_cut}
 use Rattle.wu_drive.proofs.DrivingLemmas.{driving_more, driving_none, drives_cut, drives_so_far, one_fault}
 use Rattle.wu_drive.proofs.LifeLemmas.{lengthens}
-use Rattle.wu_drive.specs.Sessions.{world_of_life}
+use Rattle.wu_passes.specs.Sessions.{world_of_life}
+use Rattle.wu_passes.specs.Projects.{has_ended, state_of}
 use Rattle.wu_drive.specs.Writing.{answers_text}
 use Rattle.wu_drive.proofs.runs.drive.Goals as goal
 
@@ -17,7 +17,7 @@ returns-in-Err-clause-answers g c =
       answers,
       all_written _ _ answers _ counted whole,
       λ going clean world project goes.
-          let before : HasCleanDisk (state g.S.Store c.loop-command.project.conn) = omega (arith, c.run.ensures.clean) in
+          let before : HasCleanDisk (state_of c.loop-command.project) = omega (arith, c.run.ensures.clean) in
           let so_far = driving going before world project goes in
           drives_cut world c.args.commands.now answers c.loop-command.command-index _ _ so_far c.command-item.result c.command-item.result c.loop-command-test.true (sym c.command-item.is) c.in-Err.fault _ _ _ index refl
           (c.in-Err.ensures.runs so_far.going clean _ so_far.project so_far.goes),
@@ -30,7 +30,7 @@ returns-in-Err-write_answer-clause-answers g c =
       answers ++ answer ∷ [],
       last_cut _ _ (g.W.Write.contents c.write_answer.new.out) answers answer _ (omega arith) (ap Some c.in-Err-write_answer.ensures.fault) whole c.in-Err-write_answer.ensures.bytes,
       λ going clean world project goes.
-          let before : HasCleanDisk (state g.S.Store c.loop-command.project.conn) = omega (arith, c.run.ensures.clean) in
+          let before : HasCleanDisk (state_of c.loop-command.project) = omega (arith, c.run.ensures.clean) in
           let so_far = driving going before world project goes in
           drives_so_far world c.args.commands.now (answers ++ answer ∷ []) (c.loop-command.command-index + 1) _ _ _ (omega (arith, c.loop-command-test.true)) (ap (λ k. k + 1) index)
           (λ fault told. (one_fault fault Output (sym told ∙ ap Some c.in-Err-write_answer.ensures.fault), omega arith))
@@ -49,7 +49,7 @@ loop-command-preserved g c =
     let more = Appends-trans _ _ _ (answers_text answers) _ whole c.in_default.ensures.bytes in (
       ap (λ k. k + 1) index,
       λ ended.
-          let still : c.loop-command.project.has_ended ≡ true = ap (λ p. p.has_ended) (was_ended ended).1 ∙ ended in
+          let still : has_ended c.loop-command.project ≡ true = ap has_ended (was_ended ended).1 ∙ ended in
           absurd (let no = sym (c.run.ensures.ended still).0 ∙ c.in-Ok.is in cc),
       omega (arith, kept_clean, c.run.ensures.clean),
       (
@@ -57,7 +57,7 @@ loop-command-preserved g c =
         longer,
         subst (Appends _ _) (sym (answers_text-more answers answer)) more,
         λ going clean world project goes.
-            let before : HasCleanDisk (state g.S.Store c.loop-command.project.conn) = omega (arith, c.run.ensures.clean) in
+            let before : HasCleanDisk (state_of c.loop-command.project) = omega (arith, c.run.ensures.clean) in
             let so_far = driving going before world project goes in
             driving_more world c.args.commands.now answers c.loop-command.command-index _ _ so_far c.command-item.result c.command-item.result c.loop-command-test.true (sym c.command-item.is) answer _ _
             (c.in-Ok.ensures.runs so_far.going clean _ so_far.project so_far.goes),

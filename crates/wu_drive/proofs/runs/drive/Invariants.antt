@@ -1,21 +1,21 @@
-use Rattle.std.proofs.Common.{◌≡◌, ◌≤◌, true, false, List, length}
+use Rattle.std.proofs.Common.{◌≡◌, true, false, List, length}
 use Rattle.std.specs.Io.KnownBytes.{Appends}
-use Rattle.sqlite_trees.specs.View.{doubt}
 use Rattle.sqlite.specs.State.{HasCleanDisk}
-use Rattle.sqlite.specs.Held.{state}
 use Rattle.wu_core.specs.World.{World}
-use Rattle.wu_drive.specs.declared.command.Answer.{Answer}
+use Rattle.wu_passes.specs.declared.command.Answer.{Answer}
 use Rattle.wu_drive.specs.Driving.{IsDriving}
-use Rattle.wu_drive.specs.Planning.{IsProject}
-use Rattle.wu_drive.specs.Standing.{GoesOn}
+use Rattle.wu_passes.specs.Projects.{has_ended, state_of}
+use Rattle.wu_passes.specs.Standing.{KeepsDoubt}
+use Rattle.wu_passes.specs.Planning.{IsProject}
+use Rattle.wu_passes.specs.Standing.{GoesOn}
 use Rattle.wu_drive.specs.Writing.{answers_text}
 use Rattle.wu_drive.proofs.runs.drive.Given as goal
 
 abbrev pub invariant-loop-command : goal.invariant-loop-command
 invariant-loop-command g l =
     (l.acknowledged ≡ l.command-index)
-    × (l.initial.project.has_ended ≡ true → (l.command-index ≡ 0) × (l.project ≡ l.initial.project) × (l.out ≡ l.initial.out))
-    × (doubt (state g.S.Store l.initial.project.conn).is_clean ≤ doubt (state g.S.Store l.project.conn).is_clean)
+    × (has_ended l.initial.project ≡ true → (l.command-index ≡ 0) × (l.project ≡ l.initial.project) × (l.out ≡ l.initial.out))
+    × (KeepsDoubt (state_of l.initial.project) (state_of l.project))
     × ((answers : List Answer) × (length answers ≡ l.acknowledged) × Appends (g.W.Write.contents l.initial.out) (g.W.Write.contents l.out) (answers_text answers)
-    × (l.initial.project.has_ended ≡ false → HasCleanDisk (state g.S.Store l.project.conn) → (world : World) → IsProject world → GoesOn (state g.S.Store l.initial.project.conn) world
-    → IsDriving world l.commands answers l.command-index l.project.has_ended (state g.S.Store l.project.conn)))
+    × (has_ended l.initial.project ≡ false → HasCleanDisk (state_of l.project) → (world : World) → IsProject world → GoesOn (state_of l.initial.project) world
+    → IsDriving world l.commands answers l.command-index (has_ended l.project) (state_of l.project)))

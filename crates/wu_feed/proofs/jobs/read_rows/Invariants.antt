@@ -1,6 +1,6 @@
 use Rattle.std.proofs.Common.{◌≡◌, ◌≤◌, map, drop}
 use Rattle.csv.specs.Records.{fields_of}
-use Rattle.wu_feed.proofs.JobLemmas.{with_all}
+use Rattle.wu_feed.proofs.RowLemmas.{with_all}
 use Rattle.wu_feed.specs.Jobs.{jobs_from}
 use Rattle.wu_feed.proofs.jobs.read_rows.Given as goal
 

@@ -1,0 +1,19 @@
+-- What a view keeps of a project, and how it ends a session.
+use Rattle.std.specs.Prelude.{◌≡◌, Result, Err}
+use Rattle.sqlite.specs.State.{HasCleanDisk}
+use Rattle.sqlite_trees.specs.declared.store.Store.{Ghosts}
+use Rattle.wu_core.specs.declared.fault.Fault.{Fault}
+use Rattle.wu_core.specs.declared.fault.Fault.TheVariants.{Broken}
+use Rattle.wu_core.specs.World.{World}
+use Rattle.wu_passes.specs.Standing.{GoesOn}
+use Rattle.wu_passes.specs.declared.project.Project.{Project}
+use Rattle.wu_passes.specs.Projects.{GoesStill, IsOver, state_of}
+
+-- where the disk did not fail, the session goes on over each world over which it went on before
+abbrev pub KeepsWorld : {S : Type 0} {store : Ghosts S} → Project S store → Project S store → Type 0
+KeepsWorld old new =
+    HasCleanDisk (state_of new) → (world : World) → GoesOn (state_of old) world → GoesOn (state_of new) world
+
+-- a call that ends a session answers Broken
+abbrev pub EndsAsBroken : {S T : Type 0} {store : Ghosts S} → Project S store → Project S store → Result T Fault → Type 0
+EndsAsBroken old new result = GoesStill old → IsOver new → result ≡ Err Broken

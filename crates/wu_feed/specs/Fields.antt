@@ -1,0 +1,7 @@
+-- The fields of a row.
+use Rattle.std.specs.Prelude.{ℕ, List, [], ◌∷◌, Option, Some, None}
+
+-- the fields of a row of two
+abbrev pub two_of : List (List ℕ) → Option (List ℕ × List ℕ)
+two_of (first ∷ second ∷ []) = Some (first, second)
+two_of _ = None

@@ -1,0 +1,16 @@
+//! The limits of what is read, each in one place. `specs/Limits.antt` has the same numbers under the same names.
+
+/// The longest file, in bytes.
+pub const LONGEST_FILE: usize = 1_048_576;
+
+/// The longest template, in bytes.
+pub const LONGEST_TEMPLATE: usize = 65_536;
+
+/// The most rows that a file may have below its header.
+pub const MOST_ROWS: u32 = 1_000;
+
+/// The number of the last row that a file may have. The header is row 1.
+pub const LAST_ROW: u32 = MOST_ROWS + 1;
+
+/// The header, the rows that a file may have, and one more.
+pub const MOST_RECORDS: usize = MOST_ROWS as usize + 2;

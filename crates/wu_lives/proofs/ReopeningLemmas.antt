@@ -1,0 +1,149 @@
+-- What is found where the two files are opened again after a stop.
+use Rattle.std.proofs.Common.{◌≡◌, ◌+◌, ◌<◌, ◌≤◌, ℕ, IsTrue, ◌&&◌, true, false, Bool, List, [], ◌∷◌, ◌++◌, length, map, take, get_or, Vec, Global, Some, refl, sym, ap, subst, ◌∙◌, inl, inr, arith}
+use Rattle.std.proofs.Math.Logic.{∥∥₁_elim, ∥∥₁_map}
+use Rattle.std.proofs.lemmas.List.{map-append, take_more}
+use Rattle.std.proofs.lemmas.Option.{get_or_from_slice_get, slice_get_within}
+use Rattle.std.specs.Prelude.{slice_get}
+use Rattle.sqlite_disk.specs.declared.Disk.{Ghosts}
+use Rattle.sqlite_wal.specs.Files.{outcomes, seen_image}
+use Rattle.sqlite_wal.specs.Reads.{AreClean}
+use Rattle.sqlite_wal.proofs.LogLemmas.{SeenMayStay}
+use Rattle.sqlite_pool.proofs.StateLemmas.{clean_is, may_leave_is}
+use Rattle.sqlite_trees.specs.View.{IsClean, IsQuiet}
+use Rattle.sqlite_trees.specs.Props.{Trees-set}
+use Rattle.sqlite_trees.proofs.Doubt.{no_doubt}
+use Rattle.sqlite_store.specs.declared.store.FileStore.{FileStore}
+use Rattle.sqlite_store.specs.FileStore.{state, view, faults, recovers, is_shielded, files}
+use Rattle.sqlite_store.specs.Laws.{settled_at, stays_at}
+use Rattle.sqlite.specs.Effect.{Database}
+use Rattle.sqlite.specs.State.{State, HasCleanDisk}
+use Rattle.sqlite.specs.Held.{Held, AreDatabases}
+use Rattle.sqlite.specs.Files.{Finds, IsOpened, file_state}
+use Rattle.sqlite.proofs.Theorems.{next_run}
+use Rattle.wu_core.specs.World.{World}
+use Rattle.wu_schema.specs.Calls.{LeavesOnly}
+use Rattle.wu_schema.specs.StandsFor.{StandsFor}
+use Rattle.wu_schema.proofs.StandsLemmas.{stands_again}
+use Rattle.wu_passes.specs.Committing.{FoundAs}
+use Rattle.wu_drive.specs.Driving.{AnswerAll, Drives, world_after}
+use Rattle.wu_passes.specs.Machine.{fold_steps, step}
+use Rattle.wu_passes.specs.Planning.{IsProject, request_of}
+use Rattle.wu_passes.specs.Standing.{GoesOn}
+use Rattle.wu_passes.specs.declared.command.Answer.{Answer}
+use Rattle.wu_passes.specs.declared.command.Command.{Command}
+use Rattle.wu_drive.specs.declared.runs.Run.{Run}
+use Rattle.wu_lives.specs.Reopening.{commands_of, HasLived, HoldsBeginning, IsKept, IsReopened, LeadTo}
+use Rattle.wu_drive.proofs.DrivingLemmas.{fold_more, keeps_all}
+
+and_both : (a b c d : Bool) → (IsTrue c → IsTrue a) → (IsTrue d → IsTrue b) → IsTrue (c && d) → IsTrue (a && b)
+and_both a b true true f h is = rw (f refl, h refl) refl
+and_both a b true false f h is = absurd cc
+and_both a b false d f h is = absurd cc
+
+-- a connection was let go, its two files crashed, and another was opened over them
+module _ {D : Type 0} {g : Ghosts D} (old again : Held (FileStore D g)) (store : FileStore D g) (log db log_after db_after : D)
+    (numbered : IsClean (view store) → IsTrue (view store).is_numbered) (sound : IsClean (view store) → AreDatabases (recovers store)) (quiet : IsQuiet view faults recovers is_shielded old.store store)
+    (is : (log, db) ≡ files store) (left_log : g.may_leave log (g.seen log_after)) (left_db : g.may_leave db (g.seen db_after))
+    (clean_log : IsTrue (g.is_clean log_after) → IsTrue (g.is_clean log)) (clean_db : IsTrue (g.is_clean db_after) → IsTrue (g.is_clean db))
+    (found : Finds (record { log = log_after; db = db_after }) again) where
+  sure : AreClean g (files store).0 (files store).1
+  sure = subst (λ (p : D × D). AreClean g p.0 p.1) is (and_both _ _ _ _ clean_log clean_db found.honest)
+
+  clean : IsClean (view store)
+  clean = no_doubt _ (clean_is store.pool ∙ sure)
+
+  found_allowed : ∥ (file_state old).may_leave (file_state again).committed.trees ∥₁
+  found_allowed =
+      let image = seen_image g log_after db_after in
+      let may : (state store).may_leave image = may_leave_is store.pool image sure (subst (λ (p : D × D). outcomes g p.0 p.1 image) is (left_log, left_db)) in
+      ∥∥₁_map (next_run store (numbered clean) (sound clean) image may (file_state again) (record { holds = found.holds; reads = found.reads })) (quiet.outcomes _)
+
+  pub found_clean : HasCleanDisk (file_state old)
+  found_clean = let now = clean in omega (arith, now, quiet.clean)
+
+  pub found_again : SeenMayStay g → IsOpened again → IsReopened (file_state old) (file_state again)
+  found_again stays opened =
+      let same : (file_state again).now ≡ (file_state again).committed = opened.0.clean in
+      let only : LeavesOnly (file_state again) (file_state again).committed.trees = record { only = λ db may. settled_at again.store stays db opened.0.is_open may; stays = stays_at again.store stays opened.0.is_open } in
+      record {
+        found = subst (λ (d : Database). ∥ (file_state old).may_leave d.trees ∥₁) (sym same) found_allowed;
+        exactly = λ is_open. ap (λ (d : Database). d.trees) same ∙ ∥∥₁_elim found_allowed (Trees-set _ _) (λ may. settled_at old.store stays _ is_open may);
+        is_open = opened.0.is_open;
+        sound = (opened.1 opened.0.is_open).0;
+        committed = sym same;
+        left = subst (λ (d : Database). LeavesOnly (file_state again) d.trees) (sym same) only;
+      }
+
+-- tables that stood for a world stand for it again
+pub goes_again : (old new : State) (world : World) → IsReopened old new → FoundAs new.now.trees world → GoesOn new world
+goes_again old new world again found =
+    let stands : StandsFor new.now world = stands_again found.database new.now world found.stands again.sound (sym found.same) in
+    record { stands = λ is_open. (stands, again.committed); left = λ db may. record { database = new.now; same = sym (again.left.only db may); stands = stands } }
+
+next_world : (world : World) (commands : List Command) (i : ℕ) (command : Command) → slice_get commands i ≡ Some command
+    → world_after world commands (i + 1) ≡ step (world_after world commands i) (request_of command)
+next_world world commands i command there =
+    ap (λ cs. fold_steps world (map request_of cs)) (take_more commands i command (slice_get_within commands i command there) ∙ ap (λ c. take i commands ++ c ∷ []) (get_or_from_slice_get commands i command command there))
+    ∙ ap (λ rs. fold_steps world rs) (map-append request_of (take i commands) (command ∷ [])) ∙ fold_more world (map request_of (take i commands)) (request_of command)
+
+-- after a run of commands
+module _ (world : World) (commands : List Command) (mid new : State) (again : IsReopened mid new) (project : IsProject world) where
+  holds_at : (run : Run) (count : ℕ) → run.acknowledged ≤ count → count ≤ run.acknowledged + 1 → count ≤ length commands → FoundAs new.now.trees (world_after world commands count)
+      → HoldsBeginning world commands run new
+  holds_at run count has most within found = record {
+    count = count;
+    kept = record { within = within; has_acknowledged = has; at_most_one_more = most };
+    goes = goes_again mid new _ again found;
+    project = keeps_all world (take count commands) project;
+  }
+
+  pub holds_beginning : (answers : List Answer) (run : Run) (has_ended : Bool) → Drives world commands answers run has_ended mid → ∥ HoldsBeginning world commands run new ∥₁
+  holds_beginning answers run false drives = ∥∥₁_map again.found (λ may. holds_at run run.acknowledged (omega arith) (omega arith) drives.within ((drives.goes refl).left _ may))
+  holds_beginning answers run true drives = ∥∥₁_map again.found (λ may.
+      let (cut, there, ended) = drives.ended refl in
+      let low = slice_get_within commands run.acknowledged cut there in
+      elim (ended.left _ may) [
+        | inl before ↦ holds_at run run.acknowledged (omega arith) (omega arith) drives.within before
+        | inr after ↦ holds_at run (run.acknowledged + 1) (omega arith) (omega arith) (omega (arith, low))
+            (subst (λ w. FoundAs new.now.trees w) (sym (next_world world commands run.acknowledged cut there)) after)
+      ])
+
+  -- over a session that had ended no command is done
+  pub holds_none : (run : Run) → run.acknowledged ≡ 0 → GoesOn mid world → ∥ HoldsBeginning world commands run new ∥₁
+  holds_none run none goes = ∥∥₁_map again.found (λ may. holds_at run 0 (omega (arith, none)) (omega arith) (omega arith) (goes.left _ may))
+
+pub answers_none : (world : World) (commands : List Command) (answers : List Answer) (run : Run) → run.acknowledged ≡ 0 → length answers ≡ run.acknowledged → AnswerAll world (take run.acknowledged commands) answers
+answers_none world commands [] run none count = subst (λ k. AnswerAll world (take k commands) []) (sym none) tt
+answers_none world commands (answer ∷ answers) run none count = absurd (omega (arith, none, count))
+
+-- the next life
+lead_more : (world : World) (lives : List (List Command)) (runs : List Run) (commands : List Command) (run : Run) (mid : World) (count : ℕ) → LeadTo world lives runs mid → IsKept commands run count
+    → LeadTo world (lives ++ commands ∷ []) (runs ++ run ∷ []) (world_after mid commands count)
+lead_more world [] [] commands run mid count lead kept = (count, kept, ap (λ w. world_after w commands count) lead)
+lead_more world [] (r ∷ runs) commands run mid count lead kept = absurd lead
+lead_more world (l ∷ lives) [] commands run mid count lead kept = absurd lead
+lead_more world (l ∷ lives) (r ∷ runs) commands run mid count (so_far, was, lead) kept = (so_far, was, lead_more (world_after world l so_far) lives runs commands run mid count lead kept)
+
+pub lived_none : (world : World) (s : State) → IsProject world → GoesOn s world → HasLived world [] [] s
+lived_none world s project goes = record { last = world; lead = refl; goes = goes; project = project }
+
+lived_more : (world : World) (lives : List (List Command)) (runs : List Run) (old new : State) (commands : List Command) (run : Run) → (lived : HasLived world lives runs old)
+    → HoldsBeginning lived.last commands run new → HasLived world (lives ++ commands ∷ []) (runs ++ run ∷ []) new
+lived_more world lives runs old new commands run lived holds = record {
+  last = world_after lived.last commands holds.count;
+  lead = lead_more world lives runs commands run lived.last holds.count lived.lead holds.kept;
+  goes = holds.goes;
+  project = holds.project;
+}
+
+commands_more : (lives : List (Vec Command Global)) (i : ℕ) (life d : Vec Command Global) → i < length lives → get_or lives i d ≡ life
+    → commands_of (take i lives) ++ life.items ∷ [] ≡ commands_of (take (i + 1) lives)
+commands_more lives i life d low there =
+    sym (ap (λ ls. commands_of ls) (take_more lives i d low ∙ ap (λ l. take i lives ++ l ∷ []) there) ∙ map-append (λ l. l.items) (take i lives) (life ∷ []))
+
+-- one more of a list of lives
+pub lived_next : (world : World) (lives : List (Vec Command Global)) (i : ℕ) (life d : Vec Command Global) (commands : List Command) (runs more : List Run) (run : Run) (old new : State)
+    → i < length lives → get_or lives i d ≡ life → commands ≡ life.items → more ≡ runs ++ run ∷ [] → (lived : HasLived world (commands_of (take i lives)) runs old)
+    → HoldsBeginning lived.last commands run new → HasLived world (commands_of (take (i + 1) lives)) more new
+lived_next world lives i life d commands runs more run old new low there same pushed lived holds =
+    rw (pushed, ← commands_more lives i life d low there, ← same) (lived_more world (commands_of (take i lives)) runs old new commands run lived holds)

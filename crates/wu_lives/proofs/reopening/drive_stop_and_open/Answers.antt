@@ -1,0 +1,34 @@
+use Rattle.std.proofs.Common.{arith, sym, subst, inl, inr}
+use Rattle.std.proofs.lemmas.Bool.{cases_Bool}
+use Rattle.sqlite.specs.State.{HasCleanDisk}
+use Rattle.sqlite.specs.Files.{file_state}
+use Rattle.wu_passes.specs.Standing.{GoesOn}
+use Rattle.wu_lives.specs.Reopening.{IsReopened}
+use Rattle.wu_lives.proofs.ReopeningLemmas.{answers_none, holds_beginning, holds_none}
+use Rattle.wu_lives.proofs.reopening.drive_stop_and_open.Goals as goal
+
+pub returns-in-Some : goal.returns-in-Some
+returns-in-Some g c =
+    let mid = c.drive-run.new.project in
+    let here = c.in-Some.again in
+    let run = c.drive-run.result in
+    let again : HasCleanDisk (file_state here) → IsReopened (file_state mid.conn) (file_state here) = λ clean. subst (λ h. IsReopened (file_state h) (file_state here)) c.release.ensures (c.in-Some.ensures.reopened clean) in
+    let early : HasCleanDisk (file_state here) → HasCleanDisk (file_state mid.conn) = λ clean. subst (λ h. HasCleanDisk (file_state h)) c.release.ensures (c.in-Some.ensures.clean clean) in
+    let (answers, written, drives) = c.drive-run.ensures.answers in
+    record {
+      clean = λ clean. let now = early clean in omega (arith, now, c.drive-run.ensures.clean);
+      answers = (
+        answers,
+        written,
+        λ clean world project goes. elim (cases_Bool c.args.project.has_ended) [
+          | inl was ↦ answers_none world c.args.commands.now answers run (c.drive-run.ensures.ended was).2 written.counted
+          | inr going ↦ (drives going (early clean) world project goes).answered
+        ],
+      );
+      found = λ clean world project goes. elim (cases_Bool c.args.project.has_ended) [
+        | inl was ↦
+            let ended = c.drive-run.ensures.ended was in
+            holds_none world c.args.commands.now _ _ (again clean) project run ended.2 (subst (λ p. GoesOn (file_state p.conn) world) (sym ended.0) goes)
+        | inr going ↦ holds_beginning world c.args.commands.now _ _ (again clean) project answers run _ (drives going (early clean) world project goes)
+      ];
+    }

@@ -1,0 +1,20 @@
+use Rattle.std.proofs.Common.{◌≤◌, arith}
+use Rattle.std.proofs.Math.Logic.{∥∥₁_map}
+use Rattle.wu_drive.specs.Driving.{world_after}
+use Rattle.wu_lives.proofs.reopening.live.Goals as goal
+
+pub returns-in-Ok-clause-found : goal.returns-in-Ok-clause-found
+returns-in-Ok-clause-found g c clean world project goes =
+    ∥∥₁_map (c.in-Some.ensures.found (omega (arith, c.in-Ok.ensures.clean)) world project goes) (λ holds.
+    let first : 1 ≤ (world_after world c.args.commands.now holds.count).version = omega (arith, holds.project.present) in
+    record {
+      count = holds.count;
+      kept = holds.kept;
+      goes = (c.in-Ok.ensures.found (world_after world c.args.commands.now holds.count) first holds.goes clean).0;
+      project = holds.project;
+    })
+
+pub returns-in-Ok-clause-answers : goal.returns-in-Ok-clause-answers
+returns-in-Ok-clause-answers g c =
+    let (answers, written, told) = c.in-Some.ensures.answers in
+    (answers, written, λ clean world project goes. told (omega (arith, c.in-Ok.ensures.clean)) world project goes)

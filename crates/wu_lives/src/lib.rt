@@ -1,0 +1,6 @@
+//! The laws of a project through stops: what an opening finds after a stop, and lists of commands and lives over it.
+#![tactic(auto)]
+
+mod reopening;
+
+pub use reopening::{drive_stop_and_open, live, live_all, stop_and_open};

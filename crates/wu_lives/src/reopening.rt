@@ -1,0 +1,116 @@
+//! A project through stops: the machine stops at any moment, and the two files are opened again.
+//!
+//! A disk may fail at any call and from then on, so a stop amid a list of commands is one of these stops too.
+
+ghost use Rattle.std.specs.Prelude.{◌≡◌, false, IfSome};
+ghost use Rattle.sqlite.specs.Files.{file_state};
+ghost use Rattle.wu_passes.specs.Projects.{connection_of, GoesStill};
+ghost use Rattle.wu_lives.specs.Reopening.{FindsAgain, FindsBeginning, FindsLives, TellsReplies, WasClean};
+
+use sqlite::{Connection, FileStore, Files, Options};
+use sqlite_disk::Crash;
+use std::alloc::Global;
+use std::io::Write;
+use wu_drive::{Command, Project, Run, drive};
+
+/// The machine stops, and the two files are opened again.
+///
+/// What is found is what a stop could leave, and where the connection was open, exactly its last commit. `None` where
+/// the open fails.
+pub fn stop_and_open<D: Crash + Drop>(
+    alloc: Global,
+    conn: Connection<FileStore<D>>,
+    options: Options,
+) -> Option<Connection<FileStore<D>>>
+    ensures reopened { IfSome result (λ again. FindsAgain (file_state conn) (file_state again)) }
+    ensures clean { IfSome result (λ again. WasClean (file_state conn) (file_state again)) }
+{
+    let Files { mut log, mut db } = conn.into_store().close();
+    log.crash();
+    db.crash();
+    match Connection::open_files(alloc, Files { log, db }, options) {
+        Ok(again) => Some(again),
+        Err(_) => None,
+    }
+}
+
+/// Runs a list of commands; then the machine stops, and the two files are opened again.
+///
+/// What is found stands for the world after a beginning of the list, which has every acknowledged command. `None` where
+/// the open fails.
+pub fn drive_stop_and_open<D: Crash + Drop, W: Write>(
+    alloc: Global,
+    mut project: Project<FileStore<D>>,
+    commands: &[Command],
+    out: &mut W,
+    options: Options,
+) -> Option<(Run, Connection<FileStore<D>>)>
+    ensures clean { IfSome result (λ r. WasClean (file_state (connection_of project)) (file_state r.1)) }
+    ensures answers { IfSome result (λ r.
+        TellsReplies (W.contents out.old) (W.contents out.new) (file_state (connection_of project))
+        commands.now r.0 (file_state r.1)) }
+    ensures found { IfSome result (λ r.
+        FindsBeginning (file_state (connection_of project)) commands.now r.0 (file_state r.1)) }
+{
+    let run = drive(alloc, &mut project, commands, out);
+    match stop_and_open(alloc, project.release(), options) {
+        Some(again) => Some((run, again)),
+        None => None,
+    }
+}
+
+/// A life of a project: a list of commands, a stop of the machine, and a session over what is found.
+///
+/// The session goes on from the world after a beginning of the list, which has every acknowledged command. `None` where
+/// the open or the adoption fails.
+pub fn live<D: Crash + Drop, W: Write>(
+    alloc: Global,
+    project: Project<FileStore<D>>,
+    commands: &[Command],
+    out: &mut W,
+    options: Options,
+) -> Option<(Run, Project<FileStore<D>>)>
+    ensures clean { IfSome result (λ r. WasClean (file_state (connection_of project)) (file_state (connection_of r.1))) }
+    ensures begins { IfSome result (λ r. GoesStill r.1) }
+    ensures answers { IfSome result (λ r.
+        TellsReplies (W.contents out.old) (W.contents out.new) (file_state (connection_of project))
+        commands.now r.0 (file_state (connection_of r.1))) }
+    ensures found { IfSome result (λ r.
+        FindsBeginning (file_state (connection_of project)) commands.now r.0 (file_state (connection_of r.1))) }
+{
+    match drive_stop_and_open(alloc, project, commands, out, options) {
+        Some((run, conn)) => match Project::adopt(conn) {
+            Ok(again) => Some((run, again)),
+            Err(_) => None,
+        },
+        None => None,
+    }
+}
+
+/// A list of lives, each of which goes on from what the one before it left; a run for each life.
+///
+/// `None` where an open or an adoption fails, or memory for the runs is refused.
+pub fn live_all<D: Crash + Drop, W: Write>(
+    alloc: Global,
+    mut project: Project<FileStore<D>>,
+    lives: &[Vec<Command>],
+    out: &mut W,
+    options: Options,
+) -> Option<(Vec<Run>, Project<FileStore<D>>)>
+    ensures found { IfSome result (λ r.
+        FindsLives (file_state (connection_of project)) lives.now r.0.items (file_state (connection_of r.1))) }
+{
+    let mut runs = Vec::new(alloc);
+    for commands in lives {
+        let (run, again) = match live(alloc, project, commands.as_slice(), out, options) {
+            Some(lived) => lived,
+            None => return None,
+        };
+        project = again;
+        match runs.push(run) {
+            Ok(()) => {}
+            Err(_) => return None,
+        }
+    }
+    Some((runs, project))
+}

@@ -1,0 +1,191 @@
+-- What is asked of the tables before a batch, as the machine asks it of a world.
+use Rattle.std.proofs.Common.{◌≡◌, ℕ, ◌+◌, ◌<◌, ◌≤◌, Bool, true, false, List, [], ◌∷◌, ◌++◌, length, map, Some, None, Result, Ok, Err, refl, sym, ap, subst, ◌∙◌, inl, inr, arith}
+use Rattle.std.proofs.lemmas.Bool.{cases_Bool}
+use Rattle.std.proofs.lemmas.List.Folds.{list_any-append}
+use Rattle.std.proofs.Common.{get_or, take, drop, length-take-le, take_all}
+use Rattle.std.proofs.lemmas.List.{length-map, get_or-map, take_more, take-append-drop, take-map}
+use Rattle.std.proofs.lemmas.List.Folds.{find-append}
+use Rattle.std.specs.List.{enumerate_from, list_any}
+use Rattle.std.specs.Prelude.{◌||◌, bytes_eq, filter, find, if◌then◌else◌, slice_get, MatchResult}
+use Rattle.sqlite.specs.Order.{Row}
+use Rattle.sqlite.specs.State.{State}
+use Rattle.wu_core.specs.declared.fault.Fault.{Fault}
+use Rattle.wu_core.specs.declared.import.ImportKind.{ImportKind}
+use Rattle.wu_core.specs.declared.workunit.Archived.{Archived}
+use Rattle.wu_core.specs.declared.workunit.Workunit.{Workunit}
+use Rattle.wu_core.specs.World.{World, Import, is_import}
+use Rattle.wu_rules.proofs.Lists.{any-map, enumerate_from-append}
+use Rattle.wu_store.specs.Answers.{has_name, kept_of, was_archived}
+use Rattle.wu_schema.specs.Restoring.{Restores}
+use Rattle.wu_store.specs.Reading.{IsNextNumber, IsStoredImport, stored_import_row}
+use Rattle.wu_schema.specs.Stored.{kept_cells, number, verdict_digits}
+use Rattle.wu_store.specs.declared.rows.StoredImport.{StoredImport}
+use Rattle.wu_store.proofs.ReadingLemmas.{same_verdicts}
+use Rattle.sqlite.proofs.StateLemmas.{survives_then}
+use Rattle.wu_feed.specs.declared.jobs.Job.{Job}
+use Rattle.wu_schema.specs.Calls.{IsBack}
+use Rattle.wu_schema.proofs.CallLemmas.{back_none}
+use Rattle.wu_passes.specs.Batches.{first_taken, is_one_of, job_names, taken_names}
+use Rattle.wu_passes.specs.Planning.{IsEarlier, IsRead, IsStoreFault}
+
+any_or : (a b c d : Bool) → a ≡ c → b ≡ d → (a || b) ≡ (c || d)
+any_or a b c d first second = rw (first, second) refl
+
+-- a name is taken by a workunit that is present or by an archived one
+pub taken_is : (world : World) (name : List ℕ) → is_one_of (taken_names world) name ≡ (has_name name world || was_archived name world)
+taken_is world name =
+    list_any-append (λ one. bytes_eq one name) (map (λ (w : Workunit). w.name) world.workunits) (map (λ (a : Archived). a.name) world.archived)
+    ∙ any_or _ _ _ _ (any-map (λ one. bytes_eq one name) (λ (w : Workunit). bytes_eq w.name name) (λ (w : Workunit). w.name) (λ w. refl) world.workunits)
+    (any-map (λ one. bytes_eq one name) (λ (a : Archived). bytes_eq a.name name) (λ (a : Archived). a.name) (λ a. refl) world.archived)
+
+pub next_is : (n : ℕ) (row : Row) (r : Result ℕ Fault) → row ≡ number n ∷ [] → Restores (λ next. number next ∷ []) IsNextNumber row r → MatchResult r (λ next. next ≡ n) IsStoreFault
+next_is n row (Ok next) is reads = let same : number n ∷ [] ≡ number next ∷ [] = sym is ∙ reads.value.0 in cc
+next_is n row (Err fault) is reads = elim reads.refused [ inl memory ↦ inl memory | inr other ↦ inr (inr other) ]
+
+-- the first of what passes a test
+pub found_none : {X : Type 0} (p : X → Bool) (xs : List X) → filter p xs ≡ [] → find p xs ≡ None
+found_none p [] none = refl
+found_none p (x ∷ xs) none = elim (cases_Bool (p x)) [
+  | inl is ↦ absurd (let some : x ∷ filter p xs ≡ [] = subst (λ b. (if b then x ∷ filter p xs else filter p xs) ≡ []) is none in cc)
+  | inr not ↦ rw not (found_none p xs (subst (λ b. (if b then x ∷ filter p xs else filter p xs) ≡ []) not none))
+]
+
+pub found_first : {X : Type 0} (p : X → Bool) (xs : List X) (one : X) (more : List X) → filter p xs ≡ one ∷ more → find p xs ≡ Some one
+found_first p [] one more some = absurd cc
+found_first p (x ∷ xs) one more some = elim (cases_Bool (p x)) [
+  | inl is ↦ rw is (let same : x ∷ filter p xs ≡ one ∷ more = subst (λ b. (if b then x ∷ filter p xs else filter p xs) ≡ one ∷ more) is some in cc)
+  | inr not ↦ rw not (found_first p xs one more (subst (λ b. (if b then x ∷ filter p xs else filter p xs) ≡ one ∷ more) not some))
+]
+
+-- no row, no import
+pub none_earlier : (k : ImportKind) (name : List ℕ) (world : World) → kept_of k name world ≡ [] → find (is_import k name) world.imports ≡ None
+none_earlier k name world none = found_none (is_import k name) world.imports (unmapped (filter (is_import k name) world.imports) none)
+  where
+    unmapped : (imports : List Import) → map kept_cells imports ≡ [] → imports ≡ []
+    unmapped [] is = refl
+    unmapped (import ∷ more) is = absurd cc
+
+-- the stored import of a row is the world's
+pub same_import : (kind : ImportKind) (import : Import) (stored : StoredImport) → kept_cells import ≡ stored_import_row stored
+    → (stored.template ≡ import.template) × (stored.content ≡ import.content) × (stored.first_number ≡ import.first_number) × (stored.verdicts ≡ import.verdicts)
+same_import kind import stored is =
+    let digits : verdict_digits stored.verdicts ≡ verdict_digits import.verdicts = cc in
+    (cc, cc, cc, same_verdicts stored.verdicts import.verdicts digits)
+
+pub some_earlier : (k : ImportKind) (name : List ℕ) (world : World) (row : Row) (more : List Row) (stored : StoredImport) → kept_of k name world ≡ row ∷ more
+    → Restores stored_import_row (IsStoredImport k) row (Ok stored) → IsEarlier (find (is_import k name) world.imports) (Some stored)
+some_earlier k name world row more stored rows reads = among (filter (is_import k name) world.imports) refl rows
+  where
+    among : (imports : List Import) → filter (is_import k name) world.imports ≡ imports → map kept_cells imports ≡ row ∷ more → IsEarlier (find (is_import k name) world.imports) (Some stored)
+    among [] are is = absurd cc
+    among (import ∷ others) are is =
+        let first : kept_cells import ≡ row = cc in
+        let same = same_import k import stored (first ∙ reads.value.0) in
+        (import, found_first (is_import k name) world.imports import others are, same.0, same.1, same.2, same.3)
+
+pub no_first : (rows : List Row) → slice_get rows 0 ≡ None → rows ≡ []
+no_first [] is = refl
+no_first (row ∷ more) is = absurd cc
+
+pub one_first : (rows : List Row) (row : Row) → slice_get rows 0 ≡ Some row → (more : List Row) × (rows ≡ row ∷ more)
+one_first [] row is = absurd cc
+one_first (first ∷ more) row is = (more, cc)
+
+pub read_none : (s : State) → IsRead s s
+read_none s = record {
+  survives = record { clean = omega arith; shield = λ h. h; counts = omega arith; limit = refl; closes = λ _ still. inl still; crash = λ _ db h. inl h };
+  back = λ _. back_none s;
+}
+
+pub back_then : (a b c : State) → IsBack a b → IsBack b c → IsBack a c
+back_then a b c one two = record {
+  was_open = λ is_open. one.was_open (two.was_open is_open);
+  now = λ is_open. elim (two.now is_open) [
+    | inl same ↦ elim (one.now (two.was_open is_open)) [ inl was ↦ inl (same ∙ was) | inr last ↦ inr (same ∙ last) ]
+    | inr last ↦ inr (last ∙ one.committed (two.was_open is_open))
+  ];
+  committed = λ is_open. two.committed is_open ∙ one.committed (two.was_open is_open);
+}
+
+pub read_then : (a b c : State) → IsRead a b → IsRead b c → IsRead a c
+read_then a b c one two = record {
+  survives = survives_then a b c _ _ (λ _. ⊥) (λ _ db none. none) (λ _ db none. none) one.survives two.survives;
+  back = λ clean. back_then a b c (one.back (omega (arith, two.survives.clean))) (two.back clean);
+}
+
+-- used by a workunit, an archived row or one of these jobs
+pub used_is : (world : World) (earlier : List Job) (name : List ℕ)
+    → is_one_of (taken_names world ++ job_names earlier) name ≡ (is_one_of (taken_names world) name || list_any (λ (job : Job). bytes_eq job.name name) earlier)
+used_is world earlier name =
+    list_any-append (λ one. bytes_eq one name) (taken_names world) (job_names earlier)
+    ∙ ap (λ b. is_one_of (taken_names world) name || b) (any-map (λ one. bytes_eq one name) (λ (job : Job). bytes_eq job.name name) (λ (job : Job). job.name) (λ job. refl) earlier)
+
+or_true : (b : Bool) → (b || true) ≡ true
+or_true true = refl
+or_true false = refl
+
+or_false : (b : Bool) → (b || false) ≡ b
+or_false true = refl
+or_false false = refl
+
+-- one of these jobs has the name
+pub used_by_job : (world : World) (earlier : List Job) (name : List ℕ) → list_any (λ (job : Job). bytes_eq job.name name) earlier ≡ true → true ≡ is_one_of (taken_names world ++ job_names earlier) name
+used_by_job world earlier name has = sym (used_is world earlier name ∙ ap (λ b. is_one_of (taken_names world) name || b) has ∙ or_true (is_one_of (taken_names world) name))
+
+-- no job has it
+pub used_by_world : (world : World) (earlier : List Job) (name : List ℕ) (r : Result Bool Fault) → list_any (λ (job : Job). bytes_eq job.name name) earlier ≡ false
+    → MatchResult r (λ taken. taken ≡ is_one_of (taken_names world) name) IsStoreFault → MatchResult r (λ used. used ≡ is_one_of (taken_names world ++ job_names earlier) name) IsStoreFault
+used_by_world world earlier name (Ok taken) none is = is ∙ sym (used_is world earlier name ∙ ap (λ b. is_one_of (taken_names world) name || b) none ∙ or_false (is_one_of (taken_names world) name))
+used_by_world world earlier name (Err fault) none is = is
+
+-- whether the name at a place is taken, by the world or by a job before it
+abbrev pub is_used_at : World → List Job → ℕ × List ℕ → Bool
+is_used_at world jobs p = is_one_of (taken_names world ++ take p.0 (job_names jobs)) p.1
+
+-- none of the first so many names is taken
+abbrev pub AreFree : World → List Job → ℕ → Type 0
+AreFree world jobs count = find (is_used_at world jobs) (enumerate_from 0 (take count (job_names jobs))) ≡ None
+
+names_taken : (jobs : List Job) (i : ℕ) → job_names (take i jobs) ≡ take i (job_names jobs)
+names_taken jobs i = sym (take-map (λ (job : Job). job.name) i jobs)
+
+used_here : (world : World) (jobs : List Job) (i : ℕ) (name : List ℕ) (used : Bool) → used ≡ is_one_of (taken_names world ++ job_names (take i jobs)) name → is_used_at world jobs (i, name) ≡ used
+used_here world jobs i name used is = sym (is ∙ ap (λ names. is_one_of (taken_names world ++ names) name) (names_taken jobs i))
+
+enumerate_next : (jobs : List Job) (i : ℕ) (job d : Job) → i < length jobs → get_or jobs i d ≡ job
+    → enumerate_from 0 (take (i + 1) (job_names jobs)) ≡ enumerate_from 0 (take i (job_names jobs)) ++ (i, job.name) ∷ []
+enumerate_next jobs i job d low there =
+    let long : length (job_names jobs) ≡ length jobs = length-map jobs (λ (job : Job). job.name) in
+    let within : i < length (job_names jobs) = omega (arith, low, long) in
+    let count : length (take i (job_names jobs)) ≡ i = length-take-le i (job_names jobs) (omega (arith, within)) in
+    let at : get_or (job_names jobs) i [] ≡ job.name = get_or-map (λ (job : Job). job.name) jobs i d [] low ∙ ap (λ (j : Job). j.name) there in
+    let places : 0 + length (take i (job_names jobs)) ≡ i = omega (arith, count) in
+    ap (λ names. enumerate_from 0 names) (take_more (job_names jobs) i [] within ∙ ap (λ name. take i (job_names jobs) ++ name ∷ []) at)
+    ∙ enumerate_from-append 0 (take i (job_names jobs)) (job.name ∷ [])
+    ∙ ap (λ k. enumerate_from 0 (take i (job_names jobs)) ++ (k, job.name) ∷ []) places
+
+pub free_more : (world : World) (jobs : List Job) (i : ℕ) (job d : Job) → i < length jobs → get_or jobs i d ≡ job → false ≡ is_one_of (taken_names world ++ job_names (take i jobs)) job.name
+    → AreFree world jobs i → AreFree world jobs (i + 1)
+free_more world jobs i job d low there unused free =
+    let test = is_used_at world jobs in
+    let before = enumerate_from 0 (take i (job_names jobs)) in
+    ap (λ ps. find test ps) (enumerate_next jobs i job d low there) ∙ find-append test before ((i, job.name) ∷ [])
+    ∙ rw (free, used_here world jobs i job.name false unused) refl
+
+pub taken_here : (world : World) (jobs : List Job) (i : ℕ) (job d : Job) → i < length jobs → get_or jobs i d ≡ job → true ≡ is_one_of (taken_names world ++ job_names (take i jobs)) job.name
+    → AreFree world jobs i → first_taken world jobs ≡ Some (i, job.name)
+taken_here world jobs i job d low there used free =
+    let test = is_used_at world jobs in
+    let names = job_names jobs in
+    let next = enumerate_from 0 (take (i + 1) names) in
+    let whole : enumerate_from 0 names ≡ next ++ enumerate_from (0 + length (take (i + 1) names)) (drop (i + 1) names) =
+    ap (λ ns. enumerate_from 0 ns) (sym (take-append-drop (i + 1) names)) ∙ enumerate_from-append 0 (take (i + 1) names) (drop (i + 1) names) in
+    let here : find test next ≡ Some (i, job.name) =
+    ap (λ ps. find test ps) (enumerate_next jobs i job d low there) ∙ find-append test (enumerate_from 0 (take i names)) ((i, job.name) ∷ [])
+    ∙ rw (free, used_here world jobs i job.name true used) refl in
+    ap (λ ps. find test ps) whole ∙ find-append test next (enumerate_from (0 + length (take (i + 1) names)) (drop (i + 1) names)) ∙ rw here refl
+
+pub all_free : (world : World) (jobs : List Job) (i : ℕ) → length jobs ≤ i → AreFree world jobs i → first_taken world jobs ≡ None
+all_free world jobs i past free =
+    let long : length (job_names jobs) ≤ i = omega (arith, past, length-map jobs (λ (job : Job). job.name)) in
+    ap (λ names. find (is_used_at world jobs) (enumerate_from 0 names)) (sym (take_all _ _ long)) ∙ free

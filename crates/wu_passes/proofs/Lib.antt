@@ -1,0 +1,5 @@
+mod ImportLemmas
+mod PlanLemmas
+pub mod BatchLemmas
+mod AskLemmas
+mod StandingLemmas

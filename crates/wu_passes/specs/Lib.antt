@@ -1,0 +1,15 @@
+pub mod Batches
+pub mod Examples
+pub mod Imports
+pub mod Laws
+pub mod Machine
+pub mod Passes
+pub mod Requests
+pub mod FileRows
+pub mod Sessions
+pub mod Sound
+pub mod Worlds
+pub mod Committing
+pub mod Planning
+pub mod Standing
+pub mod Projects

@@ -1,0 +1,102 @@
+-- A project as its callers know it: what its connection shows, and whether its session has ended.
+use Rattle.std.specs.Prelude.{◌≡◌, ◌<◌, ◌≤◌, ℕ, Bool, true, false, List, map, IfErr, IfOk, IsTrue, MatchResult, OnOk, Result, Err, Vec}
+use Rattle.sqlite.specs.Held.{Held, state}
+use Rattle.sqlite.specs.Order.{Row}
+use Rattle.sqlite.specs.State.{State, HasCleanDisk}
+use Rattle.sqlite.specs.Store.{Ghosts}
+use Rattle.wu_core.specs.declared.fault.Fault.{Fault}
+use Rattle.wu_core.specs.declared.fault.Fault.TheVariants.{Ended, NewSchema, NotAProject}
+use Rattle.wu_core.specs.World.{World, empty_world}
+use Rattle.wu_schema.specs.StandsFor.{StandsFor}
+use Rattle.wu_schema.specs.Stored.{workunit_row}
+use Rattle.wu_schema.specs.Versions.{HasProject, HasVersion}
+use Rattle.wu_store.specs.declared.changes.Change.{Change}
+use Rattle.wu_passes.specs.declared.command.Answer.{Answer}
+use Rattle.wu_passes.specs.declared.command.Command.{Command}
+use Rattle.wu_passes.specs.declared.project.Project.{Project}
+use Rattle.wu_passes.specs.Machine.{present_version}
+use Rattle.wu_passes.specs.Planning.{IsProject, Plans, request_of}
+use Rattle.wu_passes.specs.Requests.{Request}
+use Rattle.wu_passes.specs.Standing.{GoesOn, IsVacant, KeepsAll, KeepsDoubt, RefusesVersion, Runs}
+
+-- the connection that a release gives back
+abbrev pub connection_of : {S : Type 0} {g : Ghosts S} → Project S g → Held S
+connection_of project = project.conn
+
+-- what it shows, and what a stop may leave
+abbrev pub state_of : {S : Type 0} {g : Ghosts S} → Project S g → State
+state_of {S} {g} project = state g (connection_of project)
+
+abbrev pub has_ended : {S : Type 0} {g : Ghosts S} → Project S g → Bool
+has_ended project = project.has_ended
+
+-- its session has ended, or goes on
+abbrev pub IsOver : {S : Type 0} {g : Ghosts S} → Project S g → Type 0
+IsOver project = has_ended project ≡ true
+
+abbrev pub GoesStill : {S : Type 0} {g : Ghosts S} → Project S g → Type 0
+GoesStill project = has_ended project ≡ false
+
+-- ---- an adoption
+
+-- this holds of the connection that comes back, in a project or beside a fault
+abbrev pub ComesBack : {S : Type 0} {g : Ghosts S} → Result (Project S g) (Held S × Fault) → (Held S → Type 0) → Type 0
+ComesBack result Is = MatchResult result (λ project. Is (connection_of project)) (λ refusal. Is refusal.0)
+
+-- Tables that stand for a world go on standing for it; it is of the present version, or is refused.
+abbrev pub AdoptsWorld : {S : Type 0} (g : Ghosts S) → Held S → Result (Project S g) (Held S × Fault) → Type 0
+AdoptsWorld g conn result =
+    (world : World) → 1 ≤ world.version → GoesOn (state g conn) world
+    → MatchResult result
+    (λ project. HasCleanDisk (state_of project) → GoesOn (state_of project) world × (world.version ≡ present_version))
+    (λ refusal. HasCleanDisk (state g refusal.0) → GoesOn (state g refusal.0) world × RefusesVersion world refusal.1)
+
+-- where no project is, it is a fresh one
+abbrev pub AdoptsFresh : {S : Type 0} (g : Ghosts S) → Held S → Result (Project S g) (Held S × Fault) → Type 0
+AdoptsFresh g conn result = IsVacant (state g conn) → IfOk result (λ project. HasCleanDisk (state_of project) → GoesOn (state_of project) empty_world)
+
+-- a project that is found has a version that this program knows
+abbrev pub AdoptsKnown : {S : Type 0} (g : Ghosts S) → Held S → Result (Project S g) (Held S × Fault) → Type 0
+AdoptsKnown g conn result =
+    (has : HasProject (state g conn).now.schema)
+    → IfOk result (λ project. HasCleanDisk (state_of project) → (version : ℕ) × HasVersion (state g conn).now has version × (version ≤ present_version))
+
+-- only a later version is told as one
+abbrev pub IsLater : {S : Type 0} → ℕ → Held S × Fault → Type 0
+IsLater version refusal = refusal.1 ≡ NewSchema version → present_version < version
+
+-- where all was committed, `NotAProject` says that all is as it was
+abbrev pub RefusesAdoption : {S : Type 0} (g : Ghosts S) → Held S → Result (Project S g) (Held S × Fault) → Type 0
+RefusesAdoption g conn result =
+    (state g conn).committed ≡ (state g conn).now
+    → IfErr result (λ refusal. HasCleanDisk (state g refusal.0) → refusal.1 ≡ NotAProject → KeepsAll (state g conn) (state g refusal.0))
+
+abbrev pub DoubtsStill : {S : Type 0} (g : Ghosts S) → Held S → Held S → Type 0
+DoubtsStill g conn again = KeepsDoubt (state g conn) (state g again)
+
+-- ---- a command
+
+-- after the end of a session each call answers so, and touches nothing
+abbrev pub AnswersEnded : {S T : Type 0} {g : Ghosts S} → Project S g → Project S g → Result T Fault → Type 0
+AnswersEnded old new result = (result ≡ Err Ended) × (new ≡ old)
+
+-- whatever world the tables stood for, the command runs over it
+abbrev pub RunsOn : {S : Type 0} {g : Ghosts S} → Project S g → Project S g → Command → Result Answer Fault → Type 0
+RunsOn old new command result =
+    HasCleanDisk (state_of new) → (world : World) → IsProject world → GoesOn (state_of old) world → Runs world (request_of command) (has_ended new) (state_of new) result
+
+-- the changes of a plan are made, and its answer given
+abbrev pub CarriesOut : {S : Type 0} {g : Ghosts S} → Project S g → Project S g → Answer → List Change → Result Answer Fault → Type 0
+CarriesOut old new answer changes result =
+    HasCleanDisk (state_of new) → (world : World) (request : Request) → StandsFor (state_of old).now world → GoesOn (state_of old) world
+    → Plans world request answer changes → Runs world request (has_ended new) (state_of new) result
+
+-- ---- a question
+
+abbrev pub WasOpenBefore : {S T E : Type 0} {g : Ghosts S} → Project S g → Project S g → Result T E → Type 0
+WasOpenBefore old new result = HasCleanDisk (state_of new) → OnOk result (IsTrue (state_of old).is_open)
+
+-- the rows are those of all workunits, in order of number
+abbrev pub ShowsWorkunits : {S A : Type 0} {g : Ghosts S} → Project S g → Project S g → Result (Vec Row A) Fault → Type 0
+ShowsWorkunits old new result =
+    HasCleanDisk (state_of new) → (world : World) → StandsFor (state_of old).now world → IfOk result (λ rows. rows.items ≡ map workunit_row world.workunits)

@@ -1,0 +1,335 @@
+//! A batch: what it answers and what it changes, before anything is changed.
+
+ghost use Rattle.std.specs.Prelude.{◌≡◌, false, ◌+◌, ◌≤◌, ◌==◌, All, bytes_eq, length, replicate, if◌then◌else◌, Ok, IfOk, IfErr};
+ghost use Rattle.std.specs.List.{list_any};
+ghost use Rattle.sqlite.specs.Held.{state};
+ghost use Rattle.wu_core.specs.declared.fault.Fault.TheVariants.{Memory};
+ghost use Rattle.wu_core.specs.Limits.{most_workunits};
+ghost use Rattle.wu_core.specs.Reads.{Gives};
+ghost use Rattle.wu_feed.specs.Limits.{most_rows};
+ghost use Rattle.wu_passes.specs.Batches.{new_workunit};
+ghost use Rattle.wu_passes.specs.Planning.{additions, batch_of, FindsEarlier, FindsFree, IsNewBatch, IsRead, IsRepeated, IsStoreFault, KeepsImport, KeepsTables, KnowsNext, KnowsTaken, KnowsUsed, OpenOrFails, OverWorlds, PlansBatch, PlansJobs, PlansNew, RefusesRepeat, WasOpen};
+
+use crate::command::{Answer, Batch};
+use sqlite::{Alter, Connection};
+use std::alloc::Global;
+use wu_core::{
+    Assimilate, Bytes, ErrorMask, Fault, FileDelete, ImportKind, Instances, MOST_WORKUNITS, Name,
+    Params, Workunit,
+};
+use wu_feed::{Job, Jobs, read_jobs, read_template};
+use wu_schema::fault_of;
+use wu_store::{
+    Change, Import, StoredImport, Verdicts, has_archived, has_workunit, import_from, import_rows,
+    next_number_from, next_number_row,
+};
+
+/// What a command will answer, and what it changes.
+pub struct Plan<'a> {
+    pub answer: Answer,
+    pub changes: Vec<Change<'a>>,
+}
+
+fn copy_name(name: &Name) -> Result<Name, Fault>
+    ensures { Gives result (Ok name.now) }
+{
+    Ok(name.copy()?)
+}
+
+/// The import of this kind and name, if there was one.
+fn earlier_import<S: Alter>(
+    conn: &mut Connection<S>,
+    alloc: Global,
+    kind: ImportKind,
+    name: &Name,
+) -> Result<Option<StoredImport>, Fault>
+    ensures mode { conn.old.in_transaction ≡ false → conn.new.in_transaction ≡ false }
+    ensures read { IsRead (state S.Store conn.old) (state S.Store conn.new) }
+    ensures same { KeepsTables S.Store conn.old conn.new result }
+    ensures open { WasOpen S.Store conn.old conn.new result }
+    ensures fault { IfErr result IsStoreFault }
+    ensures found { OverWorlds S.Store conn.old conn.new (FindsEarlier kind name.now result) }
+{
+    let rows = match import_rows(conn, kind, name) {
+        Ok(rows) => rows,
+        Err(error) => return Err(fault_of(&error)),
+    };
+    match rows.first() {
+        Some(row) => match import_from(alloc, kind, row) {
+            Ok(import) => Ok(Some(import)),
+            Err(fault) => Err(fault),
+        },
+        None => Ok(None),
+    }
+}
+
+/// Whether the name belongs to a workunit that is present, or that was archived.
+fn is_taken<S: Alter>(conn: &mut Connection<S>, name: &Name) -> Result<bool, Fault>
+    ensures mode { conn.old.in_transaction ≡ false → conn.new.in_transaction ≡ false }
+    ensures read { IsRead (state S.Store conn.old) (state S.Store conn.new) }
+    ensures same { KeepsTables S.Store conn.old conn.new result }
+    ensures taken { OverWorlds S.Store conn.old conn.new (KnowsTaken name.now result) }
+{
+    match has_workunit(conn, name) {
+        Ok(true) => return Ok(true),
+        Ok(false) => {}
+        Err(error) => return Err(fault_of(&error)),
+    }
+    match has_archived(conn, name) {
+        Ok(was_archived) => Ok(was_archived),
+        Err(error) => Err(fault_of(&error)),
+    }
+}
+
+fn has_job(jobs: &[Job], name: &Name) -> bool
+    ensures { result ≡ list_any (λ job. bytes_eq job.name name.now) jobs.now }
+{
+    jobs.iter().any(|job| job.name == *name)
+}
+
+/// Whether the name belongs to a workunit, an archived row or one of these jobs.
+fn is_used<S: Alter>(conn: &mut Connection<S>, earlier: &[Job], name: &Name) -> Result<bool, Fault>
+    ensures mode { conn.old.in_transaction ≡ false → conn.new.in_transaction ≡ false }
+    ensures read { IsRead (state S.Store conn.old) (state S.Store conn.new) }
+    ensures same { KeepsTables S.Store conn.old conn.new result }
+    ensures used { OverWorlds S.Store conn.old conn.new (KnowsUsed earlier.now name.now result) }
+{
+    if has_job(earlier, name) {
+        return Ok(true);
+    }
+    is_taken(conn, name)
+}
+
+/// Refuses the first job whose name is that of a workunit, an archived row or an earlier job.
+fn check_names<S: Alter>(conn: &mut Connection<S>, jobs: &[Job]) -> Result<(), Fault>
+    requires { length jobs.now ≤ most_rows }
+    ensures mode { conn.old.in_transaction ≡ false → conn.new.in_transaction ≡ false }
+    ensures read { IsRead (state S.Store conn.old) (state S.Store conn.new) }
+    ensures same { KeepsTables S.Store conn.old conn.new result }
+    ensures free { OverWorlds S.Store conn.old conn.new (FindsFree jobs.now result) }
+{
+    let mut place = 0;
+    for job in jobs {
+        match is_used(conn, &jobs[..place], &job.name) {
+            Ok(true) => return Err(Fault::WorkunitUsed(place as u32 + 2)),
+            Ok(false) => place += 1,
+            Err(fault) => return Err(fault),
+        }
+    }
+    Ok(())
+}
+
+/// The number that the next workunit gets.
+fn next_number<S: Alter>(conn: &mut Connection<S>) -> Result<u64, Fault>
+    ensures within { IfOk result (λ next. (1 ≤ next) × (next ≤ most_workunits + 1)) }
+    ensures mode { conn.old.in_transaction ≡ false → conn.new.in_transaction ≡ false }
+    ensures read { IsRead (state S.Store conn.old) (state S.Store conn.new) }
+    ensures same { KeepsTables S.Store conn.old conn.new result }
+    ensures next { OverWorlds S.Store conn.old conn.new (KnowsNext result) }
+{
+    match next_number_row(conn) {
+        Ok(row) => next_number_from(&row),
+        Err(error) => Err(fault_of(&error)),
+    }
+}
+
+/// A workunit as a batch adds it: without instances.
+fn new_workunit(alloc: Global, number: u64, params: Params, job: Job) -> Workunit
+    ensures { result ≡ new_workunit params number job }
+{
+    let Job { name, input } = job;
+    Workunit {
+        number,
+        name,
+        params,
+        input,
+        error_mask: ErrorMask::none(),
+        canonical: None,
+        assimilate: Assimilate::Init,
+        file_delete: FileDelete::Init,
+        done_at: None,
+        instances: Instances::new(alloc),
+    }
+}
+
+/// The changes that add the jobs, with consecutive numbers from the next one.
+fn additions<'a>(
+    alloc: Global,
+    next: u64,
+    params: Params,
+    jobs: Jobs,
+) -> Result<Vec<Change<'a>>, Fault>
+    requires { next + length jobs ≤ most_workunits + 1 }
+    ensures changes { IfOk result (λ changes. changes.items ≡ additions params next jobs) }
+    ensures fault { IfErr result (λ fault. fault ≡ Memory) }
+{
+    let mut changes = Vec::new(alloc);
+    for job in jobs.into_vec() {
+        let number = next + changes.len() as u64;
+        let change = Change::Add(new_workunit(alloc, number, params, job));
+        changes.push(change)?;
+    }
+    let number = next + changes.len() as u64;
+    changes.push(Change::Next(number))?;
+    Ok(changes)
+}
+
+/// The verdicts of as many jobs: each is applied.
+fn applied(alloc: Global, count: usize) -> Result<Bytes, Fault>
+    ensures { Gives result (Ok (replicate count 0)) }
+{
+    let mut verdicts = Vec::new(alloc);
+    for _ in 0..count {
+        verdicts.push(0)?;
+    }
+    Ok(Bytes::from_vec(verdicts))
+}
+
+fn imported(name: &Name, first: u64, verdicts: Bytes) -> Result<Answer, Fault>
+    ensures { Gives result (Ok (Answer.Imported ImportKind.Batch name.now first verdicts)) }
+{
+    Ok(Answer::Imported {
+        kind: ImportKind::Batch,
+        name: copy_name(name)?,
+        first,
+        verdicts,
+    })
+}
+
+/// The answer of an earlier batch of this name, where it had the same content.
+fn repeated<'a>(alloc: Global, batch: &'a Batch, earlier: StoredImport) -> Result<Plan<'a>, Fault>
+    ensures plan { IfOk result (IsRepeated batch.now earlier) }
+    ensures fault { IfErr result (RefusesRepeat batch.now earlier) }
+{
+    let is_same = earlier.template.as_slice() == batch.template.as_slice()
+        && earlier.content.as_slice() == batch.file.as_slice();
+    if !is_same {
+        return Err(Fault::NameUsed);
+    }
+    Ok(Plan {
+        answer: imported(&batch.name, earlier.first_number, earlier.verdicts)?,
+        changes: Vec::new(alloc),
+    })
+}
+
+/// The first number of so many workunits; 0 where there are none.
+fn first_of(next: u64, count: usize) -> u64
+    ensures { result ≡ if count == 0 then 0 else next }
+{
+    if count == 0 { 0 } else { next }
+}
+
+/// What is kept of a batch with these verdicts. Its content is lent.
+fn kept_batch<'a>(
+    alloc: Global,
+    batch: &'a Batch,
+    first_number: u64,
+    verdicts: &[u8],
+) -> Result<Import<'a>, Fault>
+    requires { All (λ verdict. verdict ≤ 9) verdicts.now }
+    ensures kept { IfOk result (KeepsImport (batch_of batch.now) first_number verdicts.now) }
+    ensures fault { IfErr result (λ fault. fault ≡ Memory) }
+{
+    Ok(Import {
+        kind: ImportKind::Batch,
+        name: &batch.name,
+        template: &batch.template,
+        content: &batch.file,
+        first_number,
+        verdicts: Verdicts::from_slice(alloc, verdicts)?,
+    })
+}
+
+/// The answer and the changes of a batch of these jobs, none of which is refused.
+fn new_batch<'a>(
+    alloc: Global,
+    batch: &'a Batch,
+    next: u64,
+    params: Params,
+    jobs: Jobs,
+) -> Result<Plan<'a>, Fault>
+    requires { next + length jobs ≤ most_workunits + 1 }
+    ensures plan { IfOk result (IsNewBatch (batch_of batch.now) next params jobs) }
+    ensures fault { IfErr result (λ fault. fault ≡ Memory) }
+{
+    let count = jobs.len();
+    let first = first_of(next, count);
+    let verdicts = applied(alloc, count)?;
+    let import = kept_batch(alloc, batch, first, verdicts.as_slice())?;
+    let mut changes = additions(alloc, next, params, jobs)?;
+    changes.push(Change::Keep(import))?;
+    Ok(Plan {
+        answer: imported(&batch.name, first, verdicts)?,
+        changes,
+    })
+}
+
+/// The plan of a batch of these jobs, under a name that no batch had: a workunit's name that is taken is refused, and
+/// too many workunits.
+fn plan_jobs<'a, S: Alter>(
+    conn: &mut Connection<S>,
+    alloc: Global,
+    batch: &'a Batch,
+    params: Params,
+    jobs: Jobs,
+) -> Result<Plan<'a>, Fault>
+    requires { length jobs ≤ most_rows }
+    ensures mode { conn.old.in_transaction ≡ false → conn.new.in_transaction ≡ false }
+    ensures read { IsRead (state S.Store conn.old) (state S.Store conn.new) }
+    ensures same { KeepsTables S.Store conn.old conn.new result }
+    ensures plan { OverWorlds S.Store conn.old conn.new (PlansJobs batch.now params jobs result) }
+{
+    match check_names(conn, jobs.as_slice()) {
+        Ok(()) => {}
+        Err(fault) => return Err(fault),
+    }
+    let next = match next_number(conn) {
+        Ok(next) => next,
+        Err(fault) => return Err(fault),
+    };
+    if jobs.len() as u64 > MOST_WORKUNITS + 1 - next {
+        return Err(Fault::TooMany);
+    }
+    new_batch(alloc, batch, next, params, jobs)
+}
+
+/// The plan of a batch under a name that no batch had: the template is read, and then the file.
+fn plan_new<'a, S: Alter>(
+    conn: &mut Connection<S>,
+    alloc: Global,
+    batch: &'a Batch,
+) -> Result<Plan<'a>, Fault>
+    ensures mode { conn.old.in_transaction ≡ false → conn.new.in_transaction ≡ false }
+    ensures read { IsRead (state S.Store conn.old) (state S.Store conn.new) }
+    ensures same { KeepsTables S.Store conn.old conn.new result }
+    ensures plan { OverWorlds S.Store conn.old conn.new (PlansNew batch.now result) }
+{
+    let params = match read_template(alloc, batch.template.as_slice()) {
+        Ok(params) => params,
+        Err(fault) => return Err(fault),
+    };
+    match read_jobs(alloc, batch.file.as_slice()) {
+        Ok(jobs) => plan_jobs(conn, alloc, batch, params, jobs),
+        Err(fault) => Err(fault),
+    }
+}
+
+/// What a batch answers and changes, or the first refusal: the name was used with other content, the template, the
+/// file, a workunit's name that is taken, too many workunits.
+pub fn plan_batch<'a, S: Alter>(
+    conn: &mut Connection<S>,
+    alloc: Global,
+    batch: &'a Batch,
+) -> Result<Plan<'a>, Fault>
+    ensures mode { conn.old.in_transaction ≡ false → conn.new.in_transaction ≡ false }
+    ensures read { IsRead (state S.Store conn.old) (state S.Store conn.new) }
+    ensures same { KeepsTables S.Store conn.old conn.new result }
+    ensures open { OpenOrFails S.Store conn.old conn.new result }
+    ensures plan { OverWorlds S.Store conn.old conn.new (PlansBatch batch.now result) }
+{
+    match earlier_import(conn, alloc, ImportKind::Batch, &batch.name) {
+        Ok(Some(earlier)) => repeated(alloc, batch, earlier),
+        Ok(None) => plan_new(conn, alloc, batch),
+        Err(fault) => Err(fault),
+    }
+}

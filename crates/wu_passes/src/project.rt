@@ -1,0 +1,18 @@
+//! A project: a session over its database.
+
+ghost use Rattle.std.specs.Prelude.{◌≡◌, false};
+
+mod session;
+
+use sqlite::{Alter, Connection};
+
+/// A session over the database of a project, from its adoption to its release.
+///
+/// It ends at a fault of the disk, and at want of memory within a transaction: from then on each call answers `Ended`
+/// and changes nothing, since what the database holds is known again only once it is opened anew.
+#[derive(Drop)]
+pub struct Project<S: Alter> {
+    conn: Connection<S>,
+    has_ended: bool,
+    ghost idle: { conn.in_transaction ≡ false },
+}

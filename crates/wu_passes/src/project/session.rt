@@ -1,0 +1,183 @@
+//! What a session does: its adoption, its commands, its release.
+
+ghost use Rattle.std.specs.Prelude.{◌≡◌, ◌<◌, ◌≤◌, ℕ, true, false, Err, IfErr, IfOk, IsErrAnd, OnOk};
+ghost use Rattle.sqlite.specs.State.{HasCleanDisk};
+ghost use Rattle.sqlite.specs.Held.{state};
+ghost use Rattle.wu_passes.specs.Machine.{present_version};
+ghost use Rattle.wu_passes.specs.Planning.{IsRead, IsStoreFault, KeepsTables, OpenOrFails, OverWorlds, PlansFor, request_of};
+ghost use Rattle.wu_passes.specs.Standing.{FindsKnown, FindsWorld, KeepsDoubt, LeavesFresh, MakesFresh, MayEnd, RefusesWhole, TellsLater};
+ghost use Rattle.wu_passes.specs.Projects.{AdoptsFresh, AdoptsKnown, AdoptsWorld, AnswersEnded, CarriesOut, ComesBack, connection_of, DoubtsStill, GoesStill, has_ended, IsLater, IsOver, RefusesAdoption, RunsOn, ShowsWorkunits, state_of, WasOpenBefore};
+
+use crate::batch::{Plan, plan_batch};
+use crate::command::{Answer, Command};
+use crate::commit::change_all;
+use crate::project::Project;
+use sqlite::{Alter, Connection, Row};
+use std::alloc::Global;
+use wu_core::Fault;
+use wu_schema::{PRESENT_VERSION, create, fault_of, version_of};
+use wu_store::{Change, workunit_rows};
+
+/// Whether the project is of a version that this program knows.
+fn check_version(version: u64) -> Result<(), Fault>
+    ensures known { OnOk result (version ≤ present_version) }
+    ensures later { IfErr result (TellsLater version) }
+{
+    if version > PRESENT_VERSION {
+        Err(Fault::NewSchema(version))
+    } else {
+        Ok(())
+    }
+}
+
+/// Finds the project of the database, or makes a fresh one where none of its tables is there.
+fn find_or_create<S: Alter>(conn: &mut Connection<S>) -> Result<(), Fault>
+    requires { conn.old.in_transaction ≡ false }
+    ensures mode { conn.new.in_transaction ≡ false }
+    ensures clean { KeepsDoubt (state S.Store conn.old) (state S.Store conn.new) }
+    ensures found { FindsWorld S.Store conn.old conn.new result }
+    ensures made { MakesFresh S.Store conn.old conn.new result }
+    ensures left { LeavesFresh S.Store conn.old conn.new }
+    ensures known { FindsKnown S.Store conn.old conn.new result }
+    ensures later { (version : ℕ) → result ≡ Err (Fault.NewSchema version) → present_version < version }
+    ensures refused { RefusesWhole S.Store conn.old conn.new result }
+{
+    match version_of(conn) {
+        Ok(Some(version)) => check_version(version),
+        Ok(None) => create(conn),
+        Err(fault) => Err(fault),
+    }
+}
+
+/// What a command will answer and what it changes, or its first refusal.
+fn plan<'a, S: Alter>(
+    conn: &mut Connection<S>,
+    alloc: Global,
+    command: &'a Command,
+) -> Result<Plan<'a>, Fault>
+    ensures mode { conn.old.in_transaction ≡ false → conn.new.in_transaction ≡ false }
+    ensures read { IsRead (state S.Store conn.old) (state S.Store conn.new) }
+    ensures same { KeepsTables S.Store conn.old conn.new result }
+    ensures open { OpenOrFails S.Store conn.old conn.new result }
+    ensures plan { OverWorlds S.Store conn.old conn.new (PlansFor (request_of command.now) result) }
+{
+    match command {
+        Command::Batch(batch) => plan_batch(conn, alloc, batch),
+    }
+}
+
+impl<S: Alter> Project<S> {
+    /// Begins a session over the project in a database, and takes a limit on steps off the connection.
+    ///
+    /// A database with none of the project's tables gets them, in one transaction; tables of other names are left
+    /// alone. A later version is `NewSchema`. `NotAProject` is a connection inside a transaction, a taken name, or a
+    /// table `project` with other rows. With each refusal the connection comes back.
+    pub fn adopt(mut conn: Connection<S>) -> Result<Self, (Connection<S>, Fault)>
+        ensures busy { conn.in_transaction ≡ true → result ≡ Err (conn, Fault.NotAProject) }
+        ensures begins { IfOk result GoesStill }
+        ensures clean { ComesBack result (DoubtsStill S.Store conn) }
+        ensures found { AdoptsWorld S.Store conn result }
+        ensures made { AdoptsFresh S.Store conn result }
+        ensures left { ComesBack result (LeavesFresh S.Store conn) }
+        ensures known { AdoptsKnown S.Store conn result }
+        ensures later { (version : ℕ) → IfErr result (IsLater version) }
+        ensures refused { RefusesAdoption S.Store conn result }
+    {
+        if !conn.is_autocommit() {
+            return Err((conn, Fault::NotAProject));
+        }
+        conn.set_step_limit(None);
+        match find_or_create(&mut conn) {
+            Ok(()) => Ok(Project {
+                conn,
+                has_ended: false,
+            }),
+            Err(fault) => Err((conn, fault)),
+        }
+    }
+
+    /// Whether the session has ended.
+    pub fn ended(&self) -> bool
+        ensures { result ≡ has_ended self.now }
+    {
+        self.has_ended
+    }
+
+    /// Ends the session, and gives its connection back.
+    pub fn release(self) -> Connection<S>
+        ensures { result ≡ connection_of self }
+    {
+        let Project { conn, has_ended: _ } = self;
+        conn
+    }
+
+    /// Runs a command: its changes in one transaction, then its answer.
+    ///
+    /// All is computed before the transaction begins. A fault before it changes nothing; only `Broken` ends the session
+    /// there. A statement that is refused within it is rolled back. `Memory` and `Broken` from within end the session.
+    pub fn run(&mut self, alloc: Global, command: &Command) -> Result<Answer, Fault>
+        ensures ended { IsOver self.old → AnswersEnded self.old self.new result }
+        ensures clean { KeepsDoubt (state_of self.old) (state_of self.new) }
+        ensures ends { GoesStill self.old → IsOver self.new → IsErrAnd result MayEnd }
+        ensures broken { GoesStill self.old → result ≡ Err Fault.Broken → IsOver self.new }
+        ensures runs { GoesStill self.old → RunsOn self.old self.new command.now result }
+    {
+        if self.has_ended {
+            return Err(Fault::Ended);
+        }
+        match plan(&mut self.conn, alloc, command) {
+            Ok(Plan { answer, changes }) => self.carry_out(answer, changes.as_slice()),
+            Err(fault) => {
+                if fault != Fault::Broken {
+                    return Err(fault);
+                }
+                self.has_ended = true;
+                Err(fault)
+            }
+        }
+    }
+
+    /// Makes the changes of a plan, if there are any, and gives its answer.
+    fn carry_out(&mut self, answer: Answer, changes: &[Change<'_>]) -> Result<Answer, Fault>
+        requires { GoesStill self.old }
+        ensures clean { KeepsDoubt (state_of self.old) (state_of self.new) }
+        ensures ends { IsOver self.new → IsErrAnd result MayEnd }
+        ensures broken { result ≡ Err Fault.Broken → IsOver self.new }
+        ensures done { CarriesOut self.old self.new answer changes.now result }
+    {
+        if changes.is_empty() {
+            return Ok(answer);
+        }
+        match change_all(&mut self.conn, changes) {
+            Ok(()) => Ok(answer),
+            Err(Fault::NotAProject) => Err(Fault::NotAProject),
+            Err(fault) => {
+                self.has_ended = true;
+                Err(fault)
+            }
+        }
+    }
+
+    /// The rows of all workunits, in order of number. A failure of the disk ends the session.
+    pub fn workunit_rows(&mut self) -> Result<Vec<Row>, Fault>
+        ensures ended { IsOver self.old → AnswersEnded self.old self.new result }
+        ensures ends { GoesStill self.old → IsOver self.new → result ≡ Err Fault.Broken }
+        ensures broken { result ≡ Err Fault.Broken → IsOver self.new }
+        ensures read { IsRead (state_of self.old) (state_of self.new) }
+        ensures open { WasOpenBefore self.old self.new result }
+        ensures rows { ShowsWorkunits self.old self.new result }
+        ensures fault { GoesStill self.old → IfErr result IsStoreFault }
+    {
+        if self.has_ended {
+            return Err(Fault::Ended);
+        }
+        match workunit_rows(&mut self.conn) {
+            Ok(rows) => Ok(rows),
+            Err(error) => {
+                let fault = fault_of(&error);
+                self.has_ended = fault == Fault::Broken;
+                Err(fault)
+            }
+        }
+    }
+}

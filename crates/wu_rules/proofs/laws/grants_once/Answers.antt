@@ -1,5 +1,0 @@
-use Rattle.wu_rules.proofs.Granting.{grants_increasing}
-use Rattle.wu_rules.proofs.laws.grants_once.Goals as goal
-
-pub returns : goal.returns
-returns c = grants_increasing

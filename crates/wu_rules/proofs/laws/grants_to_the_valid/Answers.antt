@@ -1,5 +1,0 @@
-use Rattle.wu_rules.proofs.Granting.{grants_right}
-use Rattle.wu_rules.proofs.laws.grants_to_the_valid.Goals as goal
-
-pub returns : goal.returns
-returns c = grants_right

@@ -1,5 +1,0 @@
-use Rattle.wu_rules.proofs.Judged.{finals_stay}
-use Rattle.wu_rules.proofs.laws.keeps_final_verdicts.Goals as goal
-
-pub returns : goal.returns
-returns c = finals_stay

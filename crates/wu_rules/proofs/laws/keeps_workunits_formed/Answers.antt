@@ -1,5 +1,0 @@
-use Rattle.wu_rules.proofs.Kept.{keeps_formed}
-use Rattle.wu_rules.proofs.laws.keeps_workunits_formed.Goals as goal
-
-pub returns : goal.returns
-returns c = keeps_formed

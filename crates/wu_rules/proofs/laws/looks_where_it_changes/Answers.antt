@@ -1,5 +1,0 @@
-use Rattle.wu_rules.proofs.Judged.{looked-changed, changed-looked}
-use Rattle.wu_rules.proofs.laws.looks_where_it_changes.Goals as goal
-
-pub returns : goal.returns
-returns c w = (looked-changed w, changed-looked w)

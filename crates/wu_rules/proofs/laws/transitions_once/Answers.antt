@@ -1,5 +1,0 @@
-use Rattle.wu_rules.proofs.Awake.{transitioned-once}
-use Rattle.wu_rules.proofs.laws.transitions_once.Goals as goal
-
-pub returns : goal.returns
-returns c = transitioned-once

@@ -1,5 +1,0 @@
-use Rattle.wu_rules.proofs.Awake.{woken-changed, changed-woken}
-use Rattle.wu_rules.proofs.laws.wakes_in_time.Goals as goal
-
-pub returns : goal.returns
-returns c w now = (woken-changed w now, changed-woken w now)

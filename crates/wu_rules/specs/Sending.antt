@@ -1,0 +1,40 @@
+-- A workunit's instance is sent to a host: the verdict, and what it makes of the workunit.
+use Rattle.std.specs.Prelude.{ℕ, ◌+◌, Bool, false, not, if◌then◌else◌, List, bytes_eq, slice_get, Some}
+use Rattle.std.specs.List.{list_any}
+use Rattle.std.specs.Option.{option_map_or}
+use Rattle.wu_core.specs.declared.workunit.Instance.{Instance}
+use Rattle.wu_core.specs.declared.workunit.Workunit.{Workunit}
+use Rattle.wu_core.specs.declared.states.ServerState.TheVariants as server
+use Rattle.wu_core.specs.Workunit.{with_instance}
+use Rattle.wu_rules.specs.Instances.{is_unsent}
+use Rattle.wu_rules.specs.declared.verdicts.SendVerdict.{SendVerdict}
+use Rattle.wu_rules.specs.declared.verdicts.SendVerdict.TheVariants as verdict
+
+-- the instance is this host's
+abbrev pub is_of : List ℕ → Instance → Bool
+is_of host instance = option_map_or (λ its. bytes_eq its host) instance.host false
+
+-- an instance that waits to be sent goes to a host that has none of its workunit
+abbrev pub send_verdict_of : Workunit → List ℕ → Instance → SendVerdict
+send_verdict_of w host instance =
+    if not (is_unsent instance) then verdict.NotUnsent
+    else if list_any (is_of host) w.instances then verdict.SameHost
+    else verdict.Applied
+
+-- of the instance of this number, where the workunit has one
+abbrev pub send_verdict_in : Workunit → ℕ → List ℕ → SendVerdict
+send_verdict_in w n host = option_map_or (send_verdict_of w host) (slice_get w.instances n) verdict.Unknown
+
+-- on its way to the host since this moment, due after the workunit's delay
+abbrev pub sent_to : Workunit → List ℕ → ℕ → Instance → Instance
+sent_to w host moment instance = record instance {
+  server_state = server.InProgress;
+  host = Some host;
+  sent_at = Some moment;
+  deadline = Some (moment + w.params.delay_bound);
+}
+
+-- the workunit with its instance of this number sent
+abbrev pub sent_in : Workunit → ℕ → List ℕ → ℕ → Workunit
+sent_in w n host moment =
+    option_map_or (λ instance. with_instance w n (sent_to w host moment instance)) (slice_get w.instances n) w

@@ -1,0 +1,105 @@
+//! What becomes of a row of sends or of reports: it is applied to its instance, or skipped for a reason.
+
+ghost use Rattle.std.specs.Prelude.{◌≡◌, option_map};
+ghost use Rattle.wu_core.specs.Codes.{Decodes};
+ghost use Rattle.wu_rules.specs.Verdicts.{report_verdict_code, report_verdict_word, send_verdict_code, send_verdict_word};
+
+/// What becomes of a row that says an instance was sent to a host: the first that holds, from `Unknown` on, or `Applied`.
+#[derive(Clone, Copy, Debug, PartialEq, Eq)]
+pub enum SendVerdict {
+    Applied = 0,
+    /// No such instance is present.
+    Unknown = 1,
+    /// The instance doesn't wait to be sent.
+    NotUnsent = 2,
+    /// The host has an instance of this workunit already.
+    SameHost = 3,
+}
+
+impl SendVerdict {
+    /// The number of this project, as a table stores it: 0 to 3.
+    pub fn code(self) -> u8
+        ensures { result ≡ send_verdict_code self }
+    {
+        self as u8
+    }
+
+    /// The verdict of a stored number, if it is the number of one.
+    pub fn from_code(code: u8) -> Option<Self>
+        ensures { Decodes send_verdict_code code result }
+    {
+        match code {
+            0 => Some(SendVerdict::Applied),
+            1 => Some(SendVerdict::Unknown),
+            2 => Some(SendVerdict::NotUnsent),
+            3 => Some(SendVerdict::SameHost),
+            _ => None,
+        }
+    }
+
+    /// The word that an answer prints for a row that was skipped; a row that was applied has none.
+    pub fn word(self) -> Option<&'static str>
+        ensures { option_map (λ word. word.now) result ≡ send_verdict_word self }
+    {
+        match self {
+            SendVerdict::Applied => None,
+            SendVerdict::Unknown => Some("unknown"),
+            SendVerdict::NotUnsent => Some("not_unsent"),
+            SendVerdict::SameHost => Some("same_host"),
+        }
+    }
+}
+
+/// What becomes of a row that says how an instance ended: the first that holds, from `Unknown` on, or `Applied`.
+#[derive(Clone, Copy, Debug, PartialEq, Eq)]
+pub enum ReportVerdict {
+    Applied = 0,
+    /// No such instance is present.
+    Unknown = 1,
+    /// The instance was never sent.
+    NotSent = 2,
+    /// The instance was sent to another host.
+    WrongHost = 3,
+    /// The instance was sent later than reported.
+    BeforeSent = 4,
+    /// The instance has ended already, otherwise than without a reply.
+    Over = 5,
+}
+
+impl ReportVerdict {
+    /// The number of this project, as a table stores it: 0 to 5.
+    pub fn code(self) -> u8
+        ensures { result ≡ report_verdict_code self }
+    {
+        self as u8
+    }
+
+    /// The verdict of a stored number, if it is the number of one.
+    pub fn from_code(code: u8) -> Option<Self>
+        ensures { Decodes report_verdict_code code result }
+    {
+        match code {
+            0 => Some(ReportVerdict::Applied),
+            1 => Some(ReportVerdict::Unknown),
+            2 => Some(ReportVerdict::NotSent),
+            3 => Some(ReportVerdict::WrongHost),
+            4 => Some(ReportVerdict::BeforeSent),
+            5 => Some(ReportVerdict::Over),
+            _ => None,
+        }
+    }
+
+    /// The word that an answer prints for a row that was skipped; a row that was applied has none.
+    pub fn word(self) -> Option<&'static str>
+        ensures { option_map (λ word. word.now) result ≡ report_verdict_word self }
+    {
+        match self {
+            ReportVerdict::Applied => None,
+            ReportVerdict::Unknown => Some("unknown"),
+            ReportVerdict::NotSent => Some("not_sent"),
+            ReportVerdict::WrongHost => Some("wrong_host"),
+            ReportVerdict::BeforeSent => Some("before_sent"),
+            ReportVerdict::Over => Some("over"),
+        }
+    }
+}

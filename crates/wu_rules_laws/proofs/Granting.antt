@@ -1,0 +1,253 @@
+-- Which results are granted credit, and how a canonical one is chosen.
+use Rattle.std.proofs.Common.{◌≡◌, ℕ, zero, suc, ◌+◌, ◌/◌, ◌<◌, nat_le, Bool, true, false, cond, ◌&&◌, List, [], ◌∷◌, map, length, filter, Option, Some, None, refl, sym, ap, subst, ◌∙◌, bytes_eq, is_none, zero-add, leb-true, arith}
+use Rattle.std.specs.List.{position_from, filter_map, cons_option, enumerate_from, slice_get, All, AllByRecursion, AllPairs}
+use Rattle.std.specs.Option.{option_map}
+use Rattle.std.proofs.lemmas.Option.{slice_get-map}
+use Rattle.std.proofs.lemmas.List.Elements.{All-from_recursion}
+use Rattle.std.proofs.lemmas.List.Kept.{AllPairs-cons}
+use Rattle.wu_core.specs.declared.workunit.Instance.{Instance}
+use Rattle.wu_core.specs.declared.workunit.Workunit.{Workunit}
+use Rattle.wu_core.specs.declared.workunit.Grant.{Grant}
+use Rattle.wu_core.specs.declared.states.ValidateState.{ValidateState}
+use Rattle.wu_core.specs.declared.states.ValidateState.TheVariants as validate
+use Rattle.wu_rules.specs.Instances.{is_success, is_viable, is_new, is_init_verdict, is_open_verdict, closed}
+use Rattle.wu_rules.specs.Counts.{viable, agreeing, is_agreed, consensus}
+use Rattle.wu_rules.specs.Validation.{is_to_validate, output_at, is_deleted_at, verdict, judged_by, judged_late_by, agreed_on, judged_after, decided, validated_by, validated, grant_of, is_judged, granted_to, grants_by, grants_decided, grants_after, granted_by, grants}
+use Rattle.wu_rules_laws.specs.Laws.{IsChosen, rehosted, IsRightGrantIn}
+use Rattle.wu_rules.proofs.Lists.{count_step}
+use Rattle.wu_rules_laws.proofs.Changed.{placed, count-placed}
+use Rattle.wu_rules_laws.proofs.Spent.{and_left, and_right}
+
+-- ---- the first that passes
+
+-- x stands at k and passes, and nothing before it does
+pub record First {A : Type 0} (p : A → Bool) (xs : List A) (k : ℕ) (x : A) : Type 0 where
+  stands : slice_get xs k ≡ Some x
+  passes : p x ≡ true
+  before : (j : ℕ) (y : A) → j < k → slice_get xs j ≡ Some y → p y ≡ false
+
+first_here : {A : Type 0} (p : A → Bool) (x : A) (xs : List A) → p x ≡ true → First p (x ∷ xs) 0 x
+first_here p x xs h = record { stands = refl; passes = h; before = λ j y lt g. absurd (omega arith) }
+
+first_later : {A : Type 0} (p : A → Bool) (x : A) (xs : List A) (k : ℕ) (y : A) → p x ≡ false → First p xs k y → First p (x ∷ xs) (suc k) y
+first_later {A} p x xs k y h f = record { stands = f.stands; passes = f.passes; before = earlier }
+  where
+    earlier : (j : ℕ) (z : A) → j < suc k → slice_get (x ∷ xs) j ≡ Some z → p z ≡ false
+    earlier zero z lt g = let same : x ≡ z = cc in subst (λ v. p v ≡ false) same h
+    earlier (suc j) z lt g = f.before j z (omega arith) g
+
+pub position_from-first : {A : Type 0} (p : A → Bool) (s : ℕ) (xs : List A) (n : ℕ) → position_from p s xs ≡ Some n → (k : ℕ) × (x : A) × (n ≡ s + k) × First p xs k x
+position_from-first p s [] n e = cc
+position_from-first {A} p s (x ∷ xs) n e = by_case (p x) refl e (λ f. position_from-first p (s + 1) xs n f)
+  where
+    by_case : (b : Bool) → b ≡ p x → cond b (Some s) (position_from p (s + 1) xs) ≡ Some n → (position_from p (s + 1) xs ≡ Some n → (k : ℕ) × (y : A) × (n ≡ s + 1 + k) × First p xs k y) → (k : ℕ) × (y : A) × (n ≡ s + k) × First p (x ∷ xs) k y
+    by_case true h f r = (0, x, (let here : s ≡ n = cc in omega arith), first_here p x xs (sym h))
+    by_case false h f r = let found = r f in (suc found.0, found.1, omega (arith, found.2), first_later p x xs found.0 found.1 (sym h) found.3)
+
+-- the choice is a viable success on which enough agree, and the first such
+pub chosen : (w : Workunit) (n : ℕ) → consensus w ≡ Some n → IsChosen w n
+chosen w n e =
+    let found = position_from-first (is_agreed w) 0 w.instances n e in
+    let x = found.1 in
+    let same : found.0 ≡ n = omega (arith, found.2) in
+    let enough = nat_le (w.params.min_quorum / 2 + 1) (length (agreeing x.output (viable w))) in
+    record {
+      chosen = x;
+      stands = subst (λ m. slice_get w.instances m ≡ Some x) same found.3.stands;
+      is_viable = and_left (is_viable x) enough found.3.passes;
+      enough = leb-true (w.params.min_quorum / 2 + 1) (length (agreeing x.output (viable w))) (and_right (is_viable x) enough found.3.passes);
+      first = λ j y lt g. found.3.before j y (omega arith) g;
+    }
+
+-- ---- hosts
+
+-- the same hosts or others, outputs and states decide
+count_same : {A : Type 0} (p q : A → Bool) → ((x : A) → p x ≡ q x) → (xs : List A) → length (filter p xs) ≡ length (filter q xs)
+count_same p q same [] = refl
+count_same p q same (x ∷ xs) = count_step (p x) (q x) x x (filter p xs) (filter q xs) (same x) (count_same p q same xs)
+
+-- a filter of a filter counts what passes both
+count_both : {A : Type 0} (p q : A → Bool) (xs : List A) → length (filter q (filter p xs)) ≡ length (filter (λ x. p x && q x) xs)
+count_both p q [] = refl
+count_both {A} p q (x ∷ xs) = by_case (p x) (q x) refl refl (count_both p q xs)
+  where
+    rest : List A
+    rest = filter (λ y. p y && q y) xs
+
+    by_case : (b c : Bool) → b ≡ p x → c ≡ q x → length (filter q (filter p xs)) ≡ length rest → length (filter q (cond b (x ∷ filter p xs) (filter p xs))) ≡ length (cond (b && q x) (x ∷ rest) rest)
+    by_case true c e f h = count_step (q x) (q x) x x (filter q (filter p xs)) rest refl h
+    by_case false c e f h = h
+
+agreeing-rehosted : (hosts : ℕ → Instance → Option (List ℕ)) (w : Workunit) (output : List ℕ) → length (agreeing output (viable (rehosted hosts w))) ≡ length (agreeing output (viable w))
+agreeing-rehosted hosts w output =
+    count_both is_viable (λ i. bytes_eq i.output output) (rehosted hosts w).instances
+    ∙ (count-placed (λ i. is_viable i && bytes_eq i.output output) (λ i. is_viable i && bytes_eq i.output output) (λ n i. record i { host = hosts n i }) (λ n i. refl) 0 w.instances
+    ∙ sym (count_both is_viable (λ i. bytes_eq i.output output) w.instances))
+
+position-placed : {A B : Type 0} (p : B → Bool) (q : A → Bool) (f : ℕ → A → B) → ((n : ℕ) (x : A) → p (f n x) ≡ q x) → (s t : ℕ) (xs : List A) → position_from p t (placed f s xs) ≡ position_from q t xs
+position-placed p q f same s t [] = refl
+position-placed p q f same s t (x ∷ xs) = ap (λ b. cond b (Some t) (position_from p (t + 1) (placed f (s + 1) xs))) (same s x) ∙ ap (λ o. cond (q x) (Some t) o) (position-placed p q f same (s + 1) (t + 1) xs)
+
+pub consensus-rehosted : (hosts : ℕ → Instance → Option (List ℕ)) (w : Workunit) → consensus (rehosted hosts w) ≡ consensus w
+consensus-rehosted hosts w =
+    position-placed (is_agreed (rehosted hosts w)) (is_agreed w) (λ n i. record i { host = hosts n i }) (λ n i. ap (λ k. is_viable i && nat_le (w.params.min_quorum / 2 + 1) k) (agreeing-rehosted hosts w i.output)) 0 0 w.instances
+
+-- ---- grants
+
+-- what holds of each that is kept of the elements holds of all
+kept_all : {A B : Type 0} (P : B → Type 0) (h : ℕ → A → Option B) (s : ℕ) (xs : List A) → ((k : ℕ) (x : A) (b : B) → slice_get xs k ≡ Some x → h (s + k) x ≡ Some b → P b) → AllByRecursion P (filter_map (λ p. h p.0 p.1) (enumerate_from s xs))
+kept_all P h s [] each = tt
+kept_all {A} {B} P h s (x ∷ xs) each = by_case (h s x) refl (kept_all P h (s + 1) xs (λ k y b here given. each (suc k) y b here ((let e : s + suc k ≡ s + 1 + k = omega arith in ap (λ m. h m y) e) ∙ given)))
+  where
+    rest : List B
+    rest = filter_map (λ p. h p.0 p.1) (enumerate_from (s + 1) xs)
+
+    by_case : (o : Option B) → o ≡ h s x → AllByRecursion P rest → AllByRecursion P (cons_option o rest)
+    by_case None e r = r
+    by_case (Some b) e r = (each 0 x b refl ((let z : s + 0 ≡ s = omega arith in ap (λ m. h m x) z) ∙ sym e), r)
+
+granted_number : (w : Workunit) (output : List ℕ) (n : ℕ) (i : Instance) (g : Grant) → granted_to w output n i ≡ Some g → (is_judged w i ≡ true) × (bytes_eq i.output output ≡ true) × (option_map (λ host. record { workunit = w.number; n = n; host = host; credit = w.params.credit }) i.host ≡ Some g)
+granted_number w output n i g e = by_case (is_judged w i) (bytes_eq i.output output) e
+  where
+    by_case : (a b : Bool) → cond (a && b) (grant_of w n i) None ≡ Some g → (a ≡ true) × (b ≡ true) × (grant_of w n i ≡ Some g)
+    by_case true true f = (refl, refl, f)
+    by_case true false f = cc
+    by_case false b f = cc
+
+-- the parts of a grant
+pub record NamesBy (w : Workunit) (n : ℕ) (o : Option (List ℕ)) (g : Grant) : Type 0 where
+  pub workunit : g.workunit ≡ w.number
+  pub number : g.n ≡ n
+  pub host : o ≡ Some g.host
+  pub credit : g.credit ≡ w.params.credit
+
+names : (w : Workunit) (n : ℕ) (i : Instance) (g : Grant) → grant_of w n i ≡ Some g → NamesBy w n i.host g
+names w n i g e = by_case i.host e
+  where
+    made : List ℕ → Grant
+    made host = record { workunit = w.number; n = n; host = host; credit = w.params.credit }
+
+    by_case : (o : Option (List ℕ)) → option_map made o ≡ Some g → NamesBy w n o g
+    by_case None f = cc
+    by_case (Some host) f =
+        let same : made host ≡ g = cc in
+        subst (λ v. NamesBy w n (Some host) v) same (record { workunit = refl; number = refl; host = refl; credit = refl })
+
+-- a grant of these, for an instance that is judged and becomes VALID
+right : (w : Workunit) (f : Instance → Instance) (output : List ℕ) (v : Workunit) → v.instances ≡ map f w.instances → ((i : Instance) → is_judged w i ≡ true → is_open_verdict i.validate_state ≡ true) → ((i : Instance) → is_judged w i ≡ true → bytes_eq i.output output ≡ true → (f i).validate_state ≡ validate.Valid) → AllByRecursion (IsRightGrantIn w v) (grants_by w output)
+right w f output v images opens valid = kept_all (IsRightGrantIn w v) (granted_to w output) 0 w.instances each
+  where
+    each : (k : ℕ) (i : Instance) (g : Grant) → slice_get w.instances k ≡ Some i → granted_to w output (0 + k) i ≡ Some g → IsRightGrantIn w v g
+    each k i g here given =
+        let parts = granted_number w output (0 + k) i g given in
+        let named = names w (0 + k) i g parts.2 in
+        let at : g.n ≡ k = named.number ∙ zero-add k in
+        record {
+          instance = i;
+          stands = ap (λ m. slice_get w.instances m) at ∙ here;
+          open_before = opens i parts.0;
+          valid_after =
+              ap (λ m. option_map (λ j. j.validate_state) (slice_get v.instances m)) at
+              ∙ (ap (λ zs. option_map (λ j. j.validate_state) (slice_get zs k)) images
+              ∙ (ap (λ o. option_map (λ j. j.validate_state) o) (slice_get-map f w.instances k ∙ ap (λ o. option_map f o) here)
+              ∙ ap Some (valid i parts.0 parts.1)));
+          host = named.host;
+          workunit = named.workunit;
+          credit = named.credit;
+        }
+
+new_is_open : (s : Bool) (v : ValidateState) → (s && is_init_verdict v) ≡ true → is_open_verdict v ≡ true
+new_is_open true validate.Init e = refl
+new_is_open true validate.Inconclusive e = refl
+new_is_open true validate.Valid e = e
+new_is_open true validate.Invalid e = e
+new_is_open true validate.NoCheck e = e
+new_is_open true validate.TooLate e = e
+new_is_open false v e = cc
+
+-- before the decision viable successes are judged, after it new ones
+judged_viable : (w : Workunit) → w.canonical ≡ None → (i : Instance) → is_judged w i ≡ true → is_viable i ≡ true
+judged_viable w none i e = ap (λ o. cond (is_none o) (is_viable i) (is_new i)) (sym none) ∙ e
+
+judged_new : (w : Workunit) (c : ℕ) → w.canonical ≡ Some c → (i : Instance) → is_judged w i ≡ true → is_new i ≡ true
+judged_new w c some i e = ap (λ o. cond (is_none o) (is_viable i) (is_new i)) (sym some) ∙ e
+
+valid_agreed : (output : List ℕ) (i : Instance) → is_viable i ≡ true → bytes_eq i.output output ≡ true → (judged_by output i).validate_state ≡ validate.Valid
+valid_agreed output i v e = ap (λ b. (cond b (record i { validate_state = verdict (bytes_eq i.output output) }) (closed i)).validate_state) v ∙ ap verdict e
+
+valid_late : (output : List ℕ) (i : Instance) → is_new i ≡ true → bytes_eq i.output output ≡ true → (judged_late_by false output i).validate_state ≡ validate.Valid
+valid_late output i v e = ap (λ b. (cond b (record i { validate_state = verdict (bytes_eq i.output output) }) i).validate_state) v ∙ ap verdict e
+
+right_decided : (w : Workunit) → w.canonical ≡ None → (o : Option ℕ) → AllByRecursion (IsRightGrantIn w (decided w o)) (grants_decided w o)
+right_decided w none None = tt
+right_decided w none (Some n) =
+    let output = output_at w.instances n in
+    right w (judged_by output) output (agreed_on w n) refl
+    (λ i j. and_right (is_success i) (is_open_verdict i.validate_state) (judged_viable w none i j))
+    (λ i j e. valid_agreed output i (judged_viable w none i j) e)
+
+right_after : (w : Workunit) (c : ℕ) → w.canonical ≡ Some c → AllByRecursion (IsRightGrantIn w (judged_after w c)) (grants_after w c)
+right_after w c some = by_case (is_deleted_at w.instances c)
+  where
+    output : List ℕ
+    output = output_at w.instances c
+
+    by_case : (b : Bool) → AllByRecursion (IsRightGrantIn w (record w { instances = map (judged_late_by b output) w.instances })) (cond b [] (grants_by w output))
+    by_case true = tt
+    by_case false = right w (judged_late_by false output) output (record w { instances = map (judged_late_by false output) w.instances }) refl
+        (λ i j. new_is_open (is_success i) i.validate_state (judged_new w c some i j))
+        (λ i j e. valid_late output i (judged_new w c some i j) e)
+
+right_by : (w : Workunit) (o : Option ℕ) → w.canonical ≡ o → AllByRecursion (IsRightGrantIn w (validated_by w o)) (granted_by w o)
+right_by w None e = right_decided w e (consensus w)
+right_by w (Some c) e = right_after w c e
+
+pub grants_right : (w : Workunit) → All (IsRightGrantIn w (validated w)) (grants w)
+unfolding validated grants
+grants_right w = All-from_recursion (IsRightGrantIn w (validated w)) (grants w) (by_case (is_to_validate w))
+  where
+    by_case : (b : Bool) → AllByRecursion (IsRightGrantIn w (cond b (validated_by w w.canonical) w)) (cond b (granted_by w w.canonical) [])
+    by_case true = right_by w w.canonical refl
+    by_case false = tt
+
+-- ---- no second grant
+
+increasing : (h : ℕ → Instance → Option Grant) → ((n : ℕ) (i : Instance) (g : Grant) → h n i ≡ Some g → g.n ≡ n) → (s : ℕ) (xs : List Instance) → AllPairs (λ a b. a.n < b.n) (filter_map (λ p. h p.0 p.1) (enumerate_from s xs))
+increasing h number s [] = λ i j d lt inside. absurd (omega arith)
+increasing h number s (x ∷ xs) = by_case (h s x) refl (increasing h number (s + 1) xs)
+  where
+    rest : List Grant
+    rest = filter_map (λ p. h p.0 p.1) (enumerate_from (s + 1) xs)
+
+    above : (g : Grant) → g.n ≡ s → All (λ b. g.n < b.n) rest
+    above g at = All-from_recursion (λ b. g.n < b.n) rest (kept_all (λ b. g.n < b.n) h (s + 1) xs (λ k y b here given. let by = number (s + 1 + k) y b given in omega arith))
+
+    by_case : (o : Option Grant) → o ≡ h s x → AllPairs (λ a b. a.n < b.n) rest → AllPairs (λ a b. a.n < b.n) (cons_option o rest)
+    by_case None e r = r
+    by_case (Some g) e r = AllPairs-cons (λ a b. a.n < b.n) g rest (above g (number s x g (sym e))) r
+
+none_increasing : AllPairs {X = Grant} (λ a b. a.n < b.n) []
+none_increasing = λ i j d lt inside. absurd (omega arith)
+
+by_increasing : (w : Workunit) (output : List ℕ) → AllPairs (λ a b. a.n < b.n) (grants_by w output)
+by_increasing w output = increasing (granted_to w output) (λ n i g e. (names w n i g (granted_number w output n i g e).2).number) 0 w.instances
+
+pub grants_increasing : (w : Workunit) → AllPairs (λ a b. a.n < b.n) (grants w)
+unfolding grants
+grants_increasing w = by_case (is_to_validate w) (by_canonical w.canonical)
+  where
+    decide : (o : Option ℕ) → AllPairs (λ a b. a.n < b.n) (grants_decided w o)
+    decide None = none_increasing
+    decide (Some n) = by_increasing w (output_at w.instances n)
+
+    after : (b : Bool) (output : List ℕ) → AllPairs (λ a b. a.n < b.n) (cond b [] (grants_by w output))
+    after true output = none_increasing
+    after false output = by_increasing w output
+
+    by_canonical : (o : Option ℕ) → AllPairs (λ a b. a.n < b.n) (granted_by w o)
+    by_canonical None = decide (consensus w)
+    by_canonical (Some c) = after (is_deleted_at w.instances c) (output_at w.instances c)
+
+    by_case : (b : Bool) → AllPairs (λ a b. a.n < b.n) (granted_by w w.canonical) → AllPairs (λ a b. a.n < b.n) (cond b (granted_by w w.canonical) [])
+    by_case true r = r
+    by_case false r = none_increasing

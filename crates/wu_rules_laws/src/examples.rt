@@ -1,0 +1,91 @@
+//! Worked examples, computed on the definitions: each function's contract is what the rules make of a workunit.
+#![tactic(auto, unfolding(wu_rules::specs::Transition::transitioned, wu_rules::specs::Waking::wake, wu_rules::specs::Validation::validated, wu_rules::specs::Validation::grants, wu_rules::specs::Assimilation::assimilated, wu_rules::specs::Assimilation::emptied, wu_rules::specs::Assimilation::is_purgeable, wu_rules::specs::Cancelling::cancelled))]
+
+ghost use Rattle.std.specs.Prelude.{◌≡◌, ◌∷◌, [], true, false, Some, None};
+ghost use Rattle.wu_core.specs.declared.states.ValidateState.TheVariants as validate;
+ghost use Rattle.wu_rules.specs.Transition.{transitioned};
+ghost use Rattle.wu_rules.specs.Validation.{is_to_validate, validated, grants};
+ghost use Rattle.wu_rules.specs.Cancelling.{cancelled};
+ghost use Rattle.wu_rules.specs.Counts.{is_undecided};
+ghost use Rattle.wu_rules.specs.Waking.{wake};
+ghost use Rattle.wu_rules.specs.Assimilation.{assimilated, emptied, is_purgeable};
+ghost use Rattle.wu_rules.specs.Examples.{noon, sending, due, a_second_late, h1, h2, h3, credit, ready, masked, cancelled_mask};
+ghost use Rattle.wu_rules.specs.Examples.{new_job, two_unsent, one_out, one_lost, one_failed, two_differ, two_doubted, third_unsent, third_agrees, second_chosen, two_of_three, two_of_three_chosen, two_of_four, two_of_four_doubted, one_of_one, one_of_one_chosen, four_failed, ended_by_errors, last_out, ended_by_total, three_differ, three_doubted, one_left, ended_by_successes, two_agree, first_chosen, second_may_go, third_after_all, two_unneeded, two_may_go, one_may_go, one_gone_since, one_emptied};
+
+/// A new workunit gets its two instances at once, and no more.
+pub fn makes_instances()
+    ensures made { transitioned new_job noon ≡ two_unsent }
+    ensures once { transitioned two_unsent noon ≡ two_unsent }
+{}
+
+/// At its deadline an instance is not late; a second later it is lost, and another one is made.
+pub fn times_out_after_the_deadline()
+    ensures at { transitioned one_out due ≡ one_out }
+    ensures after { transitioned one_out a_second_late ≡ one_lost }
+{}
+
+/// When the transitioner has something to do.
+pub fn wakes()
+    ensures empty { wake new_job ≡ Some 0 }
+    ensures waiting { wake two_unsent ≡ None }
+    ensures out { wake one_out ≡ Some a_second_late }
+    ensures failed { wake one_failed ≡ Some 0 }
+    ensures cancelled { wake (masked cancelled_mask new_job) ≡ Some 0 }
+{}
+
+/// Two results that differ are inconclusive, and a third is wanted; the third agrees with the second.
+pub fn asks_for_a_third_result()
+    ensures doubted { validated two_differ ≡ two_doubted }
+    ensures made { transitioned two_doubted due ≡ third_unsent }
+    ensures decided { validated third_agrees ≡ second_chosen }
+    ensures granted { grants third_agrees ≡ credit 1 h2 ∷ credit 2 h3 ∷ [] }
+{}
+
+/// The validator doesn't look again at results that are inconclusive, with none new.
+pub fn looks_once()
+    ensures { is_to_validate third_unsent ≡ false }
+{}
+
+/// Of three results two agree, which is enough for a quorum of three; with a quorum of four it is not.
+pub fn agrees_by_half_and_one()
+    ensures three { validated two_of_three ≡ two_of_three_chosen }
+    ensures granted { grants two_of_three ≡ credit 0 h1 ∷ credit 2 h3 ∷ [] }
+    ensures four { validated two_of_four ≡ two_of_four_doubted }
+    ensures one { validated one_of_one ≡ one_of_one_chosen }
+{}
+
+/// More errors than a workunit bears end it, and its one success is not checked.
+pub fn ends_by_errors()
+    ensures { transitioned four_failed sending ≡ ended_by_errors }
+{}
+
+/// A workunit that wants more and may have no more waits for what is out, and then ends.
+pub fn ends_by_total()
+    ensures at { transitioned last_out due ≡ last_out }
+    ensures after { transitioned last_out a_second_late ≡ ended_by_total }
+{}
+
+/// More successes without a consensus than a workunit bears end it, and what waits to be sent is closed.
+pub fn ends_by_successes()
+    ensures doubted { validated three_differ ≡ three_doubted }
+    ensures ended { transitioned (one_left validate.Inconclusive) due ≡ ended_by_successes }
+{}
+
+/// A success that comes after the canonical output was deleted is too late, and gets no credit.
+pub fn comes_too_late()
+    ensures decided { validated two_agree ≡ first_chosen }
+    ensures readied { transitioned (assimilated first_chosen sending) sending ≡ second_may_go }
+    ensures late { validated (third_after_all validate.Init) ≡ third_after_all validate.TooLate }
+    ensures nothing { grants (third_after_all validate.Init) ≡ [] }
+{}
+
+/// A workunit that is cancelled is closed, assimilated, deleted, and purged not a second before its age.
+pub fn cancels_and_purges()
+    ensures cancelled { cancelled two_unsent ≡ two_unneeded }
+    ensures closed { is_undecided two_unneeded ≡ false }
+    ensures ready { transitioned two_unneeded sending ≡ ready two_unneeded }
+    ensures readied { transitioned (assimilated (ready two_unneeded) sending) sending ≡ two_may_go }
+    ensures emptied { emptied one_may_go ≡ one_emptied }
+    ensures early { is_purgeable (one_gone_since 1000) 4599 3600 ≡ false }
+    ensures purged { is_purgeable (one_gone_since 1000) 4600 3600 ≡ true }
+{}

@@ -1,0 +1,79 @@
+//! Laws of the rules: each function's contract is one, for every workunit and every moment.
+
+ghost use Rattle.wu_core.specs.declared.workunit.Workunit.{Workunit};
+ghost use Rattle.wu_rules_laws.specs.Laws.{TransitionsOnce, WakesInTime, LooksWhereItChanges, KeepsFinalVerdicts, AssimilatesWhatIsReady, ArchivesWhatWasRead, DeletesWhereItChanges, HoldsNothingReady, PurgesWhatIsThrough, StaysPurgeable, ChoosesByAgreement, ChoosesWithoutHosts, GrantsToTheValid, GrantsOnce, KeepsWorkunitsFormed};
+
+/// A second transition at the same moment changes nothing.
+pub fn transitions_once()
+    ensures { TransitionsOnce }
+{}
+
+/// The moment of waking is there and not after now exactly where the transition now changes the workunit.
+pub fn wakes_in_time()
+    ensures { WakesInTime }
+{}
+
+/// The validator looks exactly where it changes something.
+pub fn looks_where_it_changes()
+    ensures { LooksWhereItChanges }
+{}
+
+/// A verdict that is final stays.
+pub fn keeps_final_verdicts()
+    ensures { KeepsFinalVerdicts }
+{}
+
+/// The assimilator changes exactly what is ready for it.
+pub fn assimilates_what_is_ready()
+    ensures { AssimilatesWhatIsReady }
+{}
+
+/// What is archived is the canonical output as it was read the moment before.
+pub fn archives_what_was_read()
+    ensures { ArchivesWhatWasRead }
+{}
+
+/// The file deleter is wanted exactly where it changes something.
+pub fn deletes_where_it_changes()
+    ensures { DeletesWhereItChanges }
+{}
+
+/// Of an input or output that was ready for deletion no byte is held, and each other output stays.
+pub fn holds_nothing_ready()
+    ensures { (w : Workunit) → HoldsNothingReady w }
+{}
+
+/// Neither the assimilator nor the file deleter would change a workunit that may be purged.
+pub fn purges_what_is_through()
+    ensures { PurgesWhatIsThrough }
+{}
+
+/// What may be purged at a moment may be at each later one.
+pub fn stays_purgeable()
+    ensures { StaysPurgeable }
+{}
+
+/// A canonical result agrees byte for byte with at least half of the quorum plus one, itself included, and is the first such.
+pub fn chooses_by_agreement()
+    ensures { ChoosesByAgreement }
+{}
+
+/// Hosts have no part in the choice: it depends on states, outputs and order alone.
+pub fn chooses_without_hosts()
+    ensures { ChoosesWithoutHosts }
+{}
+
+/// No instance gets credit without becoming VALID, and none that had its verdict before.
+pub fn grants_to_the_valid()
+    ensures { GrantsToTheValid }
+{}
+
+/// No instance gets two grants.
+pub fn grants_once()
+    ensures { GrantsOnce }
+{}
+
+/// Each rule makes a well-formed workunit of a well-formed one.
+pub fn keeps_workunits_formed()
+    ensures { KeepsWorkunitsFormed }
+{}

@@ -1,0 +1,5 @@
+//! Laws of the rules on one workunit, and worked examples of them.
+#![tactic(auto)]
+
+pub mod examples;
+pub mod laws;

@@ -1,5 +1,0 @@
-use Rattle.wu_schema.proofs.SameWorld.{one_world}
-use Rattle.wu_schema.proofs.laws.one_database_is_one_world.Goals as goal
-
-pub returns : goal.returns
-returns c = one_world

@@ -1,0 +1,88 @@
+-- What the statements that change a project do to the world that it stands for.
+use Rattle.wu_schema.proofs.Words.{Archived, Executes, Grant, Import, Instance, Int, Integer, List, None, Null, Ok, Option, Some, StandsFor, State, Text, Workunit, World, [], archived_at, archived_cells, arith, bound_value, cast, cast_row, codes, grant_at, grant_cells, import_at, import_cells, instance_cells, map, number, number_or_null, of_z, option_map, pos, refl, result_at, stored_workunit, text_or_null, to_z, to_z-of_z, value_rows, w64, workunit_at, workunit_row, ℕ, ℤ, ◌<◌, ◌^◌, ◌∷◌, ◌≡◌}
+use Rattle.wu_store.specs.Changes.{HasInstances, PutsGrant, bare, with_archived, with_import, with_instance, with_next, with_placed}
+use Rattle.std.proofs.lemmas.Int.{fits_signed_from_abs}
+use Rattle.sqlite.specs.Values as values
+use Rattle.sqlite.specs.Kind.TheVariants.{Text as KindText}
+use Rattle.wu_store.proofs.InsertTexts.{workunit_put, workunit_fits, instance_put, instance_fits, grant_put, grant_fits, archived_put, archived_fits, import_put, import_fits}
+use Rattle.wu_schema.proofs.InsertEffect.{cast_null, cast_int, puts_one}
+use Rattle.wu_store.proofs.UpdateLemmas.{update_text}
+use Rattle.wu_store.proofs.UpdateEffect.{updates_project, sets_next}
+use Rattle.wu_schema.proofs.StandsLemmas.{is_there}
+use Rattle.wu_store.proofs.StandsWith.{stands_with_import, stands_with_next}
+use Rattle.wu_store.proofs.PlacedLemmas.{stands_with_placed, stands_with_instance}
+use Rattle.wu_store.proofs.ListedLemmas.{stands_with_archived}
+
+cast_number : (n : ℕ) → cast Integer (number n) ≡ number n
+cast_number n = cast_int (pos n)
+
+cast_number_or_null : (n : Option ℕ) → cast Integer (number_or_null n) ≡ number_or_null n
+cast_number_or_null None = cast_null
+cast_number_or_null (Some n) = cast_int (pos n)
+
+workunit_kept : (tree : ℕ) (w : Workunit) → map (λ s. cast_row (workunit_at tree) s) (value_rows (workunit_row w) 16 1 workunit_put.terms) ≡ stored_workunit w ∷ []
+workunit_kept tree w = simp (cast_null, cast_number, cast_number_or_null)
+
+cast_text_or_null : (t : Option (List ℕ)) → cast KindText (text_or_null t) ≡ text_or_null t
+cast_text_or_null None = refl
+cast_text_or_null (Some t) = refl
+
+instance_kept : (tree w n : ℕ) (i : Instance) → map (λ s. cast_row (result_at tree) s) (value_rows (instance_cells w n i) 12 1 instance_put.terms) ≡ (Null ∷ instance_cells w n i) ∷ []
+instance_kept tree w n i = simp (cast_null, cast_number, cast_number_or_null, cast_text_or_null)
+
+archived_kept : (tree : ℕ) (a : Archived) → map (λ s. cast_row (archived_at tree) s) (value_rows (archived_cells a) 8 1 archived_put.terms) ≡ (Null ∷ Null ∷ archived_cells a) ∷ []
+archived_kept tree a = simp (cast_null, cast_number, cast_number_or_null)
+
+import_kept : (tree : ℕ) (import : Import) → map (λ s. cast_row (import_at tree) s) (value_rows (import_cells import) 7 1 import_put.terms) ≡ (Null ∷ import_cells import) ∷ []
+import_kept tree import = simp (cast_null, cast_number)
+
+-- ---- what the parameters are
+
+pub sent : (n : ℤ) (m : ℕ) → n ≡ pos m → m < 2 ^ 63 → to_z w64 (of_z w64 n) ≡ pos m
+sent n m is low = rw is (to_z-of_z w64 (pos m) (fits_signed_from_abs w64 (pos m) (omega (arith, low))))
+
+pub bound_number_or_null : (o : Option ℕ) → bound_value (number_or_null o) ≡ number_or_null o
+bound_number_or_null None = refl
+bound_number_or_null (Some n) = refl
+
+pub bound_seconds : (o : Option ℤ) (m : Option ℕ) → o ≡ option_map pos m → bound_value (values.or_null Int o) ≡ number_or_null m
+bound_seconds o None is = rw is refl
+bound_seconds o (Some n) is = rw is refl
+
+pub bound_text : {B : Type 0} (now : B → List ℕ) (o : Option B) (t : Option (List ℕ)) → option_map now o ≡ t → bound_value (values.or_null (λ b. Text (now b)) o) ≡ text_or_null t
+bound_text now None t is = rw (← is) refl
+bound_text now (Some b) t is = rw (← is) refl
+
+grant_kept : (tree : ℕ) (g : Grant) → map (λ s. cast_row (grant_at tree) s) (value_rows (grant_cells g) 6 1 grant_put.terms) ≡ (Null ∷ Null ∷ grant_cells g) ∷ []
+grant_kept tree g = simp (cast_null, cast_number)
+
+pub puts_grant : (old new : State) (g : Grant) (count : ℕ) → Executes grant_put.text (grant_cells g) old new (Ok count) → PutsGrant g old.now new.now
+puts_grant old new g count h t has = puts_one (codes "credit_grant") grant_at grant_put grant_fits (grant_cells g) old new has.grant.0 t.grant has.grant.1 (Null ∷ Null ∷ grant_cells g) _ (grant_kept t.grant g) refl count h
+
+module _ (old new : State) (world : World) (s : StandsFor old.now world) where
+  pub puts_workunit : (w : Workunit) (count : ℕ) → Executes workunit_put.text (workunit_row w) old new (Ok count) → StandsFor new.now (with_placed (bare w) world)
+  puts_workunit w count h =
+      stands_with_placed old.now new.now world s (bare w) (puts_one (codes "workunit") workunit_at workunit_put workunit_fits (workunit_row w) old new s.tables.workunit.0 s.trees.workunit s.tables.workunit.1 (stored_workunit w) (stored_workunit w) (workunit_kept s.trees.workunit w) refl count h)
+      refl
+
+  pub puts_instance : (number n : ℕ) (i : Instance) → HasInstances number n world.workunits → (count : ℕ) → Executes instance_put.text (instance_cells number n i) old new (Ok count) → StandsFor new.now (with_instance number i world)
+  puts_instance number n i has count h =
+      stands_with_instance old.now new.now world s number n i
+      (puts_one (codes "result") result_at instance_put instance_fits (instance_cells number n i) old new s.tables.result.0 s.trees.result s.tables.result.1 (Null ∷ instance_cells number n i) _ (instance_kept s.trees.result number n i) refl count h) has
+
+  pub puts_archived : (a : Archived) (count : ℕ) → Executes archived_put.text (archived_cells a) old new (Ok count) → StandsFor new.now (with_archived a world)
+  puts_archived a count h =
+      stands_with_archived old.now new.now world s a
+      (puts_one (codes "archived") archived_at archived_put archived_fits (archived_cells a) old new s.tables.archived.0 s.trees.archived s.tables.archived.1 (Null ∷ Null ∷ archived_cells a) _ (archived_kept s.trees.archived a) refl count h)
+
+  pub puts_import : (import : Import) (count : ℕ) → Executes import_put.text (import_cells import) old new (Ok count) → StandsFor new.now (with_import import world)
+  puts_import import count h =
+      stands_with_import old.now new.now world s import (puts_one (codes "import") import_at import_put import_fits (import_cells import) old new s.tables.import.0 s.trees.import s.tables.import.1 (Null ∷ import_cells import) _ (import_kept s.trees.import import) refl count h)
+
+  pub sets_number : (n count : ℕ) → Executes update_text (number n ∷ []) old new (Ok count) → StandsFor new.now (with_next n world)
+  sets_number n count h =
+      let tree = s.trees.project in
+      let has = s.tables.project in
+      let there = is_there old.now.schema _ _ has in
+      let sets = updates_project old new has.0 tree has.1 has.2 there (pos n) count h in
+      stands_with_next old.now new.now world s n sets.schema (sets_next old new has.0 tree has.1 has.2 there (pos n) (pos world.version) (pos world.next_number) s.rows.project count h) sets.others sets.sound

@@ -1,0 +1,169 @@
+-- What the upsert of a grant's host makes of the rows of hosts: those of one grant more.
+use Rattle.wu_schema.proofs.Words.{AllByRecursion, Binary, Bool, Chosen, Database, Executes, Grant, Has, HasTables, Int, Integer, IsDatabase, IsPermutation, IsPermutation-map, IsPermutation-sym, IsShaped, IsShaped-filter, IsShaped-put_row, IsTrue, List, ListsAll, Ok, ProjectTrees, Row, Schema, StandsFor, State, Text, Value, World, [], all_has, and_from, and_parts, ap, ap₂, binary, bytes_eq, bytes_eq-Decides, cases_Bool, cast, column, drop, enumerate_from, equal, false, false_from_ne_true, first_key, grant_cells, has_mapped, has_rowid, host_at, hosts_of, if◌then◌else◌, inl, inr, is_eq, is_int, is_of, map, map-map, mapped_has, next_rowid, number, passes, pos, put_row, refl, row_at_is, rowid, some_from, some_has, stored_grant, subst, sym, true, value_cmp, without_rowid, ℕ, ℤ, ◌++◌, ◌+◌, ◌||◌, ◌∙◌, ◌∷◌, ◌≡◌}
+use Rattle.wu_store.specs.Changes.{PutsGrant}
+use Rattle.sqlite_trees.specs.declared.store.Shape.TheVariants as shape
+use Rattle.sqlite_schema.specs.declared.schema.Constraint.TheVariants.{Datatype}
+use Rattle.sqlite.specs.Kind.TheVariants.{Text as KindText}
+use Rattle.sqlite_sql.specs.declared.ops.BinaryOp.TheVariants as by
+use Rattle.sqlite_sql.specs.declared.ops.ArithOp.TheVariants as arith
+use Rattle.sqlite_rules.proofs.PlaceLemmas.{next_is_free}
+use Rattle.wu_core.specs.Hosts.{credit_of, grants_of}
+use Rattle.wu_core.proofs.HostLemmas.{host_list, is_among, new_host, grown_host}
+use Rattle.wu_schema.specs.Stored.{host_cells}
+use Rattle.wu_store.specs.Changes.{HoldsHosts, IsCredited, Credits, with_grant}
+use Rattle.wu_store.proofs.EqualLemmas.{text_equal}
+use Rattle.wu_store.proofs.HostEffect.{grows, host_row, summed}
+use Rattle.wu_store.proofs.UpsertTexts.{upsert_text}
+use Rattle.wu_store.proofs.NameKey.{host_key}
+use Rattle.wu_schema.proofs.RowLemmas.{int_value}
+use Rattle.wu_store.proofs.FallLemmas.{has_own}
+use Rattle.wu_schema.proofs.InsertEffect.{also, no_more, cast_int}
+use Rattle.wu_store.proofs.ListedLemmas.{listed_next}
+use Rattle.wu_schema.proofs.Parts.{Grants, HasParts, Holds, Hosts, Part, frame, is_part, keeps_both, keeps_calm, parts_there, tree_in}
+use Rattle.wu_store.proofs.InPlaceLemmas.{in_place, replaced}
+use Rattle.wu_store.proofs.OnceLemmas.{has_permuted, key_once}
+use Rattle.wu_store.proofs.PlacedLemmas.{holds_put, holds_permuted, keeps_put}
+use Rattle.wu_schema.proofs.StandsLemmas.{is_there, lists_still, holds_still}
+use Rattle.wu_store.proofs.SumLemmas.{stored_sum}
+
+map_same : {X Y : Type 0} (f g : X → Y) (xs : List X) → ((x : X) → Has xs x → f x ≡ g x) → map f xs ≡ map g xs
+map_same f g [] same = refl
+map_same f g (x ∷ xs) same = (λ i. same x (inl refl) i ∷ map_same f g xs (λ y has. same y (inr has)) i)
+
+-- a sum with more
+abbrev more : ℕ → Value → Value
+more k (Int (pos n)) = number (n + k)
+more k v = v
+
+abbrev of_grants : Part → Bool
+of_grants q = is_part Grants q || is_part Hosts q
+
+module _ (db : Database) (tree : ℕ) (sound : IsDatabase db) (stands : Has db.schema.tables (host_at tree)) (grants : List Grant) (g : Grant) (h : HoldsHosts (db.trees tree) grants) where
+  abbrev rows : List Row
+  rows = db.trees tree
+
+  -- the cells of the grant's host with its credit, any others as they are
+  abbrev grow : Row → Row
+  grow c = if equal Binary (column c 0) (Text g.host) then column c 0 ∷ more g.credit (column c 1) ∷ more 1 (column c 2) ∷ [] else c
+
+  -- each row has a host's cells
+  host_at_row : (r : Row) → Has rows r → (name : List ℕ) × Has (hosts_of grants) name × (drop 1 r ≡ host_cells name (credit_of grants name) (grants_of grants name))
+  host_at_row r has = has_mapped (λ name. host_cells name (credit_of grants name) (grants_of grants name)) (hosts_of grants) (drop 1 r) (has_permuted (map (drop 1) rows) (host_list host_cells grants) (drop 1 r) (IsPermutation-sym _ _ h.same) (mapped_has (drop 1) rows r has))
+
+  in_cells : (r : Row) (name : List ℕ) (total count : ℕ) → drop 1 r ≡ host_cells name total count → (column r 1 ≡ Text name) × (column r 2 ≡ number total) × (column r 3 ≡ number count)
+  in_cells [] name total count is = absurd (cc)
+  in_cells (v ∷ r) name total count is = (ap (λ (c : Row). column (v ∷ c) 1) is, ap (λ (c : Row). column (v ∷ c) 2) is, ap (λ (c : Row). column (v ∷ c) 3) is)
+
+  -- a new host
+  new_rows : ((r : Row) → Has rows r → equal Binary (column r 1) (Text g.host) ≡ false) → HoldsHosts (put_row (host_row (next_rowid rows) g.host (pos g.credit)) rows) (grants ++ g ∷ [])
+  new_rows apart = holds_permuted (new_host host_cells grants g free) (holds_put (host_cells g.host g.credit 1) (host_list host_cells grants) rows (next_is_free Chosen rows (host_cells g.host g.credit 1) h.shaped.0 h.shaped.1) h)
+    where
+      free : is_among g.host (hosts_of grants) ≡ false
+      free = false_from_ne_true _ (λ on.
+          let it = some_has (λ host. bytes_eq host g.host) (hosts_of grants) on in
+          let listed = has_permuted (host_list host_cells grants) (map (drop 1) rows) _ h.same (mapped_has (λ name. host_cells name (credit_of grants name) (grants_of grants name)) (hosts_of grants) it.0 it.1) in
+          let row = has_mapped (drop 1) rows _ listed in
+          let same : equal Binary (column row.0 1) (Text g.host) ≡ true = ap (λ v. equal Binary v (Text g.host)) (in_cells row.0 it.0 _ _ (sym row.2)).0 ∙ text_equal it.0 g.host ∙ it.2 in
+          absurd (let e = sym same ∙ apart row.0 row.1 in cc))
+
+  module _ (x : Row) (id : ℤ) (has : Has rows x) (on : equal Binary (column x 1) (Text g.host) ≡ true) (is : rowid x ≡ Int id) where
+    abbrev new_row : Row
+    new_row = summed tree x (pos g.credit)
+
+    mine : (name : List ℕ) × Has (hosts_of grants) name × (drop 1 x ≡ host_cells name (credit_of grants name) (grants_of grants name))
+    mine = host_at_row x has
+
+    columns : (column x 1 ≡ Text mine.0) × (column x 2 ≡ number (credit_of grants mine.0)) × (column x 3 ≡ number (grants_of grants mine.0))
+    columns = in_cells x mine.0 _ _ mine.2
+
+    named : bytes_eq mine.0 g.host ≡ true
+    named = sym (text_equal mine.0 g.host) ∙ ap (λ v. equal Binary v (Text g.host)) (sym columns.0) ∙ on
+
+    module _ (total_fits : is_of Integer (column new_row 2) ≡ true) (count_fits : is_of Integer (column new_row 3) ≡ true) where
+      -- the sums are those with the grant
+      new_is : new_row ≡ Int id ∷ host_cells mine.0 (credit_of grants mine.0 + g.credit) (grants_of grants mine.0 + 1)
+      new_is = also (ap (cast Integer) is ∙ cast_int id) (also (ap (cast KindText) columns.0)
+          (also (ap (λ v. cast Integer (binary (by.Arith arith.Add) v (number g.credit))) columns.1 ∙ stored_sum (credit_of grants mine.0) g.credit (subst (λ v. is_of Integer (cast Integer (binary (by.Arith arith.Add) v (number g.credit))) ≡ true) columns.1 total_fits))
+          (also (ap (λ v. cast Integer (binary (by.Arith arith.Add) v (number 1))) columns.2 ∙ stored_sum (grants_of grants mine.0) 1 (subst (λ v. is_of Integer (cast Integer (binary (by.Arith arith.Add) v (number 1))) ≡ true) columns.2 count_fits)) no_more)))
+
+      grows_to : (name : List ℕ) (total count : ℕ) → grow (host_cells name total count) ≡ (if bytes_eq name g.host then host_cells name (total + g.credit) (count + 1) else host_cells name total count)
+      grows_to name total count = ap (λ b. if b then host_cells name (total + g.credit) (count + 1) else host_cells name total count) (text_equal name g.host)
+
+      -- each row of the table becomes what its cells grow to
+      each : (r : Row) → Has rows r → drop 1 (if has_rowid id r then new_row else r) ≡ grow (drop 1 r)
+      unfolding first_key
+      each r there = elim (cases_Bool (has_rowid id r)) [
+        | inl it ↦
+            let one : x ≡ r = sym (row_at_is rows id x h.shaped.0 has (has_own x id is)) ∙ row_at_is rows id r h.shaped.0 there it in
+            rw it (ap (drop 1) new_is ∙ sym (ap grow mine.2 ∙ grows_to mine.0 _ _ ∙ ap (λ b. if b then host_cells mine.0 (credit_of grants mine.0 + g.credit) (grants_of grants mine.0 + 1) else host_cells mine.0 (credit_of grants mine.0) (grants_of grants mine.0)) named) ∙ ap (λ s. grow (drop 1 s)) one)
+        | inr other ↦
+            let yours = host_at_row r there in
+            let cells = in_cells r yours.0 _ _ yours.2 in
+            let n = int_value (rowid r) (all_has (λ s. IsTrue (is_int (rowid s))) rows r h.shaped.1 there) in
+            let off : bytes_eq yours.0 g.host ≡ false = false_from_ne_true _ (λ same. key_once db (host_at tree) 0 (1 ∷ []) refl sound stands x r has there (ap (λ v. is_eq (value_cmp (rowid r) v)) is ∙ other) n.0 id n.1 is (λ at.
+            let names : yours.0 ≡ mine.0 = (bytes_eq-Decides yours.0 g.host).0 same ∙ sym ((bytes_eq-Decides mine.0 g.host).0 named) in
+            and_from _ _ (ap₂ (equal Binary) cells.0 columns.0 ∙ text_equal yours.0 mine.0 ∙ (bytes_eq-Decides yours.0 mine.0).1 names) refl)) in
+            rw other (yours.2 ∙ sym (ap grow yours.2 ∙ grows_to yours.0 _ _ ∙ ap (λ b. if b then host_cells yours.0 (credit_of grants yours.0 + g.credit) (grants_of grants yours.0 + 1) else host_cells yours.0 (credit_of grants yours.0) (grants_of grants yours.0)) off))
+      ]
+
+      -- a host whose sums grow
+      grown_rows : HoldsHosts (replaced id new_row rows) (grants ++ g ∷ [])
+      grown_rows = record {
+        shaped = subst (IsShaped shape.Table) (in_place id new_row x is (ap rowid new_is) rows h.shaped.0 has) (IsShaped-put_row new_row (without_rowid id rows) (ap (λ r. is_int (rowid r)) new_is) (IsShaped-filter shape.Table _ rows h.shaped));
+        same = subst (IsPermutation (host_list host_cells (grants ++ g ∷ []))) (sym (map-map (drop 1) (λ r. if has_rowid id r then new_row else r) rows ∙ map_same _ (λ r. grow (drop 1 r)) rows each ∙ sym (map-map grow (drop 1) rows)))
+            (subst (λ cells. IsPermutation cells (map grow (map (drop 1) rows))) (map-map grow (λ name. host_cells name (credit_of grants name) (grants_of grants name)) (hosts_of grants) ∙ (λ i. map (λ name. grows_to name (credit_of grants name) (grants_of grants name) i) (hosts_of grants))
+            ∙ sym (grown_host host_cells grants g (some_from (λ host. bytes_eq host g.host) (hosts_of grants) mine.0 mine.1 named)))
+            (IsPermutation-map grow (host_list host_cells grants) (map (drop 1) rows) h.same));
+      }
+
+-- the row that was written obeys its columns' types
+typed : (db : Database) (tree : ℕ) → IsDatabase db → Has db.schema.tables (host_at tree) → (x : Row) (credit : ℤ) → Has (db.trees tree) (summed tree x credit) → (is_of Integer (column (summed tree x credit) 2) ≡ true) × (is_of Integer (column (summed tree x credit) 3) ≡ true)
+typed db tree sound stands x credit has =
+    let passed = all_has (λ row. passes Datatype db.schema db.trees (host_at tree) row ≡ true) (db.trees tree) (summed tree x credit)
+    (all_has (λ u. AllByRecursion (λ row. passes Datatype db.schema db.trees u row ≡ true) (db.trees u.tree)) db.schema.tables (host_at tree) (sound.obeys.rules Datatype) stands) has in
+    let more_typed = (and_parts _ _ (and_parts _ _ passed).0).1 in
+    ((and_parts _ _ more_typed).0, (and_parts _ _ (and_parts _ _ more_typed).1).0)
+
+module _ (old new : State) (t : ProjectTrees) (grants : List Grant) (g : Grant) (has : HasTables old.now.schema t) (sound : IsDatabase old.now) (h : HoldsHosts (old.now.trees t.host) grants) where
+  pub credits : (count : ℕ) → Executes upsert_text (Text g.host ∷ number g.credit ∷ []) old new (Ok count) → IsCredited g t grants old.now new.now
+  credits count e =
+      let schema = old.now.schema in
+      let stands = is_there schema _ _ has.host in
+      let did = grows old new has.host.0 t.host has.host.1 (host_key old.now t.host sound stands has.by_bytes) has.host.2 stands h.shaped g.host (pos g.credit) count e in
+      record {
+        schema = did.0;
+        hosts = elim did.1 [
+          | inl put ↦ subst (λ rs. HoldsHosts rs (grants ++ g ∷ [])) (sym put.1) (new_rows old.now t.host sound stands grants g h put.0)
+          | inr (x, id, there, on, is, trees) ↦
+              let listed : Has (new.now.trees t.host) (summed t.host x (pos g.credit)) = subst (λ rs. Has rs (summed t.host x (pos g.credit))) (sym trees)
+              (subst (Has (replaced id (summed t.host x (pos g.credit)) (old.now.trees t.host))) (rw (has_own x id is) refl) (mapped_has (λ r. if has_rowid id r then summed t.host x (pos g.credit) else r) (old.now.trees t.host) x there)) in
+              let fits = typed new.now t.host did.3 (subst (λ (s : Schema). Has s.tables (host_at t.host)) (sym did.0) stands) x (pos g.credit) listed in
+              subst (λ rs. HoldsHosts rs (grants ++ g ∷ [])) (sym trees) (grown_rows old.now t.host sound stands grants g h x id there on is fits.0 fits.1)
+        ];
+        others = did.2;
+        sound = did.3;
+      }
+
+-- ---- a grant, and then its host
+
+module _ (old mid new : Database) (world : World) (s : StandsFor old world) (g : Grant) where
+  pub stands_with_grant : PutsGrant g old mid → Credits g mid new → StandsFor new (with_grant g world)
+  stands_with_grant puts credits =
+      let t = s.trees in
+      let there = parts_there old world s in
+      let put = puts t s.tables in
+      let first = keeps_put old mid world s Grants _ tt put in
+      let it = credits t world.grants (subst (λ (x : Schema). HasTables x t) (sym put.schema) s.tables) put.sound (holds_still (first Hosts tt refl) s.rows.hosts) in
+      let second = keeps_calm world.version mid t (subst (λ (x : Schema). HasParts world.version x t) (sym put.schema) there) new Hosts tt refl it.others in
+      frame old new world (with_grant g world) s of_grants (it.schema ∙ put.schema) refl (keeps_both world.version t old mid new (is_part Grants) (is_part Hosts) first second) carry
+      (fits (lists_still (second Grants tt refl ∙ put.rows) (listed_next grant_cells (old.trees t.grant) world.grants g s.rows.grants)) it.hosts) it.sound
+    where
+      carry : (q : Part) → of_grants q ≡ false → (rows : List Row) → Holds q rows world → Holds q rows (with_grant g world)
+      carry Grants off rows h = absurd (cc)
+      carry Hosts off rows h = absurd (cc)
+      carry _ off rows h = h
+
+      fits : ListsAll (new.trees s.trees.grant) (map stored_grant (enumerate_from 1 (world.grants ++ g ∷ []))) → HoldsHosts (new.trees s.trees.host) (world.grants ++ g ∷ []) → (q : Part) → of_grants q ≡ true → Holds q (new.trees (tree_in s.trees q)) (with_grant g world)
+      fits lists holds Grants on = lists
+      fits lists holds Hosts on = holds
+      fits lists holds _ on = absurd (cc)

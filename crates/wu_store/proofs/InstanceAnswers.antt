@@ -1,0 +1,84 @@
+-- What the SELECT of a workunit's instances answers.
+use Rattle.wu_schema.proofs.Words.{AllByRecursion, Binary, Bool, Instance, Int, IsAscending, IsPermutation, IsPermutation-filter, IsPermutation-map, IsTable, Less, List, None, Option, Output, Row, Shown, Some, StandsFor, State, Workunit, World, [], ap, append-nil, arith, column, drop, enumerate_from, eqb-true, equal, filter, find, flat_map, instance_cells, instance_row, instances_of, length, lit, map, map-map, negsuc, number, option_to_list, refl, stored_workunit, subst, sym, ℕ, ◌+◌, ◌<◌, ◌==◌, ◌∙◌, ◌∷◌, ◌≡◌, ◌≤◌}
+use Rattle.wu_store.specs.Answers.{instance_rows_of}
+use Rattle.std.specs.Option.{option_map_or}
+use Rattle.wu_schema.proofs.RowLemmas.{filter_same, one_test}
+use Rattle.wu_schema.proofs.PutLemmas.{number_less}
+use Rattle.wu_store.proofs.InstanceLemmas.{fits, instances_left, cells_left}
+use Rattle.wu_store.proofs.SelectTexts.{instances_asked, instances_fits, instances_tests, instances_shows}
+use Rattle.wu_schema.proofs.Parts.{Instances}
+use Rattle.wu_store.proofs.ReadAnswers.{asked_answers, find_only}
+use Rattle.wu_store.proofs.OnceLemmas.{one_passes}
+use Rattle.wu_store.proofs.PlacedLemmas.{table_rises}
+use Rattle.wu_store.proofs.OrderAnswers.{by_key, pair, passing, sure_sorted}
+
+-- ---- no two workunits have one number
+
+once_numbered : (n : ℕ) (ws : List Workunit) → IsTable (map stored_workunit ws) → length (filter (λ (w : Workunit). w.number == n) ws) ≤ 1
+once_numbered n ws up = one_passes (λ (w : Workunit). w.number == n) (λ a b. a.number < b.number) ws (λ a b has_a has_b low p q. let same = eqb-true _ _ p ∙ sym (eqb-true _ _ q) in absurd (omega (arith, low, same))) (table_rises ws up)
+
+listed_from : (f : Workunit → List Row) (o : Option Workunit) → flat_map f (option_to_list o) ≡ option_map_or f o []
+listed_from f None = refl
+listed_from f (Some w) = append-nil (f w)
+
+-- ---- by the number there
+
+-- of the cells of an instance its number, and what is shown
+abbrev pub cell_pair : Row → Output
+cell_pair c = (column c 1 ∷ [], column c 2 ∷ column c 3 ∷ column c 4 ∷ column c 5 ∷ column c 6 ∷ column c 7 ∷ column c 8 ∷ column c 9 ∷ column c 10 ∷ [])
+
+abbrev pub pairs_from : ℕ → ℕ → List Instance → List Output
+pairs_from w k is = map cell_pair (map (λ (p : ℕ × Instance). instance_cells w p.0 p.1) (enumerate_from k is))
+
+later : (w m k : ℕ) (i : Instance) (is : List Instance) → m < k → AllByRecursion (λ b. by_key (cell_pair (instance_cells w m i)) b ≡ Less) (pairs_from w k is)
+later w m k i [] low = tt
+later w m k i (j ∷ is) low = (number_less m k low, later w m (k + 1) i is (omega (arith, low)))
+
+pub rising : (w k : ℕ) (is : List Instance) → IsAscending (λ a b. by_key a b ≡ Less) (pairs_from w k is)
+rising w k [] = tt
+rising w k (i ∷ is) = (later w k (k + 1) i is (omega arith), rising w (k + 1) is)
+
+pub shown_from : (w k : ℕ) (is : List Instance) → map (λ (o : Output). o.1) (pairs_from w k is) ≡ map instance_row is
+shown_from w k [] = refl
+shown_from w k (i ∷ is) = ap (λ rows. instance_row i ∷ rows) (shown_from w (k + 1) is)
+
+abbrev found_cells : Option Workunit → List Row
+found_cells o = option_map_or instances_of o []
+
+found_rise : (o : Option Workunit) → IsAscending (λ a b. by_key a b ≡ Less) (map cell_pair (found_cells o))
+found_rise None = tt
+found_rise (Some w) = rising w.number 0 w.instances
+
+found_shown : (o : Option Workunit) → map (λ (p : Output). p.1) (map cell_pair (found_cells o)) ≡ option_map_or (λ (w : Workunit). map instance_row w.instances) o []
+found_shown None = refl
+found_shown (Some w) = shown_from w.number 0 w.instances
+
+module _ (tree n : ℕ) where
+  abbrev row_pair : Row → Output
+  row_pair = pair tree instances_tests instances_shows 2 (lit (Int (negsuc 0))) (number n ∷ [])
+
+  abbrev row_passes : Row → Bool
+  row_passes = passing tree instances_tests instances_shows 2 (lit (Int (negsuc 0))) (number n ∷ [])
+
+  pair_is : (r : Row) → row_pair r ≡ cell_pair (drop 1 r)
+  pair_is [] = refl
+  pair_is (v ∷ r) = refl
+
+  pairs_are : (rows : List Row) → map row_pair (filter row_passes rows) ≡ map cell_pair (filter (fits n (λ b. b)) (map (drop 1) rows))
+  pairs_are rows =
+      ap (map row_pair) (filter_same row_passes (λ r. equal Binary (column r 1) (number n)) rows (λ r has. one_test _)) ∙ (λ i. map (λ r. pair_is r i) (filter (λ r. equal Binary (column r 1) (number n)) rows))
+      ∙ sym (map-map cell_pair (drop 1) (filter (λ r. equal Binary (column r 1) (number n)) rows)) ∙ ap (map cell_pair) (cells_left n (λ b. b) rows)
+
+module _ (old new : State) (world : World) (s : StandsFor old.now world) (n : ℕ) where
+  pub instances_found : (rows : List Row) → Shown instances_asked.text (number n ∷ []) old new rows → rows ≡ instance_rows_of n world
+  instances_found rows h =
+      let tree = s.trees.result in
+      let ws = world.workunits in
+      let stored = old.now.trees tree in
+      let of_n = find (λ (w : Workunit). w.number == n) ws in
+      let read = asked_answers Instances instances_asked instances_fits old new world s tt (number n ∷ []) rows h in
+      let one : filter (fits n (λ b. b)) (flat_map instances_of ws) ≡ found_cells of_n = instances_left n (λ b. b) ws ∙ ap (flat_map instances_of) (find_only (λ (w : Workunit). w.number == n) ws (once_numbered n ws (subst IsTable s.rows.workunits.same s.rows.workunits.shaped.0))) ∙ listed_from instances_of of_n in
+      let cells = IsPermutation-map cell_pair _ _ (IsPermutation-filter (fits n (λ b. b)) (flat_map instances_of ws) (map (drop 1) stored) s.rows.instances.same) in
+      let same : IsPermutation (map cell_pair (found_cells of_n)) (map (row_pair tree n) (filter (row_passes tree n) stored)) =
+      subst (IsPermutation (map cell_pair (found_cells of_n))) (sym (pairs_are tree n stored)) (subst (λ cs. IsPermutation (map cell_pair cs) (map cell_pair (filter (fits n (λ b. b)) (map (drop 1) stored)))) one cells) in
+      sure_sorted tree instances_tests instances_shows 2 (lit (Int (negsuc 0))) (number n ∷ []) old.now rows (map cell_pair (found_cells of_n)) s.tables.result.1.low (found_rise of_n) same read.answer ∙ found_shown of_n

@@ -1,0 +1,32 @@
+pub mod InsertTexts
+pub mod OneOrder
+pub mod SelectTexts
+pub mod EqualLemmas
+pub mod OnceLemmas
+pub mod ReadAnswers
+pub mod AskLemmas
+pub mod OrderAnswers
+pub mod PlacedLemmas
+pub mod ListedLemmas
+pub mod SumLemmas
+pub mod CreditEffect
+pub mod StandsWith
+pub mod SameWorld
+pub mod ChangeLemmas
+pub mod UpdateLemmas
+pub mod UpdateEffect
+pub mod ReadingLemmas
+pub mod DeleteTexts
+pub mod FallLemmas
+pub mod CascadeEffect
+pub mod DeleteEffect
+pub mod CutLemmas
+pub mod InstanceLemmas
+pub mod InstanceAnswers
+pub mod UpsertTexts
+pub mod UpsertEffect
+pub mod NameKey
+pub mod InPlaceLemmas
+pub mod HostEffect
+mod ChangingLemmas
+mod VerdictLemmas

@@ -1,0 +1,121 @@
+-- What a SELECT in the order of the key answers.
+use Rattle.wu_schema.proofs.Words.{Binary, Bool, Database, Int, IsAnswerAs, IsAscending, IsPermutation, IsPermutation-refl, IsPermutation-trans, IsSorted, IsTable, Less, List, Null, Ordering, Output, Query, Row, Shown, Some, StandsFor, State, Term, Workunit, World, [], all_from, all_has, ap, col, column, cond, eval_all, false, filter, find, flat_map, has_filtered, has_mapped, holds, if◌then◌else◌, list_all, lit, map, map-map, nat_le, nat_lt, negsuc, number, on_total, option_map, option_to_list, output, overlay, pos, refl, rowid, stored_workunit, subst, sym, take, true, value_cmp, value_cmp_total, workunit_row, ℕ, ◌++◌, ◌^◌, ◌∙◌, ◌∷◌, ◌≡◌}
+use Rattle.std.specs.Ordering.{on}
+use Rattle.sqlite_value.proofs.OrderLemmas.{then-Equal}
+use Rattle.sqlite.specs.Query.{IsSureAnswer, output_cmp, page}
+use Rattle.wu_store.specs.Answers.{first_above}
+use Rattle.wu_store.proofs.EqualLemmas.{number_above}
+use Rattle.wu_schema.proofs.QueryLemmas.{plain_query}
+use Rattle.wu_store.proofs.SelectTexts.{all_asked, all_fits, all_shows, above_asked, above_fits, above_tests}
+use Rattle.wu_schema.proofs.Parts.{Workunits}
+use Rattle.wu_store.proofs.ReadAnswers.{asked_answers}
+use Rattle.wu_schema.proofs.RowLemmas.{no_test, one_test}
+use Rattle.wu_store.proofs.OneOrder.{one_order}
+
+abbrev pub by_key : Output → Output → Ordering
+by_key = on (λ (o : Output). column o.0 0) value_cmp
+
+module _ (tree : ℕ) (test shows : List Term) (place : ℕ) (limit : Term) (params : Row) where
+  abbrev pub sorted : Query
+  sorted = record (plain_query tree test shows) { order = (col 1 place, record { collation = Binary; descending = false }) ∷ []; limit = limit }
+
+  abbrev shown : Row → Row
+  shown r = eval_all shows (params ∷ r ∷ [])
+
+  -- what is sorted by, and what is shown
+  abbrev pub pair : Row → Output
+  pair r = (column r place ∷ [], shown r)
+
+  abbrev pub passing : Row → Bool
+  passing r = list_all (holds (params ∷ r ∷ [])) test
+
+  found_pairs : (rows : List Row) → map (output sorted) (flat_map (λ r. if passing r then (params ∷ r ∷ []) ∷ [] else []) rows) ≡ map pair (filter passing rows)
+  found_pairs [] = refl
+  found_pairs (r ∷ rows) = elim (passing r) as
+      (λ b. map (output sorted) ((if b then (params ∷ r ∷ []) ∷ [] else []) ++ flat_map (λ s. if passing s then (params ∷ s ∷ []) ∷ [] else []) rows) ≡ map pair (cond b (r ∷ filter passing rows) (filter passing rows))) [
+        | true ↦ ap (λ all. pair r ∷ all) (found_pairs rows)
+        | false ↦ found_pairs rows
+      ]
+
+  same_cmp : output_cmp sorted ≡ by_key
+  same_cmp = λ i a b. then-Equal (by_key a b) i
+
+  -- what is shown of the rows that pass, in the order in which their columns rise, as far as the limit goes
+  pub sure_sorted : (db : Database) (rows : List Row) (os : List Output) → nat_le (2 ^ 31) tree ≡ false → IsAscending (λ a b. by_key a b ≡ Less) os → IsPermutation os (map pair (filter passing (db.trees tree)))
+      → IsSureAnswer sorted (overlay db.trees []) params rows → rows ≡ page sorted params (map (λ (o : Output). o.1) os)
+  sure_sorted db rows os low up same h =
+      let a : IsAnswerAs Null sorted (overlay db.trees []) params rows = h Null in
+      let base : overlay db.trees [] tree ≡ db.trees tree = rw low in
+      let kept : a.kept ≡ map pair (filter passing (db.trees tree)) = a.distinct ∙ ap (map (output sorted)) a.grouped ∙ found_pairs (overlay db.trees [] tree) ∙ ap (λ rs. map pair (filter passing rs)) base in
+      let ordered : a.ordered ≡ os =
+      one_order by_key (on_total (λ (o : Output). column o.0 0) value_cmp_total) os a.ordered up (subst (λ c. IsSorted c a.ordered) same_cmp a.sorted)
+      (IsPermutation-trans _ _ _ same (subst (λ k. IsPermutation k a.ordered) kept a.same)) in
+      a.shown ∙ ap (λ os. page sorted params (map (λ (o : Output). o.1) os)) ordered
+
+-- ---- in the order of the key
+
+module _ (tree : ℕ) (test shows : List Term) (limit : Term) (params : Row) where
+  abbrev keyed : Row → Output
+  keyed = pair tree test shows 0 limit params
+
+  kept_rise : (p : Row → Bool) (rows : List Row) → IsTable rows → IsAscending (λ a b. by_key a b ≡ Less) (map keyed (filter p rows))
+  kept_rise p [] up = tt
+  kept_rise p (r ∷ rows) up = elim (p r) as (λ b. IsAscending (λ a b. by_key a b ≡ Less) (map keyed (cond b (r ∷ filter p rows) (filter p rows)))) [
+    | true ↦ (
+      all_from (λ b. by_key (keyed r) b ≡ Less) (map keyed (filter p rows)) (λ o has.
+          let it = has_mapped keyed (filter p rows) o has in
+          subst (λ b. by_key (keyed r) b ≡ Less) (sym it.2) (all_has (λ s. value_cmp (rowid r) (rowid s) ≡ Less) rows it.0 up.0 (has_filtered p rows it.0 it.1).0)),
+      kept_rise p rows up.1,
+    )
+    | false ↦ kept_rise p rows up.1
+  ]
+
+  abbrev kept_in : List Row → List Row
+  kept_in = filter (passing tree test shows 0 limit params)
+
+  -- what is shown of the rows that pass, in the order of their keys, as far as the limit goes
+  pub sure_in_order : (db : Database) (rows : List Row) → nat_le (2 ^ 31) tree ≡ false → IsTable (db.trees tree) → IsSureAnswer (sorted tree test shows 0 limit params) (overlay db.trees []) params rows
+      → rows ≡ page (sorted tree test shows 0 limit params) params (map (shown tree test shows 0 limit params) (kept_in (db.trees tree)))
+  sure_in_order db rows low up h =
+      sure_sorted tree test shows 0 limit params db rows (map keyed (kept_in (db.trees tree))) low (kept_rise (passing tree test shows 0 limit params) (db.trees tree) up) (IsPermutation-refl _) h
+      ∙ ap (page (sorted tree test shows 0 limit params) params) (map-map (λ (o : Output). o.1) keyed (kept_in (db.trees tree)))
+
+-- ---- all workunits
+
+rows_shown : (ws : List Workunit) → map (λ r. eval_all all_shows ([] ∷ r ∷ [])) (map stored_workunit ws) ≡ map workunit_row ws
+rows_shown [] = refl
+rows_shown (w ∷ ws) = ap (λ all. workunit_row w ∷ all) (rows_shown ws)
+
+module _ (old new : State) (world : World) (s : StandsFor old.now world) where
+  pub workunits_found : (rows : List Row) → Shown all_asked.text [] old new rows → rows ≡ map workunit_row world.workunits
+  workunits_found rows h =
+      let tree = s.trees.workunit in
+      let read = asked_answers Workunits all_asked all_fits old new world s tt [] rows h in
+      sure_in_order tree [] all_shows (lit (Int (negsuc 0))) [] old.now rows s.tables.workunit.1.low s.rows.workunits.shaped.0 read.answer ∙ ap (map (λ r. eval_all all_shows ([] ∷ r ∷ []))) (no_test (old.now.trees tree) ∙ s.rows.workunits.same) ∙ rows_shown world.workunits
+
+-- ---- the first above a number
+
+module _ (n : ℕ) where
+  abbrev exceeds : Row → Bool
+  exceeds r = list_all (holds ((number n ∷ []) ∷ r ∷ [])) above_tests
+
+  abbrev row_shown : Row → Row
+  row_shown r = eval_all all_shows ((number n ∷ []) ∷ r ∷ [])
+
+  first_shown : (ws : List Workunit) → take 1 (map row_shown (filter exceeds (map stored_workunit ws))) ≡ option_to_list (option_map workunit_row (find (λ (w : Workunit). nat_lt n w.number) ws))
+  first_shown [] = refl
+  first_shown (w ∷ ws) =
+      ap (λ b. take 1 (map row_shown (cond b (stored_workunit w ∷ filter exceeds (map stored_workunit ws)) (filter exceeds (map stored_workunit ws))))) (one_test _ ∙ number_above w.number n) ∙ go (nat_lt n w.number) (first_shown ws)
+    where
+      go : (b : Bool) → take 1 (map row_shown (filter exceeds (map stored_workunit ws))) ≡ option_to_list (option_map workunit_row (find (λ (v : Workunit). nat_lt n v.number) ws))
+          → take 1 (map row_shown (cond b (stored_workunit w ∷ filter exceeds (map stored_workunit ws)) (filter exceeds (map stored_workunit ws))))
+          ≡ option_to_list (option_map workunit_row (cond b (Some w) (find (λ (v : Workunit). nat_lt n v.number) ws)))
+      go true again = refl
+      go false again = again
+
+module _ (old new : State) (world : World) (s : StandsFor old.now world) (n : ℕ) where
+  pub above_found : (rows : List Row) → Shown above_asked.text (number n ∷ []) old new rows → rows ≡ option_to_list (option_map workunit_row (first_above n world))
+  above_found rows h =
+      let tree = s.trees.workunit in
+      let read = asked_answers Workunits above_asked above_fits old new world s tt (number n ∷ []) rows h in
+      sure_in_order tree above_tests all_shows (lit (Int (pos 1))) (number n ∷ []) old.now rows s.tables.workunit.1.low s.rows.workunits.shaped.0 read.answer ∙ ap (λ rs. take 1 (map (row_shown n) (filter (exceeds n) rs))) s.rows.workunits.same ∙ first_shown n world.workunits

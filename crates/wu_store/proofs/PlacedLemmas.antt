@@ -1,0 +1,243 @@
+-- A workunit at its place in order of number, and its instances beside those of the others.
+use Rattle.wu_schema.proofs.Words.{AllByRecursion, Bool, Database, Equal, Greater, HoldsAll, Instance, Int, IsAscending, IsPermutation, IsPermutation-refl, IsPermutation-sym, IsPermutation-trans, IsShaped-put_row, IsTable, Less, List, ListsAll, Ordering, PutsOne, Row, StandsFor, Workunit, World, [], all_has, ap, arith, cases_Bool, drop, enumerate_from, eq-eqb, eqb-true, false, filter, flat_map, if◌then◌else◌, inl, inr, instance_cells, instances_of, int_cmp, is_eq, is_taken, length, list_any, map, map-append, nat_tests, next_rowid, not, pos, put_row, refl, rowid, some_has, stored_workunit, subst, sym, true, value_cmp, value_cmp-Int, ℕ, ◌++◌, ◌+◌, ◌<◌, ◌==◌, ◌||◌, ◌∙◌, ◌∷◌, ◌≡◌}
+use Rattle.wu_store.specs.Changes.{HasInstances, bare, with_instance, with_placed, without_workunit}
+use Rattle.std.proofs.Common.{append_assoc}
+use Rattle.std.specs.Ordering.{nat_cmp, match_ordering}
+use Rattle.std.specs.Cmp.{nat_cmp_is}
+use Rattle.wu_store.specs.Changes.{IsAbove, HasNumber, LacksNumber, placed, with_replaced, with_workunit, and_instance}
+use Rattle.std.proofs.lemmas.List.Sorted.{IsPermutation-append_comm, IsPermutation-append_left, IsPermutation-append_right}
+use Rattle.wu_store.proofs.EqualLemmas.{number_tied}
+use Rattle.wu_schema.proofs.StandsLemmas.{but_one, no_instances, cells_put, lists_still}
+use Rattle.wu_schema.proofs.QuietLemmas.{same_some}
+use Rattle.wu_schema.proofs.Parts.{Part, Workunits, Instances, tree_in, Holds, is_part, IsIn, Keeps, parts_there, keeps_but, either_false, frame_one}
+
+-- numbers rise
+abbrev pub Rises : List Workunit → Type 0
+Rises = IsAscending (λ (a b : Workunit). a.number < b.number)
+
+-- ---- the rows of the workunits
+
+numbers_compare : (m n : ℕ) → value_cmp (Int (pos m)) (Int (pos n)) ≡ nat_cmp m n
+numbers_compare m n = value_cmp-Int (pos m) (pos n) ∙ tests
+  where
+    tests : int_cmp (pos m) (pos n) ≡ nat_cmp m n
+    tests = grind (arith, nat_tests)
+
+pub put_placed : (w : Workunit) (ws : List Workunit) → put_row (stored_workunit w) (map stored_workunit ws) ≡ map stored_workunit (placed w ws)
+put_placed w [] = refl
+put_placed w (v ∷ vs) =
+    ap (λ o. match_ordering o (stored_workunit v ∷ put_row (stored_workunit w) (map stored_workunit vs)) (stored_workunit w ∷ map stored_workunit vs) (stored_workunit w ∷ stored_workunit v ∷ map stored_workunit vs)) (numbers_compare v.number w.number)
+    ∙ go (put_placed w vs) (nat_cmp v.number w.number)
+  where
+    go : put_row (stored_workunit w) (map stored_workunit vs) ≡ map stored_workunit (placed w vs) → (o : Ordering)
+        → match_ordering o (stored_workunit v ∷ put_row (stored_workunit w) (map stored_workunit vs)) (stored_workunit w ∷ map stored_workunit vs) (stored_workunit w ∷ stored_workunit v ∷ map stored_workunit vs) ≡ map stored_workunit (match_ordering o (v ∷ placed w vs) (w ∷ vs) (w ∷ v ∷ vs))
+    go again Less = ap (λ rs. stored_workunit v ∷ rs) again
+    go again Equal = refl
+    go again Greater = refl
+
+pub lists_placed : (w : Workunit) (ws : List Workunit) (rows : List Row) → ListsAll rows (map stored_workunit ws) → ListsAll (put_row (stored_workunit w) rows) (map stored_workunit (placed w ws))
+lists_placed w ws rows l = record { shaped = IsShaped-put_row (stored_workunit w) rows refl l.shaped; same = ap (put_row (stored_workunit w)) l.same ∙ put_placed w ws }
+
+-- ---- what each workunit brings
+
+equal_numbers : (m n : ℕ) → nat_cmp m n ≡ Equal → (m == n) ≡ true
+equal_numbers m n h = sym (number_tied m n) ∙ ap is_eq (numbers_compare m n ∙ h)
+
+-- where the number is absent, all that the lists of the others bring, and what the new one brings
+pub placed_brings : {X : Type 0} (f : Workunit → List X) (w : Workunit) (ws : List Workunit) → LacksNumber w.number ws → IsPermutation (f w ++ flat_map f ws) (flat_map f (placed w ws))
+placed_brings f w [] none = IsPermutation-refl (f w ++ [])
+placed_brings {X} f w (v ∷ vs) none = go (placed_brings f w vs off.1) (nat_cmp v.number w.number) refl
+  where
+    off : ((v.number == w.number) ≡ false) × LacksNumber w.number vs
+    off = either_false _ _ none
+
+    go : IsPermutation (f w ++ flat_map f vs) (flat_map f (placed w vs)) → (o : Ordering) → nat_cmp v.number w.number ≡ o → IsPermutation (f w ++ (f v ++ flat_map f vs)) (flat_map f (match_ordering o (v ∷ placed w vs) (w ∷ vs) (w ∷ v ∷ vs)))
+    go again Less is =
+        subst (λ xs. IsPermutation xs (f v ++ flat_map f (placed w vs))) (append_assoc (f w) (f v) (flat_map f vs))
+        (IsPermutation-trans _ _ _ (IsPermutation-append_left (flat_map f vs) (f w ++ f v) (f v ++ f w) (IsPermutation-append_comm (f w) (f v)))
+        (subst (λ xs. IsPermutation xs (f v ++ flat_map f (placed w vs))) (sym (append_assoc (f v) (f w) (flat_map f vs))) (IsPermutation-append_right (f v) (f w ++ flat_map f vs) (flat_map f (placed w vs)) again)))
+    go again Equal is = absurd (let e = sym (equal_numbers v.number w.number is) ∙ off.0 in cc)
+    go again Greater is = IsPermutation-refl (f w ++ (f v ++ flat_map f vs))
+
+-- nothing is taken at a number that is absent, and the other way round
+pub absent_from : (w : Workunit) (ws : List Workunit) → is_taken (map stored_workunit ws) (stored_workunit w) ≡ false → LacksNumber w.number ws
+absent_from w [] free = refl
+absent_from w (v ∷ vs) free =
+    let off = either_false _ _ free in
+    rw (sym (number_tied v.number w.number) ∙ off.0) (absent_from w vs off.1)
+
+-- the cells in another order
+pub holds_permuted : {rows cells other : List Row} → IsPermutation cells other → HoldsAll rows cells → HoldsAll rows other
+holds_permuted {rows} {cells} {other} same h = record { shaped = h.shaped; same = IsPermutation-trans other cells (map (drop 1) rows) (IsPermutation-sym cells other same) h.same }
+
+-- ---- deleted and then added is replaced
+
+abbrev pub is_other : ℕ → Workunit → Bool
+is_other n v = not (v.number == n)
+
+abbrev pub replaced : Workunit → List Workunit → List Workunit
+replaced w = map (λ v. if v.number == w.number then w else v)
+
+above_apart : (m n : ℕ) → n < m → ((m == n) ≡ false) × (nat_cmp m n ≡ Greater)
+above_apart m n low = (grind (arith, nat_tests, low), sym (nat_cmp_is m n Greater low))
+
+-- where all are above
+above_all : (w : Workunit) (vs : List Workunit) → AllByRecursion (λ (u : Workunit). w.number < u.number) vs → (filter (is_other w.number) vs ≡ vs) × (replaced w vs ≡ vs) × (placed w vs ≡ w ∷ vs)
+above_all w [] up = (refl, refl, refl)
+above_all w (u ∷ us) up =
+    let is = above_apart u.number w.number up.0 in
+    let rest = above_all w us up.1 in
+    (rw is.0 (ap (λ l. u ∷ l) rest.0), rw is.0 (ap (λ l. u ∷ l) rest.1), rw is.1 refl)
+
+either_true : (a b : Bool) → a ≡ false → (a || b) ≡ true → b ≡ true
+either_true true b off h = absurd (cc)
+either_true false b off h = h
+
+pub replaces : (w : Workunit) (ws : List Workunit) → Rises ws → list_any (λ (v : Workunit). v.number == w.number) ws ≡ true → placed w (filter (is_other w.number) ws) ≡ replaced w ws
+replaces w [] up some = absurd (cc)
+replaces w (v ∷ vs) up some = elim (cases_Bool (v.number == w.number)) [
+  | inl on ↦
+      let all = above_all w vs (subst (λ n. AllByRecursion (λ (u : Workunit). n < u.number) vs) (eqb-true _ _ on) up.0) in
+      rw on (ap (placed w) all.0 ∙ all.2 ∙ ap (λ l. w ∷ l) (sym all.1))
+  | inr off ↦
+      let later = either_true _ _ off some in
+      let it = some_has (λ (u : Workunit). u.number == w.number) vs later in
+      let low : v.number < w.number = subst (λ n. v.number < n) (eqb-true _ _ it.2) (all_has (λ (u : Workunit). v.number < u.number) vs it.0 up.0 it.1) in
+      let less : nat_cmp v.number w.number ≡ Less = sym (nat_cmp_is v.number w.number Less low) in
+      rw (off, less) (ap (λ l. v ∷ l) (replaces w vs up.1 later))
+]
+
+-- numbers rise in a table
+less_number : (m n : ℕ) → value_cmp (Int (pos m)) (Int (pos n)) ≡ Less → m < n
+less_number m n h = grind (arith, nat_tests, sym (numbers_compare m n) ∙ h)
+
+all_rise : (v : Workunit) (vs : List Workunit) → AllByRecursion (λ r. value_cmp (Int (pos v.number)) (rowid r) ≡ Less) (map stored_workunit vs) → AllByRecursion (λ (u : Workunit). v.number < u.number) vs
+all_rise v [] up = tt
+all_rise v (u ∷ us) up = (less_number v.number u.number up.0, all_rise v us up.1)
+
+pub table_rises : (ws : List Workunit) → IsTable (map stored_workunit ws) → Rises ws
+table_rises [] up = tt
+table_rises (v ∷ vs) up = (all_rise v vs up.0, table_rises vs up.1)
+
+-- one above all comes last
+pub placed_last : (w : Workunit) (ws : List Workunit) → IsAbove w.number ws → placed w ws ≡ ws ++ w ∷ []
+placed_last w [] low = refl
+placed_last w (v ∷ vs) low = let less : nat_cmp v.number w.number ≡ Less = sym (nat_cmp_is v.number w.number Less low.0) in rw less (ap (λ l. v ∷ l) (placed_last w vs low.1))
+
+-- ---- an instance more
+
+pub enumerate_more : {X : Type 0} (k : ℕ) (xs : List X) (x : X) → enumerate_from k (xs ++ x ∷ []) ≡ enumerate_from k xs ++ (k + length xs, x) ∷ []
+enumerate_more k [] x = let e : k ≡ k + 0 = omega arith in (λ i. (e i, x) ∷ [])
+enumerate_more k (y ∷ xs) x = let e : k + 1 + length xs ≡ k + length (y ∷ xs) = omega arith in ap (λ l. (k, y) ∷ l) (enumerate_more (k + 1) xs x ∙ (λ i. enumerate_from (k + 1) xs ++ (e i, x) ∷ []))
+
+works_same : (number : ℕ) (i : Instance) (ws : List Workunit) → map stored_workunit (map (and_instance number i) ws) ≡ map stored_workunit ws
+works_same number i [] = refl
+works_same number i (w ∷ ws) = (λ k. go (w.number == number) k ∷ works_same number i ws k)
+  where
+    go : (b : Bool) → stored_workunit (if b then record w { instances = w.instances ++ i ∷ [] } else w) ≡ stored_workunit w
+    go true = refl
+    go false = refl
+
+-- a workunit of another number stays
+others_same : (number : ℕ) (i : Instance) (ws : List Workunit) → LacksNumber number ws → map (and_instance number i) ws ≡ ws
+others_same number i [] none = refl
+others_same number i (w ∷ ws) none = let off = either_false (w.number == number) (list_any (λ (v : Workunit). v.number == number) ws) none in rw off.0 (ap (λ l. w ∷ l) (others_same number i ws off.1))
+
+lacks_below : (number : ℕ) (ws : List Workunit) → AllByRecursion (λ (w : Workunit). number < w.number) ws → LacksNumber number ws
+lacks_below number [] up = refl
+lacks_below number (w ∷ ws) up = rw (above_apart w.number number up.0).0 (lacks_below number ws up.1)
+
+-- the instances of a workunit may be added one by one
+more_placed : (w : Workunit) (i : Instance) (ws : List Workunit) → LacksNumber w.number ws → map (and_instance w.number i) (placed w ws) ≡ placed (record w { instances = w.instances ++ i ∷ [] }) ws
+more_placed w i [] none = rw (eq-eqb w.number w.number refl) refl
+more_placed w i (v ∷ vs) none = go (nat_cmp v.number w.number) refl (more_placed w i vs off.1)
+  where
+    off : ((v.number == w.number) ≡ false) × LacksNumber w.number vs
+    off = either_false _ _ none
+
+    more : Workunit
+    more = record w { instances = w.instances ++ i ∷ [] }
+
+    same : (w.number == w.number) ≡ true
+    same = eq-eqb w.number w.number refl
+
+    go : (o : Ordering) → nat_cmp v.number w.number ≡ o → map (and_instance w.number i) (placed w vs) ≡ placed more vs → map (and_instance w.number i) (match_ordering o (v ∷ placed w vs) (w ∷ vs) (w ∷ v ∷ vs)) ≡ match_ordering o (v ∷ placed more vs) (more ∷ vs) (more ∷ v ∷ vs)
+    go Less is again = rw off.0 (ap (λ l. v ∷ l) again)
+    go Equal is again = absurd (let e = sym (equal_numbers v.number w.number is) ∙ off.0 in cc)
+    go Greater is again = rw (same, off.0) (ap (λ l. more ∷ v ∷ l) (others_same w.number i vs off.1))
+
+pub instance_placed : (w : Workunit) (i : Instance) (world : World) → LacksNumber w.number world.workunits → with_instance w.number i (with_placed w world) ≡ with_placed (and_instance w.number i w) world
+instance_placed w i world none =
+    (λ k. record world { workunits = more_placed w i world.workunits none k }) ∙ ap (λ b. with_placed (if b then record w { instances = w.instances ++ i ∷ [] } else w) world) (sym (eq-eqb w.number w.number refl))
+
+instance_more : (w : Workunit) (i : Instance) → instances_of (record w { instances = w.instances ++ i ∷ [] }) ≡ instances_of w ++ instance_cells w.number (length w.instances) i ∷ []
+instance_more w i =
+    ap (map (λ (p : ℕ × Instance). instance_cells w.number p.0 p.1)) (enumerate_more 0 w.instances i) ∙ map-append (λ (p : ℕ × Instance). instance_cells w.number p.0 p.1) (enumerate_from 0 w.instances) ((0 + length w.instances, i) ∷ [])
+    ∙ (let e : 0 + length w.instances ≡ length w.instances = omega arith in λ k. instances_of w ++ instance_cells w.number (e k) i ∷ [])
+
+-- its cells come behind those of its workunit, and so beside all
+instance_brings : (number n : ℕ) (i : Instance) (ws : List Workunit) → Rises ws → HasInstances number n ws → IsPermutation (flat_map instances_of ws ++ instance_cells number n i ∷ []) (flat_map instances_of (map (and_instance number i) ws))
+instance_brings number n i [] up has = absurd (cc)
+instance_brings number n i (w ∷ ws) up has = elim (cases_Bool (w.number == number)) [
+  | inl on ↦
+      let same = eqb-true _ _ on in
+      let counted : length w.instances ≡ n = same_some (rw on at has) in
+      let rest = others_same number i ws (lacks_below number ws (subst (λ m. AllByRecursion (λ (u : Workunit). m < u.number) ws) same up.0)) in
+      let cells : instances_of (record w { instances = w.instances ++ i ∷ [] }) ≡ instances_of w ++ instance_cells number n i ∷ [] = instance_more w i ∙ (λ k. instances_of w ++ instance_cells (same k) (counted k) i ∷ []) in
+      rw (on, rest, cells)
+      (subst (λ xs. IsPermutation xs ((instances_of w ++ instance_cells number n i ∷ []) ++ flat_map instances_of ws)) (sym (append_assoc (instances_of w) (flat_map instances_of ws) (instance_cells number n i ∷ [])))
+      (subst (IsPermutation (instances_of w ++ (flat_map instances_of ws ++ instance_cells number n i ∷ []))) (sym (append_assoc (instances_of w) (instance_cells number n i ∷ []) (flat_map instances_of ws)))
+      (IsPermutation-append_right (instances_of w) (flat_map instances_of ws ++ instance_cells number n i ∷ []) (instance_cells number n i ∷ flat_map instances_of ws) (IsPermutation-append_comm (flat_map instances_of ws) (instance_cells number n i ∷ [])))))
+  | inr off ↦
+      rw off (subst (λ xs. IsPermutation xs (instances_of w ++ flat_map instances_of (map (and_instance number i) ws))) (sym (append_assoc (instances_of w) (flat_map instances_of ws) (instance_cells number n i ∷ [])))
+      (IsPermutation-append_right (instances_of w) (flat_map instances_of ws ++ instance_cells number n i ∷ []) (flat_map instances_of (map (and_instance number i) ws)) (instance_brings number n i ws up.1 (rw off at has))))
+]
+
+-- the cells of a row that was put in come behind the others
+pub holds_put : (cells : Row) (before rows : List Row) → is_taken rows (Int (next_rowid rows) ∷ cells) ≡ false → HoldsAll rows before → HoldsAll (put_row (Int (next_rowid rows) ∷ cells) rows) (before ++ cells ∷ [])
+holds_put cells before rows free h = record { shaped = IsShaped-put_row (Int (next_rowid rows) ∷ cells) rows refl h.shaped; same = cells_put before cells (Int (next_rowid rows) ∷ cells) rows refl free h.same }
+
+-- ---- a workunit and an instance, at their places
+
+module _ (old new : Database) (world : World) (s : StandsFor old world) where
+  -- beside a row that is put in
+  pub keeps_put : (p : Part) (row : Row) → IsIn p world.version → PutsOne old new (tree_in s.trees p) row → Keeps world.version s.trees old new (is_part p)
+  keeps_put p row in_p put = keeps_but world.version old s.trees (parts_there old world s) new p in_p (but_one old new (tree_in s.trees p) row put)
+
+  -- a workunit that has no instances yet; since its row was put in, no other had its number
+  pub stands_with_placed : (w : Workunit) → PutsOne old new s.trees.workunit (stored_workunit w) → w.instances ≡ [] → StandsFor new (with_placed w world)
+  stands_with_placed w put none =
+      frame_one old new world (with_placed w world) s Workunits put.schema refl (keeps_put Workunits (stored_workunit w) tt put) carry
+      (lists_still put.rows (lists_placed w world.workunits (old.trees s.trees.workunit) s.rows.workunits)) put.sound
+    where
+      absent : LacksNumber w.number world.workunits
+      absent = absent_from w world.workunits (subst (λ rs. is_taken rs (stored_workunit w) ≡ false) s.rows.workunits.same put.fresh)
+
+      brings : IsPermutation (flat_map instances_of world.workunits) (flat_map instances_of (placed w world.workunits))
+      brings = subst (λ front. IsPermutation (front ++ flat_map instances_of world.workunits) (flat_map instances_of (placed w world.workunits))) (no_instances w none) (placed_brings instances_of w world.workunits absent)
+
+      carry : (q : Part) → is_part Workunits q ≡ false → (rows : List Row) → Holds q rows world → Holds q rows (with_placed w world)
+      carry Workunits off rows h = absurd (cc)
+      carry Instances off rows h = holds_permuted brings h
+      carry _ off rows h = h
+
+  -- an instance behind those of its workunit
+  pub stands_with_instance : (number n : ℕ) (i : Instance) → PutsOne old new s.trees.result (Int (next_rowid (old.trees s.trees.result)) ∷ instance_cells number n i) → HasInstances number n world.workunits → StandsFor new (with_instance number i world)
+  stands_with_instance number n i put has =
+      frame_one old new world (with_instance number i world) s Instances put.schema refl (keeps_put Instances (Int (next_rowid (old.trees s.trees.result)) ∷ instance_cells number n i) tt put) carry
+      (holds_permuted (instance_brings number n i world.workunits (table_rises world.workunits (subst IsTable s.rows.workunits.same s.rows.workunits.shaped.0)) has)
+      (subst (λ rs. HoldsAll rs (flat_map instances_of world.workunits ++ instance_cells number n i ∷ [])) (sym put.rows) (holds_put (instance_cells number n i) (flat_map instances_of world.workunits) (old.trees s.trees.result) put.fresh s.rows.instances)))
+      put.sound
+    where
+      carry : (q : Part) → is_part Instances q ≡ false → (rows : List Row) → Holds q rows world → Holds q rows (with_instance number i world)
+      carry Workunits off rows h = subst (ListsAll rows) (sym (works_same number i world.workunits)) h
+      carry Instances off rows h = absurd (cc)
+      carry _ off rows h = h
+
+-- a workunit above all that has no instances yet
+pub placed_above : (w : Workunit) (world : World) → IsAbove w.number world.workunits → w.instances ≡ [] → with_placed (bare w) world ≡ with_workunit w world
+placed_above w world above none = (λ i. with_placed (record w { instances = sym none i }) world) ∙ (λ i. record world { workunits = placed_last w world.workunits above i })
+
+-- a workunit of a world that is deleted and then added is replaced
+pub replaced_is : (db : Database) (world : World) (s : StandsFor db world) (w : Workunit) → HasNumber w.number world.workunits → with_placed w (without_workunit w.number world) ≡ with_replaced w world
+replaced_is db world s w there = λ i. record world { workunits = replaces w world.workunits (table_rises world.workunits (subst IsTable s.rows.workunits.same s.rows.workunits.shaped.0)) there i }

@@ -1,0 +1,174 @@
+-- What the SELECTs without an order answer of the world that the tables stand for.
+use Rattle.wu_schema.proofs.Words.{Answers, Archived, Binary, Bool, Has, Import, ImportKind, IsAscending, IsPermutation, IsPermutation-filter, IsPermutation-map, IsPermutation-trans, IsTable, List, None, Ok, Option, QueriesRow, Row, Shown, Some, StandsFor, State, Table, Text, Workunit, World, [], and_from, and_parts, ap, arith, bytes_eq, bytes_eq-Decides, cases_Bool, codes, column, cond, drop, enumerate_from, eq-eqb, eqb-true, equal, eval_all, false, false_from_ne_true, filter, filter-map, find, first_key, holds, import_cells, import_kind_code, inl, inr, is_import, length, length-map, length_permutation, list_all, list_any, map, map-map, mapped_has, ne_eqb, not, number, one_permutation, option_map, option_to_list, pos, project_at, refl, stored_archived, stored_workunit, subst, suc, sym, true, workunit_at, workunit_row, ℕ, ◌&&◌, ◌+◌, ◌<◌, ◌==◌, ◌||◌, ◌∙◌, ◌∷◌, ◌≡◌, ◌≤◌}
+use Rattle.wu_store.specs.Answers.{has_name, kept_of, next_row, row_named, was_archived}
+use Rattle.wu_schema.specs.Stored.{kept_cells}
+use Rattle.wu_schema.proofs.AnswerLemmas.{answers_are, meeting, row_answers, showing, shown_answers}
+use Rattle.wu_store.proofs.EqualLemmas.{text_equal, number_equal, number_tied}
+use Rattle.wu_store.proofs.OnceLemmas.{key_once, one_passes}
+use Rattle.wu_store.proofs.PlacedLemmas.{table_rises}
+use Rattle.wu_schema.proofs.StandsLemmas.{is_there}
+use Rattle.wu_schema.proofs.QueryLemmas.{alone, plain_query}
+use Rattle.wu_schema.proofs.RowLemmas.{filter_same, no_rows, one_test}
+use Rattle.wu_schema.proofs.Parts.{Part, Project, Workunits, Archive, Imports, IsIn, table_in, table_of, tree_in, name_of, parts_there}
+use Rattle.wu_schema.proofs.SelectLemmas.{Asked, Fits, compiles, query_of, tests_of, terms_of}
+use Rattle.wu_store.proofs.SelectTexts.{import_asked, import_fits, import_tests, import_shows, workunit_asked, workunit_fits, workunit_tests, named_asked, named_fits, all_shows, archived_asked, archived_fits, next_asked, next_fits, next_shows}
+
+-- a SELECT of a part of the project
+module _ (p : Part) (q : Asked) (fits : (tree : ℕ) → Fits (name_of p) (table_in p tree) q) (old new : State) (world : World) (s : StandsFor old.now world) (in_p : IsIn p world.version) (params : Row) (rows : List Row) where
+  abbrev table : Table
+  table = table_of s.trees p
+
+  pub asked_answers : Shown q.text params old new rows → Answers old.now (alone (query_of (name_of p) table q)) params rows
+  asked_answers h = let has = parts_there old.now world s p in_p in shown_answers q.text params old new _ _ _ (compiles old.now.schema (name_of p) has.0 table has.1 q (fits (tree_in s.trees p))) rows h
+
+  -- one with no order: the rows that meet its tests, as it shows them, in some order
+  pub asked_rows : query_of (name_of p) table q ≡ plain_query table.tree (tests_of (name_of p) table q) (terms_of (name_of p) table q) → Shown q.text params old new rows
+      → IsPermutation (showing (terms_of (name_of p) table q) params (meeting (tests_of (name_of p) table q) params (old.now.trees table.tree))) rows
+  asked_rows plain h =
+      answers_are table.tree (tests_of (name_of p) table q) (terms_of (name_of p) table q) params old.now rows (parts_there old.now world s p in_p).1.low (subst (λ query. Answers old.now (alone query) params rows) plain (asked_answers h))
+
+-- ---- lists
+
+-- rows that are stored for some values: those that pass are stored for those that do
+pub kept_mapped : {X : Type 0} (p : Row → Bool) (q : X → Bool) (f : X → Row) (xs : List X) → ((x : X) → p (f x) ≡ q x) → filter p (map f xs) ≡ map f (filter q xs)
+kept_mapped p q f xs same = filter-map p f xs ∙ ap (map f) (filter_same _ q xs (λ x has. same x))
+
+any_kept : {X : Type 0} (q : X → Bool) (xs : List X) → not (length (filter q xs) == 0) ≡ list_any q xs
+any_kept q [] = refl
+any_kept q (x ∷ xs) = go (q x) (any_kept q xs)
+  where
+    some : (n : ℕ) → (suc n == 0) ≡ false
+    some n = false_from_ne_true _ (λ h. let e = eqb-true (suc n) 0 h in omega (arith, e))
+
+    go : (b : Bool) → not (length (filter q xs) == 0) ≡ list_any q xs → not (length (cond b (x ∷ filter q xs) (filter q xs)) == 0) ≡ (b || list_any q xs)
+    go true again = ap not (some (length (filter q xs)))
+    go false again = again
+
+-- the answer has a row exactly where a value passes
+any_answer : {X : Type 0} (p : Row → Bool) (shows : Row → Row) (q : X → Bool) (f : X → Row) (xs : List X) (rows answer : List Row) → rows ≡ map f xs → ((x : X) → p (f x) ≡ q x) → IsPermutation (map shows (filter p rows)) answer → not (length answer == 0) ≡ list_any q xs
+any_answer p shows q f xs rows answer stored same found =
+    ap (λ n. not (n == 0)) (length_permutation (map shows (filter p rows)) answer found ∙ length-map (filter p rows) shows ∙ ap (λ rs. length (filter p rs)) stored ∙ ap (λ rs. length rs) (kept_mapped p q f xs same) ∙ length-map (filter q xs) f) ∙ any_kept q xs
+
+-- an order of at most one is that one
+only_answer : {X : Type 0} (f : X → Row) (xs : List X) (answer : List Row) → length xs ≤ 1 → IsPermutation (map f xs) answer → answer ≡ map f xs
+only_answer f [] answer few same = no_rows answer (length_permutation [] answer same)
+only_answer f (x ∷ []) answer few same = one_permutation (f x) answer same
+only_answer f (x ∷ y ∷ xs) answer few same = absurd (omega (arith, few))
+
+bytes_same : (a b c : List ℕ) → bytes_eq a b ≡ true → bytes_eq c b ≡ true → bytes_eq a c ≡ true
+bytes_same a b c p q = (bytes_eq-Decides a c).1 ((bytes_eq-Decides a b).0 p ∙ sym ((bytes_eq-Decides c b).0 q))
+
+none_left : {X : Type 0} (xs : List X) → length xs ≡ 0 → xs ≡ []
+none_left [] h = refl
+none_left (x ∷ xs) h = absurd (omega (arith, h))
+
+pub find_only : {X : Type 0} (q : X → Bool) (xs : List X) → length (filter q xs) ≤ 1 → filter q xs ≡ option_to_list (find q xs)
+find_only q [] few = refl
+find_only q (x ∷ xs) few = elim (cases_Bool (q x)) [
+  | inl on ↦ let rest : filter q xs ≡ [] = none_left (filter q xs) (omega (arith, rw on at few)) in rw (on, rest) refl
+  | inr off ↦ rw off (find_only q xs (rw off at few))
+]
+
+-- ---- the next number
+
+module _ (old new : State) (world : World) (s : StandsFor old.now world) where
+  next_is : (rows : List Row) → Answers old.now (alone (query_of (codes "project") (project_at s.trees.project) next_asked)) [] rows → rows ≡ next_row world ∷ []
+  next_is rows h =
+      let all = answers_are s.trees.project [] next_shows [] old.now rows s.tables.project.1.low h in
+      one_permutation _ rows (subst (λ rs. IsPermutation (showing next_shows [] (meeting [] [] rs)) rows) s.rows.project all)
+
+  pub next_found : (row : Row) → QueriesRow next_asked.text [] old new (Ok row) → row ≡ next_row world
+  next_found row h =
+      let has = s.tables.project in
+      let it = row_answers next_asked.text [] old new _ _ _ (compiles old.now.schema (codes "project") has.0 (project_at s.trees.project) has.1 next_asked (next_fits s.trees.project)) row h in
+      let same = next_is (row ∷ it.0) it.1 in
+      cc
+
+  pub next_there : ¬ Shown next_asked.text [] old new []
+  next_there h = let same = next_is [] (asked_answers Project next_asked next_fits old new world s tt [] [] h) in absurd (cc)
+
+-- ---- by name
+
+any_numbered : (name : List ℕ) (n : ℕ) (xs : List Archived) → list_any (λ (p : ℕ × Archived). bytes_eq p.1.name name) (enumerate_from n xs) ≡ list_any (λ (a : Archived). bytes_eq a.name name) xs
+any_numbered name n [] = refl
+any_numbered name n (x ∷ xs) = ap (λ b. bytes_eq x.name name || b) (any_numbered name (n + 1) xs)
+
+module _ (old new : State) (world : World) (s : StandsFor old.now world) (name : List ℕ) (rows : List Row) where
+  pub workunit_found : Shown workunit_asked.text (Text name ∷ []) old new rows → not (length rows == 0) ≡ has_name name world
+  workunit_found h =
+      any_answer _ _ (λ (w : Workunit). bytes_eq w.name name) stored_workunit world.workunits _ rows s.rows.workunits.same (λ w. one_test _ ∙ text_equal w.name name) (asked_rows Workunits workunit_asked workunit_fits old new world s tt (Text name ∷ []) rows refl h)
+
+  pub archived_found : Shown archived_asked.text (Text name ∷ []) old new rows → not (length rows == 0) ≡ was_archived name world
+  archived_found h =
+      any_answer _ _ (λ (p : ℕ × Archived). bytes_eq p.1.name name) stored_archived (enumerate_from 1 world.archived) _ rows s.rows.archived.same (λ p. one_test _ ∙ text_equal p.1.name name) (asked_rows Archive archived_asked archived_fits old new world s tt (Text name ∷ []) rows refl h)
+      ∙ any_numbered name 1 world.archived
+
+  -- the name is a unique key
+  named_once : length (filter (λ (w : Workunit). bytes_eq w.name name) world.workunits) ≤ 1
+  unfolding first_key
+  named_once = one_passes _ (λ (a b : Workunit). a.number < b.number) world.workunits (λ a b has_a has_b low p q.
+      let stored = λ (w : Workunit) (has : Has world.workunits w). subst (λ rs. Has rs (stored_workunit w)) (sym s.rows.workunits.same) (mapped_has stored_workunit world.workunits w has) in
+      key_once old.now (workunit_at s.trees.workunit) 0 (2 ∷ []) refl s.sound (is_there old.now.schema _ _ s.tables.workunit) (stored_workunit b) (stored_workunit a) (stored b has_b) (stored a has_a)
+      (number_tied a.number b.number ∙ ne_eqb a.number b.number (λ same. omega (arith, same, low))) (pos a.number) (pos b.number) refl refl (λ at. and_from _ _ (text_equal a.name b.name ∙ bytes_same a.name name b.name p q) refl))
+      (table_rises world.workunits (subst IsTable s.rows.workunits.same s.rows.workunits.shaped.0))
+
+  -- the row of the one workunit of the name
+  pub named_found : Shown named_asked.text (Text name ∷ []) old new rows → rows ≡ option_to_list (row_named name world)
+  named_found h =
+      let found = asked_rows Workunits named_asked named_fits old new world s tt (Text name ∷ []) rows refl h in
+      let kept = ap (filter (λ r. list_all (holds ((Text name ∷ []) ∷ r ∷ [])) workunit_tests)) s.rows.workunits.same ∙ kept_mapped _ (λ (w : Workunit). bytes_eq w.name name) stored_workunit world.workunits (λ w. one_test _ ∙ text_equal w.name name) in
+      let shown = ap (map (λ r. eval_all all_shows ((Text name ∷ []) ∷ r ∷ []))) kept ∙ map-map (λ r. eval_all all_shows ((Text name ∷ []) ∷ r ∷ [])) stored_workunit (filter (λ (w : Workunit). bytes_eq w.name name) world.workunits) in
+      only_answer workunit_row (filter (λ (w : Workunit). bytes_eq w.name name) world.workunits) rows named_once (subst (λ rs. IsPermutation rs rows) shown found)
+      ∙ ap (map workunit_row) (find_only (λ (w : Workunit). bytes_eq w.name name) world.workunits named_once) ∙ listed (find (λ (w : Workunit). bytes_eq w.name name) world.workunits)
+    where
+      listed : (o : Option Workunit) → map workunit_row (option_to_list o) ≡ option_to_list (option_map workunit_row o)
+      listed None = refl
+      listed (Some w) = refl
+
+-- ---- an import
+
+abbrev is_kept : ℕ → List ℕ → Row → Bool
+is_kept kind name cells = equal Binary (column cells 0) (number kind) && (equal Binary (column cells 1) (Text name) && true)
+
+abbrev kept_in : Row → Row
+kept_in cells = column cells 2 ∷ column cells 3 ∷ column cells 4 ∷ column cells 5 ∷ []
+
+tests_cells : (kind : ℕ) (name : List ℕ) (r : Row) → list_all (holds ((number kind ∷ Text name ∷ []) ∷ r ∷ [])) import_tests ≡ is_kept kind name (drop 1 r)
+tests_cells kind name [] = refl
+tests_cells kind name (v ∷ r) = refl
+
+shows_cells : (kind : ℕ) (name : List ℕ) (r : Row) → eval_all import_shows ((number kind ∷ Text name ∷ []) ∷ r ∷ []) ≡ kept_in (drop 1 r)
+shows_cells kind name [] = refl
+shows_cells kind name (v ∷ r) = refl
+
+cells_kept : (kind : ℕ) (name : List ℕ) (rows : List Row) → showing import_shows (number kind ∷ Text name ∷ []) (meeting import_tests (number kind ∷ Text name ∷ []) rows) ≡ map kept_in (filter (is_kept kind name) (map (drop 1) rows))
+cells_kept kind name rows =
+    (λ i. map (λ r. shows_cells kind name r i) (filter (λ r. tests_cells kind name r i) rows)) ∙ sym (map-map kept_in (drop 1) (filter (λ r. is_kept kind name (drop 1 r)) rows)) ∙ ap (map kept_in) (sym (filter-map (is_kept kind name) (drop 1) rows))
+
+imports_kept : (kind : ImportKind) (name : List ℕ) (imports : List Import) → map kept_in (filter (is_kept (import_kind_code kind) name) (map import_cells imports)) ≡ map kept_cells (filter (is_import kind name) imports)
+imports_kept kind name imports = ap (map kept_in) (kept_mapped _ (is_import kind name) import_cells imports tested) ∙ map-map kept_in import_cells (filter (is_import kind name) imports)
+  where
+    tested : (a : Import) → is_kept (import_kind_code kind) name (import_cells a) ≡ is_import kind name a
+    tested a = ap (λ b. b && (equal Binary (Text a.name) (Text name) && true)) (number_equal (import_kind_code a.kind) (import_kind_code kind))
+        ∙ ap (λ b. (import_kind_code a.kind == import_kind_code kind) && b) (one_test _ ∙ text_equal a.name name)
+
+-- of imports that stand once, at most one has a kind and a name
+at_most_one : (kind : ImportKind) (name : List ℕ) (imports : List Import) → IsAscending (λ (a b : Import). is_import a.kind a.name b ≡ false) imports → length (filter (is_import kind name) imports) ≤ 1
+at_most_one kind name imports once = one_passes (is_import kind name) (λ a b. is_import a.kind a.name b ≡ false) imports (λ a b has_a has_b apart p q.
+    let one = and_parts _ _ p in
+    let two = and_parts _ _ q in
+    let same : is_import a.kind a.name b ≡ true = and_from _ _ (eq-eqb _ _ (eqb-true _ _ two.0 ∙ sym (eqb-true _ _ one.0))) (bytes_same b.name name a.name two.1 one.1) in
+    absurd (let e = sym same ∙ apart in cc)) once
+
+module _ (old new : State) (world : World) (s : StandsFor old.now world) (kind : ImportKind) (name : List ℕ) (rows : List Row) where
+  pub import_found : Shown import_asked.text (number (import_kind_code kind) ∷ Text name ∷ []) old new rows → rows ≡ kept_of kind name world
+  import_found h =
+      let code = import_kind_code kind in
+      let params : Row = number code ∷ Text name ∷ [] in
+      let stored = old.now.trees s.trees.import in
+      let all = asked_rows Imports import_asked import_fits old new world s tt params rows refl h in
+      let kept : IsPermutation (map kept_in (filter (is_kept code name) (map import_cells world.imports))) (map kept_in (filter (is_kept code name) (map (drop 1) stored))) =
+      IsPermutation-map kept_in _ _ (IsPermutation-filter (is_kept code name) (map import_cells world.imports) (map (drop 1) stored) s.rows.imports.same) in
+      let found : IsPermutation (kept_of kind name world) rows =
+      subst (λ xs. IsPermutation xs rows) (imports_kept kind name world.imports) (IsPermutation-trans _ _ _ kept (subst (λ xs. IsPermutation xs rows) (cells_kept code name stored) all)) in
+      only_answer kept_cells (filter (is_import kind name) world.imports) rows (at_most_one kind name world.imports s.rows.imported_once) found

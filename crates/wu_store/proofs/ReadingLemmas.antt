@@ -1,0 +1,207 @@
+-- How columns and rows read as values, step by step.
+use Rattle.wu_schema.proofs.Words.{Blob, Err, Fault, Gives, IfErr, IfOk, ImportKind, Instance, Int, List, None, NotAProject, Null, Ok, Option, Result, Row, Some, Text, Value, Workunit, [], add-one, ap, arith, column, drop, get_or, inl, inr, instance_row, last_skip, length, length-map, map, map-append, number, number_or_null, pos, refl, subst, suc, sym, take, text_or_null, verdict_digits, workunit_row, zero, ℕ, ⊤, ◌++◌, ◌+◌, ◌-◌, ◌<◌, ◌^◌, ◌∙◌, ◌∷◌, ◌≡◌, ◌≢◌, ◌≤◌, ◌⊎◌}
+use Rattle.wu_store.specs.Reading.{AreVerdicts}
+use Rattle.std.specs.Prelude.{MatchOption}
+use Rattle.std.proofs.lemmas.List.{take_more, get_or-map}
+use Rattle.std.specs.List.{range_with_len}
+use Rattle.wu_core.specs.declared.fault.Fault.TheVariants.{Memory}
+use Rattle.wu_core.specs.Parameters.{Parameters, IsParameters}
+use Rattle.wu_core.specs.Limits.{longest_output}
+use Rattle.wu_store.specs.declared.rows.Moments.{Moments}
+use Rattle.wu_store.specs.declared.rows.Progress.{Progress}
+use Rattle.wu_store.specs.declared.rows.States.{States}
+use Rattle.wu_schema.specs.Stored.{parameter_cells}
+use Rattle.wu_schema.specs.Restoring.{Restores}
+use Rattle.wu_store.specs.Reading.{AreMoments, IsHost, MayBeInstance, moment_cells, state_cells, columns, progress_cells, IsInput, IsName, IsPlace, IsProgress, IsStoredWorkunit}
+
+-- a value that can't be read is none that is stored so
+pub unread : {T C : Type 0} (stored_as : T → C) (IsValue : T → Type 0) (stored : C) (fault : Fault)
+    → (fault ≡ Memory) ⊎ ((fault ≡ NotAProject) × ((value : T) → IsValue value → stored ≢ stored_as value))
+    → Restores stored_as IsValue stored (Err fault)
+unread stored_as IsValue stored fault (inl memory) = record { value = tt; found = λ value is same. inr (ap (λ f. Err f) memory); refused = inl memory }
+unread stored_as IsValue stored fault (inr none) = record { value = tt; found = λ value is same. absurd (none.1 value is same); refused = inr none.0 }
+
+pub place_restores : (P : Type 0) → P → (v : Value) (r : Result (Option ℕ) Fault)
+    → IfOk r (λ o. MatchOption o (v ≡ Null) (λ n. (v ≢ Null) × (v ≡ Int (pos n))))
+    → IfErr r (λ f. (f ≡ Memory) ⊎ ((f ≡ NotAProject) × (P → ¬ ((v ≡ Null) ⊎ ((n : ℕ) × (v ≡ Int (pos n)) × (n < 2 ^ 32))))))
+    → IfOk r IsPlace → Restores number_or_null IsPlace v r
+place_restores P p v (Ok None) ok err fits = record { value = (ok, tt); found = none; refused = tt }
+  where
+    none : (o : Option ℕ) → IsPlace o → v ≡ number_or_null o → Gives (Ok None) (Ok o)
+    none None is same = inl refl
+    none (Some n) is same = absurd cc
+place_restores P p v (Ok (Some n)) ok err fits = record { value = (ok.1, fits); found = some; refused = tt }
+  where
+    some : (o : Option ℕ) → IsPlace o → v ≡ number_or_null o → Gives (Ok (Some n)) (Ok o)
+    some None is same = absurd (ok.0 same)
+    some (Some m) is same = inl cc
+place_restores P p v (Err f) ok err fits = unread number_or_null IsPlace v f (elim err [ inl memory ↦ inl memory | inr unreadable ↦ inr (unreadable.0, λ o is same. unreadable.1 p (readable o is same)) ])
+  where
+    readable : (o : Option ℕ) → IsPlace o → v ≡ number_or_null o → (v ≡ Null) ⊎ ((n : ℕ) × (v ≡ Int (pos n)) × (n < 2 ^ 32))
+    readable None is same = inl same
+    readable (Some n) is same = inr (n, same, is)
+
+next_column : (v : Value) (row : Row) (a : ℕ) → column (v ∷ row) (a + 1) ≡ column row a
+next_column v row a = rw add-one refl
+
+shifted : (v : Value) (row : Row) (a n : ℕ) → map (column (v ∷ row)) (range_with_len (a + 1) n) ≡ map (column row) (range_with_len a n)
+shifted v row a zero = refl
+shifted v row a (suc n) = rw (next_column v row a, shifted v row (a + 1) n) refl
+
+-- a row is its columns
+pub as_columns : (row : Row) → map (column row) (range_with_len 0 (length row)) ≡ row
+as_columns [] = refl
+as_columns (v ∷ row) = ap (λ rest. v ∷ rest) (shifted v row 0 (length row) ∙ as_columns row)
+
+-- the progress of a workunit
+abbrev progress_of : Workunit → Progress
+progress_of w = record { error_mask = w.error_mask; canonical = w.canonical; assimilate = w.assimilate; file_delete = w.file_delete; done_at = w.done_at }
+
+not_ok : {T U : Type 0} (f : Fault) (t : T) (u : U) → Gives (Err f) (Ok t) → Gives (Err f) (Ok u)
+not_ok f t u (inl ok) = absurd cc
+not_ok f t u (inr memory) = let is : f ≡ Memory = cc in inr (ap (λ g. Err g) is)
+
+ok_is : {T : Type 0} (a b : T) → Gives (Ok a) (Ok b) → a ≡ b
+ok_is a b (inl is) = cc
+ok_is a b (inr memory) = absurd cc
+
+-- a row with a part that can't be read is stored of nothing
+part_unread : {T U : Type 0} (part : T → U) (row : Row) (from count : ℕ) (stored_as : T → Row) (cells : U → Row) (IsValue : T → Type 0) (IsPart : U → Type 0)
+    → ((t : T) → IsValue t → IsPart (part t)) → ((t : T) → columns (stored_as t) from count ≡ cells (part t)) → (f : Fault) → Restores cells IsPart (columns row from count) (Err f) → Restores stored_as IsValue row (Err f)
+part_unread part row from count stored_as cells IsValue IsPart are shown f unread = record {
+  value = tt;
+  found = λ t is same. not_ok f (part t) t (unread.found (part t) (are t is) (ap (λ r. columns r from count) same ∙ shown t));
+  refused = unread.refused;
+}
+
+pub workunit_unread : (row : Row) (f : Fault) → Restores progress_cells IsProgress (columns row 10 5) (Err f) → Restores workunit_row IsStoredWorkunit row (Err f)
+workunit_unread row = part_unread progress_of row 10 5 workunit_row progress_cells IsStoredWorkunit IsProgress (λ w is. record { canonical = is.canonical; stamped = is.stamped }) (λ w. refl)
+
+joined : (a b c d : Value) (ps qs rs ts : Row) (e g : Value) → a ≡ b → c ≡ d → ps ≡ qs → e ≡ g → rs ≡ ts → a ∷ c ∷ ps ++ (e ∷ rs) ≡ b ∷ d ∷ qs ++ (g ∷ ts)
+joined a b c d ps qs rs ts e g first second third fourth fifth = rw (first, second, third, fourth, fifth) refl
+
+module _ (row : Row) (n : ℕ) (name : List ℕ) (params : Parameters) (input : List ℕ) (progress : Progress) where
+  abbrev read : Workunit
+  read = record {
+    number = n;
+    name = name;
+    params = params;
+    input = input;
+    error_mask = progress.error_mask;
+    canonical = progress.canonical;
+    assimilate = progress.assimilate;
+    file_delete = progress.file_delete;
+    done_at = progress.done_at;
+    instances = [];
+  }
+
+  -- a row whose columns read as these is that of this workunit alone
+  pub workunit_read : length row ≡ 15 → Restores number (λ _. ⊤) (column row 0) (Ok n) → Restores Text IsName (column row 1) (Ok name)
+      → Restores parameter_cells IsParameters (columns row 2 7) (Ok params) → Restores Blob IsInput (column row 9) (Ok input)
+      → Restores progress_cells IsProgress (columns row 10 5) (Ok progress)
+      → Restores workunit_row IsStoredWorkunit row (Ok read)
+  workunit_read long number_is name_is params_are input_is progress_is = record {
+    value = (stored, record { name = name_is.value.1; parameters = params_are.value.1; input = input_is.value.1; canonical = progress_is.value.1.canonical; stamped = progress_is.value.1.stamped; bare = refl });
+    found = λ w is same. inl (ap (λ w. Ok w) (only w is same));
+    refused = tt;
+  }
+    where
+      whole : column row 0 ∷ column row 1 ∷ columns row 2 7 ++ (column row 9 ∷ columns row 10 5) ≡ row
+      whole = subst (λ k. map (column row) (range_with_len 0 k) ≡ row) long (as_columns row)
+
+      stored : row ≡ workunit_row read
+      stored = sym whole ∙ joined _ _ _ _ _ _ _ _ _ _ number_is.value.0 name_is.value.0 params_are.value.0 input_is.value.0 progress_is.value.0
+
+      only : (w : Workunit) → IsStoredWorkunit w → row ≡ workunit_row w → read ≡ w
+      only w is same =
+          let a = ok_is n w.number (number_is.found w.number tt (ap (λ r. column r 0) same)) in
+          let b = ok_is name w.name (name_is.found w.name is.name (ap (λ r. column r 1) same)) in
+          let d = ok_is params w.params (params_are.found w.params is.parameters (ap (λ r. columns r 2 7) same)) in
+          let e = ok_is input w.input (input_is.found w.input is.input (ap (λ r. column r 9) same)) in
+          let g = ok_is progress (progress_of w) (progress_is.found (progress_of w) (record { canonical = is.canonical; stamped = is.stamped }) (ap (λ r. columns r 10 5) same)) in
+          rw (a, b, d, e, g, ← is.bare) refl
+
+-- a digit that is no verdict of the kind stands in no text of verdicts
+pub no_digit : (kind : ImportKind) (digits : List ℕ) (i : ℕ) → i < length digits → ((48 ≤ get_or digits i 0) × (get_or digits i 0 - 48 ≤ last_skip kind) → ⊥)
+    → (verdicts : List ℕ) → AreVerdicts kind verdicts → digits ≢ verdict_digits verdicts
+no_digit kind digits i low not verdicts are is =
+    let within : i < length verdicts = subst (λ n. i < n) (ap (λ ds. length ds) is ∙ length-map verdicts (λ v. 48 + v)) low in
+    let at : get_or digits i 0 ≡ 48 + get_or verdicts i 0 = ap (λ ds. get_or ds i 0) is ∙ get_or-map (λ v. 48 + v) verdicts i 0 0 within in
+    let bound : get_or verdicts i 0 ≤ last_skip kind = are i 0 within in
+    not (omega (arith, at), omega (arith, at, bound))
+
+-- one more digit is one more verdict
+pub verdicts_more : (verdicts digits : List ℕ) (i verdict : ℕ) → verdict_digits verdicts ≡ take i digits → i < length digits → 48 ≤ get_or digits i 0 → verdict ≡ get_or digits i 0 - 48
+    → verdict_digits (verdicts ++ verdict ∷ []) ≡ take (i + 1) digits
+verdicts_more verdicts digits i verdict so_far low digit is =
+    let same : 48 + verdict ≡ get_or digits i 0 = omega (arith, digit, is) in
+    map-append (λ v. 48 + v) verdicts (verdict ∷ []) ∙ ap (λ ds. ds ++ (48 + verdict) ∷ []) so_far ∙ ap (λ d. take i digits ++ d ∷ []) same ∙ sym (take_more digits i 0 low)
+
+-- the verdicts of a text are unique
+pub same_verdicts : (a b : List ℕ) → verdict_digits a ≡ verdict_digits b → a ≡ b
+same_verdicts [] [] is = refl
+same_verdicts [] (v ∷ b) is = absurd cc
+same_verdicts (u ∷ a) [] is = absurd cc
+same_verdicts (u ∷ a) (v ∷ b) is =
+    let first : 48 + u ≡ 48 + v = ap (λ ds. get_or ds 0 0) is in
+    let rest : verdict_digits a ≡ verdict_digits b = ap (λ ds. drop 1 ds) is in
+    let same : u ≡ v = omega (arith, first) in
+    rw (same, same_verdicts a b rest) refl
+
+pub verdicts_restored : (kind : ImportKind) (digits verdicts : List ℕ) → verdict_digits verdicts ≡ digits → AreVerdicts kind verdicts → Restores verdict_digits (AreVerdicts kind) digits (Ok verdicts)
+verdicts_restored kind digits verdicts is are =
+    record { value = (sym is, are); found = λ others of_kind same. inl (ap (λ v. Ok v) (same_verdicts verdicts others (is ∙ same))); refused = tt }
+
+-- the states and the moments of an instance
+abbrev states_of : Instance → States
+states_of i = record { server_state = i.server_state; outcome = i.outcome; validate_state = i.validate_state; file_delete = i.file_delete }
+
+abbrev moments_of : Instance → Moments
+moments_of i = record { sent_at = i.sent_at; deadline = i.deadline; received_at = i.received_at }
+
+pub states_unread : (row : Row) (f : Fault) → Restores state_cells (λ _. ⊤) (columns row 0 4) (Err f) → Restores instance_row MayBeInstance row (Err f)
+states_unread row = part_unread states_of row 0 4 instance_row state_cells MayBeInstance (λ _. ⊤) (λ i is. tt) (λ i. refl)
+
+pub moments_unread : (row : Row) (f : Fault) → Restores moment_cells AreMoments (columns row 5 3) (Err f) → Restores instance_row MayBeInstance row (Err f)
+moments_unread row = part_unread moments_of row 5 3 instance_row moment_cells MayBeInstance AreMoments (λ i is. is.moments) (λ i. refl)
+
+joined_four : (a b d e : Value) (ps qs rs ts : Row) → ps ≡ qs → a ≡ b → rs ≡ ts → d ≡ e → ps ++ (a ∷ rs ++ (d ∷ [])) ≡ qs ++ (b ∷ ts ++ (e ∷ []))
+joined_four a b d e ps qs rs ts first second third fourth = rw (first, second, third, fourth) refl
+
+module _ (row : Row) (states : States) (host : Option (List ℕ)) (moments : Moments) (output : List ℕ) where
+  abbrev read_instance : Instance
+  read_instance = record {
+    server_state = states.server_state;
+    outcome = states.outcome;
+    validate_state = states.validate_state;
+    file_delete = states.file_delete;
+    host = host;
+    sent_at = moments.sent_at;
+    deadline = moments.deadline;
+    received_at = moments.received_at;
+    output = output;
+  }
+
+  -- a row whose columns read as these is that of this instance alone
+  pub instance_read : length row ≡ 9 → Restores state_cells (λ _. ⊤) (columns row 0 4) (Ok states) → Restores text_or_null IsHost (column row 4) (Ok host)
+      → Restores moment_cells AreMoments (columns row 5 3) (Ok moments) → Restores Blob (λ o. length o ≤ longest_output) (column row 8) (Ok output)
+      → Restores instance_row MayBeInstance row (Ok read_instance)
+  instance_read long states_are host_is moments_are output_is = record {
+    value = (stored, record { host = host_is.value.1; moments = moments_are.value.1; output = output_is.value.1 });
+    found = λ i is same. inl (ap (λ i. Ok i) (only i is same));
+    refused = tt;
+  }
+    where
+      whole : columns row 0 4 ++ (column row 4 ∷ columns row 5 3 ++ (column row 8 ∷ [])) ≡ row
+      whole = subst (λ k. map (column row) (range_with_len 0 k) ≡ row) long (as_columns row)
+
+      stored : row ≡ instance_row read_instance
+      stored = sym whole ∙ joined_four _ _ _ _ _ _ _ _ states_are.value.0 host_is.value.0 moments_are.value.0 output_is.value.0
+
+      only : (i : Instance) → MayBeInstance i → row ≡ instance_row i → read_instance ≡ i
+      only i is same =
+          let a = ok_is states (states_of i) (states_are.found (states_of i) tt (ap (λ r. columns r 0 4) same)) in
+          let b = ok_is host i.host (host_is.found i.host is.host (ap (λ r. column r 4) same)) in
+          let d = ok_is moments (moments_of i) (moments_are.found (moments_of i) is.moments (ap (λ r. columns r 5 3) same)) in
+          let e = ok_is output i.output (output_is.found i.output is.output (ap (λ r. column r 8) same)) in
+          rw (a, b, d, e) refl

@@ -1,0 +1,268 @@
+-- Two worlds for which one database stands are one world, but for the order of their imports.
+use Rattle.wu_schema.proofs.Words.{Archived, Blob, Database, Grant, Has, HasNamed, HoldsAll, Import, ImportKind, Instance, Int, IsPermutation, IsPermutation-filter, IsPermutation-map, IsPermutation-sym, IsPermutation-trans, IsTable, List, None, Option, Output, Row, Some, StandsFor, Table, Text, Value, Workunit, World, [], all_from, all_has, ap, append-nil, arith, column, drop, enumerate_from, eq-eqb, false, filter, filter_none, flat_map, if◌then◌else◌, import_cells, import_kind_code, inl, inr, instance_row, instances_of, map, ne_eqb, number_or_null, on_total, pos, refl, slice_get, stored_archived, stored_grant, stored_project, stored_workunit, subst, sym, text_or_null, true, value_cmp_total, verdict_digits, ℕ, ◌+◌, ◌-◌, ◌<◌, ◌==◌, ◌∙◌, ◌∷◌, ◌≡◌}
+use Rattle.wu_core.specs.declared.mask.ErrorMask.{ErrorMask}
+use Rattle.wu_core.specs.declared.states.ServerState.{ServerState}
+use Rattle.wu_core.specs.declared.states.ServerState.TheVariants as server
+use Rattle.wu_core.specs.declared.states.Outcome.{Outcome}
+use Rattle.wu_core.specs.declared.states.Outcome.TheVariants as outcome
+use Rattle.wu_core.specs.declared.states.ValidateState.{ValidateState}
+use Rattle.wu_core.specs.declared.states.ValidateState.TheVariants as validate
+use Rattle.wu_core.specs.declared.states.Assimilate.{Assimilate}
+use Rattle.wu_core.specs.declared.states.Assimilate.TheVariants as assimilate
+use Rattle.wu_core.specs.declared.states.FileDelete.{FileDelete}
+use Rattle.wu_core.specs.declared.states.FileDelete.TheVariants as file_delete
+use Rattle.wu_core.specs.declared.import.ImportKind.TheVariants as kind
+use Rattle.wu_core.specs.Codes.{server_state_code, outcome_code, validate_state_code, assimilate_code, file_delete_code}
+use Rattle.wu_core.specs.Mask.{error_mask_code}
+use Rattle.wu_core.proofs.MaskLemmas.{flags_of, flags_of-error_mask_code}
+use Rattle.wu_store.specs.Worlds.{SameWorld}
+use Rattle.wu_schema.proofs.QuietLemmas.{same_some}
+use Rattle.wu_store.proofs.InstanceLemmas.{fits, instances_left}
+use Rattle.wu_store.proofs.InstanceAnswers.{cell_pair, pairs_from, rising, shown_from}
+use Rattle.wu_store.proofs.OneOrder.{two_orders}
+use Rattle.wu_store.proofs.OrderAnswers.{by_key}
+use Rattle.wu_store.proofs.PlacedLemmas.{Rises, table_rises}
+
+-- ---- what was stored is read back
+
+abbrev read_number : Value → ℕ
+read_number (Int (pos n)) = n
+read_number _ = 0
+
+abbrev read_text : Value → List ℕ
+read_text (Text t) = t
+read_text _ = []
+
+abbrev read_blob : Value → List ℕ
+read_blob (Blob b) = b
+read_blob _ = []
+
+abbrev read_maybe : Value → Option ℕ
+read_maybe (Int (pos n)) = Some n
+read_maybe _ = None
+
+abbrev read_host : Value → Option (List ℕ)
+read_host (Text t) = Some t
+read_host _ = None
+
+maybe_again : (o : Option ℕ) → read_maybe (number_or_null o) ≡ o
+maybe_again None = refl
+maybe_again (Some n) = refl
+
+host_again : (o : Option (List ℕ)) → read_host (text_or_null o) ≡ o
+host_again None = refl
+host_again (Some n) = refl
+
+abbrev server_of : ℕ → ServerState
+server_of n = if n == 1 then server.Inactive else if n == 2 then server.Unsent else if n == 4 then server.InProgress else server.Over
+
+server_again : (s : ServerState) → server_of (server_state_code s) ≡ s
+server_again server.Inactive = refl
+server_again _ = refl
+
+abbrev outcome_of : ℕ → Outcome
+outcome_of n =
+    if n == 0 then outcome.Init else if n == 1 then outcome.Success else if n == 2 then outcome.CouldntSend else if n == 3 then outcome.ClientError
+    else if n == 4 then outcome.NoReply else if n == 5 then outcome.DidntNeed else if n == 6 then outcome.ValidateError else outcome.ClientDetached
+
+outcome_again : (s : Outcome) → outcome_of (outcome_code s) ≡ s
+outcome_again outcome.Init = refl
+outcome_again _ = refl
+
+abbrev validate_of : ℕ → ValidateState
+validate_of n =
+    if n == 0 then validate.Init else if n == 1 then validate.Valid else if n == 2 then validate.Invalid else if n == 3 then validate.NoCheck
+    else if n == 4 then validate.Inconclusive else validate.TooLate
+
+validate_again : (s : ValidateState) → validate_of (validate_state_code s) ≡ s
+validate_again validate.Init = refl
+validate_again _ = refl
+
+abbrev assimilate_of : ℕ → Assimilate
+assimilate_of n = if n == 0 then assimilate.Init else if n == 1 then assimilate.Ready else assimilate.Done
+
+assimilate_again : (s : Assimilate) → assimilate_of (assimilate_code s) ≡ s
+assimilate_again assimilate.Init = refl
+assimilate_again _ = refl
+
+abbrev delete_of : ℕ → FileDelete
+delete_of n = if n == 0 then file_delete.Init else if n == 1 then file_delete.Ready else if n == 2 then file_delete.Done else file_delete.Error
+
+delete_again : (s : FileDelete) → delete_of (file_delete_code s) ≡ s
+delete_again file_delete.Init = refl
+delete_again _ = refl
+
+abbrev kind_of : ℕ → ImportKind
+kind_of n = if n == 1 then kind.Batch else if n == 2 then kind.Sent else kind.Reported
+
+kind_again : (s : ImportKind) → kind_of (import_kind_code s) ≡ s
+kind_again kind.Batch = refl
+kind_again _ = refl
+
+mask_again : (m : ErrorMask) → flags_of (error_mask_code m) ≡ m
+mask_again m = flags_of-error_mask_code m (error_mask_code m) refl
+
+digits_again : (vs : List ℕ) → map (λ d. d - 48) (verdict_digits vs) ≡ vs
+digits_again [] = refl
+digits_again (v ∷ vs) = let one : (48 + v) - 48 ≡ v = omega arith in (λ i. one i ∷ digits_again vs i)
+
+abbrev read_workunit : Row → List Instance → Workunit
+read_workunit r is = record {
+  number = read_number (column r 0);
+  name = read_text (column r 2);
+  params = record {
+    min_quorum = read_number (column r 3);
+    target_nresults = read_number (column r 4);
+    max_error_results = read_number (column r 5);
+    max_total_results = read_number (column r 6);
+    max_success_results = read_number (column r 7);
+    delay_bound = read_number (column r 8);
+    credit = read_number (column r 9);
+  };
+  input = read_blob (column r 10);
+  error_mask = flags_of (read_number (column r 11));
+  canonical = read_maybe (column r 12);
+  assimilate = assimilate_of (read_number (column r 13));
+  file_delete = delete_of (read_number (column r 14));
+  done_at = read_maybe (column r 15);
+  instances = is;
+}
+
+workunit_again : (w : Workunit) → read_workunit (stored_workunit w) w.instances ≡ w
+workunit_again w = λ i. record w { error_mask = mask_again w.error_mask i; canonical = maybe_again w.canonical i; assimilate = assimilate_again w.assimilate i; file_delete = delete_again w.file_delete i; done_at = maybe_again w.done_at i }
+
+-- ---- lists of rows that are one
+
+restored : {X C : Type 0} (stored : X → C) (read : C → X) → ((x : X) → read (stored x) ≡ x) → (xs : List X) → map read (map stored xs) ≡ xs
+restored stored read again [] = refl
+restored stored read again (x ∷ xs) = λ i. again x i ∷ restored stored read again xs i
+
+-- of rows with their places
+restored_from : {X C : Type 0} (stored : ℕ × X → C) (read : C → X) → ((p : ℕ × X) → read (stored p) ≡ p.1) → (k : ℕ) (xs : List X) → map read (map stored (enumerate_from k xs)) ≡ xs
+restored_from stored read again k [] = refl
+restored_from stored read again k (x ∷ xs) = λ i. again (k, x) i ∷ restored_from stored read again (k + 1) xs i
+
+abbrev read_grant : Row → Grant
+read_grant r = record { workunit = read_number (column r 2); n = read_number (column r 3); host = read_text (column r 4); credit = read_number (column r 5) }
+
+abbrev read_archived : Row → Archived
+read_archived r = record {
+  number = read_number (column r 2);
+  name = read_text (column r 3);
+  error_mask = flags_of (read_number (column r 4));
+  canonical = read_maybe (column r 5);
+  output = read_blob (column r 6);
+  done_at = read_number (column r 7);
+}
+
+archive_again : (p : ℕ × Archived) → read_archived (stored_archived p) ≡ p.1
+archive_again p = λ i. record p.1 { error_mask = mask_again p.1.error_mask i; canonical = maybe_again p.1.canonical i }
+
+abbrev read_import : Row → Import
+read_import r = record {
+  kind = kind_of (read_number (column r 0));
+  name = read_text (column r 1);
+  template = read_blob (column r 2);
+  content = read_blob (column r 3);
+  first_number = read_number (column r 4);
+  verdicts = map (λ d. d - 48) (read_text (column r 5));
+}
+
+import_again : (m : Import) → read_import (import_cells m) ≡ m
+import_again m = λ i. record m { kind = kind_again m.kind i; verdicts = digits_again m.verdicts i }
+
+abbrev read_instance : Row → Instance
+read_instance r = record {
+  server_state = server_of (read_number (column r 0));
+  outcome = outcome_of (read_number (column r 1));
+  validate_state = validate_of (read_number (column r 2));
+  file_delete = delete_of (read_number (column r 3));
+  host = read_host (column r 4);
+  sent_at = read_maybe (column r 5);
+  deadline = read_maybe (column r 6);
+  received_at = read_maybe (column r 7);
+  output = read_blob (column r 8);
+}
+
+instance_again : (m : Instance) → read_instance (instance_row m) ≡ m
+instance_again m = λ i. record m {
+  server_state = server_again m.server_state i;
+  outcome = outcome_again m.outcome i;
+  validate_state = validate_again m.validate_state i;
+  file_delete = delete_again m.file_delete i;
+  host = host_again m.host i;
+  sent_at = maybe_again m.sent_at i;
+  deadline = maybe_again m.deadline i;
+  received_at = maybe_again m.received_at i;
+}
+
+-- ---- a workunit's instances
+
+only_one : (v : Workunit) (ws : List Workunit) → Rises ws → Has ws v → filter (λ (w : Workunit). w.number == v.number) ws ≡ v ∷ []
+only_one v [] up has = absurd has
+only_one v (w ∷ ws) up (inl same) =
+    let on : (w.number == v.number) ≡ true = ap (λ (u : Workunit). w.number == u.number) same ∙ eq-eqb w.number w.number refl in
+    let none : filter (λ (u : Workunit). u.number == v.number) ws ≡ [] = filter_none (λ (u : Workunit). u.number == v.number) ws (all_from (λ (u : Workunit). (u.number == v.number) ≡ false) ws (λ u later.
+    let low : v.number < u.number = subst (λ (x : Workunit). x.number < u.number) (sym same) (all_has (λ (x : Workunit). w.number < x.number) ws u up.0 later) in ne_eqb u.number v.number (λ e. omega (arith, e, low)))) in
+    rw (on, none) (ap (λ l. l ∷ []) (sym same))
+only_one v (w ∷ ws) up (inr later) =
+    let off : (w.number == v.number) ≡ false = ne_eqb w.number v.number (λ e. let low = all_has (λ (x : Workunit). w.number < x.number) ws v up.0 later in omega (arith, e, low)) in
+    rw off (only_one v ws up.1 later)
+
+instances_one : (v u : Workunit) → v.number ≡ u.number → IsPermutation (instances_of v) (instances_of u) → u.instances ≡ v.instances
+instances_one v u same perm =
+    let pairs : pairs_from u.number 0 u.instances ≡ pairs_from v.number 0 v.instances =
+    two_orders by_key (on_total (λ (o : Output). column o.0 0) value_cmp_total) (pairs_from v.number 0 v.instances) (pairs_from u.number 0 u.instances) (rising v.number 0 v.instances) (rising u.number 0 u.instances)
+    (IsPermutation-map cell_pair (instances_of v) (instances_of u) perm) in
+    let rows : map instance_row u.instances ≡ map instance_row v.instances = sym (shown_from u.number 0 u.instances) ∙ ap (map (λ (o : Output). o.1)) pairs ∙ shown_from v.number 0 v.instances in
+    sym (restored instance_row read_instance instance_again u.instances) ∙ ap (map read_instance) rows ∙ restored instance_row read_instance instance_again v.instances
+
+module _ (ws_a ws_b : List Workunit) (up_a : Rises ws_a) (up_b : Rises ws_b) (same : IsPermutation (flat_map instances_of ws_a) (flat_map instances_of ws_b)) where
+  of_number : (v : Workunit) (ws : List Workunit) → Rises ws → Has ws v → filter (fits v.number (λ b. b)) (flat_map instances_of ws) ≡ instances_of v
+  of_number v ws up has = instances_left v.number (λ b. b) ws ∙ ap (flat_map instances_of) (only_one v ws up has) ∙ append-nil (instances_of v)
+
+  brought : (v u : Workunit) → Has ws_a v → Has ws_b u → v.number ≡ u.number → u.instances ≡ v.instances
+  brought v u has_v has_u is =
+      let kept = IsPermutation-filter (fits v.number (λ b. b)) (flat_map instances_of ws_a) (flat_map instances_of ws_b) same in
+      let left : filter (fits v.number (λ b. b)) (flat_map instances_of ws_b) ≡ instances_of u = subst (λ n. filter (fits n (λ b. b)) (flat_map instances_of ws_b) ≡ instances_of u) (sym is) (of_number u ws_b up_b has_u) in
+      instances_one v u is (subst (λ xs. IsPermutation xs (instances_of u)) (of_number v ws_a up_a has_v) (subst (IsPermutation (filter (fits v.number (λ b. b)) (flat_map instances_of ws_a))) left kept))
+
+same_works : (ws_a ws_b : List Workunit) → map stored_workunit ws_a ≡ map stored_workunit ws_b → ((v u : Workunit) → Has ws_a v → Has ws_b u → v.number ≡ u.number → u.instances ≡ v.instances) → ws_a ≡ ws_b
+same_works [] [] e brings = refl
+same_works [] (u ∷ us) e brings = absurd (cc)
+same_works (v ∷ vs) [] e brings = absurd (cc)
+same_works (v ∷ vs) (u ∷ us) e brings =
+    let rows : stored_workunit v ≡ stored_workunit u = cc in
+    let number : v.number ≡ u.number = cc in
+    let instances = sym (brings v u (inl refl) (inl refl) number) in
+    let one : v ≡ u = sym (workunit_again v) ∙ (λ i. read_workunit (rows i) (instances i)) ∙ workunit_again u in
+    (λ i. one i ∷ same_works vs us (cc) (λ x y has_x has_y. brings x y (inr has_x) (inr has_y)) i)
+
+-- ---- the worlds
+
+-- a name finds one table, and so one list of rows
+one_table : (db : Database) (name : List ℕ) (s t : Table) → HasNamed db.schema name s → HasNamed db.schema name t → db.trees s.tree ≡ db.trees t.tree
+one_table db name s t has_s has_t =
+    let at : has_s.0 ≡ has_t.0 = same_some (sym has_s.1.named ∙ has_t.1.named) in
+    ap (λ (u : Table). db.trees u.tree) (same_some (sym has_s.1.there ∙ ap (slice_get db.schema.tables) at ∙ has_t.1.there))
+
+-- and so the cells behind its rowids, in some order
+one_cells : {rows other cells more : List Row} → rows ≡ other → HoldsAll rows cells → HoldsAll other more → IsPermutation cells more
+one_cells {rows} {other} {cells} {more} same one two = IsPermutation-trans _ _ _ (subst (λ rs. IsPermutation cells (map (drop 1) rs)) same one.same) (IsPermutation-sym more (map (drop 1) other) two.same)
+
+pub one_world : (db : Database) (a b : World) → StandsFor db a → StandsFor db b → SameWorld a b
+one_world db a b s t =
+    let project : stored_project a ∷ [] ≡ stored_project b ∷ [] = sym s.rows.project ∙ one_table db _ _ _ s.tables.project t.tables.project ∙ t.rows.project in
+    let works = sym s.rows.workunits.same ∙ one_table db _ _ _ s.tables.workunit t.tables.workunit ∙ t.rows.workunits.same in
+    let grants = sym s.rows.grants.same ∙ one_table db _ _ _ s.tables.grant t.tables.grant ∙ t.rows.grants.same in
+    let archived = sym s.rows.archived.same ∙ one_table db _ _ _ s.tables.archived t.tables.archived ∙ t.rows.archived.same in
+    let instances = one_cells (one_table db _ _ _ s.tables.result t.tables.result) s.rows.instances t.rows.instances in
+    let imports = IsPermutation-map read_import _ _ (one_cells (one_table db _ _ _ s.tables.import t.tables.import) s.rows.imports t.rows.imports) in
+    record {
+      workunits = same_works a.workunits b.workunits works (brought a.workunits b.workunits (table_rises a.workunits (subst IsTable s.rows.workunits.same s.rows.workunits.shaped.0)) (table_rises b.workunits (subst IsTable t.rows.workunits.same t.rows.workunits.shaped.0)) instances);
+      grants = sym (restored_from stored_grant read_grant (λ p. refl) 1 a.grants) ∙ ap (map read_grant) grants ∙ restored_from stored_grant read_grant (λ p. refl) 1 b.grants;
+      archived = sym (restored_from stored_archived read_archived archive_again 1 a.archived) ∙ ap (map read_archived) archived ∙ restored_from stored_archived read_archived archive_again 1 b.archived;
+      imports = subst (λ xs. IsPermutation xs b.imports) (restored import_cells read_import import_again a.imports) (subst (IsPermutation (map read_import (map import_cells a.imports))) (restored import_cells read_import import_again b.imports) imports);
+      next_number = cc;
+      version = cc;
+    }

@@ -1,0 +1,45 @@
+-- What the changes of a command make of a world, and of the tables that stand for it.
+use Rattle.std.specs.Prelude.{◌≡◌, List, [], ◌∷◌, ⊤}
+use Rattle.sqlite.specs.Effect.{Database}
+use Rattle.wu_core.specs.World.{World, Import}
+use Rattle.wu_store.specs.Changes.{with_workunit, with_import, with_next, IsAbove}
+use Rattle.wu_schema.specs.StandsFor.{StandsFor}
+use Rattle.wu_store.specs.declared.changes.Change.{Change}
+use Rattle.wu_store.specs.declared.changes.Change.TheVariants.{Add, Next, Keep}
+use Rattle.wu_store.specs.declared.changes.Import.{Import as Kept}
+
+-- an import as it is kept
+abbrev pub import_of_change : Kept → Import
+import_of_change kept = record {
+  kind = kept.kind;
+  name = kept.name.now;
+  template = kept.template.now;
+  content = kept.content.now;
+  first_number = kept.first_number;
+  verdicts = kept.verdicts;
+}
+
+-- the world with one change
+abbrev pub made : Change → World → World
+made (Add w) world = with_workunit w world
+made (Next number) world = with_next number world
+made (Keep kept) world = with_import (import_of_change kept) world
+
+-- the world with one change after another
+abbrev pub made_all : List Change → World → World
+made_all [] world = world
+made_all (change ∷ more) world = made_all more (made change world)
+
+-- a workunit is new and has no instances yet
+abbrev pub IsRight : Change → World → Type 0
+IsRight (Add w) world = IsAbove w.number world.workunits × (w.instances ≡ [])
+IsRight (Next number) world = ⊤
+IsRight (Keep kept) world = ⊤
+
+abbrev pub AreRight : List Change → World → Type 0
+AreRight [] world = ⊤
+AreRight (change ∷ more) world = IsRight change world × AreRight more (made change world)
+
+-- whatever world the tables stood for, they stand for it with the changes
+abbrev pub MakesWorlds : List Change → Database → Database → Type 0
+MakesWorlds changes old new = (world : World) → StandsFor old world → AreRight changes world → StandsFor new (made_all changes world)

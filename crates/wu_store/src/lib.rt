@@ -1,0 +1,17 @@
+//! A project's tables as a world: what a stored row means, questions and statements, and lists of changes.
+#![tactic(auto)]
+
+mod changes;
+pub mod laws;
+mod rows;
+mod statements;
+mod verdicts;
+
+pub use changes::{Change, Import, apply};
+pub use rows::{StoredImport, import_from, instance_from, next_number_from, workunit_from};
+pub use statements::{
+    delete_workunit, has_archived, has_workunit, import_rows, insert_archived, insert_grant,
+    insert_import, insert_instance, insert_workunit, instance_rows, next_number_row,
+    set_next_number, workunit_row_above, workunit_row_named, workunit_rows,
+};
+pub use verdicts::Verdicts;

@@ -1,0 +1,414 @@
+//! What a stored row means: a value, or `NotAProject` where it is no value of its type.
+
+ghost use Rattle.std.specs.Prelude.{◌≡◌, ◌⊎◌, ◌<◌, ◌≤◌, ℕ, ⊤, [], ◌∷◌, ◌-◌, length, IfOk, IfErr, SomeIff};
+ghost use Rattle.std.specs.Bool.{Decides};
+ghost use Rattle.sqlite.specs.Order.{column};
+ghost use Rattle.sqlite.specs.declared.types.Value.TheVariants.{Int, Text, Blob};
+ghost use Rattle.wu_core.specs.declared.fault.Fault.TheVariants.{Memory, NotAProject};
+ghost use Rattle.wu_core.specs.Formed.{IsInstance};
+ghost use Rattle.wu_core.specs.Parameters.{IsParameters};
+ghost use Rattle.wu_core.specs.World.{last_skip};
+ghost use Rattle.wu_schema.specs.Stored.{instance_row, number, number_or_null, text_or_null, parameter_cells, verdict_digits, workunit_row};
+ghost use Rattle.wu_schema.specs.Restoring.{Restores};
+ghost use Rattle.wu_store.specs.Reading.{assimilate_cell, file_delete_cell, mask_cell, outcome_cell, server_state_cell, validate_state_cell, verdicts_cell, IsOutput, columns, progress_cells, IsInput, IsMoment, IsName, IsPlace, IsProgress, IsStoredWorkunit, AreVerdicts, IsNextNumber, IsStoredImport, stored_import_row, AreMoments, IsDeadline, IsHost, IsStoredInstance, MayBeInstance, moment_cells, state_cells};
+
+use sqlite::Row;
+use sqlite::types::ValueRef;
+use std::alloc::Global;
+use wu_core::{
+    Assimilate, Bytes, Deadline, ErrorMask, Fault, FileDelete, ImportKind, Instance, Instances,
+    LONGEST_INPUT, LONGEST_OUTPUT, MOST_WORKUNITS, Moment, Name, Outcome, Params, ServerState,
+    ValidateState, Workunit,
+};
+use wu_schema::{number_at, read_column};
+
+fn name_at(alloc: Global, row: &Row, at: usize) -> Result<Name, Fault>
+    ensures { Restores Text IsName (column row.now at) result }
+{
+    let Ok(ValueRef::Text(text)) = row.get_ref(at) else {
+        return Err(Fault::NotAProject);
+    };
+    match Name::read(alloc, text) {
+        Ok(name) => Ok(name),
+        Err(Fault::Memory) => Err(Fault::Memory),
+        Err(_) => Err(Fault::NotAProject),
+    }
+}
+
+fn input_at(row: &Row, at: usize) -> Result<Bytes, Fault>
+    ensures { Restores Blob IsInput (column row.now at) result }
+{
+    let input: Vec<u8> = read_column(row, at)?;
+    if input.len() > LONGEST_INPUT {
+        return Err(Fault::NotAProject);
+    }
+    Ok(Bytes::from_vec(input))
+}
+
+fn mask_at(row: &Row, at: usize) -> Result<ErrorMask, Fault>
+    ensures { Restores mask_cell (λ _. ⊤) (column row.now at) result }
+{
+    let code: u32 = read_column(row, at)?;
+    ErrorMask::from_code(code).ok_or(Fault::NotAProject)
+}
+
+fn assimilate_at(row: &Row, at: usize) -> Result<Assimilate, Fault>
+    ensures { Restores assimilate_cell (λ _. ⊤) (column row.now at) result }
+{
+    let code: u32 = read_column(row, at)?;
+    Assimilate::from_code(code).ok_or(Fault::NotAProject)
+}
+
+fn file_delete_at(row: &Row, at: usize) -> Result<FileDelete, Fault>
+    ensures { Restores file_delete_cell (λ _. ⊤) (column row.now at) result }
+{
+    let code: u32 = read_column(row, at)?;
+    FileDelete::from_code(code).ok_or(Fault::NotAProject)
+}
+
+fn place_at(row: &Row, at: usize) -> Result<Option<u32>, Fault>
+    requires { at < length row.now }
+    ensures { Restores number_or_null IsPlace (column row.now at) result }
+{
+    read_column(row, at)
+}
+
+fn moment_at(row: &Row, at: usize) -> Result<Option<Moment>, Fault>
+    requires { at < length row.now }
+    ensures { Restores number_or_null IsMoment (column row.now at) result }
+{
+    let seconds: Result<Option<u64>, Fault> = read_column(row, at);
+    match seconds {
+        Ok(Some(seconds)) => match Moment::new(seconds) {
+            Some(moment) => Ok(Some(moment)),
+            None => Err(Fault::NotAProject),
+        },
+        Ok(None) => Ok(None),
+        Err(fault) => Err(fault),
+    }
+}
+
+/// How far a workunit is, but for its instances.
+#[derive(Clone, Copy)]
+struct Progress {
+    error_mask: ErrorMask,
+    canonical: Option<u32>,
+    assimilate: Assimilate,
+    file_delete: FileDelete,
+    done_at: Option<Moment>,
+}
+
+/// The progress in the five columns from the eleventh on: a workunit is assimilated exactly where it has its moment.
+fn progress_from(row: &Row) -> Result<Progress, Fault>
+    requires { 15 ≤ length row.now }
+    ensures { Restores progress_cells IsProgress (columns row.now 10 5) result }
+{
+    let progress = Progress {
+        error_mask: mask_at(row, 10)?,
+        canonical: place_at(row, 11)?,
+        assimilate: assimilate_at(row, 12)?,
+        file_delete: file_delete_at(row, 13)?,
+        done_at: moment_at(row, 14)?,
+    };
+    let is_done = progress.assimilate == Assimilate::Done;
+    if is_done != progress.done_at.is_some() {
+        return Err(Fault::NotAProject);
+    }
+    Ok(progress)
+}
+
+fn value_at(row: &Row, at: usize) -> Result<i64, Fault>
+    ensures { Restores Int (λ _. ⊤) (column row.now at) result }
+{
+    read_column(row, at)
+}
+
+/// The parameters in the seven columns from the third on.
+fn params_from(row: &Row) -> Result<Params, Fault>
+    ensures { Restores parameter_cells IsParameters (columns row.now 2 7) result }
+{
+    Params::from_values([
+        value_at(row, 2)?,
+        value_at(row, 3)?,
+        value_at(row, 4)?,
+        value_at(row, 5)?,
+        value_at(row, 6)?,
+        value_at(row, 7)?,
+        value_at(row, 8)?,
+    ])
+    .ok_or(Fault::NotAProject)
+}
+
+/// The workunit of a row of the table `workunit` with its columns in their order, and no instances.
+pub fn workunit_from(alloc: Global, row: &Row) -> Result<Workunit, Fault>
+    ensures { Restores workunit_row IsStoredWorkunit row.now result }
+{
+    if row.column_count() != 15 {
+        return Err(Fault::NotAProject);
+    }
+    let number = number_at(row, 0)?;
+    let params = params_from(row)?;
+    let progress = progress_from(row)?;
+    let input = input_at(row, 9)?;
+    let name = name_at(alloc, row, 1)?;
+    Ok(Workunit {
+        number,
+        name,
+        params,
+        input,
+        error_mask: progress.error_mask,
+        canonical: progress.canonical,
+        assimilate: progress.assimilate,
+        file_delete: progress.file_delete,
+        done_at: progress.done_at,
+        instances: Instances::new(alloc),
+    })
+}
+
+/// How an instance stands.
+#[derive(Clone, Copy)]
+struct States {
+    server_state: ServerState,
+    outcome: Outcome,
+    validate_state: ValidateState,
+    file_delete: FileDelete,
+}
+
+/// When an instance was sent, is due and was reported.
+#[derive(Clone, Copy)]
+struct Moments {
+    sent_at: Option<Moment>,
+    deadline: Option<Deadline>,
+    received_at: Option<Moment>,
+}
+
+fn server_state_at(row: &Row, at: usize) -> Result<ServerState, Fault>
+    ensures { Restores server_state_cell (λ _. ⊤) (column row.now at) result }
+{
+    let code: u32 = read_column(row, at)?;
+    ServerState::from_code(code).ok_or(Fault::NotAProject)
+}
+
+fn outcome_at(row: &Row, at: usize) -> Result<Outcome, Fault>
+    ensures { Restores outcome_cell (λ _. ⊤) (column row.now at) result }
+{
+    let code: u32 = read_column(row, at)?;
+    Outcome::from_code(code).ok_or(Fault::NotAProject)
+}
+
+fn validate_state_at(row: &Row, at: usize) -> Result<ValidateState, Fault>
+    ensures { Restores validate_state_cell (λ _. ⊤) (column row.now at) result }
+{
+    let code: u32 = read_column(row, at)?;
+    ValidateState::from_code(code).ok_or(Fault::NotAProject)
+}
+
+/// The states in the first four columns.
+fn states_from(row: &Row) -> Result<States, Fault>
+    ensures { Restores state_cells (λ _. ⊤) (columns row.now 0 4) result }
+{
+    Ok(States {
+        server_state: server_state_at(row, 0)?,
+        outcome: outcome_at(row, 1)?,
+        validate_state: validate_state_at(row, 2)?,
+        file_delete: file_delete_at(row, 3)?,
+    })
+}
+
+fn deadline_at(row: &Row, at: usize) -> Result<Option<Deadline>, Fault>
+    requires { at < length row.now }
+    ensures { Restores number_or_null IsDeadline (column row.now at) result }
+{
+    let seconds: Result<Option<u64>, Fault> = read_column(row, at);
+    match seconds {
+        Ok(Some(seconds)) => match Deadline::new(seconds) {
+            Some(deadline) => Ok(Some(deadline)),
+            None => Err(Fault::NotAProject),
+        },
+        Ok(None) => Ok(None),
+        Err(fault) => Err(fault),
+    }
+}
+
+/// The moments in the three columns from the sixth on.
+fn moments_from(row: &Row) -> Result<Moments, Fault>
+    requires { 9 ≤ length row.now }
+    ensures { Restores moment_cells AreMoments (columns row.now 5 3) result }
+{
+    Ok(Moments {
+        sent_at: moment_at(row, 5)?,
+        deadline: deadline_at(row, 6)?,
+        received_at: moment_at(row, 7)?,
+    })
+}
+
+fn host_at(alloc: Global, row: &Row, at: usize) -> Result<Option<Name>, Fault>
+    requires { at < length row.now }
+    ensures { Restores text_or_null IsHost (column row.now at) result }
+{
+    match row.get_ref(at) {
+        Ok(ValueRef::Null) => Ok(None),
+        _ => match name_at(alloc, row, at) {
+            Ok(name) => Ok(Some(name)),
+            Err(fault) => Err(fault),
+        },
+    }
+}
+
+fn output_at(row: &Row, at: usize) -> Result<Bytes, Fault>
+    ensures { Restores Blob IsOutput (column row.now at) result }
+{
+    let output: Vec<u8> = read_column(row, at)?;
+    if output.len() > LONGEST_OUTPUT {
+        return Err(Fault::NotAProject);
+    }
+    Ok(Bytes::from_vec(output))
+}
+
+/// Whether host, sending and deadline are there together, and as the states want it.
+fn is_formed(instance: &Instance) -> bool
+    ensures { Decides result (IsInstance instance.now) }
+{
+    let has_host = instance.host.is_some();
+    let is_unsent = instance.server_state == ServerState::Unsent;
+    let is_in_progress = instance.server_state == ServerState::InProgress;
+    let is_success = instance.server_state == ServerState::Over
+        && instance.outcome == Outcome::Success;
+    instance.sent_at.is_some() == has_host
+        && instance.deadline.is_some() == has_host
+        && !(is_unsent && has_host)
+        && !(is_in_progress && !has_host)
+        && !(is_success && !has_host)
+}
+
+/// The instance with these columns, well formed or not.
+fn any_instance_from(alloc: Global, row: &Row) -> Result<Instance, Fault>
+    ensures { Restores instance_row MayBeInstance row.now result }
+{
+    if row.column_count() != 9 {
+        return Err(Fault::NotAProject);
+    }
+    let states = states_from(row)?;
+    let moments = moments_from(row)?;
+    let output = output_at(row, 8)?;
+    let host = host_at(alloc, row, 4)?;
+    Ok(Instance {
+        server_state: states.server_state,
+        outcome: states.outcome,
+        validate_state: states.validate_state,
+        file_delete: states.file_delete,
+        host,
+        sent_at: moments.sent_at,
+        deadline: moments.deadline,
+        received_at: moments.received_at,
+        output,
+    })
+}
+
+/// The instance of a row of the table `result` with its columns from the third on, in their order.
+pub fn instance_from(alloc: Global, row: &Row) -> Result<Instance, Fault>
+    ensures { Restores instance_row IsStoredInstance row.now result }
+{
+    let instance = any_instance_from(alloc, row)?;
+    if is_formed(&instance) {
+        Ok(instance)
+    } else {
+        Err(Fault::NotAProject)
+    }
+}
+
+fn bytes_at(row: &Row, at: usize) -> Result<Bytes, Fault>
+    ensures { Restores Blob (λ _. ⊤) (column row.now at) result }
+{
+    let bytes: Vec<u8> = read_column(row, at)?;
+    Ok(Bytes::from_vec(bytes))
+}
+
+/// The greatest number of a skip of an import of this kind.
+fn last_skip(kind: ImportKind) -> u8
+    ensures { result ≡ last_skip kind }
+{
+    match kind {
+        ImportKind::Batch => 0,
+        ImportKind::Sent => 3,
+        ImportKind::Reported => 5,
+    }
+}
+
+/// The verdict of a digit, if an import of this kind may have it.
+fn verdict_of(kind: ImportKind, digit: u8) -> Option<u8>
+    ensures { SomeIff result ((48 ≤ digit) × (digit - 48 ≤ last_skip kind)) (digit - 48) }
+{
+    match digit.checked_sub(b'0') {
+        Some(verdict) if verdict <= last_skip(kind) => Some(verdict),
+        _ => None,
+    }
+}
+
+/// The verdicts of a text with one digit for each row.
+fn verdicts_from(alloc: Global, kind: ImportKind, digits: &[u8]) -> Result<Bytes, Fault>
+    ensures { Restores verdict_digits (AreVerdicts kind) digits.now result }
+{
+    let mut verdicts = Vec::new(alloc);
+    for digit in digits {
+        let Some(verdict) = verdict_of(kind, *digit) else {
+            return Err(Fault::NotAProject);
+        };
+        verdicts.push(verdict)?;
+    }
+    Ok(Bytes::from_vec(verdicts))
+}
+
+fn verdicts_at(alloc: Global, kind: ImportKind, row: &Row, at: usize) -> Result<Bytes, Fault>
+    ensures { Restores verdicts_cell (AreVerdicts kind) (column row.now at) result }
+{
+    let Ok(ValueRef::Text(digits)) = row.get_ref(at) else {
+        return Err(Fault::NotAProject);
+    };
+    verdicts_from(alloc, kind, digits)
+}
+
+/// What is kept of an import: its content, and its first answer.
+#[derive(Drop)]
+pub struct StoredImport {
+    pub template: Bytes,
+    pub content: Bytes,
+    /// The first number of a batch, 0 where it made no workunit.
+    pub first_number: u64,
+    /// One for each row: 0 where it was applied, else the number of the skip.
+    pub verdicts: Bytes,
+}
+
+/// The import of a row with its template, content, first number and verdicts.
+pub fn import_from(alloc: Global, kind: ImportKind, row: &Row) -> Result<StoredImport, Fault>
+    ensures { Restores stored_import_row (IsStoredImport kind) row.now result }
+{
+    if row.column_count() != 4 {
+        return Err(Fault::NotAProject);
+    }
+    let first_number = number_at(row, 2)?;
+    let template = bytes_at(row, 0)?;
+    let content = bytes_at(row, 1)?;
+    let verdicts = verdicts_at(alloc, kind, row, 3)?;
+    Ok(StoredImport {
+        template,
+        content,
+        first_number,
+        verdicts,
+    })
+}
+
+/// The next number of a project's row: from 1 to one more than there may be workunits ever.
+pub fn next_number_from(row: &Row) -> Result<u64, Fault>
+    ensures reads { Restores (λ next. number next ∷ []) IsNextNumber row.now result }
+{
+    if row.column_count() != 1 {
+        return Err(Fault::NotAProject);
+    }
+    let next = number_at(row, 0)?;
+    if 1 <= next && next <= MOST_WORKUNITS + 1 {
+        Ok(next)
+    } else {
+        Err(Fault::NotAProject)
+    }
+}

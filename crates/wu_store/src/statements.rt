@@ -1,0 +1,352 @@
+//! The statements, each text in one function.
+
+ghost use Rattle.std.specs.Prelude.{◌≡◌, ◌<◌, ◌≤◌, ◌^◌, [], pos, option_map, IfOk, IfErr, OnOk};
+ghost use Rattle.wu_store.specs.Changing.{import_of_change};
+ghost use Rattle.wu_store.specs.Changes.{bare, with_placed, without_workunit, with_grant, with_archived, with_import, with_next, AddsInstance, Credits, PutsGrant};
+ghost use Rattle.wu_schema.specs.Calls.{Reads, Answers, AnswersRows, OnlyFails, Writes, Does, Changes};
+ghost use Rattle.wu_store.specs.Answers.{all_rows, has_name, instance_rows_of, kept_of, next_row, row_above, row_named, was_archived};
+
+use crate::changes::Import;
+use sqlite::{Alter, Connection, Error, Row, Transaction, params};
+use wu_core::{Archived, Deadline, Grant, ImportKind, Instance, Moment, Name, Workunit};
+use wu_schema::execute;
+
+/// A number of the schema, none of which is above a signed 64-bit number's range.
+fn signed(number: u64) -> Result<i64, Error>
+    ensures value { IfOk result (λ n. n ≡ pos number) }
+    ensures within { IfOk result (λ _. number < 2 ^ 63) }
+    ensures beyond { IfErr result (λ _. 2 ^ 63 ≤ number) }
+{
+    i64::try_from(number).map_err(|_| Error::IntegralValueOutOfRange(0))
+}
+
+/// The seconds of a moment.
+fn seconds(moment: Moment) -> i64
+    ensures value { result ≡ pos moment }
+    ensures within { moment < 2 ^ 63 }
+{
+    moment.seconds() as i64
+}
+
+/// The seconds of a moment, where there is one.
+fn seconds_of(moment: Option<Moment>) -> Option<i64>
+    ensures { result ≡ option_map pos moment }
+{
+    match moment {
+        Some(moment) => Some(seconds(moment)),
+        None => None,
+    }
+}
+
+/// The seconds of a deadline, where there is one.
+fn deadline_of(deadline: Option<Deadline>) -> Option<i64>
+    ensures { result ≡ option_map pos deadline }
+{
+    match deadline {
+        Some(deadline) => Some(deadline.seconds() as i64),
+        None => None,
+    }
+}
+
+/// The text of a host's name, where there is one.
+fn host_of(host: &Option<Name>) -> Option<&str>
+    ensures { option_map (λ text. text.now) result ≡ host.now }
+{
+    match host {
+        Some(host) => Some(host.as_str()),
+        None => None,
+    }
+}
+
+/// The row of the import of this kind and name, or none.
+pub fn import_rows<S: Alter>(
+    conn: &mut Connection<S>,
+    kind: ImportKind,
+    name: &Name,
+) -> Result<Vec<Row>, Error>
+    ensures reads { Reads S.Store conn.old conn.new result }
+    ensures answers { AnswersRows S.Store conn.old conn.new result (kept_of kind name.now) }
+    ensures told { OnlyFails S.Store conn.old conn.new result }
+{
+    conn.query_all(
+        "SELECT template, content, first_number, verdicts FROM import WHERE kind = ?1 AND name = ?2",
+        params![kind.code(), name.as_str()],
+    )
+}
+
+/// Whether a workunit of this name is present.
+pub fn has_workunit<S: Alter>(conn: &mut Connection<S>, name: &Name) -> Result<bool, Error>
+    ensures reads { Reads S.Store conn.old conn.new result }
+    ensures answers { Answers S.Store conn.old conn.new result (has_name name.now) }
+    ensures told { OnlyFails S.Store conn.old conn.new result }
+{
+    let rows = conn.query_all(
+        "SELECT number FROM workunit WHERE name = ?1",
+        params![name.as_str()],
+    )?;
+    Ok(!rows.is_empty())
+}
+
+/// Whether a workunit of this name was archived.
+pub fn has_archived<S: Alter>(conn: &mut Connection<S>, name: &Name) -> Result<bool, Error>
+    ensures reads { Reads S.Store conn.old conn.new result }
+    ensures answers { Answers S.Store conn.old conn.new result (was_archived name.now) }
+    ensures told { OnlyFails S.Store conn.old conn.new result }
+{
+    let rows = conn.query_all(
+        "SELECT number FROM archived WHERE name = ?1",
+        params![name.as_str()],
+    )?;
+    Ok(!rows.is_empty())
+}
+
+/// The row of the project's next number.
+pub fn next_number_row<S: Alter>(conn: &mut Connection<S>) -> Result<Row, Error>
+    ensures reads { Reads S.Store conn.old conn.new result }
+    ensures answers { Answers S.Store conn.old conn.new result next_row }
+    ensures told { OnlyFails S.Store conn.old conn.new result }
+{
+    conn.query_row("SELECT next_number FROM project", &[])
+}
+
+/// The rows of all workunits, in order of number.
+pub fn workunit_rows<S: Alter>(conn: &mut Connection<S>) -> Result<Vec<Row>, Error>
+    ensures reads { Reads S.Store conn.old conn.new result }
+    ensures answers { AnswersRows S.Store conn.old conn.new result all_rows }
+    ensures told { OnlyFails S.Store conn.old conn.new result }
+{
+    conn.query_all(
+        "SELECT number, name, min_quorum, target_nresults, max_error_results, max_total_results, max_success_results, delay_bound, credit, input, error_mask, canonical, assimilate, file_delete, done_at FROM workunit ORDER BY number",
+        &[],
+    )
+}
+
+/// The row of the workunit of this name, or none.
+pub fn workunit_row_named<S: Alter>(
+    conn: &mut Connection<S>,
+    name: &Name,
+) -> Result<Option<Row>, Error>
+    ensures reads { Reads S.Store conn.old conn.new result }
+    ensures answers { Answers S.Store conn.old conn.new result (row_named name.now) }
+    ensures told { OnlyFails S.Store conn.old conn.new result }
+{
+    let mut rows = conn.query_all(
+        "SELECT number, name, min_quorum, target_nresults, max_error_results, max_total_results, max_success_results, delay_bound, credit, input, error_mask, canonical, assimilate, file_delete, done_at FROM workunit WHERE name = ?1",
+        params![name.as_str()],
+    )?;
+    Ok(rows.pop())
+}
+
+/// The row of the workunit with the least number above this one, or none. A number from 2^63 on is an error.
+pub fn workunit_row_above<S: Alter>(
+    conn: &mut Connection<S>,
+    number: u64,
+) -> Result<Option<Row>, Error>
+    ensures reads { Reads S.Store conn.old conn.new result }
+    ensures answers { Answers S.Store conn.old conn.new result (row_above number) }
+    ensures told { number < 2 ^ 63 → OnlyFails S.Store conn.old conn.new result }
+{
+    let number = match signed(number) {
+        Ok(number) => number,
+        Err(error) => return Err(error),
+    };
+    let found = conn.query_all(
+        "SELECT number, name, min_quorum, target_nresults, max_error_results, max_total_results, max_success_results, delay_bound, credit, input, error_mask, canonical, assimilate, file_delete, done_at FROM workunit WHERE number > ?1 ORDER BY number LIMIT 1",
+        params![number],
+    );
+    match found {
+        Ok(mut rows) => Ok(rows.pop()),
+        Err(error) => Err(error),
+    }
+}
+
+/// The rows of the instances of the workunit of this number, in order of theirs, from the third column on.
+/// A number from 2^63 on is an error.
+pub fn instance_rows<S: Alter>(conn: &mut Connection<S>, workunit: u64) -> Result<Vec<Row>, Error>
+    ensures reads { Reads S.Store conn.old conn.new result }
+    ensures answers { AnswersRows S.Store conn.old conn.new result (instance_rows_of workunit) }
+    ensures told { workunit < 2 ^ 63 → OnlyFails S.Store conn.old conn.new result }
+{
+    let workunit = match signed(workunit) {
+        Ok(workunit) => workunit,
+        Err(error) => return Err(error),
+    };
+    conn.query_all(
+        "SELECT server_state, outcome, validate_state, file_delete, host, sent_at, deadline, received_at, output FROM result WHERE workunit = ?1 ORDER BY n",
+        params![workunit],
+    )
+}
+
+/// Adds the row of a workunit at its place in order of number, without its instances. A number that is there is refused.
+pub fn insert_workunit<S: Alter>(
+    tx: &mut Transaction<'_, S>,
+    workunit: &Workunit,
+) -> Result<(), Error>
+    ensures writes { Writes S.Store tx.old tx.new result }
+    ensures puts { Changes S.Store tx.old tx.new result (with_placed (bare workunit.now)) }
+{
+    let params = workunit.params;
+    let number = signed(workunit.number)?;
+    let done_at = seconds_of(workunit.done_at);
+    execute(
+        tx,
+        "INSERT INTO workunit (number, name, min_quorum, target_nresults, max_error_results, max_total_results, max_success_results, delay_bound, credit, input, error_mask, canonical, assimilate, file_delete, done_at) VALUES (?1, ?2, ?3, ?4, ?5, ?6, ?7, ?8, ?9, ?10, ?11, ?12, ?13, ?14, ?15)",
+        params![
+            number,
+            workunit.name.as_str(),
+            params.min_quorum(),
+            params.target_nresults(),
+            params.max_error_results(),
+            params.max_total_results(),
+            params.max_success_results(),
+            params.delay_bound(),
+            params.credit(),
+            workunit.input.as_slice(),
+            workunit.error_mask.code(),
+            workunit.canonical,
+            workunit.assimilate.code(),
+            workunit.file_delete.code(),
+            done_at
+        ],
+    )
+}
+
+/// Adds the row of an instance, with the next number of its workunit's instances.
+pub fn insert_instance<S: Alter>(
+    tx: &mut Transaction<'_, S>,
+    workunit: u64,
+    n: u32,
+    instance: &Instance,
+) -> Result<(), Error>
+    ensures writes { Writes S.Store tx.old tx.new result }
+    ensures puts { Does S.Store tx.old tx.new result (AddsInstance workunit n instance.now) }
+{
+    let workunit = signed(workunit)?;
+    let host = host_of(&instance.host);
+    let sent_at = seconds_of(instance.sent_at);
+    let deadline = deadline_of(instance.deadline);
+    let received_at = seconds_of(instance.received_at);
+    execute(
+        tx,
+        "INSERT INTO result (workunit, n, server_state, outcome, validate_state, file_delete, host, sent_at, deadline, received_at, output) VALUES (?1, ?2, ?3, ?4, ?5, ?6, ?7, ?8, ?9, ?10, ?11)",
+        params![
+            workunit,
+            n,
+            instance.server_state.code(),
+            instance.outcome.code(),
+            instance.validate_state.code(),
+            instance.file_delete.code(),
+            host,
+            sent_at,
+            deadline,
+            received_at,
+            instance.output.as_slice()
+        ],
+    )
+}
+
+/// Deletes the workunit of this number, if there is one, and its instances.
+pub fn delete_workunit<S: Alter>(tx: &mut Transaction<'_, S>, number: u64) -> Result<(), Error>
+    ensures writes { Writes S.Store tx.old tx.new result }
+    ensures deletes { Changes S.Store tx.old tx.new result (without_workunit number) }
+{
+    execute(
+        tx,
+        "DELETE FROM workunit WHERE number = ?1",
+        params![signed(number)?],
+    )
+}
+
+fn insert_grant_row<S: Alter>(tx: &mut Transaction<'_, S>, grant: &Grant) -> Result<(), Error>
+    ensures writes { Writes S.Store tx.old tx.new result }
+    ensures puts { Does S.Store tx.old tx.new result (PutsGrant grant.now) }
+{
+    execute(
+        tx,
+        "INSERT INTO credit_grant (workunit, n, host, credit) VALUES (?1, ?2, ?3, ?4)",
+        params![
+            signed(grant.workunit)?,
+            grant.n,
+            grant.host.as_str(),
+            signed(grant.credit)?
+        ],
+    )
+}
+
+fn add_credit<S: Alter>(tx: &mut Transaction<'_, S>, grant: &Grant) -> Result<(), Error>
+    ensures writes { Writes S.Store tx.old tx.new result }
+    ensures credits { Does S.Store tx.old tx.new result (Credits grant.now) }
+{
+    execute(
+        tx,
+        "INSERT INTO host (name, total, grants) VALUES (?1, ?2, 1) ON CONFLICT (name) DO UPDATE SET total = total + excluded.total, grants = grants + 1",
+        params![grant.host.as_str(), signed(grant.credit)?],
+    )
+}
+
+/// Adds a grant behind those that are there, and its credit to its host. A total past 64 bits is refused.
+pub fn insert_grant<S: Alter>(tx: &mut Transaction<'_, S>, grant: &Grant) -> Result<(), Error>
+    ensures writes { Writes S.Store tx.old tx.new result }
+    ensures grants { Changes S.Store tx.old tx.new result (with_grant grant.now) }
+{
+    insert_grant_row(tx, grant)?;
+    add_credit(tx, grant)
+}
+
+/// Adds the row of an archived workunit, behind those that are there.
+pub fn insert_archived<S: Alter>(
+    tx: &mut Transaction<'_, S>,
+    archived: &Archived,
+) -> Result<(), Error>
+    ensures writes { Writes S.Store tx.old tx.new result }
+    ensures puts { Changes S.Store tx.old tx.new result (with_archived archived.now) }
+{
+    let number = signed(archived.number)?;
+    let done_at = seconds(archived.done_at);
+    execute(
+        tx,
+        "INSERT INTO archived (number, name, error_mask, canonical, output, done_at) VALUES (?1, ?2, ?3, ?4, ?5, ?6)",
+        params![
+            number,
+            archived.name.as_str(),
+            archived.error_mask.code(),
+            archived.canonical,
+            archived.output.as_slice(),
+            done_at
+        ],
+    )
+}
+
+/// Adds the row of an import. One of its kind and name is refused.
+pub fn insert_import<S: Alter>(
+    tx: &mut Transaction<'_, S>,
+    import: &Import<'_>,
+) -> Result<(), Error>
+    ensures writes { Writes S.Store tx.old tx.new result }
+    ensures puts { Changes S.Store tx.old tx.new result (with_import (import_of_change import.now)) }
+{
+    execute(
+        tx,
+        "INSERT INTO import (kind, name, template, content, first_number, verdicts) VALUES (?1, ?2, ?3, ?4, ?5, ?6)",
+        params![
+            import.kind.code(),
+            import.name.as_str(),
+            import.template.as_slice(),
+            import.content.as_slice(),
+            signed(import.first_number)?,
+            import.verdicts.digits()
+        ],
+    )
+}
+
+/// Sets the project's next number.
+pub fn set_next_number<S: Alter>(tx: &mut Transaction<'_, S>, next_number: u64) -> Result<(), Error>
+    ensures writes { Writes S.Store tx.old tx.new result }
+    ensures sets { Changes S.Store tx.old tx.new result (with_next next_number) }
+{
+    execute(
+        tx,
+        "UPDATE project SET next_number = ?1",
+        params![signed(next_number)?],
+    )
+}

@@ -1,0 +1,67 @@
+//! The verdicts of a file's rows, as the table of imports keeps them: a text of one digit a row.
+
+ghost use Rattle.std.specs.Prelude.{◌≡◌, ◌<◌, ◌≤◌, ◌+◌, All, Ok};
+ghost use Rattle.wu_core.specs.Reads.{Gives};
+ghost use Rattle.wu_schema.specs.Stored.{verdict_digits};
+
+use std::alloc::Global;
+use std::marker::Model;
+use wu_core::Fault;
+
+/// The verdicts of a file's rows, in order: 0 where a row was applied, else the number of its skip, at most 9.
+#[derive(Debug, Drop)]
+pub struct Verdicts {
+    digits: String,
+}
+
+impl Model for Verdicts {
+    ghost use Rattle.std.specs.Prelude.{◌≡◌, ℕ, List, string_bytes};
+    ghost use Rattle.wu_schema.specs.Stored.{verdict_digits};
+    ghost use Rattle.wu_store.specs.Verdicts.{verdicts_of};
+
+    ghost Value = { List ℕ };
+
+    ghost view = { λ verdicts. verdicts_of (string_bytes verdicts.digits) };
+
+    ghost invariant = { λ verdicts. verdict_digits (verdicts_of (string_bytes verdicts.digits)) ≡ string_bytes verdicts.digits };
+}
+
+/// The digit of a verdict of at most 9.
+fn digit_of(verdict: u8) -> char
+    ensures digit { verdict ≤ 9 → result ≡ 48 + verdict }
+    ensures short { result < 128 }
+{
+    match verdict {
+        0 => '0',
+        1 => '1',
+        2 => '2',
+        3 => '3',
+        4 => '4',
+        5 => '5',
+        6 => '6',
+        7 => '7',
+        8 => '8',
+        _ => '9',
+    }
+}
+
+impl Verdicts {
+    /// These verdicts, each at most 9.
+    pub fn from_slice(alloc: Global, verdicts: &[u8]) -> Result<Self, Fault>
+        requires { All (λ verdict. verdict ≤ 9) verdicts.now }
+        ensures { Gives result (Ok verdicts.now) }
+    {
+        let mut digits = String::new(alloc);
+        for verdict in verdicts {
+            digits.push(digit_of(*verdict))?;
+        }
+        Ok(Verdicts { digits })
+    }
+
+    /// The text that the table keeps.
+    pub(crate) fn digits(&self) -> &str
+        ensures { result.now ≡ verdict_digits self.now }
+    {
+        self.digits.as_str()
+    }
+}
