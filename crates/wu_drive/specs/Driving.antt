@@ -34,13 +34,18 @@ abbrev pub FailsNext : World → List Command → ℕ → Fault → Type 0
 FailsNext world commands count fault =
     (next : Command) × (slice_get commands count ≡ Some next) × ((reply (world_after world commands count) (request_of next) ≡ Err fault) ⊎ IsStoreFault fault)
 
+-- why a run ended early: that, or the text of the last command that was done could not be written
+abbrev pub EndsEarly : World → List Command → Run → Type 0
+EndsEarly world commands run =
+    (fault : Fault) → run.end ≡ Some fault
+    → FailsNext world commands run.acknowledged fault ⊎ ((fault ≡ Output) × (1 ≤ run.acknowledged))
+
 -- A run acknowledges a beginning of the list, each with the machine's reply. The tables then stand for the world after
 -- that beginning; where the session ended, a stop may also leave the world after the next command, which was cut.
 pub record Drives (world : World) (commands : List Command) (answers : List Answer) (run : Run) (has_ended : Bool) (new : State) : Type 0 where
   pub within : run.acknowledged ≤ length commands
   pub answered : AnswerAll world (take run.acknowledged commands) answers
-  -- or else the text of the last command that was done could not be written
-  pub end : (fault : Fault) → run.end ≡ Some fault → FailsNext world commands run.acknowledged fault ⊎ ((fault ≡ Output) × (1 ≤ run.acknowledged))
+  pub end : EndsEarly world commands run
   pub goes : has_ended ≡ false → GoesOn new (world_after world commands run.acknowledged)
   pub ended : has_ended ≡ true → (cut : Command) × (slice_get commands run.acknowledged ≡ Some cut) × HasEnded new (world_after world commands run.acknowledged) (request_of cut)
 
@@ -80,3 +85,7 @@ LengthensLife old new commands run =
 abbrev pub DrivesNothing : {S W : Type 0} {store : Ghosts S} → Project S store → Project S store → W → W → Run → Type 0
 DrivesNothing old new out_old out_new run =
     IsOver old → (new ≡ old) × (out_new ≡ out_old) × (run.acknowledged ≡ 0) × IfSome run.end (λ fault. fault ≡ Ended)
+
+-- the run ended early, with such a fault
+abbrev pub EndsBy : Run → (Fault → Type 0) → Type 0
+EndsBy run Is = (fault : Fault) × (run.end ≡ Some fault) × Is fault

@@ -1,11 +1,11 @@
 //! Lists of commands, and the demonstration.
 
-ghost use Rattle.std.specs.Prelude.{◌≡◌, ◌≤◌, List, length};
-ghost use Rattle.wu_drive.specs.Driving.{DrivesNothing, DrivesProject, LengthensLife};
+ghost use Rattle.std.specs.Prelude.{◌≡◌, ◌≤◌, List, Some, length};
+ghost use Rattle.wu_drive.specs.Driving.{DrivesNothing, DrivesProject, EndsBy, LengthensLife};
 ghost use Rattle.wu_drive.specs.Writing.{WritesAnswers};
 ghost use Rattle.wu_passes.specs.declared.command.Answer.{Answer};
-ghost use Rattle.wu_passes.specs.Projects.{state_of};
-ghost use Rattle.wu_passes.specs.Standing.{KeepsDoubt};
+ghost use Rattle.wu_passes.specs.Projects.{GoesStill, IsOver, KeepsLimit, state_of};
+ghost use Rattle.wu_passes.specs.Standing.{KeepsDoubt, MayEnd};
 
 use crate::replies::write_answer;
 use crate::views::{View, show};
@@ -27,8 +27,8 @@ pub struct Run {
 /// Runs the commands in order and writes the text of each answer, up to the first fault.
 ///
 /// An acknowledged command is one that was answered, also where its text could not be written. The run ends early with
-/// the refusal of the next command, with a fault of the store, or with `Output` for the text of the last one done. Over
-/// a session that had ended it answers `Ended` at once. Where a stop before it could leave one world alone, the worlds
+/// the refusal of the next command, with a fault of the store, or with `Output` for the text of the last one done. It
+/// ends the session with `Memory` or `Broken` alone. Over a session that had ended it answers `Ended` at once. Where a stop before it could leave one world alone, the worlds
 /// that a stop may leave after it are those of the acknowledged commands, with the cut one or without.
 pub fn drive<S: Alter, W: Write>(
     alloc: Global,
@@ -41,7 +41,10 @@ pub fn drive<S: Alter, W: Write>(
         × DrivesProject project.old project.new commands.now answers result }
     ensures lives { LengthensLife project.old project.new commands.now result }
     ensures ended { DrivesNothing project.old project.new out.old out.new result }
+    ensures ends { GoesStill project.old → IsOver project.new → EndsBy result MayEnd }
+    ensures broken { GoesStill project.old → result.end ≡ Some Fault.Broken → IsOver project.new }
     ensures clean { KeepsDoubt (state_of project.old) (state_of project.new) }
+    ensures limit { KeepsLimit project.old project.new }
     ensures count { result.acknowledged ≤ length commands.now }
     ensures all { result.end ≡ None → result.acknowledged ≡ length commands.now }
 {

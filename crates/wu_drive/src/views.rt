@@ -6,7 +6,9 @@ ghost use Rattle.wu_drive.specs.Projects.{EndsAsBroken, KeepsWorld};
 ghost use Rattle.wu_drive.specs.Texts.{workunit_line};
 ghost use Rattle.wu_drive.specs.Views.{IsRowFault, IsViewFault, RefusesEnded, Shows, WritesWorkunits};
 ghost use Rattle.wu_drive.specs.Writing.{WritesTo};
-ghost use Rattle.wu_passes.specs.Projects.{GoesStill, IsOver};
+ghost use Rattle.wu_passes.specs.Planning.{IsRead};
+ghost use Rattle.wu_passes.specs.Projects.{GoesStill, IsOver, KeepsLimit, state_of};
+ghost use Rattle.wu_passes.specs.Standing.{KeepsDoubt};
 
 use crate::output::{Piece, flush, write_pieces};
 use sqlite::{Alter, Row};
@@ -86,6 +88,9 @@ fn show_workunits<S: Alter, W: Write>(
 ) -> Result<(), Fault>
     ensures text { Shows W.contents project.old project.new out.old out.new View.Workunits result }
     ensures goes { KeepsWorld project.old project.new }
+    ensures reads { IsRead (state_of project.old) (state_of project.new) }
+    ensures clean { KeepsDoubt (state_of project.old) (state_of project.new) }
+    ensures limit { KeepsLimit project.old project.new }
     ensures ended { RefusesEnded W.contents project.old project.new out.old out.new result }
     ensures ends { EndsAsBroken project.old project.new result }
     ensures broken { result ≡ Err Fault.Broken → IsOver project.new }
@@ -107,6 +112,9 @@ pub fn show<S: Alter, W: Write>(
 ) -> Result<(), Fault>
     ensures text { Shows W.contents project.old project.new out.old out.new view result }
     ensures goes { KeepsWorld project.old project.new }
+    ensures reads { IsRead (state_of project.old) (state_of project.new) }
+    ensures clean { KeepsDoubt (state_of project.old) (state_of project.new) }
+    ensures limit { KeepsLimit project.old project.new }
     ensures ended { RefusesEnded W.contents project.old project.new out.old out.new result }
     ensures ends { EndsAsBroken project.old project.new result }
     ensures broken { result ≡ Err Fault.Broken → IsOver project.new }

@@ -4,3 +4,4 @@ mod MomentLemmas
 mod RecordLemmas
 mod RowLemmas
 mod TemplateLemmas
+mod FaultLemmas

@@ -1,8 +1,9 @@
 -- The rows of a file under its header, as `csv` reads their records. Records are numbered from 1, the header.
-use Rattle.std.specs.Prelude.{ℕ, ◌+◌, nat_lt, Bool, true, false, ◌&&◌, if◌then◌else◌, bytes_eq, List, [], ◌∷◌, length, take, Result, Ok, Err}
+use Rattle.std.specs.Prelude.{◌≡◌, ◌⊎◌, ℕ, ◌+◌, nat_lt, Bool, true, false, ◌&&◌, if◌then◌else◌, bytes_eq, List, [], ◌∷◌, length, take, Result, Ok, Err}
 use Rattle.csv.specs.Reading.{default_config, records, strip_bom}
 use Rattle.wu_core.specs.declared.fault.Fault.{Fault}
-use Rattle.wu_core.specs.declared.fault.Fault.TheVariants.{BadFile}
+use Rattle.wu_core.specs.declared.fault.Fault.TheVariants.{BadFile, Memory}
+use Rattle.wu_core.specs.declared.fault.FileCause.{FileCause}
 use Rattle.wu_core.specs.declared.fault.FileCause.TheVariants as cause
 use Rattle.wu_feed.specs.Limits.{last_row, longest_file, most_records}
 
@@ -44,3 +45,7 @@ rows_under names row_of (header ∷ more) = if is_header names header then rows_
 abbrev pub rows_of_file : {R : Type 0} → List (List ℕ) → (ℕ → List (List ℕ) → Result R Fault) → List ℕ → Result (List R) Fault
 rows_of_file names row_of file =
     if nat_lt longest_file (length file) then Err (BadFile 0 cause.TooLong) else rows_under names row_of (records_of file)
+
+-- memory is wanted, or the file is refused at a row
+abbrev pub IsFileFault : Fault → Type 0
+IsFileFault fault = (fault ≡ Memory) ⊎ ((row : ℕ) × (first : FileCause) × (fault ≡ BadFile row first))

@@ -1,12 +1,12 @@
 -- Templates, as `toml` reads their documents.
-use Rattle.std.specs.Prelude.{◌≡◌, ℕ, nat_le, Bool, true, ◌&&◌, ◌||◌, if◌then◌else◌, ℤ, pos, bytes_eq, codes, List, length, Option, Some, None, Result, Err}
+use Rattle.std.specs.Prelude.{◌≡◌, ◌⊎◌, ℕ, nat_le, Bool, true, ◌&&◌, ◌||◌, if◌then◌else◌, ℤ, pos, bytes_eq, codes, List, length, Option, Some, None, Result, Err}
 use Rattle.std.specs.Str.{is_utf8}
 use Rattle.toml.specs.Data.{Data, Members, no_members, member, as_integer, get_member}
 use Rattle.toml.specs.Parse.{parse_document}
 use Rattle.wu_core.specs.Parameters.{Parameters, default_parameters}
 use Rattle.wu_core.specs.Templates.{template_parameters}
 use Rattle.wu_core.specs.declared.fault.Fault.{Fault}
-use Rattle.wu_core.specs.declared.fault.Fault.TheVariants.{BadTemplate}
+use Rattle.wu_core.specs.declared.fault.Fault.TheVariants.{BadTemplate, Memory}
 use Rattle.wu_core.specs.declared.fault.TemplateKey.{TemplateKey}
 use Rattle.wu_core.specs.declared.fault.TemplateKey.TheVariants as key
 use Rattle.wu_feed.specs.Limits.{longest_template}
@@ -59,3 +59,7 @@ parameters_if None = Err (BadTemplate key.Document)
 -- the parameters that a template sets
 abbrev pub template_of : List ℕ → Result Parameters Fault
 template_of text = parameters_if (document_of text)
+
+-- memory is wanted, or the template is refused
+abbrev pub IsTemplateFault : Fault → Type 0
+IsTemplateFault fault = (fault ≡ Memory) ⊎ ((refused : TemplateKey) × (fault ≡ BadTemplate refused))

@@ -1,6 +1,6 @@
 //! Files of jobs: a header `name,input`, and a row for each job.
 
-ghost use Rattle.std.specs.Prelude.{◌≡◌, ◌↔◌, ◌≤◌, ◌<◌, ◌^◌, All, IfOk, IsTrue, List, [], length, map};
+ghost use Rattle.std.specs.Prelude.{◌≡◌, ◌↔◌, ◌≤◌, ◌<◌, ◌^◌, All, IfErr, IfOk, IsTrue, List, [], length, map};
 ghost use Rattle.std.specs.Iterator.Adapters.{IterYieldsInOrder};
 ghost use Rattle.std.specs.Slice.Iter.{iter_rest};
 ghost use Rattle.csv.specs.Records.{fields_of};
@@ -8,6 +8,7 @@ ghost use Rattle.wu_core.specs.Limits.{longest_input};
 ghost use Rattle.wu_core.specs.Reads.{Gives};
 ghost use Rattle.wu_feed.specs.Inputs.{input_of};
 ghost use Rattle.wu_feed.specs.Limits.{most_rows};
+ghost use Rattle.wu_feed.specs.Rows.{IsFileFault};
 ghost use Rattle.wu_feed.specs.Jobs.{is_jobs_header, job_at, jobs_from, jobs_of_records, jobs_of_file};
 
 use crate::limits::{LAST_ROW, LONGEST_FILE};
@@ -154,6 +155,7 @@ fn read_records(alloc: Global, records: &[ByteRecord]) -> Result<Jobs, Fault>
 /// the header; 0 for the file's length) and the first cause there, from left to right.
 pub fn read_jobs(alloc: Global, file: &[u8]) -> Result<Jobs, Fault>
     ensures exact { Gives result (jobs_of_file file.now) }
+    ensures told { IfErr result IsFileFault }
     ensures few { IfOk result (λ jobs. length jobs ≤ most_rows) }
     ensures short { IfOk result (All (λ job. length job.input ≤ longest_input)) }
 {

@@ -7,7 +7,7 @@ ghost use Rattle.toml.specs.Data.{get_member};
 ghost use Rattle.toml.specs.View.{table_view};
 ghost use Rattle.wu_core.specs.Reads.{Gives};
 ghost use Rattle.wu_core.specs.declared.fault.Fault.TheVariants.{Memory};
-ghost use Rattle.wu_feed.specs.Templates.{IsNoDocument, document_of, document_parameters, is_key, template_of, value_or};
+ghost use Rattle.wu_feed.specs.Templates.{IsNoDocument, IsTemplateFault, document_of, document_parameters, is_key, template_of, value_or};
 
 use crate::limits::LONGEST_TEMPLATE;
 use std::alloc::Global;
@@ -81,7 +81,8 @@ fn read_table(table: &Table) -> Result<Params, Fault>
 /// first of: `Document`, for a text that is too long or no TOML document; `Unknown`, for one with a key that no template
 /// has; the first key, in the order of the fields of `Params`, whose value is no whole number or out of its range.
 pub fn read_template(alloc: Global, text: &[u8]) -> Result<Params, Fault>
-    ensures { Gives result (template_of text.now) }
+    ensures exact { Gives result (template_of text.now) }
+    ensures told { IfErr result IsTemplateFault }
 {
     let table = read_document(alloc, text)?;
     read_table(&table)

@@ -1,1 +1,2 @@
+mod BeginningLemmas
 mod ReopeningLemmas

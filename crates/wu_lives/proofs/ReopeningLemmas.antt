@@ -1,5 +1,5 @@
 -- What is found where the two files are opened again after a stop.
-use Rattle.std.proofs.Common.{◌≡◌, ◌+◌, ◌<◌, ◌≤◌, ℕ, IsTrue, ◌&&◌, true, false, Bool, List, [], ◌∷◌, ◌++◌, length, map, take, get_or, Vec, Global, Some, refl, sym, ap, subst, ◌∙◌, inl, inr, arith}
+use Rattle.std.proofs.Common.{◌≡◌, ◌+◌, ◌<◌, ◌≤◌, ℕ, IsTrue, ◌&&◌, true, false, Bool, List, [], ◌∷◌, ◌++◌, length, map, take, get_or, Vec, Global, Some, refl, sym, ap, subst, ◌∙◌, inl, inr, arith, length-append}
 use Rattle.std.proofs.Math.Logic.{∥∥₁_elim, ∥∥₁_map}
 use Rattle.std.proofs.lemmas.List.{map-append, take_more}
 use Rattle.std.proofs.lemmas.Option.{get_or_from_slice_get, slice_get_within}
@@ -25,20 +25,32 @@ use Rattle.wu_schema.specs.Calls.{LeavesOnly}
 use Rattle.wu_schema.specs.StandsFor.{StandsFor}
 use Rattle.wu_schema.proofs.StandsLemmas.{stands_again}
 use Rattle.wu_passes.specs.Committing.{FoundAs}
-use Rattle.wu_drive.specs.Driving.{AnswerAll, Drives, world_after}
+use Rattle.wu_drive.specs.Driving.{AnswerAll, Drives, EndsBy, world_after}
 use Rattle.wu_passes.specs.Machine.{fold_steps, step}
 use Rattle.wu_passes.specs.Planning.{IsProject, request_of}
-use Rattle.wu_passes.specs.Standing.{GoesOn}
+use Rattle.wu_passes.specs.Standing.{GoesOn, MayEnd}
 use Rattle.wu_passes.specs.declared.command.Answer.{Answer}
 use Rattle.wu_passes.specs.declared.command.Command.{Command}
 use Rattle.wu_drive.specs.declared.runs.Run.{Run}
-use Rattle.wu_lives.specs.Reopening.{commands_of, HasLived, HoldsBeginning, IsKept, IsReopened, LeadTo}
+use Rattle.wu_lives.specs.Reopening.{commands_of, HasLived, HoldsBeginning, IsCommitted, IsKept, IsReopened, LeadTo}
 use Rattle.wu_drive.proofs.DrivingLemmas.{fold_more, keeps_all}
 
 and_both : (a b c d : Bool) → (IsTrue c → IsTrue a) → (IsTrue d → IsTrue b) → IsTrue (c && d) → IsTrue (a && b)
 and_both a b true true f h is = rw (f refl, h refl) refl
 and_both a b true false f h is = absurd cc
 and_both a b false d f h is = absurd cc
+
+-- what an open gives: its database is committed, and a stop leaves nothing else
+pub committed_at : {D : Type 0} {g : Ghosts D} (again : Held (FileStore D g)) → SeenMayStay g → IsOpened again → IsCommitted (file_state again)
+committed_at again stays opened =
+    let same : (file_state again).now ≡ (file_state again).committed = opened.0.clean in
+    let only : LeavesOnly (file_state again) (file_state again).committed.trees = record { only = λ db may. settled_at again.store stays db opened.0.is_open may; stays = stays_at again.store stays opened.0.is_open } in
+    record {
+      is_open = opened.0.is_open;
+      sound = (opened.1 opened.0.is_open).0;
+      committed = sym same;
+      left = subst (λ (d : Database). LeavesOnly (file_state again) d.trees) (sym same) only;
+    }
 
 -- a connection was let go, its two files crashed, and another was opened over them
 module _ {D : Type 0} {g : Ghosts D} (old again : Held (FileStore D g)) (store : FileStore D g) (log db log_after db_after : D)
@@ -64,19 +76,15 @@ module _ {D : Type 0} {g : Ghosts D} (old again : Held (FileStore D g)) (store :
   pub found_again : SeenMayStay g → IsOpened again → IsReopened (file_state old) (file_state again)
   found_again stays opened =
       let same : (file_state again).now ≡ (file_state again).committed = opened.0.clean in
-      let only : LeavesOnly (file_state again) (file_state again).committed.trees = record { only = λ db may. settled_at again.store stays db opened.0.is_open may; stays = stays_at again.store stays opened.0.is_open } in
       record {
         found = subst (λ (d : Database). ∥ (file_state old).may_leave d.trees ∥₁) (sym same) found_allowed;
         exactly = λ is_open. ap (λ (d : Database). d.trees) same ∙ ∥∥₁_elim found_allowed (Trees-set _ _) (λ may. settled_at old.store stays _ is_open may);
-        is_open = opened.0.is_open;
-        sound = (opened.1 opened.0.is_open).0;
-        committed = sym same;
-        left = subst (λ (d : Database). LeavesOnly (file_state again) d.trees) (sym same) only;
+        whole = committed_at again stays opened;
       }
 
 -- tables that stood for a world stand for it again
-pub goes_again : (old new : State) (world : World) → IsReopened old new → FoundAs new.now.trees world → GoesOn new world
-goes_again old new world again found =
+pub goes_again : (new : State) (world : World) → IsCommitted new → FoundAs new.now.trees world → GoesOn new world
+goes_again new world again found =
     let stands : StandsFor new.now world = stands_again found.database new.now world found.stands again.sound (sym found.same) in
     record { stands = λ is_open. (stands, again.committed); left = λ db may. record { database = new.now; same = sym (again.left.only db may); stands = stands } }
 
@@ -88,29 +96,29 @@ next_world world commands i command there =
 
 -- after a run of commands
 module _ (world : World) (commands : List Command) (mid new : State) (again : IsReopened mid new) (project : IsProject world) where
-  holds_at : (run : Run) (count : ℕ) → run.acknowledged ≤ count → count ≤ run.acknowledged + 1 → count ≤ length commands → FoundAs new.now.trees (world_after world commands count)
+  holds_at : (run : Run) (count : ℕ) → run.acknowledged ≤ count → count ≤ run.acknowledged + 1 → (run.acknowledged < count → EndsBy run MayEnd) → count ≤ length commands → FoundAs new.now.trees (world_after world commands count)
       → HoldsBeginning world commands run new
-  holds_at run count has most within found = record {
+  holds_at run count has most cut within found = record {
     count = count;
-    kept = record { within = within; has_acknowledged = has; at_most_one_more = most };
-    goes = goes_again mid new _ again found;
+    kept = record { within = within; has_acknowledged = has; at_most_one_more = most; cut = cut };
+    goes = goes_again new _ again.whole found;
     project = keeps_all world (take count commands) project;
   }
 
-  pub holds_beginning : (answers : List Answer) (run : Run) (has_ended : Bool) → Drives world commands answers run has_ended mid → ∥ HoldsBeginning world commands run new ∥₁
-  holds_beginning answers run false drives = ∥∥₁_map again.found (λ may. holds_at run run.acknowledged (omega arith) (omega arith) drives.within ((drives.goes refl).left _ may))
-  holds_beginning answers run true drives = ∥∥₁_map again.found (λ may.
+  pub holds_beginning : (answers : List Answer) (run : Run) (has_ended : Bool) → (has_ended ≡ true → EndsBy run MayEnd) → Drives world commands answers run has_ended mid → ∥ HoldsBeginning world commands run new ∥₁
+  holds_beginning answers run false ends drives = ∥∥₁_map again.found (λ may. holds_at run run.acknowledged (omega arith) (omega arith) (λ more. absurd (omega (arith, more))) drives.within ((drives.goes refl).left _ may))
+  holds_beginning answers run true ends drives = ∥∥₁_map again.found (λ may.
       let (cut, there, ended) = drives.ended refl in
       let low = slice_get_within commands run.acknowledged cut there in
       elim (ended.left _ may) [
-        | inl before ↦ holds_at run run.acknowledged (omega arith) (omega arith) drives.within before
-        | inr after ↦ holds_at run (run.acknowledged + 1) (omega arith) (omega arith) (omega (arith, low))
+        | inl before ↦ holds_at run run.acknowledged (omega arith) (omega arith) (λ more. absurd (omega (arith, more))) drives.within before
+        | inr after ↦ holds_at run (run.acknowledged + 1) (omega arith) (omega arith) (λ more. ends refl) (omega (arith, low))
             (subst (λ w. FoundAs new.now.trees w) (sym (next_world world commands run.acknowledged cut there)) after)
       ])
 
   -- over a session that had ended no command is done
   pub holds_none : (run : Run) → run.acknowledged ≡ 0 → GoesOn mid world → ∥ HoldsBeginning world commands run new ∥₁
-  holds_none run none goes = ∥∥₁_map again.found (λ may. holds_at run 0 (omega (arith, none)) (omega arith) (omega arith) (goes.left _ may))
+  holds_none run none goes = ∥∥₁_map again.found (λ may. holds_at run 0 (omega (arith, none)) (omega arith) (λ more. absurd (omega (arith, more))) (omega arith) (goes.left _ may))
 
 pub answers_none : (world : World) (commands : List Command) (answers : List Answer) (run : Run) → run.acknowledged ≡ 0 → length answers ≡ run.acknowledged → AnswerAll world (take run.acknowledged commands) answers
 answers_none world commands [] run none count = subst (λ k. AnswerAll world (take k commands) []) (sym none) tt
@@ -147,3 +155,7 @@ pub lived_next : (world : World) (lives : List (Vec Command Global)) (i : ℕ) (
     → HoldsBeginning lived.last commands run new → HasLived world (commands_of (take (i + 1) lives)) more new
 lived_next world lives i life d commands runs more run old new low there same pushed lived holds =
     rw (pushed, ← commands_more lives i life d low there, ← same) (lived_more world (commands_of (take i lives)) runs old new commands run lived holds)
+
+-- and one more run
+pub one_more : (runs more : List Run) (run : Run) (count : ℕ) → more ≡ runs ++ run ∷ [] → length runs ≡ count → length more ≡ count + 1
+one_more runs more run count pushed so_far = rw (pushed) (length-append runs (run ∷ []) ∙ ap (λ n. n + 1) so_far)

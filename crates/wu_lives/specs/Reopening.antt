@@ -1,31 +1,42 @@
 -- A project whose two files are opened again after a stop.
-use Rattle.std.specs.Prelude.{◌≡◌, ◌+◌, ◌≤◌, ℕ, List, [], ◌∷◌, length, map, take, IsTrue, Option, Vec}
+use Rattle.std.specs.Prelude.{◌≡◌, ◌⊎◌, ◌+◌, ◌<◌, ◌≤◌, ℕ, List, [], ◌∷◌, length, map, take, IfSome, IsTrue, None, Ok, Option, Some, Vec}
 use Rattle.std.specs.declared.alloc.Global.{Global}
+use Rattle.sqlite_disk.specs.declared.Disk.{Ghosts}
+use Rattle.sqlite_store.specs.declared.store.FileStore.{FileStore}
 use Rattle.sqlite.specs.Effect.{IsDatabase}
+use Rattle.sqlite.specs.Files.{file_state, over_files}
+use Rattle.sqlite.specs.Held.{Held}
 use Rattle.sqlite.specs.State.{State, HasCleanDisk}
+use Rattle.sqlite_trees.specs.declared.store.Store as Store
 use Rattle.wu_core.specs.World.{World}
+use Rattle.wu_core.specs.declared.fault.Fault.TheVariants.{Broken, Ended}
 use Rattle.wu_schema.specs.Calls.{LeavesOnly}
-use Rattle.wu_drive.specs.Driving.{AnswerAll, world_after}
+use Rattle.wu_drive.specs.Driving.{AnswerAll, EndsBy, EndsEarly, LengthensLife, world_after}
 use Rattle.wu_passes.specs.Planning.{IsProject}
-use Rattle.wu_passes.specs.Standing.{GoesOn}
+use Rattle.wu_passes.specs.Projects.{AdoptsWhole, GoesStill, IsOver, state_of}
+use Rattle.wu_passes.specs.Standing.{GoesOn, KeepsDoubt, MayEnd}
 use Rattle.wu_drive.specs.Writing.{WritesAnswers}
 use Rattle.wu_passes.specs.declared.command.Answer.{Answer}
 use Rattle.wu_passes.specs.declared.command.Command.{Command}
+use Rattle.wu_passes.specs.declared.project.Project.{Project}
 use Rattle.wu_drive.specs.declared.runs.Run.{Run}
 
 -- a disk with no fault by the new state had none by the old one
 abbrev pub WasClean : State → State → Type 0
 WasClean old new = HasCleanDisk new → HasCleanDisk old
 
--- What is found is what the stop could leave; where the connection was open, that is its last commit. All of it is
--- committed, and a further stop leaves nothing else.
+-- The connection is open over a database that is sound and committed, and a further stop leaves nothing else.
+pub record IsCommitted (s : State) : Type 0 where
+  pub is_open : IsTrue s.is_open
+  pub sound : IsDatabase s.now
+  pub committed : s.committed ≡ s.now
+  pub left : LeavesOnly s s.now.trees
+
+-- what is found is what the stop could leave; where the connection was open, that is its last commit
 pub record IsReopened (old new : State) : Type 0 where
   pub found : ∥ old.may_leave new.now.trees ∥₁
   pub exactly : IsTrue old.is_open → new.now.trees ≡ old.committed.trees
-  pub is_open : IsTrue new.is_open
-  pub sound : IsDatabase new.now
-  pub committed : new.committed ≡ new.now
-  pub left : LeavesOnly new new.now.trees
+  pub whole : IsCommitted new
 
 -- so it is, over a disk that had no fault by then
 abbrev pub FindsAgain : State → State → Type 0
@@ -40,11 +51,48 @@ abbrev pub TellsReplies : Option (List ℕ) → Option (List ℕ) → State → 
 TellsReplies before after old commands run new =
     (answers : List Answer) × WritesAnswers before after answers run × OfEachWorld old new (λ world. AnswerAll world (take run.acknowledged commands) answers)
 
+-- a run that nothing ended has done the whole list
+abbrev pub DoesAll : List Command → Run → Type 0
+DoesAll commands run = run.end ≡ None → run.acknowledged ≡ length commands
+
+-- over a session that had ended nothing is done or written, and that is why the run ended, unless there was no command
+abbrev pub DoesNothing : {S W : Type 0} {g : Store.Ghosts S} → Project S g → W → W → Run → Type 0
+DoesNothing old out_old out_new run =
+    IsOver old → (out_new ≡ out_old) × (run.acknowledged ≡ 0) × IfSome run.end (λ fault. fault ≡ Ended)
+
+module _ {D : Type 0} {g : Ghosts D} where
+  -- over a session that went on, why the run ended early
+  abbrev pub TellsEnd : Project (FileStore D g) over_files → List Command → Run → State → Type 0
+  TellsEnd old commands run new = GoesStill old → OfEachWorld (state_of old) new (λ world. EndsEarly world commands run)
+
+  -- What a run left of a session: want of memory or the disk alone ended it, and the disk did wherever the run ended so.
+  pub record IsLeft (old : Project (FileStore D g) over_files) (commands : List Command) (run : Run) (left : Project (FileStore D g) over_files) : Type 0 where
+    pub ends : GoesStill old → IsOver left → EndsBy run MayEnd
+    pub broken : GoesStill old → run.end ≡ Some Broken → IsOver left
+    -- a session that had ended is as it was
+    pub same : IsOver old → left ≡ old
+    -- each world that a stop may leave is that of a life with this session
+    pub lives : LengthensLife old left commands run
+
+  -- after the stop, what the run left is found again
+  abbrev pub FindsLeft : Project (FileStore D g) over_files → List Command → Run → State → Type 0
+  FindsLeft old commands run new =
+      (left : Project (FileStore D g) over_files) × IsLeft old commands run left × FindsAgain (state_of left) new
+
+  -- and the next session adopts the project that is found as it stands
+  pub record AdoptsLeft (old : Project (FileStore D g) over_files) (commands : List Command) (run : Run) (new : Project (FileStore D g) over_files) : Type 0 where
+    pub again : Held (FileStore D g)
+    pub found : FindsLeft old commands run (file_state again)
+    pub whole : AdoptsWhole over_files again (Ok new)
+    pub clean : KeepsDoubt (file_state again) (state_of new)
+
 -- so many commands of the list: every acknowledged one, and at most one more, which was cut
 pub record IsKept (commands : List Command) (run : Run) (count : ℕ) : Type 0 where
   pub within : count ≤ length commands
   pub has_acknowledged : run.acknowledged ≤ count
   pub at_most_one_more : count ≤ run.acknowledged + 1
+  -- and only where want of memory or the disk ended the session during it
+  pub cut : run.acknowledged < count → EndsBy run MayEnd
 
 -- the tables stand for the machine's world after the first so many commands, in order, none skipped and none in part
 pub record HoldsBeginning (world : World) (commands : List Command) (run : Run) (found : State) : Type 0 where
@@ -79,3 +127,11 @@ pub record HasLived (world : World) (lives : List (List Command)) (runs : List R
 -- what the lives made is found
 abbrev pub FindsLives : State → List (Vec Command Global) → List Run → State → Type 0
 FindsLives old lives runs new = OfEachWorld old new (λ world. ∥ HasLived world (commands_of lives) runs new ∥₁)
+
+-- a run for each life
+abbrev pub RunsEach : List (Vec Command Global) → List Run → Type 0
+RunsEach lives runs = length runs ≡ length lives
+
+-- after at least one life the session goes on, and over one that went on after any
+abbrev pub GoesOnAfter : {S : Type 0} {g : Store.Ghosts S} → Project S g → List (Vec Command Global) → Project S g → Type 0
+GoesOnAfter old lives new = GoesStill old ⊎ (1 ≤ length lives) → GoesStill new

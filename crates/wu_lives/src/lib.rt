@@ -1,6 +1,8 @@
 //! The laws of a project through stops: what an opening finds after a stop, and lists of commands and lives over it.
 #![tactic(auto)]
 
+mod beginning;
 mod reopening;
 
+pub use beginning::open_and_adopt;
 pub use reopening::{drive_stop_and_open, live, live_all, stop_and_open};

@@ -2,10 +2,10 @@
 //!
 //! A disk may fail at any call and from then on, so a stop amid a list of commands is one of these stops too.
 
-ghost use Rattle.std.specs.Prelude.{◌≡◌, false, IfSome};
+ghost use Rattle.std.specs.Prelude.{◌≤◌, IfSome, length};
 ghost use Rattle.sqlite.specs.Files.{file_state};
-ghost use Rattle.wu_passes.specs.Projects.{connection_of, GoesStill};
-ghost use Rattle.wu_lives.specs.Reopening.{FindsAgain, FindsBeginning, FindsLives, TellsReplies, WasClean};
+ghost use Rattle.wu_passes.specs.Projects.{GoesStill, state_of};
+ghost use Rattle.wu_lives.specs.Reopening.{AdoptsLeft, DoesAll, DoesNothing, FindsAgain, FindsBeginning, FindsLeft, FindsLives, GoesOnAfter, RunsEach, TellsEnd, TellsReplies, WasClean};
 
 use sqlite::{Connection, FileStore, Files, Options};
 use sqlite_disk::Crash;
@@ -36,8 +36,10 @@ pub fn stop_and_open<D: Crash + Drop>(
 
 /// Runs a list of commands; then the machine stops, and the two files are opened again.
 ///
-/// What is found stands for the world after a beginning of the list, which has every acknowledged command. `None` where
-/// the open fails.
+/// What is found stands for the world after a beginning of the list: every acknowledged command, and one more only where
+/// the run ended with `Memory` or `Broken` during it. It is what the stop could leave of the session after the run, and
+/// where the connection was open then, its last commit; it is open, and all of it is committed. Why the run ended is as
+/// of `drive`. `None` where the open fails.
 pub fn drive_stop_and_open<D: Crash + Drop, W: Write>(
     alloc: Global,
     mut project: Project<FileStore<D>>,
@@ -45,12 +47,17 @@ pub fn drive_stop_and_open<D: Crash + Drop, W: Write>(
     out: &mut W,
     options: Options,
 ) -> Option<(Run, Connection<FileStore<D>>)>
-    ensures clean { IfSome result (λ r. WasClean (file_state (connection_of project)) (file_state r.1)) }
+    ensures clean { IfSome result (λ r. WasClean (state_of project) (file_state r.1)) }
     ensures answers { IfSome result (λ r.
-        TellsReplies (W.contents out.old) (W.contents out.new) (file_state (connection_of project))
+        TellsReplies (W.contents out.old) (W.contents out.new) (state_of project)
         commands.now r.0 (file_state r.1)) }
     ensures found { IfSome result (λ r.
-        FindsBeginning (file_state (connection_of project)) commands.now r.0 (file_state r.1)) }
+        FindsBeginning (state_of project) commands.now r.0 (file_state r.1)) }
+    ensures count { IfSome result (λ r. r.0.acknowledged ≤ length commands.now) }
+    ensures all { IfSome result (λ r. DoesAll commands.now r.0) }
+    ensures ended { IfSome result (λ r. DoesNothing project out.old out.new r.0) }
+    ensures ends { IfSome result (λ r. TellsEnd project commands.now r.0 (file_state r.1)) }
+    ensures reopened { IfSome result (λ r. FindsLeft project commands.now r.0 (file_state r.1)) }
 {
     let run = drive(alloc, &mut project, commands, out);
     match stop_and_open(alloc, project.release(), options) {
@@ -61,8 +68,9 @@ pub fn drive_stop_and_open<D: Crash + Drop, W: Write>(
 
 /// A life of a project: a list of commands, a stop of the machine, and a session over what is found.
 ///
-/// The session goes on from the world after a beginning of the list, which has every acknowledged command. `None` where
-/// the open or the adoption fails.
+/// The session goes on from the world after a beginning of the list, which has every acknowledged command. A project that
+/// is found after the stop is adopted as it stands. Why the run ended is as of `drive`. `None` where the open or the
+/// adoption fails.
 pub fn live<D: Crash + Drop, W: Write>(
     alloc: Global,
     project: Project<FileStore<D>>,
@@ -70,13 +78,20 @@ pub fn live<D: Crash + Drop, W: Write>(
     out: &mut W,
     options: Options,
 ) -> Option<(Run, Project<FileStore<D>>)>
-    ensures clean { IfSome result (λ r. WasClean (file_state (connection_of project)) (file_state (connection_of r.1))) }
+    ensures clean { IfSome result (λ r.
+        WasClean (state_of project) (state_of r.1)) }
     ensures begins { IfSome result (λ r. GoesStill r.1) }
     ensures answers { IfSome result (λ r.
-        TellsReplies (W.contents out.old) (W.contents out.new) (file_state (connection_of project))
-        commands.now r.0 (file_state (connection_of r.1))) }
+        TellsReplies (W.contents out.old) (W.contents out.new) (state_of project)
+        commands.now r.0 (state_of r.1)) }
     ensures found { IfSome result (λ r.
-        FindsBeginning (file_state (connection_of project)) commands.now r.0 (file_state (connection_of r.1))) }
+        FindsBeginning (state_of project) commands.now r.0 (state_of r.1)) }
+    ensures count { IfSome result (λ r. r.0.acknowledged ≤ length commands.now) }
+    ensures all { IfSome result (λ r. DoesAll commands.now r.0) }
+    ensures ended { IfSome result (λ r. DoesNothing project out.old out.new r.0) }
+    ensures ends { IfSome result (λ r.
+        TellsEnd project commands.now r.0 (state_of r.1)) }
+    ensures reopened { IfSome result (λ r. AdoptsLeft project commands.now r.0 r.1) }
 {
     match drive_stop_and_open(alloc, project, commands, out, options) {
         Some((run, conn)) => match Project::adopt(conn) {
@@ -89,7 +104,8 @@ pub fn live<D: Crash + Drop, W: Write>(
 
 /// A list of lives, each of which goes on from what the one before it left; a run for each life.
 ///
-/// `None` where an open or an adoption fails, or memory for the runs is refused.
+/// After at least one life the session goes on, also where the first one had ended. `None` where an open or an adoption
+/// fails, or memory for the runs is refused.
 pub fn live_all<D: Crash + Drop, W: Write>(
     alloc: Global,
     mut project: Project<FileStore<D>>,
@@ -97,8 +113,12 @@ pub fn live_all<D: Crash + Drop, W: Write>(
     out: &mut W,
     options: Options,
 ) -> Option<(Vec<Run>, Project<FileStore<D>>)>
+    ensures clean { IfSome result (λ r.
+        WasClean (state_of project) (state_of r.1)) }
+    ensures begins { IfSome result (λ r. GoesOnAfter project lives.now r.1) }
+    ensures count { IfSome result (λ r. RunsEach lives.now r.0.items) }
     ensures found { IfSome result (λ r.
-        FindsLives (file_state (connection_of project)) lives.now r.0.items (file_state (connection_of r.1))) }
+        FindsLives (state_of project) lives.now r.0.items (state_of r.1)) }
 {
     let mut runs = Vec::new(alloc);
     for commands in lives {

@@ -1,5 +1,5 @@
 -- What is asked of the tables before a batch, as the machine asks it of a world.
-use Rattle.std.proofs.Common.{◌≡◌, ℕ, ◌+◌, ◌<◌, ◌≤◌, Bool, true, false, List, [], ◌∷◌, ◌++◌, length, map, Some, None, Result, Ok, Err, refl, sym, ap, subst, ◌∙◌, inl, inr, arith}
+use Rattle.std.proofs.Common.{◌≡◌, ◌≢◌, ℕ, ◌+◌, ◌<◌, ◌≤◌, Bool, true, false, List, [], ◌∷◌, ◌++◌, length, map, Some, None, Result, Ok, Err, refl, sym, ap, subst, ◌∙◌, inl, inr, arith}
 use Rattle.std.proofs.lemmas.Bool.{cases_Bool}
 use Rattle.std.proofs.lemmas.List.Folds.{list_any-append}
 use Rattle.std.proofs.Common.{get_or, take, drop, length-take-le, take_all}
@@ -10,6 +10,7 @@ use Rattle.std.specs.Prelude.{◌||◌, bytes_eq, filter, find, if◌then◌else
 use Rattle.sqlite.specs.Order.{Row}
 use Rattle.sqlite.specs.State.{State}
 use Rattle.wu_core.specs.declared.fault.Fault.{Fault}
+use Rattle.wu_core.specs.declared.fault.Fault.TheVariants.{NotAProject}
 use Rattle.wu_core.specs.declared.import.ImportKind.{ImportKind}
 use Rattle.wu_core.specs.declared.workunit.Archived.{Archived}
 use Rattle.wu_core.specs.declared.workunit.Workunit.{Workunit}
@@ -24,9 +25,15 @@ use Rattle.wu_store.proofs.ReadingLemmas.{same_verdicts}
 use Rattle.sqlite.proofs.StateLemmas.{survives_then}
 use Rattle.wu_feed.specs.declared.jobs.Job.{Job}
 use Rattle.wu_schema.specs.Calls.{IsBack}
+use Rattle.wu_schema.specs.Faults.{IsFailure}
 use Rattle.wu_schema.proofs.CallLemmas.{back_none}
 use Rattle.wu_passes.specs.Batches.{first_taken, is_one_of, job_names, taken_names}
 use Rattle.wu_passes.specs.Planning.{IsEarlier, IsRead, IsStoreFault}
+
+-- a failure is no refusal
+pub never_refused : (fault : Fault) → IsFailure fault → fault ≢ NotAProject
+never_refused fault (inl memory) refused = cc
+never_refused fault (inr broken) refused = cc
 
 any_or : (a b c d : Bool) → a ≡ c → b ≡ d → (a || b) ≡ (c || d)
 any_or a b c d first second = rw (first, second) refl

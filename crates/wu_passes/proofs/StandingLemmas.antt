@@ -1,20 +1,20 @@
 -- What stands of a session after each exit of a command.
-use Rattle.std.proofs.Common.{◌≡◌, ◌⊎◌, ◌≤◌, ℕ, List, Option, None, Some, Result, Ok, Err, IfErr, OnOk, IsTrue, sym, ap, subst, ◌∙◌, inl, inr, arith}
+use Rattle.std.proofs.Common.{◌≡◌, ◌⊎◌, ◌<◌, ◌≤◌, ℕ, List, Option, None, Some, Result, Ok, Err, IfErr, OnOk, IsTrue, sym, ap, subst, ◌∙◌, inl, inr, arith}
 use Rattle.sqlite.specs.Effect.{Database}
 use Rattle.sqlite.specs.State.{State, HasCleanDisk, IsUnchanged, Survives}
 use Rattle.wu_core.specs.declared.fault.Fault.{Fault}
 use Rattle.wu_core.specs.declared.fault.Fault.TheVariants.{NotAProject}
 use Rattle.wu_core.specs.World.{World, empty_world}
-use Rattle.wu_schema.specs.Calls.{LeavesOnly, IsCreated, IsRefused, IsUndone}
+use Rattle.wu_schema.specs.Calls.{LeavesOnly, IsBack, IsCreated, IsRefused, IsUndone}
 use Rattle.wu_schema.specs.Made.{IsProjectBeside}
 use Rattle.wu_schema.specs.StandsFor.{StandsFor}
-use Rattle.wu_schema.specs.Versions.{HasProject, HasVersion}
+use Rattle.wu_schema.specs.Versions.{HasProject, HasVersion, LacksProject}
 use Rattle.wu_store.specs.Changing.{AreRight, made_all}
 use Rattle.wu_passes.specs.Committing.{AreDone, FoundAs, IsAfter}
 use Rattle.wu_passes.specs.Machine.{done, present_version, reply, reply_of, step, world_of}
 use Rattle.wu_passes.specs.Planning.{FailsToRead, IsPlan, IsRead, IsStoreFault, Plans, reply_of_answer}
 use Rattle.wu_passes.specs.Requests.{Request}
-use Rattle.wu_passes.specs.Standing.{GoesOn, HasEnded, KeepsAll, LeavesAlso}
+use Rattle.wu_passes.specs.Standing.{GoesOn, HasEnded, IsRefusal, KeepsAll, KeepsShown, LeavesAlso, StoresLater, TellsLater}
 use Rattle.wu_passes.specs.declared.batch.Plan.{Plan}
 use Rattle.wu_passes.specs.declared.command.Answer.{Answer}
 use Rattle.wu_store.specs.declared.changes.Change.{Change}
@@ -145,3 +145,24 @@ module _ (r : Result (Unit {0}) Fault) (db : Database) (found : Option ℕ) (ans
       go : (r : Result (Unit {0}) Fault) → OnOk r ((has : HasProject db.schema) → (one : ℕ) × HasVersion db has one × (one ≤ present_version))
       go (Ok x) = λ has. absurd (let so = sym is ∙ (answers has).1 in cc)
       go (Err e) = tt
+
+-- a question leaves a project alone
+pub keeps_back : (old new : State) → HasCleanDisk new → Survives old new (λ _. ⊥) → IsBack old new → KeepsShown old new
+keeps_back old new clean survives back = record { back = back; left = λ db may. elim (survives.crash clean db may) [ inl before ↦ before | inr none ↦ absurd none ] }
+
+pub keeps_same : (old new : State) → HasCleanDisk new → Survives old new (λ _. ⊥) → IsUnchanged old new → KeepsShown old new
+keeps_same old new clean survives same = keeps_back old new clean survives (record { was_open = λ _. same.0.was_open; now = λ _. inl same.0.now_is; committed = λ _. same.0.committed_is })
+
+-- the version that was found is the stored one
+pub stored_later : (db : State) (found : Option ℕ) (version later : ℕ) → found ≡ Some version → later ≡ version → present_version < version → (LacksProject db.now.schema → found ≡ None)
+    → ((has : HasProject db.now.schema) → (one : ℕ) × (found ≡ Some one) × HasVersion db.now has one) → StoresLater db later
+stored_later db found version later is told high absent answers = record {
+  there = λ lacks. absurd (let no = sym is ∙ absent lacks in cc);
+  stored = λ has. let same : (answers has).0 ≡ later = let so = sym (answers has).1 ∙ is in cc in subst (λ n. HasVersion db.now has n) same (answers has).2;
+  later = subst (λ n. present_version < n) (sym told) high;
+}
+
+-- a later version is the world's
+pub tells_worlds : (world : World) (found : Option ℕ) (version : ℕ) (r : Result (Unit {0}) Fault) → found ≡ Some version → found ≡ Some world.version → IfErr r (TellsLater version) → IfErr r (IsRefusal world)
+tells_worlds world found version (Ok x) is stored told = tt
+tells_worlds world found version (Err e) is stored told = let same : version ≡ world.version = let so = sym is ∙ stored in cc in inr (subst (λ n. TellsLater n e) same told)

@@ -1,11 +1,11 @@
 -- The plan of a command: what it will answer and what it changes, before anything is changed.
-use Rattle.std.specs.Prelude.{◌≡◌, ◌⊎◌, ℕ, ◌+◌, ◌==◌, ◌&&◌, Bool, true, false, bytes_eq, if◌then◌else◌, List, [], ◌∷◌, ◌++◌, map, length, Option, Some, None, Result, Ok, Err, find, IsTrue, OnOk, MatchResult}
+use Rattle.std.specs.Prelude.{◌≡◌, ◌≢◌, ◌⊎◌, ℕ, ◌+◌, ◌==◌, ◌&&◌, Bool, true, false, bytes_eq, if◌then◌else◌, List, [], ◌∷◌, ◌++◌, map, length, Option, Some, None, Result, Ok, Err, find, IfErr, IsTrue, OnOk, MatchResult}
 use Rattle.std.specs.List.{enumerate_from}
 use Rattle.sqlite.specs.Held.{Held, state}
 use Rattle.sqlite.specs.State.{State, HasCleanDisk, Survives}
 use Rattle.sqlite.specs.Store.{Ghosts}
 use Rattle.wu_core.specs.declared.fault.Fault.{Fault}
-use Rattle.wu_core.specs.declared.fault.Fault.TheVariants.{Memory, Broken, NameUsed, NotAProject, WorkunitUsed}
+use Rattle.wu_core.specs.declared.fault.Fault.TheVariants.{Memory, Broken, Ended, NameUsed, NotAProject, WorkunitUsed}
 use Rattle.wu_core.specs.Parameters.{Parameters}
 use Rattle.wu_core.specs.World.{World, Import, is_import}
 use Rattle.wu_feed.specs.declared.jobs.Job.{Job}
@@ -55,6 +55,14 @@ pub record IsProject (world : World) : Type 0 where
 -- a fault of memory, of the disk, or of a statement or a row
 abbrev pub IsStoreFault : Fault → Type 0
 IsStoreFault fault = (fault ≡ Memory) ⊎ ((fault ≡ Broken) ⊎ (fault ≡ NotAProject))
+
+-- it never says that the session has ended
+abbrev pub NeverEnded : {T : Type 0} → Result T Fault → Type 0
+NeverEnded result = IfErr result (λ fault. fault ≢ Ended)
+
+-- a workunit's name is used, or a fault of the store
+abbrev pub RefusesName : Fault → Type 0
+RefusesName fault = ((row : ℕ) × (fault ≡ WorkunitUsed row)) ⊎ IsStoreFault fault
 
 -- a read failed
 abbrev pub FailsToRead : {T : Type 0} → Result T Fault → Type 0
@@ -129,9 +137,18 @@ RefusesRepeat batch earlier fault = (fault ≡ Memory) ⊎ ((fault ≡ NameUsed)
 abbrev pub KeepsTables : {S T E : Type 0} → Ghosts S → Held S → Held S → Result T E → Type 0
 KeepsTables g old new result = HasCleanDisk (state g new) → OnOk result (StaysSame (state g old) (state g new))
 
+-- where the tables stand for a world and steps have no limit, no read is refused
+abbrev pub NeverRefused : {S T : Type 0} → Ghosts S → Held S → Held S → Result T Fault → Type 0
+NeverRefused g old new result =
+    HasCleanDisk (state g new) → (world : World) → StandsFor (state g old).now world → old.step_limit ≡ None → IfErr result (λ fault. fault ≢ NotAProject)
+
 -- with Ok the connection was open
 abbrev pub WasOpen : {S T E : Type 0} → Ghosts S → Held S → Held S → Result T E → Type 0
 WasOpen g old new result = HasCleanDisk (state g new) → OnOk result (IsTrue (state g old).is_open)
+
+-- and is open
+abbrev pub IsOpenAfter : {S T E : Type 0} → Ghosts S → Held S → Result T E → Type 0
+IsOpenAfter g new result = HasCleanDisk (state g new) → OnOk result (IsTrue (state g new).is_open)
 
 -- it was open, or the read failed
 abbrev pub OpenOrFails : {S T : Type 0} → Ghosts S → Held S → Held S → Result T Fault → Type 0

@@ -1,5 +1,5 @@
 -- A project as its callers know it: what its connection shows, and whether its session has ended.
-use Rattle.std.specs.Prelude.{◌≡◌, ◌<◌, ◌≤◌, ℕ, Bool, true, false, List, map, IfErr, IfOk, IsTrue, MatchResult, OnOk, Result, Err, Vec}
+use Rattle.std.specs.Prelude.{◌≡◌, ◌<◌, ◌≤◌, ℕ, Bool, true, false, List, map, IfErr, IfOk, IsTrue, MatchResult, None, OnOk, Result, Err, Vec}
 use Rattle.sqlite.specs.Held.{Held, state}
 use Rattle.sqlite.specs.Order.{Row}
 use Rattle.sqlite.specs.State.{State, HasCleanDisk}
@@ -7,6 +7,8 @@ use Rattle.sqlite.specs.Store.{Ghosts}
 use Rattle.wu_core.specs.declared.fault.Fault.{Fault}
 use Rattle.wu_core.specs.declared.fault.Fault.TheVariants.{Ended, NewSchema, NotAProject}
 use Rattle.wu_core.specs.World.{World, empty_world}
+use Rattle.wu_schema.specs.Calls.{IsBack}
+use Rattle.wu_schema.specs.Made.{MakesProject}
 use Rattle.wu_schema.specs.StandsFor.{StandsFor}
 use Rattle.wu_schema.specs.Stored.{workunit_row}
 use Rattle.wu_schema.specs.Versions.{HasProject, HasVersion}
@@ -17,7 +19,7 @@ use Rattle.wu_passes.specs.declared.project.Project.{Project}
 use Rattle.wu_passes.specs.Machine.{present_version}
 use Rattle.wu_passes.specs.Planning.{IsProject, Plans, request_of}
 use Rattle.wu_passes.specs.Requests.{Request}
-use Rattle.wu_passes.specs.Standing.{GoesOn, IsVacant, KeepsAll, KeepsDoubt, RefusesVersion, Runs}
+use Rattle.wu_passes.specs.Standing.{GoesOn, IsVacant, IsRefusal, KeepsAll, KeepsDoubt, RefusesVersion, Runs, StoresLater}
 
 -- the connection that a release gives back
 abbrev pub connection_of : {S : Type 0} {g : Ghosts S} → Project S g → Held S
@@ -71,6 +73,35 @@ RefusesAdoption g conn result =
     (state g conn).committed ≡ (state g conn).now
     → IfErr result (λ refusal. HasCleanDisk (state g refusal.0) → refusal.1 ≡ NotAProject → KeepsAll (state g conn) (state g refusal.0))
 
+-- the fault tells a later version only where that one is stored
+abbrev pub TellsStoredLater : {S : Type 0} (g : Ghosts S) → Held S → ℕ → Held S × Fault → Type 0
+TellsStoredLater g conn version refusal =
+    HasCleanDisk (state g refusal.0) → refusal.1 ≡ NewSchema version → StoresLater (state g conn) version
+
+-- a project that is found is adopted as it stands
+abbrev pub AdoptsWhole : {S : Type 0} (g : Ghosts S) → Held S → Result (Project S g) (Held S × Fault) → Type 0
+AdoptsWhole g conn result =
+    HasProject (state g conn).now.schema → IfOk result (λ project. HasCleanDisk (state_of project) → KeepsAll (state g conn) (state_of project))
+
+-- where no project is, it stands beside what was there
+abbrev pub AdoptsBeside : {S : Type 0} (g : Ghosts S) → Held S → Result (Project S g) (Held S × Fault) → Type 0
+AdoptsBeside g conn result =
+    IsVacant (state g conn) → IfOk result (λ project. HasCleanDisk (state_of project) → MakesProject (state g conn).now (state_of project).now)
+
+-- after each refusal the connection, while it is open, shows what it showed, or the last commit
+abbrev pub GivesBack : {S : Type 0} (g : Ghosts S) → Held S → Held S × Fault → Type 0
+GivesBack g conn refusal = HasCleanDisk (state g refusal.0) → IsBack (state g conn) (state g refusal.0)
+
+-- a project that stands is refused for its version, for want of memory or for a failure of the disk, and for nothing else
+abbrev pub RefusesStanding : {S : Type 0} (g : Ghosts S) → Held S → Result (Project S g) (Held S × Fault) → Type 0
+RefusesStanding g conn result =
+    conn.in_transaction ≡ false → (world : World) → 1 ≤ world.version → StandsFor (state g conn).now world
+    → IfErr result (λ refusal. HasCleanDisk (state g refusal.0) → IsRefusal world refusal.1)
+
+-- no limit is set on the steps of a statement
+abbrev pub IsUnlimited : {S : Type 0} {g : Ghosts S} → Project S g → Type 0
+IsUnlimited project = (state_of project).step_limit ≡ None
+
 abbrev pub DoubtsStill : {S : Type 0} (g : Ghosts S) → Held S → Held S → Type 0
 DoubtsStill g conn again = KeepsDoubt (state g conn) (state g again)
 
@@ -90,6 +121,14 @@ abbrev pub CarriesOut : {S : Type 0} {g : Ghosts S} → Project S g → Project 
 CarriesOut old new answer changes result =
     HasCleanDisk (state_of new) → (world : World) (request : Request) → StandsFor (state_of old).now world → GoesOn (state_of old) world
     → Plans world request answer changes → Runs world request (has_ended new) (state_of new) result
+
+-- the limit on steps is as it was: an adoption took it off
+abbrev pub KeepsLimit : {S : Type 0} {g : Ghosts S} → Project S g → Project S g → Type 0
+KeepsLimit old new = (state_of new).step_limit ≡ (state_of old).step_limit
+
+-- after Ok the connection is open
+abbrev pub ServesAfterOk : {S T E : Type 0} {g : Ghosts S} → Project S g → Result T E → Type 0
+ServesAfterOk new result = HasCleanDisk (state_of new) → OnOk result (IsTrue (state_of new).is_open)
 
 -- ---- a question
 

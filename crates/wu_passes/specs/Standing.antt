@@ -1,5 +1,5 @@
 -- A session over its tables: what they stand for, and what a stop may leave.
-use Rattle.std.specs.Prelude.{◌≡◌, ◌⊎◌, ◌<◌, ◌≤◌, ℕ, Bool, true, false, IfErr, IsTrue, OnOk, Result, Ok, Err, MatchResult}
+use Rattle.std.specs.Prelude.{◌≡◌, ◌⊎◌, ◌<◌, ◌≤◌, ℕ, Bool, true, false, IfErr, IsTrue, None, OnErr, OnOk, Result, Ok, Err, MatchResult}
 use Rattle.sqlite_trees.specs.View.{doubt}
 use Rattle.sqlite.specs.Held.{Held, state}
 use Rattle.sqlite.specs.Store.{Ghosts}
@@ -8,6 +8,9 @@ use Rattle.sqlite.specs.Tree.{Trees}
 use Rattle.wu_core.specs.declared.fault.Fault.{Fault}
 use Rattle.wu_core.specs.declared.fault.Fault.TheVariants.{Memory, Broken, NewSchema, NotAProject}
 use Rattle.wu_core.specs.World.{World, empty_world}
+use Rattle.wu_schema.specs.Calls.{IsBack}
+use Rattle.wu_schema.specs.Faults.{IsFailure}
+use Rattle.wu_schema.specs.Made.{MakesProject}
 use Rattle.wu_schema.specs.StandsFor.{StandsFor}
 use Rattle.wu_schema.specs.Versions.{HasProject, HasVersion, LacksProject}
 use Rattle.wu_passes.specs.declared.command.Answer.{Answer}
@@ -96,3 +99,44 @@ LeavesFresh g old new = HasCleanDisk (state g new) → LeavesAlso (state g old) 
 abbrev pub RefusesWhole : {S T : Type 0} → Ghosts S → Held S → Held S → Result T Fault → Type 0
 RefusesWhole g old new result =
     HasCleanDisk (state g new) → (state g old).committed ≡ (state g old).now → IfErr result (λ fault. fault ≡ NotAProject → KeepsAll (state g old) (state g new))
+
+-- a later version than this program knows is stored
+pub record StoresLater (s : State) (version : ℕ) : Type 0 where
+  pub there : ¬ LacksProject s.now.schema
+  pub stored : (has : HasProject s.now.schema) → HasVersion s.now has version
+  pub later : present_version < version
+
+-- `NewSchema` tells such a version, and nothing else
+abbrev pub TellsStored : {S T : Type 0} → Ghosts S → Held S → Held S → Result T Fault → Type 0
+TellsStored g old new result = HasCleanDisk (state g new) → (version : ℕ) → result ≡ Err (NewSchema version) → StoresLater (state g old) version
+
+-- While the connection is open it shows what it showed, or the last commit, which is as it was; a stop leaves nothing more.
+pub record KeepsShown (old new : State) : Type 0 where
+  pub back : IsBack old new
+  pub left : (db : Trees) → new.may_leave db → old.may_leave db
+
+-- where a project is, of whatever version and over whatever rows, nothing of it is touched
+abbrev pub KeepsFound : {S : Type 0} → Ghosts S → Held S → Held S → Type 0
+KeepsFound g old new = HasCleanDisk (state g new) → HasProject (state g old).now.schema → KeepsShown (state g old) (state g new)
+
+-- and with Ok the tables are as they were
+abbrev pub KeepsWhole : {S T E : Type 0} → Ghosts S → Held S → Held S → Result T E → Type 0
+KeepsWhole g old new result = HasCleanDisk (state g new) → HasProject (state g old).now.schema → OnOk result (KeepsAll (state g old) (state g new))
+
+-- where no project is, a fresh one stands beside what was there
+abbrev pub MakesBeside : {S T E : Type 0} → Ghosts S → Held S → Held S → Result T E → Type 0
+MakesBeside g old new result =
+    HasCleanDisk (state g new) → IsVacant (state g old) → OnOk result (MakesProject (state g old).now (state g new).now)
+
+-- after each refusal the connection, while it is open, shows what it showed, or the last commit
+abbrev pub GoesBackRefused : {S T E : Type 0} → Ghosts S → Held S → Held S → Result T E → Type 0
+GoesBackRefused g old new result = HasCleanDisk (state g new) → OnErr result (IsBack (state g old) (state g new))
+
+-- a project that stands is refused for its version, for want of memory or for a failure of the disk
+abbrev pub IsRefusal : World → Fault → Type 0
+IsRefusal world fault = IsFailure fault ⊎ TellsLater world.version fault
+
+-- and for nothing else, where steps have no limit
+abbrev pub RefusesOnly : {S T : Type 0} → Ghosts S → Held S → Held S → Result T Fault → Type 0
+RefusesOnly g old new result =
+    HasCleanDisk (state g new) → old.step_limit ≡ None → (world : World) → 1 ≤ world.version → StandsFor (state g old).now world → IfErr result (IsRefusal world)

@@ -8,7 +8,7 @@ ghost use Rattle.wu_core.specs.Limits.{most_workunits};
 ghost use Rattle.wu_core.specs.Reads.{Gives};
 ghost use Rattle.wu_feed.specs.Limits.{most_rows};
 ghost use Rattle.wu_passes.specs.Batches.{new_workunit};
-ghost use Rattle.wu_passes.specs.Planning.{additions, batch_of, FindsEarlier, FindsFree, IsNewBatch, IsRead, IsRepeated, IsStoreFault, KeepsImport, KeepsTables, KnowsNext, KnowsTaken, KnowsUsed, OpenOrFails, OverWorlds, PlansBatch, PlansJobs, PlansNew, RefusesRepeat, WasOpen};
+ghost use Rattle.wu_passes.specs.Planning.{additions, batch_of, FindsEarlier, FindsFree, IsNewBatch, IsOpenAfter, IsRead, IsRepeated, IsStoreFault, KeepsImport, KeepsTables, KnowsNext, KnowsTaken, KnowsUsed, NeverEnded, NeverRefused, OpenOrFails, OverWorlds, PlansBatch, PlansJobs, PlansNew, RefusesName, RefusesRepeat, WasOpen};
 
 use crate::command::{Answer, Batch};
 use sqlite::{Alter, Connection};
@@ -47,6 +47,7 @@ fn earlier_import<S: Alter>(
     ensures read { IsRead (state S.Store conn.old) (state S.Store conn.new) }
     ensures same { KeepsTables S.Store conn.old conn.new result }
     ensures open { WasOpen S.Store conn.old conn.new result }
+    ensures opens { IsOpenAfter S.Store conn.new result }
     ensures fault { IfErr result IsStoreFault }
     ensures found { OverWorlds S.Store conn.old conn.new (FindsEarlier kind name.now result) }
 {
@@ -68,6 +69,8 @@ fn is_taken<S: Alter>(conn: &mut Connection<S>, name: &Name) -> Result<bool, Fau
     ensures mode { conn.old.in_transaction ≡ false → conn.new.in_transaction ≡ false }
     ensures read { IsRead (state S.Store conn.old) (state S.Store conn.new) }
     ensures same { KeepsTables S.Store conn.old conn.new result }
+    ensures fault { IfErr result IsStoreFault }
+    ensures unrefused { NeverRefused S.Store conn.old conn.new result }
     ensures taken { OverWorlds S.Store conn.old conn.new (KnowsTaken name.now result) }
 {
     match has_workunit(conn, name) {
@@ -92,6 +95,8 @@ fn is_used<S: Alter>(conn: &mut Connection<S>, earlier: &[Job], name: &Name) -> 
     ensures mode { conn.old.in_transaction ≡ false → conn.new.in_transaction ≡ false }
     ensures read { IsRead (state S.Store conn.old) (state S.Store conn.new) }
     ensures same { KeepsTables S.Store conn.old conn.new result }
+    ensures fault { IfErr result IsStoreFault }
+    ensures unrefused { NeverRefused S.Store conn.old conn.new result }
     ensures used { OverWorlds S.Store conn.old conn.new (KnowsUsed earlier.now name.now result) }
 {
     if has_job(earlier, name) {
@@ -106,6 +111,8 @@ fn check_names<S: Alter>(conn: &mut Connection<S>, jobs: &[Job]) -> Result<(), F
     ensures mode { conn.old.in_transaction ≡ false → conn.new.in_transaction ≡ false }
     ensures read { IsRead (state S.Store conn.old) (state S.Store conn.new) }
     ensures same { KeepsTables S.Store conn.old conn.new result }
+    ensures fault { IfErr result RefusesName }
+    ensures unrefused { NeverRefused S.Store conn.old conn.new result }
     ensures free { OverWorlds S.Store conn.old conn.new (FindsFree jobs.now result) }
 {
     let mut place = 0;
@@ -125,6 +132,8 @@ fn next_number<S: Alter>(conn: &mut Connection<S>) -> Result<u64, Fault>
     ensures mode { conn.old.in_transaction ≡ false → conn.new.in_transaction ≡ false }
     ensures read { IsRead (state S.Store conn.old) (state S.Store conn.new) }
     ensures same { KeepsTables S.Store conn.old conn.new result }
+    ensures opens { IsOpenAfter S.Store conn.new result }
+    ensures fault { IfErr result IsStoreFault }
     ensures next { OverWorlds S.Store conn.old conn.new (KnowsNext result) }
 {
     match next_number_row(conn) {
@@ -277,6 +286,8 @@ fn plan_jobs<'a, S: Alter>(
     ensures mode { conn.old.in_transaction ≡ false → conn.new.in_transaction ≡ false }
     ensures read { IsRead (state S.Store conn.old) (state S.Store conn.new) }
     ensures same { KeepsTables S.Store conn.old conn.new result }
+    ensures opens { IsOpenAfter S.Store conn.new result }
+    ensures never { NeverEnded result }
     ensures plan { OverWorlds S.Store conn.old conn.new (PlansJobs batch.now params jobs result) }
 {
     match check_names(conn, jobs.as_slice()) {
@@ -302,6 +313,8 @@ fn plan_new<'a, S: Alter>(
     ensures mode { conn.old.in_transaction ≡ false → conn.new.in_transaction ≡ false }
     ensures read { IsRead (state S.Store conn.old) (state S.Store conn.new) }
     ensures same { KeepsTables S.Store conn.old conn.new result }
+    ensures opens { IsOpenAfter S.Store conn.new result }
+    ensures never { NeverEnded result }
     ensures plan { OverWorlds S.Store conn.old conn.new (PlansNew batch.now result) }
 {
     let params = match read_template(alloc, batch.template.as_slice()) {
@@ -325,6 +338,8 @@ pub fn plan_batch<'a, S: Alter>(
     ensures read { IsRead (state S.Store conn.old) (state S.Store conn.new) }
     ensures same { KeepsTables S.Store conn.old conn.new result }
     ensures open { OpenOrFails S.Store conn.old conn.new result }
+    ensures opens { IsOpenAfter S.Store conn.new result }
+    ensures never { NeverEnded result }
     ensures plan { OverWorlds S.Store conn.old conn.new (PlansBatch batch.now result) }
 {
     match earlier_import(conn, alloc, ImportKind::Batch, &batch.name) {

@@ -1,12 +1,12 @@
 //! What a session does: its adoption, its commands, its release.
 
-ghost use Rattle.std.specs.Prelude.{◌≡◌, ◌<◌, ◌≤◌, ℕ, true, false, Err, IfErr, IfOk, IsErrAnd, OnOk};
+ghost use Rattle.std.specs.Prelude.{◌≡◌, ◌<◌, ◌≤◌, ℕ, true, false, Err, IfErr, IfOk, IsErrAnd, IsTrue, OnOk};
 ghost use Rattle.sqlite.specs.State.{HasCleanDisk};
 ghost use Rattle.sqlite.specs.Held.{state};
 ghost use Rattle.wu_passes.specs.Machine.{present_version};
-ghost use Rattle.wu_passes.specs.Planning.{IsRead, IsStoreFault, KeepsTables, OpenOrFails, OverWorlds, PlansFor, request_of};
-ghost use Rattle.wu_passes.specs.Standing.{FindsKnown, FindsWorld, KeepsDoubt, LeavesFresh, MakesFresh, MayEnd, RefusesWhole, TellsLater};
-ghost use Rattle.wu_passes.specs.Projects.{AdoptsFresh, AdoptsKnown, AdoptsWorld, AnswersEnded, CarriesOut, ComesBack, connection_of, DoubtsStill, GoesStill, has_ended, IsLater, IsOver, RefusesAdoption, RunsOn, ShowsWorkunits, state_of, WasOpenBefore};
+ghost use Rattle.wu_passes.specs.Planning.{IsOpenAfter, IsRead, IsStoreFault, KeepsTables, NeverEnded, OpenOrFails, OverWorlds, PlansFor, request_of};
+ghost use Rattle.wu_passes.specs.Standing.{FindsKnown, FindsWorld, GoesBackRefused, KeepsDoubt, KeepsFound, KeepsWhole, LeavesFresh, MakesBeside, MakesFresh, MayEnd, RefusesOnly, RefusesWhole, TellsLater, TellsStored};
+ghost use Rattle.wu_passes.specs.Projects.{AdoptsBeside, AdoptsFresh, AdoptsKnown, AdoptsWhole, AdoptsWorld, AnswersEnded, CarriesOut, ComesBack, connection_of, DoubtsStill, GivesBack, GoesStill, has_ended, IsLater, IsOver, IsUnlimited, KeepsLimit, RefusesAdoption, RefusesStanding, RunsOn, ServesAfterOk, ShowsWorkunits, state_of, TellsStoredLater, WasOpenBefore};
 
 use crate::batch::{Plan, plan_batch};
 use crate::command::{Answer, Command};
@@ -41,6 +41,13 @@ fn find_or_create<S: Alter>(conn: &mut Connection<S>) -> Result<(), Fault>
     ensures known { FindsKnown S.Store conn.old conn.new result }
     ensures later { (version : ℕ) → result ≡ Err (Fault.NewSchema version) → present_version < version }
     ensures refused { RefusesWhole S.Store conn.old conn.new result }
+    ensures stored { TellsStored S.Store conn.old conn.new result }
+    ensures keeps { KeepsFound S.Store conn.old conn.new }
+    ensures whole { KeepsWhole S.Store conn.old conn.new result }
+    ensures beside { MakesBeside S.Store conn.old conn.new result }
+    ensures back { GoesBackRefused S.Store conn.old conn.new result }
+    ensures only { RefusesOnly S.Store conn.old conn.new result }
+    ensures limit { (state S.Store conn.new).step_limit ≡ (state S.Store conn.old).step_limit }
 {
     match version_of(conn) {
         Ok(Some(version)) => check_version(version),
@@ -59,6 +66,8 @@ fn plan<'a, S: Alter>(
     ensures read { IsRead (state S.Store conn.old) (state S.Store conn.new) }
     ensures same { KeepsTables S.Store conn.old conn.new result }
     ensures open { OpenOrFails S.Store conn.old conn.new result }
+    ensures opens { IsOpenAfter S.Store conn.new result }
+    ensures never { NeverEnded result }
     ensures plan { OverWorlds S.Store conn.old conn.new (PlansFor (request_of command.now) result) }
 {
     match command {
@@ -69,9 +78,10 @@ fn plan<'a, S: Alter>(
 impl<S: Alter> Project<S> {
     /// Begins a session over the project in a database, and takes a limit on steps off the connection.
     ///
-    /// A database with none of the project's tables gets them, in one transaction; tables of other names are left
-    /// alone. A later version is `NewSchema`. `NotAProject` is a connection inside a transaction, a taken name, or a
-    /// table `project` with other rows. With each refusal the connection comes back.
+    /// A project that is found is not touched, whatever comes of it. A database with none of the project's tables gets
+    /// them, in one transaction; tables of other names are left alone. A later version is `NewSchema`, where it is
+    /// stored. `NotAProject` is a connection inside a transaction, a taken name, or a table `project` with other rows.
+    /// With each refusal the connection comes back.
     pub fn adopt(mut conn: Connection<S>) -> Result<Self, (Connection<S>, Fault)>
         ensures busy { conn.in_transaction ≡ true → result ≡ Err (conn, Fault.NotAProject) }
         ensures begins { IfOk result GoesStill }
@@ -82,6 +92,13 @@ impl<S: Alter> Project<S> {
         ensures known { AdoptsKnown S.Store conn result }
         ensures later { (version : ℕ) → IfErr result (IsLater version) }
         ensures refused { RefusesAdoption S.Store conn result }
+        ensures stored { (version : ℕ) → IfErr result (TellsStoredLater S.Store conn version) }
+        ensures keeps { ComesBack result (KeepsFound S.Store conn) }
+        ensures whole { AdoptsWhole S.Store conn result }
+        ensures beside { AdoptsBeside S.Store conn result }
+        ensures back { IfErr result (GivesBack S.Store conn) }
+        ensures only { RefusesStanding S.Store conn result }
+        ensures unlimited { IfOk result IsUnlimited }
     {
         if !conn.is_autocommit() {
             return Err((conn, Fault::NotAProject));
@@ -120,6 +137,9 @@ impl<S: Alter> Project<S> {
         ensures clean { KeepsDoubt (state_of self.old) (state_of self.new) }
         ensures ends { GoesStill self.old → IsOver self.new → IsErrAnd result MayEnd }
         ensures broken { GoesStill self.old → result ≡ Err Fault.Broken → IsOver self.new }
+        ensures opens { ServesAfterOk self.new result }
+        ensures limit { KeepsLimit self.old self.new }
+        ensures never { GoesStill self.old → NeverEnded result }
         ensures runs { GoesStill self.old → RunsOn self.old self.new command.now result }
     {
         if self.has_ended {
@@ -143,6 +163,9 @@ impl<S: Alter> Project<S> {
         ensures clean { KeepsDoubt (state_of self.old) (state_of self.new) }
         ensures ends { IsOver self.new → IsErrAnd result MayEnd }
         ensures broken { result ≡ Err Fault.Broken → IsOver self.new }
+        ensures opens { IsTrue (state_of self.old).is_open → ServesAfterOk self.new result }
+        ensures limit { KeepsLimit self.old self.new }
+        ensures never { NeverEnded result }
         ensures done { CarriesOut self.old self.new answer changes.now result }
     {
         if changes.is_empty() {

@@ -1,8 +1,10 @@
-use Rattle.std.proofs.Common.{rules, ◌≡◌, ◌+◌, [], ◌∷◌, ◌++◌, length, true, Some, ap, sym, ◌∙◌, subst, arith, length-append, refl}
+use Rattle.std.proofs.Common.{rules, ◌≡◌, ◌+◌, [], ◌∷◌, ◌++◌, length, true, false, inl, inr, Some, Err, ap, sym, ◌∙◌, subst, arith, length-append, refl}
 use Rattle.std.specs.Io.KnownBytes.{Appends}
 use Rattle.std.proofs.KnownBytes.{Appends-trans}
 use Rattle.sqlite.specs.State.{HasCleanDisk}
-use Rattle.wu_core.specs.declared.fault.Fault.TheVariants.{Output}
+use Rattle.std.proofs.lemmas.Bool.{cases_Bool}
+use Rattle.wu_core.specs.declared.fault.Fault.{Fault}
+use Rattle.wu_core.specs.declared.fault.Fault.TheVariants.{Broken, Output}
 use Rattle.wu_drive.proofs.AnswerLemmas.{all_written, answers_text-more, last_cut}
 use Rattle.wu_drive.proofs.DrivingLemmas.{driving_more, driving_none, drives_cut, drives_so_far, one_fault}
 use Rattle.wu_drive.proofs.LifeLemmas.{lengthens}
@@ -13,7 +15,7 @@ use Rattle.wu_drive.proofs.runs.drive.Goals as goal
 
 pub returns-in-Err-clause-answers : goal.returns-in-Err-clause-answers
 returns-in-Err-clause-answers g c =
-    let (index, was_ended, kept_clean, (answers, counted, whole, driving)) = c.loop-command.invariant in (
+    let (index, was_ended, goes_still, limited, kept_clean, (answers, counted, whole, driving)) = c.loop-command.invariant in (
       answers,
       all_written _ _ answers _ counted whole,
       λ going clean world project goes.
@@ -25,7 +27,7 @@ returns-in-Err-clause-answers g c =
 
 pub returns-in-Err-write_answer-clause-answers : goal.returns-in-Err-write_answer-clause-answers
 returns-in-Err-write_answer-clause-answers g c =
-    let (index, was_ended, kept_clean, (answers, counted, whole, driving)) = c.loop-command.invariant in
+    let (index, was_ended, goes_still, limited, kept_clean, (answers, counted, whole, driving)) = c.loop-command.invariant in
     let answer = c.in-Ok.answer in (
       answers ++ answer ∷ [],
       last_cut _ _ (g.W.Write.contents c.write_answer.new.out) answers answer _ (omega arith) (ap Some c.in-Err-write_answer.ensures.fault) whole c.in-Err-write_answer.ensures.bytes,
@@ -39,11 +41,11 @@ returns-in-Err-write_answer-clause-answers g c =
     )
 
 pub loop-command-init : goal.loop-command-init
-loop-command-init g c = (refl, λ ended. (refl, refl, refl), omega arith, ([], refl, search rules, λ going clean world project goes. driving_none world c.args.commands.now _ _ going project goes))
+loop-command-init g c = (refl, λ ended. (refl, refl, refl), λ going. going, refl, omega arith, ([], refl, search rules, λ going clean world project goes. driving_none world c.args.commands.now _ _ going project goes))
 
 pub loop-command-preserved : goal.loop-command-preserved
 loop-command-preserved g c =
-    let (index, was_ended, kept_clean, (answers, counted, whole, driving)) = c.loop-command.invariant in
+    let (index, was_ended, goes_still, limited, kept_clean, (answers, counted, whole, driving)) = c.loop-command.invariant in
     let answer = c.in-Ok.answer in
     let longer : length (answers ++ answer ∷ []) ≡ c.loop-command.acknowledged + 1 = length-append answers (answer ∷ []) ∙ omega arith in
     let more = Appends-trans _ _ _ (answers_text answers) _ whole c.in_default.ensures.bytes in (
@@ -51,6 +53,8 @@ loop-command-preserved g c =
       λ ended.
           let still : has_ended c.loop-command.project ≡ true = ap has_ended (was_ended ended).1 ∙ ended in
           absurd (let no = sym (c.run.ensures.ended still).0 ∙ c.in-Ok.is in cc),
+      λ going. elim (cases_Bool (has_ended c.run.new.self)) [ inl over ↦ absurd (c.in-Ok.ensures.ends (goes_still going) over) | inr still ↦ still ],
+      c.run.ensures.limit ∙ limited,
       omega (arith, kept_clean, c.run.ensures.clean),
       (
         answers ++ answer ∷ [],
@@ -66,7 +70,7 @@ loop-command-preserved g c =
 
 pub returns-clause-answers : goal.returns-clause-answers
 returns-clause-answers g c =
-    let (index, was_ended, kept_clean, (answers, counted, whole, driving)) = c.loop-command.invariant in (
+    let (index, was_ended, goes_still, limited, kept_clean, (answers, counted, whole, driving)) = c.loop-command.invariant in (
       answers,
       all_written _ _ answers _ counted whole,
       λ going clean world project goes.
@@ -87,3 +91,30 @@ pub returns-clause-lives : goal.returns-clause-lives
 returns-clause-lives g c going clean start life project goes =
     let driven = returns-clause-answers g c in
     lengthens start life c.args.commands.now driven.0 _ _ _ (driven.2 going clean (world_of_life start life) project goes)
+
+pub returns-in-Err-clause-ends : goal.returns-in-Err-clause-ends
+returns-in-Err-clause-ends g c going over =
+    let (index, was_ended, goes_still, limited, kept_clean, (answers, counted, whole, driving)) = c.loop-command.invariant in
+    (c.in-Err.fault, refl, c.in-Err.ensures.ends (goes_still going) over)
+
+pub returns-in-Err-clause-broken : goal.returns-in-Err-clause-broken
+returns-in-Err-clause-broken g c going is =
+    let (index, was_ended, goes_still, limited, kept_clean, (answers, counted, whole, driving)) = c.loop-command.invariant in
+    c.run.ensures.broken (goes_still going) (c.in-Err.is ∙ ap (λ (f : Fault). Err f) (one_fault _ _ is))
+
+pub returns-in-Err-write_answer-clause-ends : goal.returns-in-Err-write_answer-clause-ends
+returns-in-Err-write_answer-clause-ends g c going over =
+    let (index, was_ended, goes_still, limited, kept_clean, (answers, counted, whole, driving)) = c.loop-command.invariant in
+    absurd (c.in-Ok.ensures.ends (goes_still going) over)
+
+pub returns-in-Err-write_answer-clause-broken : goal.returns-in-Err-write_answer-clause-broken
+returns-in-Err-write_answer-clause-broken g c going is =
+    absurd (let other : Output ≡ Broken = sym c.in-Err-write_answer.ensures.fault ∙ one_fault _ _ is in cc)
+
+pub returns-clause-ends : goal.returns-clause-ends
+returns-clause-ends g c going over =
+    let (index, was_ended, goes_still, limited, kept_clean, (answers, counted, whole, driving)) = c.loop-command.invariant in
+    absurd (let no : true ≡ false = sym over ∙ goes_still going in cc)
+
+pub returns-clause-broken : goal.returns-clause-broken
+returns-clause-broken g c going is = absurd (cc)

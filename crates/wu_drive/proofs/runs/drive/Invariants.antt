@@ -4,7 +4,7 @@ use Rattle.sqlite.specs.State.{HasCleanDisk}
 use Rattle.wu_core.specs.World.{World}
 use Rattle.wu_passes.specs.declared.command.Answer.{Answer}
 use Rattle.wu_drive.specs.Driving.{IsDriving}
-use Rattle.wu_passes.specs.Projects.{has_ended, state_of}
+use Rattle.wu_passes.specs.Projects.{GoesStill, has_ended, KeepsLimit, state_of}
 use Rattle.wu_passes.specs.Standing.{KeepsDoubt}
 use Rattle.wu_passes.specs.Planning.{IsProject}
 use Rattle.wu_passes.specs.Standing.{GoesOn}
@@ -15,6 +15,8 @@ abbrev pub invariant-loop-command : goal.invariant-loop-command
 invariant-loop-command g l =
     (l.acknowledged ≡ l.command-index)
     × (has_ended l.initial.project ≡ true → (l.command-index ≡ 0) × (l.project ≡ l.initial.project) × (l.out ≡ l.initial.out))
+    × (GoesStill l.initial.project → GoesStill l.project)
+    × KeepsLimit l.initial.project l.project
     × (KeepsDoubt (state_of l.initial.project) (state_of l.project))
     × ((answers : List Answer) × (length answers ≡ l.acknowledged) × Appends (g.W.Write.contents l.initial.out) (g.W.Write.contents l.out) (answers_text answers)
     × (has_ended l.initial.project ≡ false → HasCleanDisk (state_of l.project) → (world : World) → IsProject world → GoesOn (state_of l.initial.project) world

@@ -18,3 +18,14 @@ pub returns-in-Ok-clause-answers : goal.returns-in-Ok-clause-answers
 returns-in-Ok-clause-answers g c =
     let (answers, written, told) = c.in-Some.ensures.answers in
     (answers, written, λ clean world project goes. told (omega (arith, c.in-Ok.ensures.clean)) world project goes)
+
+pub returns-in-Ok-clause-ends : goal.returns-in-Ok-clause-ends
+returns-in-Ok-clause-ends g c going clean = c.in-Some.ensures.ends going (omega (arith, c.in-Ok.ensures.clean))
+
+pub returns-in-Ok-clause-reopened : goal.returns-in-Ok-clause-reopened
+returns-in-Ok-clause-reopened g c = record {
+  again = c.in-Some.conn;
+  found = c.in-Some.ensures.reopened;
+  whole = c.in-Ok.ensures.whole;
+  clean = c.in-Ok.ensures.clean;
+}

@@ -34,3 +34,9 @@ loop-job-preserved g c =
           let unused = sym c.in-Ok-false.field-0-test ∙ c.in-Ok-false.ensures.used clean world still in
           free_more world c.args.jobs.now c.loop-job.job-index c.job-item.result c.job-item.result c.loop-job-test.true (sym c.job-item.is) (rw place at unused) (free before world stands),
     )
+
+pub returns-in-Err-clause-unrefused : goal.returns-in-Err-clause-unrefused
+returns-in-Err-clause-unrefused g c clean world stands limit =
+    let (place, _, read, same, free) = c.loop-job.invariant in
+    let still : StandsFor (state g.S.Store c.loop-job.conn).now world = subst (λ (d : Database). StandsFor d world) (sym (same (omega (arith, c.is_used.ensures.read.survives.clean)))) stands in
+    c.in-Err.ensures.unrefused clean world still (read.survives.limit ∙ limit)

@@ -1,9 +1,11 @@
-use Rattle.std.proofs.Common.{arith}
+use Rattle.std.proofs.Common.{arith, subst, sym, ◌∙◌, IfErr}
+use Rattle.wu_schema.proofs.VersionLemmas.{has_understood}
+use Rattle.wu_passes.specs.Standing.{TellsLater}
 use Rattle.sqlite.specs.State.{HasCleanDisk}
 use Rattle.sqlite.specs.Held.{state}
 use Rattle.wu_core.specs.World.{empty_world}
 use Rattle.wu_schema.proofs.CallLemmas.{leaves_only}
-use Rattle.wu_passes.proofs.StandingLemmas.{created_is, known_is, leaves_made, leaves_read, none_known, refusal_is}
+use Rattle.wu_passes.proofs.StandingLemmas.{created_is, known_is, leaves_made, leaves_read, none_known, refusal_is, stored_later, tells_worlds}
 use Rattle.wu_passes.proofs.project.session.find_or_create.Goals as goal
 
 pub returns-in-Ok-None-clause-made : goal.returns-in-Ok-None-clause-made
@@ -39,3 +41,27 @@ pub returns-in-Ok-None-clause-known : goal.returns-in-Ok-None-clause-known
 returns-in-Ok-None-clause-known g c clean =
     let before : HasCleanDisk (state g.S.Store c.version_of.new.conn) = omega (arith, c.create.ensures.crash.clean) in
     none_known c.create.result (state g.S.Store c.args.conn.now).now c.in-Ok-None.field-0 (c.in-Ok-None.ensures.answers before) c.in-Ok-None.field-0-is
+
+pub returns-in-Ok-Some-clause-stored : goal.returns-in-Ok-Some-clause-stored
+returns-in-Ok-Some-clause-stored g c clean version told =
+    let later = subst (λ r. IfErr r (TellsLater c.in-Ok-Some.version)) told c.check_version.ensures.later in
+    stored_later (state g.S.Store c.args.conn.now) c.in-Ok-Some.field-0 c.in-Ok-Some.version version c.in-Ok-Some.field-0-is (let same = later.0 in cc) later.1 (c.in-Ok-Some.ensures.absent clean) (c.in-Ok-Some.ensures.answers clean)
+
+pub returns-in-Ok-None-clause-keeps : goal.returns-in-Ok-None-clause-keeps
+returns-in-Ok-None-clause-keeps g c clean has =
+    let before : HasCleanDisk (state g.S.Store c.version_of.new.conn) = omega (arith, c.create.ensures.crash.clean) in
+    absurd (has_understood _ has (c.in-Ok-None.ensures.none before c.in-Ok-None.field-0-is))
+
+pub returns-in-Ok-None-clause-whole : goal.returns-in-Ok-None-clause-whole
+returns-in-Ok-None-clause-whole g c clean has =
+    let before : HasCleanDisk (state g.S.Store c.version_of.new.conn) = omega (arith, c.create.ensures.crash.clean) in
+    absurd (has_understood _ has (c.in-Ok-None.ensures.none before c.in-Ok-None.field-0-is))
+
+pub returns-in-Ok-Some-clause-only : goal.returns-in-Ok-Some-clause-only
+returns-in-Ok-Some-clause-only g c clean unlimited world first stands =
+    tells_worlds world c.in-Ok-Some.field-0 c.in-Ok-Some.version c.check_version.result c.in-Ok-Some.field-0-is (c.in-Ok-Some.ensures.stored clean world stands) c.check_version.ensures.later
+
+pub returns-in-Ok-None-clause-only : goal.returns-in-Ok-None-clause-only
+returns-in-Ok-None-clause-only g c clean unlimited world first stands =
+    let before : HasCleanDisk (state g.S.Store c.version_of.new.conn) = omega (arith, c.create.ensures.crash.clean) in
+    absurd (let no = sym c.in-Ok-None.field-0-is ∙ c.in-Ok-None.ensures.stored before world stands in cc)

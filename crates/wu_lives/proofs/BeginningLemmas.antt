@@ -1,0 +1,56 @@
+-- What is found where two files are opened first.
+use Rattle.std.proofs.Common.{◌≡◌, ℕ, List, [], ◌∷◌, length, filter, codes, refl, sym, ap, subst, ◌∙◌, inl, inr, arith}
+use Rattle.std.specs.List.{AllZip}
+use Rattle.sqlite_disk.specs.declared.Disk.{Ghosts}
+use Rattle.sqlite_disk.specs.declared.Files.{Files}
+use Rattle.sqlite_wal.proofs.LogLemmas.{SeenMayStay}
+use Rattle.sqlite_trees.specs.Objects.{catalog_tree}
+use Rattle.sqlite_catalog.specs.Listing.{is_table_row, is_index_row, is_view_row, IsIndexRow, IsTableRow, IsViewRow, Lists}
+use Rattle.sqlite_store.specs.declared.store.FileStore.{FileStore}
+use Rattle.sqlite.specs.Effect.{Database}
+use Rattle.sqlite.specs.Held.{Held}
+use Rattle.sqlite.specs.Order.{Row}
+use Rattle.sqlite.specs.Schema.{Schema}
+use Rattle.sqlite.specs.Files.{AreFound, Finds, IsEmpty, IsOpened, file_state}
+use Rattle.sqlite.specs.Tree.{Trees}
+use Rattle.wu_core.specs.World.{World, empty_world}
+use Rattle.wu_passes.specs.Committing.{FoundAs}
+use Rattle.wu_passes.specs.Planning.{IsProject}
+use Rattle.wu_passes.specs.Standing.{GoesOn, IsVacant}
+use Rattle.wu_schema.specs.StandsFor.{IsFree}
+use Rattle.wu_schema.proofs.VersionLemmas.{free_lacks}
+use Rattle.wu_lives.specs.Beginning.{HoldWorld, IsBlank}
+use Rattle.wu_lives.proofs.ReopeningLemmas.{committed_at, goes_again}
+
+none_beside : {A B : Type 0} (R : A → B → Type 0) (xs : List A) (ys : List B) → xs ≡ [] → AllZip R xs ys → ys ≡ []
+none_beside R [] [] none all = refl
+none_beside R [] (y ∷ ys) none all = absurd all
+none_beside R (x ∷ xs) ys none all = absurd cc
+
+-- a list of no object names none
+free_of_none : (schema : Schema) (objects : List Row) (name : List ℕ) → objects ≡ [] → Lists objects schema → IsFree schema name
+free_of_none schema objects name none lists = record {
+  table = rw (none_beside IsTableRow _ schema.tables (ap (λ rs. filter is_table_row rs) none) lists.listed.tables) refl;
+  index = rw (none_beside (IsIndexRow schema.tables) _ schema.indexes (ap (λ rs. filter is_index_row rs) none) lists.listed.indexes) refl;
+  view = rw (none_beside IsViewRow _ schema.views (ap (λ rs. filter is_view_row rs) none) lists.listed.views) refl;
+}
+
+pub empty_project : IsProject empty_world
+empty_project = record { present = refl; above = tt }
+
+-- two files were opened
+module _ {D : Type 0} {g : Ghosts D} (files : Files D) (again : Held (FileStore D g)) (opened : IsOpened again) (found : Finds files again) where
+  no_database : IsBlank g files → AreFound g files (file_state again).committed.trees → IsEmpty (file_state again).committed.trees
+  no_database blank (inl (size, pages, wanted, adopts, ours, reads)) = let low = adopts.found.present in absurd (omega (arith, low, ap (λ bytes. length bytes) blank))
+  no_database blank (inr (nothing, empty)) = empty
+
+  pub blank_vacant : IsBlank g files → IsVacant (file_state again)
+  blank_vacant blank =
+      let same : (file_state again).now ≡ (file_state again).committed = opened.0.clean in
+      let none : (file_state again).now.trees catalog_tree ≡ [] = ap (λ (d : Database). d.trees catalog_tree) same ∙ (no_database blank found.reads).1 in
+      free_lacks _ (free_of_none _ _ (codes "project") none ((opened.1 opened.0.is_open).0.lists))
+
+  pub goes_from : SeenMayStay g → (world : World) → HoldWorld g files world → GoesOn (file_state again) world
+  goes_from stays world held =
+      let same : (file_state again).now.trees ≡ held.trees = ap (λ (d : Database). d.trees) opened.0.clean ∙ found.holds held.trees held.holds in
+      goes_again (file_state again) world (committed_at again stays opened) (subst (λ (db : Trees). FoundAs db world) (sym same) held.found)
