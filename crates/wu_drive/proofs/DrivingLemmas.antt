@@ -6,16 +6,19 @@ use Rattle.std.specs.Prelude.{slice_get}
 use Rattle.sqlite.specs.State.{State}
 use Rattle.wu_core.specs.declared.fault.Fault.{Fault}
 use Rattle.wu_core.specs.declared.fault.Fault.TheVariants.{Output}
-use Rattle.wu_core.specs.World.{World}
+use Rattle.std.proofs.lemmas.List.Elements.{All-nil}
+use Rattle.wu_core.specs.World.{Import, World, empty_world}
+use Rattle.wu_store.specs.Reading.{AreVerdicts}
 use Rattle.wu_passes.specs.declared.command.Answer.{Answer}
 use Rattle.wu_passes.specs.declared.command.Command.{Command}
 use Rattle.wu_passes.specs.declared.command.Command.TheVariants as command
 use Rattle.wu_drive.specs.declared.runs.Run.{Run}
-use Rattle.wu_drive.specs.Driving.{AnswerAll, Drives, IsDriving, world_after}
+use Rattle.wu_drive.specs.Driving.{AnswerAll, Drives, NotDone, world_after}
 use Rattle.wu_passes.specs.Machine.{fold_steps, reply, step}
-use Rattle.wu_passes.specs.Planning.{IsProject, IsStoreFault, request_of, reply_of_answer}
+use Rattle.wu_passes.specs.Planning.{IsProject, request_of, reply_of_answer}
+use Rattle.wu_store.specs.Loading.{IsStoreFault}
 use Rattle.wu_passes.specs.Requests.{Request}
-use Rattle.wu_passes.specs.Standing.{GoesOn, Runs, Stands}
+use Rattle.wu_passes.specs.Standing.{GoesOn, Runs, Stands, WhyNot}
 use Rattle.wu_passes.proofs.BatchLemmas.{keeps_project}
 
 pub fold_more : (world : World) (requests : List Request) (one : Request) → fold_steps world (requests ++ one ∷ []) ≡ step (fold_steps world requests) one
@@ -42,11 +45,29 @@ pub keeps_all : (world : World) (commands : List Command) → IsProject world �
 keeps_all world [] project = project
 keeps_all world (command ∷ more) project = keeps_all (step world (request_of command)) more (keeps_by world command project)
 
+-- a fresh project is one
+pub empty_project : IsProject empty_world
+empty_project = record { present = refl; above = tt; next = (omega arith, omega arith); verdicts = All-nil (λ (i : Import). AreVerdicts i.kind i.verdicts) }
+
 pub one_fault : (a b : Fault) → ◌≡◌ {A = Option Fault} (Some a) (Some b) → a ≡ b
 one_fault a b same = cc
 
 there_is : {X : Type 0} (xs : List X) (i : ℕ) (x d : X) → i < length xs → get_or xs i d ≡ x → slice_get xs i ≡ Some x
 there_is xs i x d low there = slice_get-get_or xs i d low ∙ ap (λ y. Some y) there
+
+-- the command at this place was not done
+pub not_done : (world : World) (commands : List Command) (i : ℕ) (command d : Command) → i < length commands → get_or commands i d ≡ command → (run : Run) → run.acknowledged ≡ i → (fault other : Fault) (is : Bool)
+    → run.end ≡ Some other → run.end ≡ Some fault → WhyNot is (world_after world commands i) (request_of command) fault → NotDone world commands run is other
+not_done world commands i command d low there run count fault other is told told_so why =
+    let same : fault ≡ other = one_fault fault other (sym told_so ∙ told) in
+    subst (λ k. NotDone world commands (record run { acknowledged = k }) is other) (sym count) (command, there_is commands i command d low there, subst (λ f. WhyNot is (world_after world commands i) (request_of command) f) same why)
+
+-- so it is on the way, after so many commands
+pub record IsDriving (world : World) (commands : List Command) (answers : List Answer) (count : ℕ) (has_ended : Bool) (new : State) : Type 0 where
+  pub going : has_ended ≡ false
+  pub answered : AnswerAll world (take count commands) answers
+  pub goes : GoesOn new (world_after world commands count)
+  pub project : IsProject (world_after world commands count)
 
 pub driving_none : (world : World) (commands : List Command) (has_ended : Bool) (s : State) → has_ended ≡ false → IsProject world → GoesOn s world → IsDriving world commands [] 0 has_ended s
 driving_none world commands has_ended s going project goes = record { going = going; answered = tt; goes = goes; project = project }

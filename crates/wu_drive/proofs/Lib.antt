@@ -1,6 +1,6 @@
 mod AnswerLemmas
 mod DayLemmas
-mod LifeLemmas
+pub mod LifeLemmas
 mod LineLemmas
 mod WritingLemmas
 pub mod DrivingLemmas

@@ -11,14 +11,13 @@ use Rattle.wu_passes.specs.Committing.{FoundAs}
 use Rattle.wu_drive.specs.Driving.{Drives, Lengthens, session_of, world_after}
 use Rattle.wu_passes.specs.Machine.{step}
 use Rattle.wu_passes.specs.Planning.{request_of}
-use Rattle.wu_passes.specs.Sessions.{Lived, Session, world_acknowledged, world_accepted, world_of_life}
-use Rattle.wu_passes.specs.Sessions as sessions
+use Rattle.wu_passes.specs.Sessions.{Lived, Session, world_acknowledged, world_accepted, world_lived, world_of_life}
 use Rattle.wu_drive.proofs.DrivingLemmas.{fold_more}
 
 -- one session more
-life_more : (start : World) (life : List Lived) (lived : Lived) → world_of_life start (life ++ lived ∷ []) ≡ sessions.world_after (world_of_life start life) lived
+pub life_more : (start : World) (life : List Lived) (lived : Lived) → world_of_life start (life ++ lived ∷ []) ≡ world_lived (world_of_life start life) lived
 life_more start [] lived = refl
-life_more start (first ∷ more) lived = life_more (sessions.world_after start first) more lived
+life_more start (first ∷ more) lived = life_more (world_lived start first) more lived
 
 module _ (start : World) (life : List Lived) (commands : List Command) (answers : List Answer) (run : Run) (has_ended : Bool) (new : State)
     (drives : Drives (world_of_life start life) commands answers run has_ended new) (db : Trees) (may : new.may_leave db) where

@@ -1,20 +1,22 @@
 -- A list of commands over a session: what was answered, and what the tables then stand for.
-use Rattle.std.specs.Prelude.{◌≡◌, ◌⊎◌, ◌≤◌, ℕ, Bool, true, false, List, [], ◌∷◌, ◌++◌, if◌then◌else◌, length, map, option_map, take, slice_get, IfSome, Some, None, Ok, Err, ⊤}
+use Rattle.std.specs.Prelude.{◌≡◌, ◌⊎◌, ◌≤◌, ℕ, Bool, true, false, List, [], ◌∷◌, ◌++◌, if◌then◌else◌, length, map, option_map, take, slice_get, IfSome, IsTrue, Some, None, Ok, Err, ⊤}
 use Rattle.sqlite.specs.State.{State, HasCleanDisk}
 use Rattle.sqlite_trees.specs.declared.store.Store.{Ghosts}
 use Rattle.sqlite.specs.Tree.{Trees}
+use Rattle.wu_schema.specs.Faults.{IsFailure}
 use Rattle.wu_passes.specs.Committing.{FoundAs}
 use Rattle.wu_passes.specs.Sessions.{Lived, Session, world_of_life}
 use Rattle.wu_core.specs.World.{World}
 use Rattle.wu_core.specs.declared.fault.Fault.{Fault}
 use Rattle.wu_core.specs.declared.fault.Fault.TheVariants.{Ended, Output}
 use Rattle.wu_passes.specs.Machine.{fold_steps, reply, step}
-use Rattle.wu_passes.specs.Planning.{IsProject, IsStoreFault, request_of, reply_of_answer}
-use Rattle.wu_passes.specs.Standing.{GoesOn, HasEnded}
+use Rattle.wu_passes.specs.Planning.{IsProject, request_of, reply_of_answer}
+use Rattle.wu_store.specs.Loading.{IsStoreFault}
+use Rattle.wu_passes.specs.Standing.{GoesOn, HasEnded, WhyNot}
 use Rattle.wu_passes.specs.declared.command.Answer.{Answer}
 use Rattle.wu_passes.specs.declared.command.Command.{Command}
 use Rattle.wu_passes.specs.declared.project.Project.{Project}
-use Rattle.wu_passes.specs.Projects.{GoesStill, has_ended, IsOver, state_of}
+use Rattle.wu_passes.specs.Projects.{GoesStill, has_ended, IsOver, IsUnlimited, state_of}
 use Rattle.wu_drive.specs.declared.runs.Run.{Run}
 
 -- the answers are the machine's replies, one after another
@@ -49,13 +51,6 @@ pub record Drives (world : World) (commands : List Command) (answers : List Answ
   pub goes : has_ended ≡ false → GoesOn new (world_after world commands run.acknowledged)
   pub ended : has_ended ≡ true → (cut : Command) × (slice_get commands run.acknowledged ≡ Some cut) × HasEnded new (world_after world commands run.acknowledged) (request_of cut)
 
--- so it is on the way, after so many commands
-pub record IsDriving (world : World) (commands : List Command) (answers : List Answer) (count : ℕ) (has_ended : Bool) (new : State) : Type 0 where
-  pub going : has_ended ≡ false
-  pub answered : AnswerAll world (take count commands) answers
-  pub goes : GoesOn new (world_after world commands count)
-  pub project : IsProject (world_after world commands count)
-
 -- the session of a run: the commands that it acknowledged, and the one that was cut where the session ended
 abbrev pub session_of : List Command → Run → Bool → Session
 session_of commands run has_ended = record {
@@ -74,6 +69,22 @@ DrivesProject old new commands answers run =
     GoesStill old → HasCleanDisk (state_of new) → (world : World) → IsProject world → GoesOn (state_of old) world
     → Drives world commands answers run (has_ended new) (state_of new)
 
+-- why the next command was not done
+abbrev pub NotDone : World → List Command → Run → Bool → Fault → Type 0
+NotDone world commands run has_ended fault =
+    (next : Command) × (slice_get commands run.acknowledged ≡ Some next)
+    × WhyNot has_ended (world_after world commands run.acknowledged) (request_of next) fault
+
+-- the text of the last command that was done could not be written, and the session goes on
+abbrev pub NotWritten : Run → Bool → Fault → Type 0
+NotWritten run has_ended fault = (fault ≡ Output) × (1 ≤ run.acknowledged) × (has_ended ≡ false)
+
+-- over an adopted project a run that ended early tells why
+abbrev pub DrivesWhy : {S : Type 0} {store : Ghosts S} → Project S store → Project S store → List Command → Run → Type 0
+DrivesWhy old new commands run =
+    GoesStill old → HasCleanDisk (state_of new) → IsUnlimited old → (world : World) → IsProject world → GoesOn (state_of old) world
+    → (fault : Fault) → run.end ≡ Some fault → NotDone world commands run (has_ended new) fault ⊎ NotWritten run (has_ended new) fault
+
 -- and lengthens any life that led to that world
 abbrev pub LengthensLife : {S : Type 0} {store : Ghosts S} → Project S store → Project S store → List Command → Run → Type 0
 LengthensLife old new commands run =
@@ -89,3 +100,9 @@ DrivesNothing old new out_old out_new run =
 -- the run ended early, with such a fault
 abbrev pub EndsBy : Run → (Fault → Type 0) → Type 0
 EndsBy run Is = (fault : Fault) × (run.end ≡ Some fault) × Is fault
+
+-- over a session that went on an open connection stays so, but where the run ended for want of memory or of the disk
+abbrev pub ServesUnlessEnded : {S : Type 0} {store : Ghosts S} → Project S store → Project S store → Run → Type 0
+ServesUnlessEnded old new run =
+    GoesStill old → IsTrue (state_of old).is_open → HasCleanDisk (state_of new)
+    → EndsBy run IsFailure ⊎ IsTrue (state_of new).is_open

@@ -10,7 +10,7 @@ use Rattle.wu_core.specs.World.{World}
 use Rattle.wu_schema.specs.Stored.{workunit_row}
 use Rattle.wu_drive.specs.declared.views.View.{View}
 use Rattle.wu_drive.specs.declared.views.View.TheVariants as view
-use Rattle.wu_passes.specs.Planning.{IsStoreFault}
+use Rattle.wu_store.specs.Loading.{IsStoreFault}
 use Rattle.wu_passes.specs.Standing.{GoesOn}
 use Rattle.wu_passes.specs.declared.project.Project.{Project}
 use Rattle.wu_passes.specs.Projects.{GoesStill, IsOver, state_of}

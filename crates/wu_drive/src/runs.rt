@@ -1,7 +1,7 @@
 //! Lists of commands, and the demonstration.
 
 ghost use Rattle.std.specs.Prelude.{◌≡◌, ◌≤◌, List, Some, length};
-ghost use Rattle.wu_drive.specs.Driving.{DrivesNothing, DrivesProject, EndsBy, LengthensLife};
+ghost use Rattle.wu_drive.specs.Driving.{DrivesNothing, DrivesProject, DrivesWhy, EndsBy, LengthensLife, ServesUnlessEnded};
 ghost use Rattle.wu_drive.specs.Writing.{WritesAnswers};
 ghost use Rattle.wu_passes.specs.declared.command.Answer.{Answer};
 ghost use Rattle.wu_passes.specs.Projects.{GoesStill, IsOver, KeepsLimit, state_of};
@@ -28,8 +28,9 @@ pub struct Run {
 ///
 /// An acknowledged command is one that was answered, also where its text could not be written. The run ends early with
 /// the refusal of the next command, with a fault of the store, or with `Output` for the text of the last one done. It
-/// ends the session with `Memory` or `Broken` alone. Over a session that had ended it answers `Ended` at once. Where a stop before it could leave one world alone, the worlds
-/// that a stop may leave after it are those of the acknowledged commands, with the cut one or without.
+/// ends the session with `Memory` or `Broken` alone, and after any other end the connection is open. Over a session that
+/// had ended it answers `Ended` at once. Where a stop before it could leave one world alone, the worlds that a stop may
+/// leave after it are those of the acknowledged commands, with the cut one or without.
 pub fn drive<S: Alter, W: Write>(
     alloc: Global,
     project: &mut Project<S>,
@@ -39,6 +40,8 @@ pub fn drive<S: Alter, W: Write>(
     ensures answers { (answers : List Answer)
         × WritesAnswers (W.contents out.old) (W.contents out.new) answers result
         × DrivesProject project.old project.new commands.now answers result }
+    ensures why { DrivesWhy project.old project.new commands.now result }
+    ensures opens { ServesUnlessEnded project.old project.new result }
     ensures lives { LengthensLife project.old project.new commands.now result }
     ensures ended { DrivesNothing project.old project.new out.old out.new result }
     ensures ends { GoesStill project.old → IsOver project.new → EndsBy result MayEnd }

@@ -6,8 +6,8 @@ ghost use Rattle.wu_drive.specs.Projects.{EndsAsBroken, KeepsWorld};
 ghost use Rattle.wu_drive.specs.Texts.{workunit_line};
 ghost use Rattle.wu_drive.specs.Views.{IsRowFault, IsViewFault, RefusesEnded, Shows, WritesWorkunits};
 ghost use Rattle.wu_drive.specs.Writing.{WritesTo};
-ghost use Rattle.wu_passes.specs.Planning.{IsRead};
-ghost use Rattle.wu_passes.specs.Projects.{GoesStill, IsOver, KeepsLimit, state_of};
+ghost use Rattle.wu_store.specs.Loading.{IsRead};
+ghost use Rattle.wu_passes.specs.Projects.{GoesStill, IsOver, KeepsLimit, ServesOn, state_of};
 ghost use Rattle.wu_passes.specs.Standing.{KeepsDoubt};
 
 use crate::output::{Piece, flush, write_pieces};
@@ -95,6 +95,7 @@ fn show_workunits<S: Alter, W: Write>(
     ensures ends { EndsAsBroken project.old project.new result }
     ensures broken { result ≡ Err Fault.Broken → IsOver project.new }
     ensures fault { GoesStill project.old → IfErr result IsViewFault }
+    ensures opens { GoesStill project.old → ServesOn project.new result }
 {
     let rows = project.workunit_rows()?;
     write_workunits(alloc, rows.as_slice(), out)?;
@@ -119,6 +120,7 @@ pub fn show<S: Alter, W: Write>(
     ensures ends { EndsAsBroken project.old project.new result }
     ensures broken { result ≡ Err Fault.Broken → IsOver project.new }
     ensures fault { GoesStill project.old → IfErr result IsViewFault }
+    ensures opens { GoesStill project.old → ServesOn project.new result }
 {
     match view {
         View::Workunits => show_workunits(alloc, project, out),

@@ -1,7 +1,11 @@
 -- Which faults the readers tell.
 use Rattle.std.proofs.Common.{ℕ, ◌+◌, Bool, true, false, inl, inr, List, [], ◌∷◌, length, nat_lt, Result, Ok, Err, Option, Some, None, IfErr, if◌then◌else◌, find, not, refl}
 use Rattle.toml.specs.Data.{Members}
-use Rattle.wu_core.specs.Names.{is_name}
+use Rattle.wu_core.specs.Names.{is_name, name_of}
+use Rattle.wu_core.specs.ResultNames.{result_name_of}
+use Rattle.wu_core.specs.Statuses.{status_of}
+use Rattle.wu_core.specs.declared.name.ResultName.{ResultName}
+use Rattle.wu_core.specs.declared.states.Status.{Status}
 use Rattle.wu_core.specs.Parameters.{Parameters}
 use Rattle.wu_core.specs.Reads.{Gives}
 use Rattle.wu_core.specs.Templates.{parameters_of, range_tests, template_parameters, unless_failed}
@@ -15,6 +19,11 @@ use Rattle.wu_feed.specs.Inputs.{input_of}
 use Rattle.wu_feed.specs.Jobs.{job_of, job_of_two, job_with, jobs_header, jobs_of_file}
 use Rattle.wu_feed.specs.Limits.{last_row, longest_file}
 use Rattle.wu_feed.specs.Rows.{is_header, IsFileFault, records_of, row_at, rows_from, rows_of_file, rows_under, with_first}
+use Rattle.wu_feed.specs.Moments.{moment_of}
+use Rattle.wu_feed.specs.declared.reports.ReportRow.{ReportRow}
+use Rattle.wu_feed.specs.Reports.{report_of, report_of_fields, report_with, reported_output, reports_header, reports_of_file}
+use Rattle.wu_feed.specs.declared.sends.SendRow.{SendRow}
+use Rattle.wu_feed.specs.Sends.{send_of, send_of_fields, sends_header, sends_of_file}
 use Rattle.wu_feed.specs.Templates.{document_parameters, has_only_keys, IsTemplateFault, value_in}
 use Rattle.wu_feed.specs.declared.jobs.Job.{Job}
 
@@ -76,7 +85,51 @@ two_told number (Some pair) = by (is_name pair.0)
     by false = inr (number, cause.Name, refl)
 two_told number None = inr (number, cause.Fields, refl)
 
+-- a file of rows, each of which tells such a fault
+read_told : {R : Type 0} (row_of : ℕ → List (List ℕ) → Result R Fault) → ((number : ℕ) (fields : List (List ℕ)) → IfErr (row_of number fields) IsFileFault)
+    → (names : List (List ℕ)) (file : List ℕ) (result : Result (List R) Fault) → Gives result (rows_of_file names row_of file) → IfErr result IsFileFault
+read_told row_of row_told names file result (inl same) = rw same (file_told row_of row_told names file)
+read_told row_of row_told names file result (inr wanted) = rw wanted (inl refl)
+
 -- a file of jobs
 pub jobs_told : (file : List ℕ) (result : Result (List Job) Fault) → Gives result (jobs_of_file file) → IfErr result IsFileFault
-jobs_told file result (inl same) = rw same (file_told job_of (λ number fields. two_told number (two_of fields)) jobs_header file)
-jobs_told file result (inr wanted) = rw wanted (inl refl)
+jobs_told = read_told job_of (λ number fields. two_told number (two_of fields)) jobs_header
+
+send_fields_told : (number : ℕ) (name : Result ResultName Fault) (host : Result (List ℕ) Fault) (moment : Result ℕ Fault) → IfErr (send_of_fields number name host moment) IsFileFault
+send_fields_told number (Ok name) (Ok host) (Ok moment) = tt
+send_fields_told number (Ok name) (Ok host) (Err why) = inr (number, cause.Moment, refl)
+send_fields_told number (Ok name) (Err why) moment = inr (number, cause.Host, refl)
+send_fields_told number (Err why) host moment = inr (number, cause.Result, refl)
+
+send_told : (number : ℕ) (fields : List (List ℕ)) → IfErr (send_of number fields) IsFileFault
+send_told number [] = inr (number, cause.Fields, refl)
+send_told number (a ∷ []) = inr (number, cause.Fields, refl)
+send_told number (a ∷ b ∷ []) = inr (number, cause.Fields, refl)
+send_told number (a ∷ b ∷ c ∷ []) = send_fields_told number (result_name_of a) (name_of b) (moment_of c)
+send_told number (a ∷ b ∷ c ∷ d ∷ more) = inr (number, cause.Fields, refl)
+
+-- a file of sends
+pub sends_told : (file : List ℕ) (result : Result (List SendRow) Fault) → Gives result (sends_of_file file) → IfErr result IsFileFault
+sends_told = read_told send_of send_told sends_header
+
+report_with_told : (number : ℕ) (sent : SendRow) (how : Status) (output : Option (List ℕ)) → IfErr (report_with number sent how output) IsFileFault
+report_with_told number sent how (Some output) = tt
+report_with_told number sent how None = inr (number, cause.Output, refl)
+
+report_fields_told : (number : ℕ) (sent : Result SendRow Fault) (how : Option Status) (output : List ℕ) → IfErr sent IsFileFault → IfErr (report_of_fields number sent how output) IsFileFault
+report_fields_told number (Err why) how output told = told
+report_fields_told number (Ok sent) None output told = inr (number, cause.Status, refl)
+report_fields_told number (Ok sent) (Some how) output told = report_with_told number sent how (reported_output how output)
+
+report_told : (number : ℕ) (fields : List (List ℕ)) → IfErr (report_of number fields) IsFileFault
+report_told number [] = inr (number, cause.Fields, refl)
+report_told number (a ∷ []) = inr (number, cause.Fields, refl)
+report_told number (a ∷ b ∷ []) = inr (number, cause.Fields, refl)
+report_told number (a ∷ b ∷ c ∷ []) = inr (number, cause.Fields, refl)
+report_told number (a ∷ b ∷ c ∷ d ∷ []) = inr (number, cause.Fields, refl)
+report_told number (a ∷ b ∷ c ∷ d ∷ e ∷ []) = report_fields_told number (send_of number (a ∷ b ∷ c ∷ [])) (status_of d) e (send_told number (a ∷ b ∷ c ∷ []))
+report_told number (a ∷ b ∷ c ∷ d ∷ e ∷ f ∷ more) = inr (number, cause.Fields, refl)
+
+-- a file of reports
+pub reports_told : (file : List ℕ) (result : Result (List ReportRow) Fault) → Gives result (reports_of_file file) → IfErr result IsFileFault
+reports_told = read_told report_of report_told reports_header

@@ -1,7 +1,9 @@
 mod FieldLemmas
+mod InputLemmas
 mod JobLemmas
 mod MomentLemmas
 mod RecordLemmas
+mod ReportLemmas
 mod RowLemmas
 mod TemplateLemmas
 mod FaultLemmas

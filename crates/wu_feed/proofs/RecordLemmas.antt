@@ -2,7 +2,10 @@
 use Rattle.std.proofs.Common.{◌≡◌, ◌≤◌, ◌<◌, ◌+◌, ℕ, Bool, true, false, List, [], ◌∷◌, ◌++◌, length, take, zero, suc, Option, Some, None, if◌then◌else◌, ◌==◌, add-one, arith, refl, ap, ◌∙◌}
 use Rattle.std.proofs.lemmas.List.{append-nil, take-append-le, take_all}
 use Rattle.csv.specs.Machine.{Read, after_end, ends_at_end, ends_with, fields_after, field_after, in_field, is_end, next_record, start_field, step}
-use Rattle.csv.specs.Reading.{Reached, default_config, records, records_from, records_next}
+use Rattle.csv.specs.Reading.{ExplainsRead, Reached, stops_reader, default_config, records, records_from, records_next}
+use Rattle.csv.specs.declared.error.ErrorKind.{ErrorKind}
+use Rattle.csv.specs.declared.error.ErrorKind.TheVariants as kind
+use Rattle.csv.specs.declared.reader.Reader.{Reader}
 use Rattle.csv.specs.declared.parser.Action.{Action}
 use Rattle.csv.specs.declared.parser.State.{State}
 use Rattle.csv.specs.declared.parser.State.TheVariants as st
@@ -149,3 +152,12 @@ some_read xs ys rows s n h long =
     let all = reached_records rows (length xs + 1) st.StartRecord s xs ys refl (omega arith) h in
     let rest = records_from default_config (length ys + 1) s ys in
     rw (all, take-append-le n rows rest (omega arith), take_all n rows (omega arith)) refl
+
+-- a flexible reader of bytes is stopped by whatever error it tells
+pub stopped : {R : Type 0} (rem : R → Option (List ℕ)) (old new : Reader R) (why : ErrorKind) → old.flexible ≡ true → ExplainsRead rem old new false why → stops_reader why ≡ true
+stopped rem old new (kind.Io e) flexible told = refl
+stopped rem old new kind.OutOfMemory flexible told = refl
+stopped rem old new (kind.UnequalLengths pos expected len) flexible told = cc (flexible, told.0)
+stopped rem old new (kind.Utf8 pos err) flexible told = cc told.0
+stopped rem old new (kind.Serialize why) flexible told = absurd told
+stopped rem old new (kind.Deserialize pos err) flexible told = absurd told

@@ -1,7 +1,8 @@
 -- The rows of a file, one after the other.
-use Rattle.std.proofs.Common.{◌≡◌, ◌≤◌, ◌<◌, ◌+◌, ℕ, Bool, true, false, inl, inr, List, [], ◌∷◌, ◌++◌, length, get_or, map, drop, take, zero, suc, nat_lt, Result, Ok, Err, IfOk, append_assoc, if◌then◌else◌, arith, refl, sym, ap, ◌∙◌}
+use Rattle.std.proofs.Common.{◌≡◌, ◌≤◌, ◌<◌, ◌+◌, ℕ, Bool, true, false, inl, inr, List, [], ◌∷◌, ◌++◌, length, get_or, map, drop, take, zero, suc, nat_lt, Result, Ok, Err, IfOk, All, append_assoc, if◌then◌else◌, arith, refl, sym, ap, ◌∙◌}
 use Rattle.std.proofs.lemmas.Bool.Decides.{nat_tests}
 use Rattle.std.proofs.lemmas.List.{append-nil, drop_all, drop_more}
+use Rattle.std.proofs.lemmas.List.Elements.{All-cons, All-nil}
 use Rattle.csv.specs.Records.{Row, fields_of}
 use Rattle.wu_core.specs.Reads.{Gives}
 use Rattle.wu_core.specs.declared.fault.Fault.{Fault}
@@ -128,3 +129,42 @@ module _ {R : Type 0} (row_of : ℕ → List (List ℕ) → Result R Fault) wher
   rows_of_file-few names file (Ok rows) (inl e) = file_few names file rows (sym e)
   rows_of_file-few names file (Ok rows) (inr e) = cc e
   rows_of_file-few names file (Err why) gave = tt
+
+-- what each row that is read has, each row of a file has
+module _ {R : Type 0} (row_of : ℕ → List (List ℕ) → Result R Fault) (P : R → Type 0) (each : (number : ℕ) (fields : List (List ℕ)) (row : R) → row_of number fields ≡ Ok row → P row) where
+  row_at-each : (number : ℕ) (fields : List (List ℕ)) (row : R) → row_at row_of number fields ≡ Ok row → P row
+  row_at-each number fields row e = by (nat_lt last_row number) e
+    where
+      by : (past : Bool) → (if past then Err (BadFile number cause.TooManyRows) else row_of number fields) ≡ Ok row → P row
+      by true e = cc e
+      by false e = each number fields row e
+
+  rows_from-each : (number : ℕ) (fields : List (List (List ℕ))) (rows : List R) → rows_from row_of number fields ≡ Ok rows → All P rows
+  unfolding rows_from
+  rows_from-each number [] rows e =
+      let none : [] ≡ rows = cc e in
+      rw (← none) (All-nil P)
+  rows_from-each number (r ∷ fields) rows e =
+      let (row, more, here, rest, same) = first_parts (row_at row_of number r) (rows_from row_of (number + 1) fields) rows e in
+      let others = rows_from-each (number + 1) fields more rest in
+      rw (← same) (All-cons P row more (row_at-each number r row here) others)
+
+  rows_under-each : (names : List (List ℕ)) (read : List (List (List ℕ))) (rows : List R) → rows_under names row_of read ≡ Ok rows → All P rows
+  rows_under-each names [] rows e = cc e
+  rows_under-each names (header ∷ fields) rows e = by (is_header names header) e
+    where
+      by : (b : Bool) → (if b then rows_from row_of 2 fields else Err (BadFile 1 cause.Header)) ≡ Ok rows → All P rows
+      by true e = rows_from-each 2 fields rows e
+      by false e = cc e
+
+  file_each : (names : List (List ℕ)) (file : List ℕ) (rows : List R) → rows_of_file names row_of file ≡ Ok rows → All P rows
+  file_each names file rows e = by (nat_lt longest_file (length file)) e
+    where
+      by : (b : Bool) → (if b then Err (BadFile 0 cause.TooLong) else rows_under names row_of (records_of file)) ≡ Ok rows → All P rows
+      by true e = cc e
+      by false e = rows_under-each names (records_of file) rows e
+
+  pub rows_of_file-each : (names : List (List ℕ)) (file : List ℕ) (result : Result (List R) Fault) → Gives result (rows_of_file names row_of file) → IfOk result (All P)
+  rows_of_file-each names file (Ok rows) (inl e) = file_each names file rows (sym e)
+  rows_of_file-each names file (Ok rows) (inr e) = cc e
+  rows_of_file-each names file (Err why) gave = tt

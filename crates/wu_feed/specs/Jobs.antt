@@ -6,7 +6,7 @@ use Rattle.wu_core.specs.declared.fault.Fault.TheVariants.{BadFile}
 use Rattle.wu_core.specs.declared.fault.FileCause.TheVariants as cause
 use Rattle.wu_feed.specs.Fields.{two_of}
 use Rattle.wu_feed.specs.Inputs.{input_of}
-use Rattle.wu_feed.specs.Rows.{is_header, row_at, rows_from, rows_under, rows_of_file}
+use Rattle.wu_feed.specs.Rows.{is_header, rows_of_file}
 use Rattle.wu_feed.specs.declared.jobs.Job.{Job}
 
 abbrev pub jobs_header : List (List ℕ)
@@ -28,18 +28,6 @@ job_of_two row None = Err (BadFile row cause.Fields)
 -- the job of a row's fields, or the first cause for which there is none
 abbrev pub job_of : ℕ → List (List ℕ) → Result Job Fault
 job_of row fields = job_of_two row (two_of fields)
-
--- the job of a row that a file may have
-abbrev pub job_at : ℕ → List (List ℕ) → Result Job Fault
-job_at = row_at job_of
-
--- the jobs of rows that are numbered from this one, or the first faulty row
-abbrev pub jobs_from : ℕ → List (List (List ℕ)) → Result (List Job) Fault
-jobs_from = rows_from job_of
-
--- the header and the rows
-abbrev pub jobs_of_records : List (List (List ℕ)) → Result (List Job) Fault
-jobs_of_records = rows_under jobs_header job_of
 
 -- the jobs of a file
 abbrev pub jobs_of_file : List ℕ → Result (List Job) Fault

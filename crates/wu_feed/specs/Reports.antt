@@ -8,16 +8,9 @@ use Rattle.wu_core.specs.declared.states.Status.TheVariants as status
 use Rattle.wu_core.specs.Statuses.{status_of}
 use Rattle.wu_feed.specs.Inputs.{output_of}
 use Rattle.wu_feed.specs.Rows.{rows_of_file}
-use Rattle.wu_feed.specs.Sends.{SendRow, send_of}
-
--- an instance, by its workunit's name and its number, was reported by a host
-pub record ReportRow : Type 0 where
-  pub workunit : List ℕ
-  pub n : ℕ
-  pub host : List ℕ
-  pub moment : ℕ
-  pub status : Status
-  pub output : List ℕ
+use Rattle.wu_feed.specs.Sends.{send_of}
+use Rattle.wu_feed.specs.declared.sends.SendRow.{SendRow}
+use Rattle.wu_feed.specs.declared.reports.ReportRow.{ReportRow}
 
 abbrev pub reports_header : List (List ℕ)
 reports_header = codes "result" ∷ codes "host" ∷ codes "moment" ∷ codes "status" ∷ codes "output" ∷ []

@@ -8,13 +8,7 @@ use Rattle.wu_core.specs.Names.{name_of}
 use Rattle.wu_core.specs.ResultNames.{result_name_of}
 use Rattle.wu_feed.specs.Moments.{moment_of}
 use Rattle.wu_feed.specs.Rows.{rows_of_file}
-
--- an instance, by its workunit's name and its number, was sent to a host
-pub record SendRow : Type 0 where
-  pub workunit : List ℕ
-  pub n : ℕ
-  pub host : List ℕ
-  pub moment : ℕ
+use Rattle.wu_feed.specs.declared.sends.SendRow.{SendRow}
 
 abbrev pub sends_header : List (List ℕ)
 sends_header = codes "result" ∷ codes "host" ∷ codes "moment" ∷ []

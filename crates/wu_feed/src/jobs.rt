@@ -1,22 +1,18 @@
 //! Files of jobs: a header `name,input`, and a row for each job.
 
-ghost use Rattle.std.specs.Prelude.{◌≡◌, ◌↔◌, ◌≤◌, ◌<◌, ◌^◌, All, IfErr, IfOk, IsTrue, List, [], length, map};
-ghost use Rattle.std.specs.Iterator.Adapters.{IterYieldsInOrder};
-ghost use Rattle.std.specs.Slice.Iter.{iter_rest};
+ghost use Rattle.std.specs.Prelude.{◌≡◌, ◌≤◌, All, IfErr, IfOk, length};
 ghost use Rattle.csv.specs.Records.{fields_of};
 ghost use Rattle.wu_core.specs.Limits.{longest_input};
 ghost use Rattle.wu_core.specs.Reads.{Gives};
-ghost use Rattle.wu_feed.specs.Inputs.{input_of};
 ghost use Rattle.wu_feed.specs.Limits.{most_rows};
 ghost use Rattle.wu_feed.specs.Rows.{IsFileFault};
-ghost use Rattle.wu_feed.specs.Jobs.{is_jobs_header, job_at, jobs_from, jobs_of_records, jobs_of_file};
+ghost use Rattle.wu_feed.specs.Jobs.{is_jobs_header, job_of, jobs_of_file};
 
-use crate::limits::{LAST_ROW, LONGEST_FILE};
+use crate::inputs::read_hex;
 use crate::records;
+use crate::rows::{Row, Rows, read_file};
 use csv::ByteRecord;
 use std::alloc::Global;
-use std::marker::Model;
-use std::slice::Iter;
 use wu_core::{Bytes, Fault, FileCause, LONGEST_INPUT, Name};
 
 /// A job of a batch: the name of its workunit, and its input of at most 4,096 bytes.
@@ -26,81 +22,13 @@ pub struct Job {
     pub input: Bytes,
 }
 
-/// Jobs, which contracts see as a list.
-#[derive(Debug, Drop)]
-pub struct Jobs {
-    items: Vec<Job>,
-}
-
-impl Model for Jobs {
-    ghost use Rattle.std.specs.Prelude.{List};
-    ghost use Rattle.wu_feed.specs.declared.jobs.Job.{Job};
-
-    ghost Value = { List Job };
-
-    ghost view = { λ jobs. jobs.items.items };
-}
-
-impl Jobs {
-    pub fn from_vec(items: Vec<Job>) -> Self
-        ensures { result ≡ items.items }
-    {
-        Jobs { items }
-    }
-
-    pub fn into_vec(self) -> Vec<Job>
-        ensures { result.items ≡ self }
-    {
-        self.items
-    }
-
-    pub fn as_slice(&self) -> &[Job]
-        ensures { result.now ≡ self.now }
-    {
-        self.items.as_slice()
-    }
-
-    pub fn len(&self) -> usize
-        ensures { result ≡ length self.now }
-    {
-        self.items.len()
-    }
-
-    pub fn is_empty(&self) -> bool
-        ensures { IsTrue result ↔ (self.now ≡ []) }
-    {
-        self.items.is_empty()
-    }
-
-    /// The jobs in the order of their rows.
-    pub fn iter(&self) -> Iter<'_, Job>
-        ensures rest { iter_rest result ≡ self.now }
-        ensures fits { length (iter_rest result) < 2 ^ 64 }
-        ensures runs { IterYieldsInOrder Job }
-    {
-        self.items.as_slice().iter()
-    }
-}
-
-/// The bytes of hex digits of either case, if they are an input; no digits are none.
-fn read_input(alloc: Global, text: &[u8]) -> Result<Option<Bytes>, Fault>
-    ensures { Gives result (Ok (input_of text.now)) }
-{
-    match hex::decode(alloc, text) {
-        Ok(bytes) if bytes.len() <= LONGEST_INPUT => Ok(Some(Bytes::from_vec(bytes))),
-        Err(hex::FromHexError::OutOfMemory) => Err(Fault::Memory),
-        // No hex, or too long: the row's fault is its reader's to tell.
-        _ => Ok(None),
-    }
-}
+/// Jobs in the order of their rows.
+pub type Jobs = Rows<Job>;
 
 /// The job of a row: its name, and then its input. The first cause for which there is none is that of `BadFile`.
 fn read_job(alloc: Global, number: u32, row: &ByteRecord) -> Result<Job, Fault>
-    ensures { Gives result (job_at number (fields_of row.now)) }
+    ensures { Gives result (job_of number (fields_of row.now)) }
 {
-    if number > LAST_ROW {
-        return Err(records::fault_at(number, FileCause::TooManyRows));
-    }
     let Some((name, input)) = records::two_fields(row) else {
         return Err(records::fault_at(number, FileCause::Fields));
     };
@@ -110,24 +38,10 @@ fn read_job(alloc: Global, number: u32, row: &ByteRecord) -> Result<Job, Fault>
         // No name: told with the row.
         Err(_) => return Err(records::fault_at(number, FileCause::Name)),
     };
-    match read_input(alloc, input)? {
+    match read_hex(alloc, input, LONGEST_INPUT)? {
         Some(input) => Ok(Job { name, input }),
         None => Err(records::fault_at(number, FileCause::Input)),
     }
-}
-
-/// The jobs of the rows, which are numbered from 2. The first faulty row decides.
-fn read_rows(alloc: Global, rows: &[ByteRecord]) -> Result<Jobs, Fault>
-    ensures { Gives result (jobs_from 2 (map fields_of rows.now)) }
-{
-    let mut jobs = Vec::new(alloc);
-    let mut number = 2;
-    for row in rows {
-        let job = read_job(alloc, number, row)?;
-        jobs.push(job)?;
-        number += 1;
-    }
-    Ok(Jobs::from_vec(jobs))
 }
 
 /// Whether the row is the header of a file of jobs.
@@ -140,13 +54,19 @@ fn is_header(row: &ByteRecord) -> bool
     }
 }
 
-/// The jobs of a file's records, of which the first is the header.
-fn read_records(alloc: Global, records: &[ByteRecord]) -> Result<Jobs, Fault>
-    ensures { Gives result (jobs_of_records (map fields_of records.now)) }
-{
-    match records {
-        [header, rows @ ..] if is_header(header) => read_rows(alloc, rows),
-        _ => Err(records::fault_at(1, FileCause::Header)),
+impl Row for Job {
+    ghost use Rattle.wu_feed.specs.Jobs.{job_of, jobs_header};
+
+    ghost names = { jobs_header };
+
+    ghost row_of = { job_of };
+
+    fn is_header(row: &ByteRecord) -> bool {
+        is_header(row)
+    }
+
+    fn read(alloc: Global, number: u32, row: &ByteRecord) -> Result<Self, Fault> {
+        read_job(alloc, number, row)
     }
 }
 
@@ -159,11 +79,7 @@ pub fn read_jobs(alloc: Global, file: &[u8]) -> Result<Jobs, Fault>
     ensures few { IfOk result (λ jobs. length jobs ≤ most_rows) }
     ensures short { IfOk result (All (λ job. length job.input ≤ longest_input)) }
 {
-    if file.len() > LONGEST_FILE {
-        return Err(records::fault_at(0, FileCause::TooLong));
-    }
-    let records = records::first_records(alloc, file)?;
-    read_records(alloc, records.as_slice())
+    read_file(alloc, file)
 }
 
 #[cfg(test)]

@@ -15,11 +15,16 @@ use Rattle.sqlite.specs.Files.{AreFound, Finds, IsEmpty, IsOpened, file_state}
 use Rattle.sqlite.specs.Tree.{Trees}
 use Rattle.wu_core.specs.World.{World, empty_world}
 use Rattle.wu_passes.specs.Committing.{FoundAs}
-use Rattle.wu_passes.specs.Planning.{IsProject}
-use Rattle.wu_passes.specs.Standing.{GoesOn, IsVacant}
+use Rattle.wu_passes.specs.Standing.{GoesOn, IsVacant, LeavesAlso}
 use Rattle.wu_schema.specs.StandsFor.{IsFree}
 use Rattle.wu_schema.proofs.VersionLemmas.{free_lacks}
-use Rattle.wu_lives.specs.Beginning.{HoldWorld, IsBlank}
+use Rattle.std.proofs.Common.{◌⊎◌}
+use Rattle.std.proofs.Math.Logic.{∥∥₁_map}
+use Rattle.sqlite.specs.State.{State}
+use Rattle.wu_schema.specs.Versions.{LacksProject}
+use Rattle.wu_schema.proofs.StandsLemmas.{same_database}
+use Rattle.wu_lives.specs.Beginning.{AwaitsProject, HoldWorld, IsBlank}
+use Rattle.wu_lives.specs.Reopening.{IsReopened}
 use Rattle.wu_lives.proofs.ReopeningLemmas.{committed_at, goes_again}
 
 none_beside : {A B : Type 0} (R : A → B → Type 0) (xs : List A) (ys : List B) → xs ≡ [] → AllZip R xs ys → ys ≡ []
@@ -34,9 +39,6 @@ free_of_none schema objects name none lists = record {
   index = rw (none_beside (IsIndexRow schema.tables) _ schema.indexes (ap (λ rs. filter is_index_row rs) none) lists.listed.indexes) refl;
   view = rw (none_beside IsViewRow _ schema.views (ap (λ rs. filter is_view_row rs) none) lists.listed.views) refl;
 }
-
-pub empty_project : IsProject empty_world
-empty_project = record { present = refl; above = tt }
 
 -- two files were opened
 module _ {D : Type 0} {g : Ghosts D} (files : Files D) (again : Held (FileStore D g)) (opened : IsOpened again) (found : Finds files again) where
@@ -54,3 +56,17 @@ module _ {D : Type 0} {g : Ghosts D} (files : Files D) (again : Held (FileStore 
   goes_from stays world held =
       let same : (file_state again).now.trees ≡ held.trees = ap (λ (d : Database). d.trees) opened.0.clean ∙ found.holds held.trees held.holds in
       goes_again (file_state again) world (committed_at again stays opened) (subst (λ (db : Trees). FoundAs db world) (sym same) held.found)
+
+-- what a stop within an adoption left of a free database
+module _ (old mid again : State) (free : AwaitsProject old) (left : LeavesAlso old mid empty_world) (reopened : IsReopened mid again) where
+  still_vacant : again.now.trees ≡ old.now.trees → IsVacant again
+  still_vacant same = subst (λ (d : Database). LacksProject d.schema) (sym (same_database old.now again.now free.committed.sound reopened.whole.sound same)) free.vacant
+
+  pub vacant_or_fresh : ∥ IsVacant again ⊎ GoesOn again empty_world ∥₁
+  vacant_or_fresh = ∥∥₁_map reopened.found (λ may. elim (left _ may) [
+    | inl before ↦ inl (still_vacant (free.committed.left.only _ before))
+    | inr fresh ↦ inr (goes_again again empty_world reopened.whole fresh)
+  ])
+
+pub found_standing : (mid again : State) (world : World) → GoesOn mid world → IsReopened mid again → ∥ GoesOn again world ∥₁
+found_standing mid again world goes reopened = ∥∥₁_map reopened.found (λ may. goes_again again world reopened.whole (goes.left _ may))

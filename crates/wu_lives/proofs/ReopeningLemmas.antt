@@ -1,5 +1,5 @@
 -- What is found where the two files are opened again after a stop.
-use Rattle.std.proofs.Common.{◌≡◌, ◌+◌, ◌<◌, ◌≤◌, ℕ, IsTrue, ◌&&◌, true, false, Bool, List, [], ◌∷◌, ◌++◌, length, map, take, get_or, Vec, Global, Some, refl, sym, ap, subst, ◌∙◌, inl, inr, arith, length-append}
+use Rattle.std.proofs.Common.{◌≡◌, ◌⊎◌, ℕ, zero, suc, Option, ◌+◌, ◌<◌, ◌≤◌, IsTrue, ◌&&◌, true, false, Bool, List, [], ◌∷◌, ◌++◌, length, map, take, get_or, Vec, Global, Some, refl, sym, ap, subst, ◌∙◌, inl, inr, arith, length-append}
 use Rattle.std.proofs.Math.Logic.{∥∥₁_elim, ∥∥₁_map}
 use Rattle.std.proofs.lemmas.List.{map-append, take_more}
 use Rattle.std.proofs.lemmas.Option.{get_or_from_slice_get, slice_get_within}
@@ -32,7 +32,13 @@ use Rattle.wu_passes.specs.Standing.{GoesOn, MayEnd}
 use Rattle.wu_passes.specs.declared.command.Answer.{Answer}
 use Rattle.wu_passes.specs.declared.command.Command.{Command}
 use Rattle.wu_drive.specs.declared.runs.Run.{Run}
-use Rattle.wu_lives.specs.Reopening.{commands_of, HasLived, HoldsBeginning, IsCommitted, IsKept, IsReopened, LeadTo}
+use Rattle.wu_lives.specs.Lives.{AreOf, AreSessionsOf, commands_of, HasLived, IsSessionOf, Told, WritesTold}
+use Rattle.wu_lives.specs.Reopening.{HoldsBeginning, IsCommitted, IsKept, IsReopened}
+use Rattle.wu_passes.specs.Sessions.{Lived, world_accepted, world_lived, world_of_life}
+use Rattle.wu_drive.specs.Driving.{session_of}
+use Rattle.wu_drive.specs.Writing.{WritesAnswers}
+use Rattle.wu_drive.proofs.LifeLemmas.{life_more}
+use Rattle.std.proofs.lemmas.Bool.{cases_eq}
 use Rattle.wu_drive.proofs.DrivingLemmas.{fold_more, keeps_all}
 
 and_both : (a b c d : Bool) → (IsTrue c → IsTrue a) → (IsTrue d → IsTrue b) → IsTrue (c && d) → IsTrue (a && b)
@@ -124,25 +130,66 @@ pub answers_none : (world : World) (commands : List Command) (answers : List Ans
 answers_none world commands [] run none count = subst (λ k. AnswerAll world (take k commands) []) (sym none) tt
 answers_none world commands (answer ∷ answers) run none count = absurd (omega (arith, none, count))
 
--- the next life
-lead_more : (world : World) (lives : List (List Command)) (runs : List Run) (commands : List Command) (run : Run) (mid : World) (count : ℕ) → LeadTo world lives runs mid → IsKept commands run count
-    → LeadTo world (lives ++ commands ∷ []) (runs ++ run ∷ []) (world_after mid commands count)
-lead_more world [] [] commands run mid count lead kept = (count, kept, ap (λ w. world_after w commands count) lead)
-lead_more world [] (r ∷ runs) commands run mid count lead kept = absurd lead
-lead_more world (l ∷ lives) [] commands run mid count lead kept = absurd lead
-lead_more world (l ∷ lives) (r ∷ runs) commands run mid count (so_far, was, lead) kept = (so_far, was, lead_more (world_after world l so_far) lives runs commands run mid count lead kept)
+-- ---- the next session of a life
 
-pub lived_none : (world : World) (s : State) → IsProject world → GoesOn s world → HasLived world [] [] s
-lived_none world s project goes = record { last = world; lead = refl; goes = goes; project = project }
+sessions_more : (world : World) (told : List Told) (life : List Lived) (next : Told) (lived : Lived) → AreSessionsOf world told life → IsSessionOf (world_of_life world life) next lived
+    → AreSessionsOf world (told ++ next ∷ []) (life ++ lived ∷ [])
+sessions_more world [] [] next lived all it = (it, tt)
+sessions_more world [] (l ∷ life) next lived all it = absurd all
+sessions_more world (t ∷ told) [] next lived all it = absurd all
+sessions_more world (t ∷ told) (l ∷ life) next lived (first, all) it = (first, sessions_more (world_lived world l) told life next lived all it)
 
-lived_more : (world : World) (lives : List (List Command)) (runs : List Run) (old new : State) (commands : List Command) (run : Run) → (lived : HasLived world lives runs old)
-    → HoldsBeginning lived.last commands run new → HasLived world (lives ++ commands ∷ []) (runs ++ run ∷ []) new
-lived_more world lives runs old new commands run lived holds = record {
-  last = world_after lived.last commands holds.count;
-  lead = lead_more world lives runs commands run lived.last holds.count lived.lead holds.kept;
-  goes = holds.goes;
-  project = holds.project;
-}
+pub lived_none : (world : World) (s : State) → IsProject world → GoesOn s world → HasLived world [] s
+lived_none world s project goes = record { life = []; sessions = tt; goes = goes; project = project }
+
+-- a beginning of its commands is found, so it is lived
+record IsFoundAs (world : World) (told : Told) (after : World) : Type 0 where
+  pub lived : Lived
+  pub is : IsSessionOf world told lived
+  pub left : world_lived world lived ≡ after
+
+found_as : (world : World) (told : Told) (count : ℕ) → IsKept told.commands told.run count → AnswerAll world (take told.run.acknowledged told.commands) told.answers → IsFoundAs world told (world_after world told.commands count)
+found_as world told count kept answered = elim (nat_cases count told.run.acknowledged kept.has_acknowledged kept.at_most_one_more) [
+  | inl same ↦ record {
+    lived = record { session = session_of told.commands told.run false; is_cut_in = false };
+    is = record { within = omega (arith, kept.has_acknowledged, kept.within); answered = answered; has_ended = false; session = refl; ends = λ no. absurd cc };
+    left = ap (λ k. world_after world told.commands k) (sym same);
+  }
+  | inr next ↦
+      let low : told.run.acknowledged < length told.commands = let in_it = kept.within in omega (arith, next, in_it) in
+      let (cut, there) = at_place told.commands told.run.acknowledged low in
+      let left : world_accepted world (session_of told.commands told.run true) ≡ step (world_after world told.commands told.run.acknowledged) (request_of cut) =
+      rw there (fold_more world (map request_of (take told.run.acknowledged told.commands)) (request_of cut)) in
+      record {
+        lived = record { session = session_of told.commands told.run true; is_cut_in = true };
+        is = record { within = omega (arith, low); answered = answered; has_ended = true; session = refl; ends = λ is. kept.cut (omega (arith, next)) };
+        left = left ∙ sym (ap (λ k. world_after world told.commands k) next ∙ next_world world told.commands told.run.acknowledged cut there);
+      }
+]
+  where
+    nat_cases : (a b : ℕ) → b ≤ a → a ≤ b + 1 → (a ≡ b) ⊎ (a ≡ b + 1)
+    nat_cases a b low high = elim (cases_eq a b) [ inl same ↦ inl same | inr other ↦ inr (omega (arith, low, high, other)) ]
+
+    at_place : (commands : List Command) (i : ℕ) → i < length commands → (cut : Command) × (slice_get commands i ≡ Some cut)
+    at_place [] i low = absurd (omega (arith, low))
+    at_place (command ∷ more) zero low = (command, refl)
+    at_place (command ∷ more) (suc i) low = at_place more i (omega (arith, low))
+
+pub lived_more : (world : World) (told : List Told) (next : Told) (old new : State) → (lived : HasLived world told old) → HoldsBeginning (world_of_life world lived.life) next.commands next.run new
+    → AnswerAll (world_of_life world lived.life) (take next.run.acknowledged next.commands) next.answers → HasLived world (told ++ next ∷ []) new
+lived_more world told next old new lived holds answered =
+    let it = found_as (world_of_life world lived.life) next holds.count holds.kept answered in
+    let left : world_of_life world (lived.life ++ it.lived ∷ []) ≡ world_after (world_of_life world lived.life) next.commands holds.count = life_more world lived.life it.lived ∙ it.left in
+    record {
+      life = lived.life ++ it.lived ∷ [];
+      sessions = sessions_more world told lived.life next it.lived lived.sessions it.is;
+      goes = subst (λ w. GoesOn new w) (sym left) holds.goes;
+      project = subst IsProject (sym left) holds.project;
+    }
+
+pub written_more : (old mid new : Option (List ℕ)) (told : List Told) (next : Told) → WritesTold old mid told → WritesAnswers mid new next.answers next.run → WritesTold old new (told ++ next ∷ [])
+written_more old mid new [] next same written = (new, subst (λ o. WritesAnswers o new next.answers next.run) same written, refl)
+written_more old mid new (t ∷ told) next (first, one, rest) written = (first, one, written_more first mid new told next rest written)
 
 commands_more : (lives : List (Vec Command Global)) (i : ℕ) (life d : Vec Command Global) → i < length lives → get_or lives i d ≡ life
     → commands_of (take i lives) ++ life.items ∷ [] ≡ commands_of (take (i + 1) lives)
@@ -150,11 +197,12 @@ commands_more lives i life d low there =
     sym (ap (λ ls. commands_of ls) (take_more lives i d low ∙ ap (λ l. take i lives ++ l ∷ []) there) ∙ map-append (λ l. l.items) (take i lives) (life ∷ []))
 
 -- one more of a list of lives
-pub lived_next : (world : World) (lives : List (Vec Command Global)) (i : ℕ) (life d : Vec Command Global) (commands : List Command) (runs more : List Run) (run : Run) (old new : State)
-    → i < length lives → get_or lives i d ≡ life → commands ≡ life.items → more ≡ runs ++ run ∷ [] → (lived : HasLived world (commands_of (take i lives)) runs old)
-    → HoldsBeginning lived.last commands run new → HasLived world (commands_of (take (i + 1) lives)) more new
-lived_next world lives i life d commands runs more run old new low there same pushed lived holds =
-    rw (pushed, ← commands_more lives i life d low there, ← same) (lived_more world (commands_of (take i lives)) runs old new commands run lived holds)
+pub of_more : (lives : List (Vec Command Global)) (i : ℕ) (life d : Vec Command Global) (runs more : List Run) (told : List Told) (next : Told) → i < length lives → get_or lives i d ≡ life → next.commands ≡ life.items
+    → more ≡ runs ++ next.run ∷ [] → AreOf (commands_of (take i lives)) runs told → AreOf (commands_of (take (i + 1) lives)) more (told ++ next ∷ [])
+of_more lives i life d runs more told next low there same pushed are = record {
+  their_commands = map-append (λ (t : Told). t.commands) told (next ∷ []) ∙ ap (λ cs. cs ++ next.commands ∷ []) are.their_commands ∙ ap (λ c. commands_of (take i lives) ++ c ∷ []) same ∙ commands_more lives i life d low there;
+  their_runs = map-append (λ (t : Told). t.run) told (next ∷ []) ∙ ap (λ rs. rs ++ next.run ∷ []) are.their_runs ∙ sym pushed;
+}
 
 -- and one more run
 pub one_more : (runs more : List Run) (run : Run) (count : ℕ) → more ≡ runs ++ run ∷ [] → length runs ≡ count → length more ≡ count + 1

@@ -3,8 +3,9 @@ use Rattle.std.specs.Prelude.{◌≡◌, ◌≤◌, []}
 use Rattle.sqlite_disk.specs.declared.Disk.{Ghosts}
 use Rattle.sqlite_disk.specs.declared.Files.{Files}
 use Rattle.sqlite_store.specs.declared.store.FileStore.{FileStore}
-use Rattle.sqlite.specs.Files.{HoldsDatabase, image_of, over_files}
-use Rattle.sqlite.specs.State.{HasCleanDisk}
+use Rattle.sqlite.specs.Files.{HoldsDatabase, file_state, image_of, over_files}
+use Rattle.sqlite.specs.Held.{Held}
+use Rattle.sqlite.specs.State.{State, HasCleanDisk}
 use Rattle.sqlite.specs.Tree.{Trees}
 use Rattle.wu_core.specs.World.{World, empty_world}
 use Rattle.wu_passes.specs.Committing.{FoundAs}
@@ -12,7 +13,8 @@ use Rattle.wu_passes.specs.declared.project.Project.{Project}
 use Rattle.wu_passes.specs.Machine.{present_version}
 use Rattle.wu_passes.specs.Planning.{IsProject}
 use Rattle.wu_passes.specs.Projects.{state_of}
-use Rattle.wu_passes.specs.Standing.{GoesOn}
+use Rattle.wu_passes.specs.Standing.{GoesOn, IsVacant}
+use Rattle.wu_lives.specs.Reopening.{IsCommitted}
 
 module _ {D : Type 0} (g : Ghosts D) (files : Files D) where
   -- the file of the database has no byte; whatever its log holds is then dropped
@@ -35,3 +37,19 @@ module _ {D : Type 0} (g : Ghosts D) (files : Files D) where
   BeginsFrom new =
       (world : World) → HoldWorld world → HasCleanDisk (state_of new)
       → GoesOn (state_of new) world × (world.version ≡ present_version)
+
+-- no project is there, all is committed, and a stop leaves nothing else
+pub record AwaitsProject (s : State) : Type 0 where
+  pub committed : IsCommitted s
+  pub vacant : IsVacant s
+
+module _ {D : Type 0} {g : Ghosts D} (old : Held (FileStore D g)) (new : Project (FileStore D g) over_files) where
+  -- a stop within the adoption of a free database leaves it free, or a fresh project
+  abbrev pub BeginsAgain : Type 0
+  BeginsAgain = AwaitsProject (file_state old) → HasCleanDisk (state_of new) → ∥ GoesOn (state_of new) empty_world ∥₁ × IsProject empty_world
+
+  -- and within that of a project it leaves the world as it was
+  abbrev pub GoesAgain : Type 0
+  GoesAgain =
+      (world : World) → 1 ≤ world.version → GoesOn (file_state old) world → HasCleanDisk (state_of new)
+      → ∥ GoesOn (state_of new) world × (world.version ≡ present_version) ∥₁

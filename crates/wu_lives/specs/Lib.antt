@@ -1,2 +1,3 @@
 pub mod Beginning
 pub mod Reopening
+pub mod Lives

@@ -4,5 +4,5 @@
 mod beginning;
 mod reopening;
 
-pub use beginning::open_and_adopt;
+pub use beginning::{adopt_stop_and_adopt, open_and_adopt};
 pub use reopening::{drive_stop_and_open, live, live_all, stop_and_open};

@@ -5,7 +5,8 @@
 ghost use Rattle.std.specs.Prelude.{◌≤◌, IfSome, length};
 ghost use Rattle.sqlite.specs.Files.{file_state};
 ghost use Rattle.wu_passes.specs.Projects.{GoesStill, state_of};
-ghost use Rattle.wu_lives.specs.Reopening.{AdoptsLeft, DoesAll, DoesNothing, FindsAgain, FindsBeginning, FindsLeft, FindsLives, GoesOnAfter, RunsEach, TellsEnd, TellsReplies, WasClean};
+ghost use Rattle.wu_lives.specs.Lives.{GoesOnAfter, RunsEach, TellsLives};
+ghost use Rattle.wu_lives.specs.Reopening.{AdoptsLeft, DoesAll, DoesNothing, FindsAgain, FindsBeginning, FindsLeft, TellsEnd, TellsReplies, WasClean};
 
 use sqlite::{Connection, FileStore, Files, Options};
 use sqlite_disk::Crash;
@@ -104,6 +105,8 @@ pub fn live<D: Crash + Drop, W: Write>(
 
 /// A list of lives, each of which goes on from what the one before it left; a run for each life.
 ///
+/// The texts of the answers are written, session by session; each answer is the machine's reply, and what is found is the
+/// world after a life of these sessions, each cut command in or out.
 /// After at least one life the session goes on, also where the first one had ended. `None` where an open or an adoption
 /// fails, or memory for the runs is refused.
 pub fn live_all<D: Crash + Drop, W: Write>(
@@ -118,7 +121,8 @@ pub fn live_all<D: Crash + Drop, W: Write>(
     ensures begins { IfSome result (λ r. GoesOnAfter project lives.now r.1) }
     ensures count { IfSome result (λ r. RunsEach lives.now r.0.items) }
     ensures found { IfSome result (λ r.
-        FindsLives (state_of project) lives.now r.0.items (state_of r.1)) }
+        TellsLives (W.contents out.old) (W.contents out.new) (state_of project)
+        lives.now r.0.items (state_of r.1)) }
 {
     let mut runs = Vec::new(alloc);
     for commands in lives {

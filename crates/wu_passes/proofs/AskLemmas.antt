@@ -1,39 +1,31 @@
 -- What is asked of the tables before a batch, as the machine asks it of a world.
-use Rattle.std.proofs.Common.{◌≡◌, ◌≢◌, ℕ, ◌+◌, ◌<◌, ◌≤◌, Bool, true, false, List, [], ◌∷◌, ◌++◌, length, map, Some, None, Result, Ok, Err, refl, sym, ap, subst, ◌∙◌, inl, inr, arith}
+use Rattle.std.proofs.Common.{◌≡◌, ℕ, ◌+◌, ◌<◌, ◌≤◌, Bool, true, false, List, [], ◌∷◌, ◌++◌, length, map, Some, None, Result, Ok, Err, refl, sym, ap, subst, ◌∙◌, inl, inr, arith}
 use Rattle.std.proofs.lemmas.Bool.{cases_Bool}
 use Rattle.std.proofs.lemmas.List.Folds.{list_any-append}
 use Rattle.std.proofs.Common.{get_or, take, drop, length-take-le, take_all}
 use Rattle.std.proofs.lemmas.List.{length-map, get_or-map, take_more, take-append-drop, take-map}
 use Rattle.std.proofs.lemmas.List.Folds.{find-append}
 use Rattle.std.specs.List.{enumerate_from, list_any}
-use Rattle.std.specs.Prelude.{◌||◌, bytes_eq, filter, find, if◌then◌else◌, slice_get, MatchResult}
-use Rattle.sqlite.specs.Order.{Row}
+use Rattle.std.specs.Prelude.{◌||◌, ◌&&◌, ◌==◌, All, IfSome, bytes_eq, find, MatchResult}
+use Rattle.std.proofs.lemmas.List.Elements.{All-head, All-tail}
+use Rattle.wu_core.specs.Codes.{import_kind_code}
+use Rattle.wu_core.specs.declared.import.ImportKind.TheVariants as kind
 use Rattle.sqlite.specs.State.{State}
 use Rattle.wu_core.specs.declared.fault.Fault.{Fault}
-use Rattle.wu_core.specs.declared.fault.Fault.TheVariants.{NotAProject}
 use Rattle.wu_core.specs.declared.import.ImportKind.{ImportKind}
 use Rattle.wu_core.specs.declared.workunit.Archived.{Archived}
 use Rattle.wu_core.specs.declared.workunit.Workunit.{Workunit}
 use Rattle.wu_core.specs.World.{World, Import, is_import}
 use Rattle.wu_rules.proofs.Lists.{any-map, enumerate_from-append}
-use Rattle.wu_store.specs.Answers.{has_name, kept_of, was_archived}
-use Rattle.wu_schema.specs.Restoring.{Restores}
-use Rattle.wu_store.specs.Reading.{IsNextNumber, IsStoredImport, stored_import_row}
-use Rattle.wu_schema.specs.Stored.{kept_cells, number, verdict_digits}
-use Rattle.wu_store.specs.declared.rows.StoredImport.{StoredImport}
-use Rattle.wu_store.proofs.ReadingLemmas.{same_verdicts}
+use Rattle.wu_store.specs.Answers.{has_name, was_archived}
+use Rattle.wu_store.specs.Reading.{AreVerdicts}
 use Rattle.sqlite.proofs.StateLemmas.{survives_then}
 use Rattle.wu_feed.specs.declared.jobs.Job.{Job}
 use Rattle.wu_schema.specs.Calls.{IsBack}
-use Rattle.wu_schema.specs.Faults.{IsFailure}
 use Rattle.wu_schema.proofs.CallLemmas.{back_none}
 use Rattle.wu_passes.specs.Batches.{first_taken, is_one_of, job_names, taken_names}
-use Rattle.wu_passes.specs.Planning.{IsEarlier, IsRead, IsStoreFault}
-
--- a failure is no refusal
-pub never_refused : (fault : Fault) → IsFailure fault → fault ≢ NotAProject
-never_refused fault (inl memory) refused = cc
-never_refused fault (inr broken) refused = cc
+use Rattle.wu_passes.specs.Planning.{HasVerdicts}
+use Rattle.wu_store.specs.Loading.{IsRead, IsStoreFault, LoadsImport}
 
 any_or : (a b c d : Bool) → a ≡ c → b ≡ d → (a || b) ≡ (c || d)
 any_or a b c d first second = rw (first, second) refl
@@ -45,58 +37,31 @@ taken_is world name =
     ∙ any_or _ _ _ _ (any-map (λ one. bytes_eq one name) (λ (w : Workunit). bytes_eq w.name name) (λ (w : Workunit). w.name) (λ w. refl) world.workunits)
     (any-map (λ one. bytes_eq one name) (λ (a : Archived). bytes_eq a.name name) (λ (a : Archived). a.name) (λ a. refl) world.archived)
 
-pub next_is : (n : ℕ) (row : Row) (r : Result ℕ Fault) → row ≡ number n ∷ [] → Restores (λ next. number next ∷ []) IsNextNumber row r → MatchResult r (λ next. next ≡ n) IsStoreFault
-next_is n row (Ok next) is reads = let same : number n ∷ [] ≡ number next ∷ [] = sym is ∙ reads.value.0 in cc
-next_is n row (Err fault) is reads = elim reads.refused [ inl memory ↦ inl memory | inr other ↦ inr (inr other) ]
+and_first : (a b : Bool) → (a && b) ≡ true → a ≡ true
+and_first true b is = refl
+and_first false b is = absurd cc
 
--- the first of what passes a test
-pub found_none : {X : Type 0} (p : X → Bool) (xs : List X) → filter p xs ≡ [] → find p xs ≡ None
-found_none p [] none = refl
-found_none p (x ∷ xs) none = elim (cases_Bool (p x)) [
-  | inl is ↦ absurd (let some : x ∷ filter p xs ≡ [] = subst (λ b. (if b then x ∷ filter p xs else filter p xs) ≡ []) is none in cc)
-  | inr not ↦ rw not (found_none p xs (subst (λ b. (if b then x ∷ filter p xs else filter p xs) ≡ []) not none))
-]
+kind_is : (one other : ImportKind) → (import_kind_code one == import_kind_code other) ≡ true → one ≡ other
+kind_is kind.Batch kind.Batch is = refl
+kind_is kind.Batch kind.Sent is = absurd cc
+kind_is kind.Batch kind.Reported is = absurd cc
+kind_is kind.Sent kind.Batch is = absurd cc
+kind_is kind.Sent kind.Sent is = refl
+kind_is kind.Sent kind.Reported is = absurd cc
+kind_is kind.Reported kind.Batch is = absurd cc
+kind_is kind.Reported kind.Sent is = absurd cc
+kind_is kind.Reported kind.Reported is = refl
 
-pub found_first : {X : Type 0} (p : X → Bool) (xs : List X) (one : X) (more : List X) → filter p xs ≡ one ∷ more → find p xs ≡ Some one
-found_first p [] one more some = absurd cc
-found_first p (x ∷ xs) one more some = elim (cases_Bool (p x)) [
-  | inl is ↦ rw is (let same : x ∷ filter p xs ≡ one ∷ more = subst (λ b. (if b then x ∷ filter p xs else filter p xs) ≡ one ∷ more) is some in cc)
-  | inr not ↦ rw not (found_first p xs one more (subst (λ b. (if b then x ∷ filter p xs else filter p xs) ≡ one ∷ more) not some))
-]
-
--- no row, no import
-pub none_earlier : (k : ImportKind) (name : List ℕ) (world : World) → kept_of k name world ≡ [] → find (is_import k name) world.imports ≡ None
-none_earlier k name world none = found_none (is_import k name) world.imports (unmapped (filter (is_import k name) world.imports) none)
+-- the verdicts of an import that is found are in range
+pub found_in_range : (k : ImportKind) (name : List ℕ) (world : World) → HasVerdicts world → LoadsImport k name world
+found_in_range k name world verdicts = among world.imports verdicts
   where
-    unmapped : (imports : List Import) → map kept_cells imports ≡ [] → imports ≡ []
-    unmapped [] is = refl
-    unmapped (import ∷ more) is = absurd cc
-
--- the stored import of a row is the world's
-pub same_import : (kind : ImportKind) (import : Import) (stored : StoredImport) → kept_cells import ≡ stored_import_row stored
-    → (stored.template ≡ import.template) × (stored.content ≡ import.content) × (stored.first_number ≡ import.first_number) × (stored.verdicts ≡ import.verdicts)
-same_import kind import stored is =
-    let digits : verdict_digits stored.verdicts ≡ verdict_digits import.verdicts = cc in
-    (cc, cc, cc, same_verdicts stored.verdicts import.verdicts digits)
-
-pub some_earlier : (k : ImportKind) (name : List ℕ) (world : World) (row : Row) (more : List Row) (stored : StoredImport) → kept_of k name world ≡ row ∷ more
-    → Restores stored_import_row (IsStoredImport k) row (Ok stored) → IsEarlier (find (is_import k name) world.imports) (Some stored)
-some_earlier k name world row more stored rows reads = among (filter (is_import k name) world.imports) refl rows
-  where
-    among : (imports : List Import) → filter (is_import k name) world.imports ≡ imports → map kept_cells imports ≡ row ∷ more → IsEarlier (find (is_import k name) world.imports) (Some stored)
-    among [] are is = absurd cc
-    among (import ∷ others) are is =
-        let first : kept_cells import ≡ row = cc in
-        let same = same_import k import stored (first ∙ reads.value.0) in
-        (import, found_first (is_import k name) world.imports import others are, same.0, same.1, same.2, same.3)
-
-pub no_first : (rows : List Row) → slice_get rows 0 ≡ None → rows ≡ []
-no_first [] is = refl
-no_first (row ∷ more) is = absurd cc
-
-pub one_first : (rows : List Row) (row : Row) → slice_get rows 0 ≡ Some row → (more : List Row) × (rows ≡ row ∷ more)
-one_first [] row is = absurd cc
-one_first (first ∷ more) row is = (more, cc)
+    among : (imports : List Import) → All (λ i. AreVerdicts i.kind i.verdicts) imports → IfSome (find (is_import k name) imports) (λ import. AreVerdicts k import.verdicts)
+    among [] all = tt
+    among (import ∷ more) all = elim (cases_Bool (is_import k name import)) [
+      | inl is ↦ rw is (subst (λ of. AreVerdicts of import.verdicts) (kind_is import.kind k (and_first _ (bytes_eq import.name name) is)) (All-head (λ (i : Import). AreVerdicts i.kind i.verdicts) import more all))
+      | inr not ↦ rw not (among more (All-tail (λ (i : Import). AreVerdicts i.kind i.verdicts) import more all))
+    ]
 
 pub read_none : (s : State) → IsRead s s
 read_none s = record {

@@ -4,7 +4,7 @@ use Rattle.std.proofs.lemmas.Bool.Decides.{nat_tests}
 use Rattle.std.proofs.lemmas.Slice.Eq.{bytes_eq-Decides}
 use Rattle.std.proofs.lemmas.Bool.{cases_Bool}
 use Rattle.std.proofs.lemmas.List.{append-nil}
-use Rattle.std.proofs.lemmas.List.Elements.{All-get_or}
+use Rattle.std.proofs.lemmas.List.Elements.{All-append, All-cons, All-get_or, All-nil, All-replicate}
 use Rattle.std.specs.List.{enumerate_from}
 use Rattle.std.specs.Prelude.{find, bytes_eq, ◌&&◌, if◌then◌else◌}
 use Rattle.wu_core.specs.declared.fault.Fault.{Fault}
@@ -12,7 +12,8 @@ use Rattle.wu_core.specs.declared.fault.Fault.TheVariants.{Memory, NameUsed, Too
 use Rattle.wu_core.specs.declared.workunit.Workunit.{Workunit}
 use Rattle.wu_core.specs.Limits.{most_workunits}
 use Rattle.wu_core.specs.Parameters.{Parameters}
-use Rattle.wu_core.specs.World.{World, Import, is_import}
+use Rattle.wu_core.specs.World.{World, Import, is_import, last_skip}
+use Rattle.wu_store.specs.Reading.{AreVerdicts}
 use Rattle.wu_feed.specs.declared.jobs.Job.{Job}
 use Rattle.wu_feed.specs.Jobs.{jobs_of_file}
 use Rattle.wu_feed.specs.Templates.{template_of}
@@ -26,7 +27,8 @@ use Rattle.wu_passes.specs.Batches.{all_applied, first_number, first_taken, new_
 use Rattle.wu_store.specs.Changing.{AreRight, import_of_change, made, made_all}
 use Rattle.wu_passes.specs.Imports.{batch_given, batch_read, Done, Given, jobs_kept, first_answer, has_content, import_of, imported, imported_after, kept_import}
 use Rattle.wu_passes.specs.Machine.{done, step, world_of}
-use Rattle.wu_passes.specs.Planning.{additions, first_of, IsEarlier, IsNewBatch, IsPlan, IsProject, IsStoreFault, Plans, TellsTaken, reply_of_answer}
+use Rattle.wu_passes.specs.Planning.{additions, first_of, IsNewBatch, IsPlan, IsProject, Plans, TellsTaken, reply_of_answer}
+use Rattle.wu_store.specs.Loading.{IsEarlier, IsStoreFault}
 use Rattle.wu_passes.specs.Requests.{AskBatch, Imported, Reply}
 use Rattle.wu_passes.specs.Sound.{IsGiven, IsSound}
 use Rattle.wu_passes.specs.declared.batch.Plan.{Plan}
@@ -57,7 +59,7 @@ right_adds : (params : Parameters) (n : ℕ) (jobs : List Job) (rest : List Chan
     → ((after : World) → AreRight rest after) → AreRight (map (added params) (enumerate_from n jobs) ++ rest) world
 right_adds params n [] rest world above right = right world
 right_adds params n (job ∷ jobs) rest world above right =
-    ((above, refl), right_adds params (n + 1) jobs rest (made (added params (n, job)) world) (above_more n world.workunits (new_workunit params n job) above refl) right)
+    (above, right_adds params (n + 1) jobs rest (made (added params (n, job)) world) (above_more n world.workunits (new_workunit params n job) above refl) right)
 
 -- the numbers of a sound world are below its next number
 above_from : (n : ℕ) (ws : List Workunit) → ((i : ℕ) (d : Workunit) → i < length ws → (get_or ws i d).number < n) → IsAbove n ws
@@ -231,13 +233,26 @@ keeps_if false world one other first second = second
 
 module _ (world : World) (project : IsProject world) where
   keeps_kept : (given : Given) (jobs : List Job) (after : World) → IsProject after → KeepsProject world (jobs_kept given world jobs (Ok after))
-  keeps_kept given jobs after is = record { present = is.present; above = is.above }
+  keeps_kept given jobs after is = record {
+    present = is.present;
+    above = is.above;
+    next = is.next;
+    verdicts = All-append (λ (i : Import). AreVerdicts i.kind i.verdicts) after.imports (kept_import given (first_number world jobs) (all_applied jobs) ∷ []) is.verdicts
+        (All-cons (λ (i : Import). AreVerdicts i.kind i.verdicts) (kept_import given (first_number world jobs) (all_applied jobs)) [] (All-replicate (λ verdict. verdict ≤ last_skip given.kind) (length jobs) 0 (omega arith)) (All-nil (λ (i : Import). AreVerdicts i.kind i.verdicts)));
+  }
 
   keeps_jobs : (given : Given) (params : Parameters) (jobs : List Job) (taken : Option (ℕ × List ℕ)) → KeepsProject world (jobs_kept given world jobs (unless_taken world params jobs taken))
   keeps_jobs given params jobs (Some place) = project
   keeps_jobs given params jobs None = elim (cases_Bool (nat_lt (most_workunits + 1) (world.next_number + length jobs))) [
     | inl many ↦ rw many project
-    | inr few ↦ rw few (keeps_kept given jobs (with_jobs world params jobs) (record { present = project.present; above = above_news params world.next_number jobs world.workunits project.above }))
+    | inr few ↦
+        let within : world.next_number + length jobs ≤ most_workunits + 1 = grind (arith, nat_tests) in
+        rw few (keeps_kept given jobs (with_jobs world params jobs) (record {
+          present = project.present;
+          above = above_news params world.next_number jobs world.workunits project.above;
+          next = (let first = project.next.0 in omega (arith, first), within);
+          verdicts = project.verdicts;
+        }))
   ]
 
   keeps_read : (given : Given) (params : Result Parameters Fault) (jobs : Result (List Job) Fault) → KeepsProject world (batch_read given world params jobs)

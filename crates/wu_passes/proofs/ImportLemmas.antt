@@ -16,8 +16,10 @@ use Rattle.wu_core.specs.World.{World, Import, is_import}
 use Rattle.wu_feed.specs.declared.jobs.Job.{Job}
 use Rattle.wu_feed.specs.Jobs.{jobs_of_file}
 use Rattle.wu_feed.specs.Templates.{template_of}
-use Rattle.wu_feed.specs.Reports.{ReportRow, reports_of_file}
-use Rattle.wu_feed.specs.Sends.{SendRow, sends_of_file}
+use Rattle.wu_feed.specs.Reports.{reports_of_file}
+use Rattle.wu_feed.specs.declared.reports.ReportRow.{ReportRow}
+use Rattle.wu_feed.specs.Sends.{sends_of_file}
+use Rattle.wu_feed.specs.declared.sends.SendRow.{SendRow}
 use Rattle.wu_rules.specs.Counts.{is_undecided}
 use Rattle.wu_rules.specs.Cancelling.{cancelled}
 use Rattle.wu_passes.specs.Batches.{jobs_added, unless_taken, first_taken, with_jobs, first_number, all_applied}

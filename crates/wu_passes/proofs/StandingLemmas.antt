@@ -1,20 +1,22 @@
 -- What stands of a session after each exit of a command.
-use Rattle.std.proofs.Common.{◌≡◌, ◌⊎◌, ◌<◌, ◌≤◌, ℕ, List, Option, None, Some, Result, Ok, Err, IfErr, OnOk, IsTrue, sym, ap, subst, ◌∙◌, inl, inr, arith}
+use Rattle.std.proofs.Common.{◌≡◌, ◌≢◌, ◌⊎◌, Bool, true, false, ◌<◌, ◌≤◌, ℕ, List, Option, None, Some, Result, Ok, Err, IfErr, OnOk, IsTrue, sym, ap, subst, ◌∙◌, inl, inr, arith}
 use Rattle.sqlite.specs.Effect.{Database}
 use Rattle.sqlite.specs.State.{State, HasCleanDisk, IsUnchanged, Survives}
 use Rattle.wu_core.specs.declared.fault.Fault.{Fault}
-use Rattle.wu_core.specs.declared.fault.Fault.TheVariants.{NotAProject}
+use Rattle.wu_core.specs.declared.fault.Fault.TheVariants.{Broken, NotAProject}
+use Rattle.wu_schema.specs.Faults.{IsFailure}
 use Rattle.wu_core.specs.World.{World, empty_world}
-use Rattle.wu_schema.specs.Calls.{LeavesOnly, IsBack, IsCreated, IsRefused, IsUndone}
-use Rattle.wu_schema.specs.Made.{IsProjectBeside}
+use Rattle.wu_schema.specs.Calls.{LeavesOnly, IsBack, IsDone, IsMade, IsRefused, IsUndone}
+use Rattle.wu_schema.specs.Made.{MakesProject}
 use Rattle.wu_schema.specs.StandsFor.{StandsFor}
 use Rattle.wu_schema.specs.Versions.{HasProject, HasVersion, LacksProject}
-use Rattle.wu_store.specs.Changing.{AreRight, made_all}
-use Rattle.wu_passes.specs.Committing.{AreDone, FoundAs, IsAfter}
+use Rattle.wu_store.specs.Changing.{AreRight, made_all, MakesWorlds}
+use Rattle.wu_passes.specs.Committing.{FoundAs}
 use Rattle.wu_passes.specs.Machine.{done, present_version, reply, reply_of, step, world_of}
-use Rattle.wu_passes.specs.Planning.{FailsToRead, IsPlan, IsRead, IsStoreFault, Plans, reply_of_answer}
+use Rattle.wu_passes.specs.Planning.{FailsToRead, IsPlan, Plans, reply_of_answer}
+use Rattle.wu_store.specs.Loading.{IsRead, IsStoreFault}
 use Rattle.wu_passes.specs.Requests.{Request}
-use Rattle.wu_passes.specs.Standing.{GoesOn, HasEnded, IsRefusal, KeepsAll, KeepsShown, LeavesAlso, StoresLater, TellsLater}
+use Rattle.wu_passes.specs.Standing.{GoesOn, HasEnded, IsAnswered, IsCutBy, IsRefusal, KeepsAll, KeepsShown, LeavesAlso, StoresLater, TellsLater, WhyNot}
 use Rattle.wu_passes.specs.declared.batch.Plan.{Plan}
 use Rattle.wu_passes.specs.declared.command.Answer.{Answer}
 use Rattle.wu_store.specs.declared.changes.Change.{Change}
@@ -34,7 +36,7 @@ pub goes_ended : (s : State) (world : World) (request : Request) → GoesOn s wo
 goes_ended s world request goes = record { stands = λ is_open. (goes.stands is_open).0; left = λ db may. inl (goes.left db may) }
 
 -- the changes are done
-pub goes_done : (old new : State) (world : World) (changes : List Change) → StandsFor old.now world → AreRight changes world → AreDone changes old new → GoesOn new (made_all changes world)
+pub goes_done : (old new : State) (world : World) (changes : List Change) → StandsFor old.now world → AreRight changes world → IsDone (MakesWorlds changes) old new → GoesOn new (made_all changes world)
 goes_done old new world changes stands right is_done =
     let after = is_done.makes world stands right in
     record { stands = λ is_open. (after, is_done.committed); left = λ db may. record { database = new.now; same = sym (is_done.left.only db may); stands = after } }
@@ -52,7 +54,7 @@ goes_refused old new world goes undone refused =
 
 -- they were cut
 pub ended_undone : (old new : State) (world : World) (request : Request) (changes : List Change) → HasCleanDisk new → StandsFor old.now world → GoesOn old world → AreRight changes world
-    → step world request ≡ made_all changes world → IsUndone old new → Survives old new (IsAfter changes old.now) → HasEnded new world request
+    → step world request ≡ made_all changes world → IsUndone old new → Survives old new (IsMade (MakesWorlds changes) old.now) → HasEnded new world request
 ended_undone old new world request changes clean stands goes right is undone survives = record {
   stands = λ is_open.
       let was = goes.stands (undone.was_open is_open) in
@@ -80,14 +82,34 @@ pub plan_refused : (old : State) (world : World) (request : Request) (result : R
 plan_refused old world request result fault is goes (inl is_open) plan = refused_is world request fault (plan (goes.stands is_open).0)
 plan_refused old world request result fault is goes (inr fails) plan = inr (let same : fails.0 ≡ fault = error_is fails.0 fault (sym fails.1 ∙ is) in subst (λ f. IsStoreFault f) same fails.2)
 
+-- why a command was not done: its plan is there,
+pub cut_why : (ended : Bool) (world : World) (request : Request) (r : Result Answer Fault) → IsAnswered world request → IfErr r (IsCutBy ended) → IfErr r (WhyNot ended world request)
+cut_why ended world request (Ok answer) answered cut = tt
+cut_why true world request (Err fault) answered (inl memory) = inr (memory, answered)
+cut_why true world request (Err fault) answered (inr broken) = inl broken
+cut_why false world request (Err fault) answered refused = inr (inr (refused, answered))
+
+-- or there is none
+pub refused_why : (world : World) (request : Request) (fault : Fault) → fault ≢ Broken → fault ≢ NotAProject → (reply world request ≡ Err fault) ⊎ IsStoreFault fault → WhyNot false world request fault
+refused_why world request fault whole served (inl told) = inl told
+refused_why world request fault whole served (inr (inl memory)) = inr (inl memory)
+refused_why world request fault whole served (inr (inr (inl broken))) = absurd (whole broken)
+refused_why world request fault whole served (inr (inr (inr refused))) = absurd (served refused)
+
+-- a read that is refused leaves the connection open
+pub refused_open : (s : State) (fault : Fault) → fault ≡ NotAProject → IsFailure fault ⊎ IsTrue s.is_open → IsTrue s.is_open
+refused_open s fault is (inl (inl memory)) = absurd (let no = sym is ∙ memory in cc)
+refused_open s fault is (inl (inr broken)) = absurd (let no = sym is ∙ broken in cc)
+refused_open s fault is (inr still) = still
+
 -- a fresh project was made
-pub goes_created : (old new : State) → IsCreated old new → GoesOn new empty_world
+pub goes_created : (old new : State) → IsDone MakesProject old new → GoesOn new empty_world
 goes_created old new created =
     let stands = created.makes.stands in
     record { stands = λ is_open. (stands, created.committed); left = λ db may. record { database = new.now; same = sym (created.left.only db may); stands = stands } }
 
 -- none was, or a stop came first
-pub leaves_fresh : (old mid new : State) → HasCleanDisk new → Survives old mid (λ _. ⊥) → Survives mid new (IsProjectBeside mid.now) → LeavesAlso old new empty_world
+pub leaves_fresh : (old mid new : State) → HasCleanDisk new → Survives old mid (λ _. ⊥) → Survives mid new (IsMade MakesProject mid.now) → LeavesAlso old new empty_world
 leaves_fresh old mid new clean read survives db may = elim (survives.crash clean db may) [
   | inl before ↦ elim (read.crash (omega (arith, survives.clean)) db before) [ inl first ↦ inl first | inr none ↦ absurd none ]
   | inr made ↦ inr (record { database = made.0; same = made.1; stands = made.2.stands })
@@ -115,11 +137,11 @@ leaves_read old new world clean survives db may = elim (survives.crash clean db 
 
 -- a creation over a database that a question left as it was
 module _ (old mid new : State) (clean : HasCleanDisk new) (before : HasCleanDisk mid) (same : IsUnchanged old mid) (read : Survives old mid (λ _. ⊥)) where
-  pub created_is : (r : Result (Unit {0}) Fault) → OnOk r (IsCreated mid new) → OnOk r (GoesOn new empty_world)
+  pub created_is : (r : Result (Unit {0}) Fault) → OnOk r (IsDone MakesProject mid new) → OnOk r (GoesOn new empty_world)
   created_is (Ok x) created = goes_created mid new created
   created_is (Err e) created = tt
 
-  pub leaves_made : Survives mid new (IsProjectBeside mid.now) → LeavesAlso old new empty_world
+  pub leaves_made : Survives mid new (IsMade MakesProject mid.now) → LeavesAlso old new empty_world
   leaves_made survives = leaves_fresh old mid new clean read survives
 
   pub refusal_is : (r : Result (Unit {0}) Fault) → old.committed ≡ old.now → LeavesOnly mid mid.committed.trees → IfErr r (λ fault. fault ≡ NotAProject → IsRefused mid new)

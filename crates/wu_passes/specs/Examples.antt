@@ -9,8 +9,8 @@ use Rattle.wu_feed.specs.declared.jobs.Job.{Job}
 use Rattle.wu_rules.specs.Examples.{job, out, aa, h1, h2, masked, cancelled_mask, unneeded}
 use Rattle.wu_rules.specs.Assimilation.{archived_row}
 use Rattle.wu_core.specs.declared.states.Status.TheVariants as status
-use Rattle.wu_feed.specs.Reports.{ReportRow}
-use Rattle.wu_feed.specs.Sends.{SendRow}
+use Rattle.wu_feed.specs.declared.reports.ReportRow.{ReportRow}
+use Rattle.wu_feed.specs.declared.sends.SendRow.{SendRow}
 
 abbrev pub job_1 : List ℕ
 job_1 = codes "job_1"

@@ -3,8 +3,8 @@ use Rattle.std.specs.Prelude.{ℕ, ◌==◌, if◌then◌else◌, List, [], ◌�
 use Rattle.std.specs.Option.{option_map_or}
 use Rattle.wu_core.specs.declared.workunit.Workunit.{Workunit}
 use Rattle.wu_core.specs.World.{World}
-use Rattle.wu_feed.specs.Reports.{ReportRow}
-use Rattle.wu_feed.specs.Sends.{SendRow}
+use Rattle.wu_feed.specs.declared.reports.ReportRow.{ReportRow}
+use Rattle.wu_feed.specs.declared.sends.SendRow.{SendRow}
 use Rattle.wu_rules.specs.declared.verdicts.ReportVerdict.TheVariants as report
 use Rattle.wu_rules.specs.declared.verdicts.SendVerdict.TheVariants as send
 use Rattle.wu_rules.specs.Reporting.{report_verdict_in, reported_in}

@@ -10,8 +10,10 @@ use Rattle.wu_feed.specs.declared.jobs.Job.{Job}
 use Rattle.wu_feed.specs.Jobs.{jobs_of_file}
 use Rattle.wu_feed.specs.Templates.{template_of}
 use Rattle.wu_passes.specs.Batches.{jobs_added, first_number, all_applied}
-use Rattle.wu_feed.specs.Reports.{ReportRow, reports_of_file}
-use Rattle.wu_feed.specs.Sends.{SendRow, sends_of_file}
+use Rattle.wu_feed.specs.Reports.{reports_of_file}
+use Rattle.wu_feed.specs.declared.reports.ReportRow.{ReportRow}
+use Rattle.wu_feed.specs.Sends.{sends_of_file}
+use Rattle.wu_feed.specs.declared.sends.SendRow.{SendRow}
 use Rattle.wu_passes.specs.Requests.{Reply, Imported}
 use Rattle.wu_passes.specs.FileRows.{after_sends, send_verdicts, after_reports, report_verdicts}
 

@@ -1,20 +1,20 @@
 -- The plan of a command: what it will answer and what it changes, before anything is changed.
-use Rattle.std.specs.Prelude.{◌≡◌, ◌≢◌, ◌⊎◌, ℕ, ◌+◌, ◌==◌, ◌&&◌, Bool, true, false, bytes_eq, if◌then◌else◌, List, [], ◌∷◌, ◌++◌, map, length, Option, Some, None, Result, Ok, Err, find, IfErr, IsTrue, OnOk, MatchResult}
+use Rattle.std.specs.Prelude.{◌≡◌, ◌≢◌, ◌⊎◌, ℕ, All, ◌+◌, ◌==◌, ◌&&◌, Bool, true, false, bytes_eq, if◌then◌else◌, List, [], ◌∷◌, ◌++◌, map, length, Some, None, Result, Ok, Err, find, IfErr, IsTrue, MatchResult}
 use Rattle.std.specs.List.{enumerate_from}
 use Rattle.sqlite.specs.Held.{Held, state}
-use Rattle.sqlite.specs.State.{State, HasCleanDisk, Survives}
+use Rattle.sqlite.specs.State.{HasCleanDisk}
 use Rattle.sqlite.specs.Store.{Ghosts}
 use Rattle.wu_core.specs.declared.fault.Fault.{Fault}
-use Rattle.wu_core.specs.declared.fault.Fault.TheVariants.{Memory, Broken, Ended, NameUsed, NotAProject, WorkunitUsed}
+use Rattle.wu_core.specs.declared.fault.Fault.TheVariants.{Memory, Ended, NameUsed, NotAProject, WorkunitUsed}
 use Rattle.wu_core.specs.Parameters.{Parameters}
-use Rattle.wu_core.specs.World.{World, Import, is_import}
+use Rattle.wu_core.specs.World.{World, is_import}
 use Rattle.wu_feed.specs.declared.jobs.Job.{Job}
-use Rattle.wu_core.specs.declared.import.ImportKind.{ImportKind}
 use Rattle.wu_core.specs.declared.import.ImportKind.TheVariants as kind
 use Rattle.wu_feed.specs.Jobs.{jobs_of_file}
 use Rattle.wu_feed.specs.Templates.{template_of}
-use Rattle.wu_schema.specs.Calls.{IsBack}
+use Rattle.wu_store.specs.Reading.{AreVerdicts}
 use Rattle.wu_store.specs.Changes.{IsAbove}
+use Rattle.wu_store.specs.Loading.{IsStoreFault, LoadsNext}
 use Rattle.wu_store.specs.declared.rows.StoredImport.{StoredImport}
 use Rattle.wu_schema.specs.StandsFor.{StandsFor}
 use Rattle.wu_passes.specs.declared.batch.Plan.{Plan}
@@ -47,14 +47,17 @@ request_of (command.Batch batch) = request_of_batch batch
 abbrev pub reply_of_answer : Answer → Reply
 reply_of_answer (answer.Imported kind name first verdicts) = Imported kind name first verdicts
 
--- a world at the present version whose workunits have numbers below the next one, as each sound world has
+-- the verdicts of each import are numbers of verdicts on such a file
+abbrev pub HasVerdicts : World → Type 0
+HasVerdicts world = All (λ import. AreVerdicts import.kind import.verdicts) world.imports
+
+-- A world at the present version, whose numbers are as those of each sound world: workunits are below the next number,
+-- and that and the verdicts of imports are in range.
 pub record IsProject (world : World) : Type 0 where
   pub present : world.version ≡ present_version
   pub above : IsAbove world.next_number world.workunits
-
--- a fault of memory, of the disk, or of a statement or a row
-abbrev pub IsStoreFault : Fault → Type 0
-IsStoreFault fault = (fault ≡ Memory) ⊎ ((fault ≡ Broken) ⊎ (fault ≡ NotAProject))
+  pub next : LoadsNext world
+  pub verdicts : HasVerdicts world
 
 -- it never says that the session has ended
 abbrev pub NeverEnded : {T : Type 0} → Result T Fault → Type 0
@@ -67,20 +70,6 @@ RefusesName fault = ((row : ℕ) × (fault ≡ WorkunitUsed row)) ⊎ IsStoreFau
 -- a read failed
 abbrev pub FailsToRead : {T : Type 0} → Result T Fault → Type 0
 FailsToRead result = (fault : Fault) × (result ≡ Err fault) × IsStoreFault fault
-
--- A call that reads leaves all as it was: nothing is committed, and an open connection shows the last commit.
-pub record IsRead (old new : State) : Type 0 where
-  pub survives : Survives old new (λ _. ⊥)
-  pub back : HasCleanDisk new → IsBack old new
-
--- so it does where it succeeds
-abbrev pub StaysSame : State → State → Type 0
-StaysSame old new = new.now ≡ old.now
-
--- the import of this kind and name, if there was one, as it was stored
-abbrev pub IsEarlier : Option Import → Option StoredImport → Type 0
-IsEarlier import None = import ≡ None
-IsEarlier import (Some stored) = (kept : Import) × (import ≡ Some kept) × (stored.template ≡ kept.template) × (stored.content ≡ kept.content) × (stored.first_number ≡ kept.first_number) × (stored.verdicts ≡ kept.verdicts)
 
 -- no batch had this name
 abbrev pub IsNew : World → List ℕ → Type 0
@@ -133,34 +122,14 @@ RefusesRepeat batch earlier fault = (fault ≡ Memory) ⊎ ((fault ≡ NameUsed)
 
 -- ---- what a call that reads says of the tables, and of each world that they stand for
 
--- with Ok the tables are as they were
-abbrev pub KeepsTables : {S T E : Type 0} → Ghosts S → Held S → Held S → Result T E → Type 0
-KeepsTables g old new result = HasCleanDisk (state g new) → OnOk result (StaysSame (state g old) (state g new))
-
 -- where the tables stand for a world and steps have no limit, no read is refused
 abbrev pub NeverRefused : {S T : Type 0} → Ghosts S → Held S → Held S → Result T Fault → Type 0
 NeverRefused g old new result =
     HasCleanDisk (state g new) → (world : World) → StandsFor (state g old).now world → old.step_limit ≡ None → IfErr result (λ fault. fault ≢ NotAProject)
 
--- with Ok the connection was open
-abbrev pub WasOpen : {S T E : Type 0} → Ghosts S → Held S → Held S → Result T E → Type 0
-WasOpen g old new result = HasCleanDisk (state g new) → OnOk result (IsTrue (state g old).is_open)
-
--- and is open
-abbrev pub IsOpenAfter : {S T E : Type 0} → Ghosts S → Held S → Result T E → Type 0
-IsOpenAfter g new result = HasCleanDisk (state g new) → OnOk result (IsTrue (state g new).is_open)
-
 -- it was open, or the read failed
 abbrev pub OpenOrFails : {S T : Type 0} → Ghosts S → Held S → Held S → Result T Fault → Type 0
 OpenOrFails g old new result = HasCleanDisk (state g new) → IsTrue (state g old).is_open ⊎ FailsToRead result
-
--- this holds of each world that the tables stand for
-abbrev pub OverWorlds : {S : Type 0} → Ghosts S → Held S → Held S → (World → Type 0) → Type 0
-OverWorlds g old new Is = HasCleanDisk (state g new) → (world : World) → StandsFor (state g old).now world → Is world
-
--- the earlier import of this kind and name is found
-abbrev pub FindsEarlier : ImportKind → List ℕ → Result (Option StoredImport) Fault → World → Type 0
-FindsEarlier kind name result world = MatchResult result (IsEarlier (find (is_import kind name) world.imports)) IsStoreFault
 
 -- whether the name is taken by a workunit or an archived row
 abbrev pub KnowsTaken : List ℕ → Result Bool Fault → World → Type 0
@@ -173,9 +142,6 @@ KnowsUsed earlier name result world = MatchResult result (λ used. used ≡ is_o
 -- no job's name is taken, or the fault tells the first one
 abbrev pub FindsFree : {T : Type 0} → List Job → Result T Fault → World → Type 0
 FindsFree jobs result world = MatchResult result (λ _. first_taken world jobs ≡ None) (λ fault. TellsTaken world jobs fault ⊎ IsStoreFault fault)
-
-abbrev pub KnowsNext : Result ℕ Fault → World → Type 0
-KnowsNext result world = MatchResult result (λ next. next ≡ world.next_number) IsStoreFault
 
 -- over a project, the plan of a request
 abbrev pub PlansFor : Request → Result Plan Fault → World → Type 0

@@ -1,5 +1,5 @@
 -- A project as its callers know it: what its connection shows, and whether its session has ended.
-use Rattle.std.specs.Prelude.{◌≡◌, ◌<◌, ◌≤◌, ℕ, Bool, true, false, List, map, IfErr, IfOk, IsTrue, MatchResult, None, OnOk, Result, Err, Vec}
+use Rattle.std.specs.Prelude.{◌≡◌, ◌⊎◌, ◌<◌, ◌≤◌, ℕ, Bool, true, false, List, map, IfErr, IfOk, IsTrue, MatchResult, None, OnOk, Result, Err, Vec}
 use Rattle.sqlite.specs.Held.{Held, state}
 use Rattle.sqlite.specs.Order.{Row}
 use Rattle.sqlite.specs.State.{State, HasCleanDisk}
@@ -8,6 +8,7 @@ use Rattle.wu_core.specs.declared.fault.Fault.{Fault}
 use Rattle.wu_core.specs.declared.fault.Fault.TheVariants.{Ended, NewSchema, NotAProject}
 use Rattle.wu_core.specs.World.{World, empty_world}
 use Rattle.wu_schema.specs.Calls.{IsBack}
+use Rattle.wu_schema.specs.Faults.{IsFailure}
 use Rattle.wu_schema.specs.Made.{MakesProject}
 use Rattle.wu_schema.specs.StandsFor.{StandsFor}
 use Rattle.wu_schema.specs.Stored.{workunit_row}
@@ -18,8 +19,9 @@ use Rattle.wu_passes.specs.declared.command.Command.{Command}
 use Rattle.wu_passes.specs.declared.project.Project.{Project}
 use Rattle.wu_passes.specs.Machine.{present_version}
 use Rattle.wu_passes.specs.Planning.{IsProject, Plans, request_of}
+use Rattle.wu_store.specs.Loading.{ServesUnlessFailed}
 use Rattle.wu_passes.specs.Requests.{Request}
-use Rattle.wu_passes.specs.Standing.{GoesOn, IsVacant, IsRefusal, KeepsAll, KeepsDoubt, RefusesVersion, Runs, StoresLater}
+use Rattle.wu_passes.specs.Standing.{GoesOn, IsVacant, IsRefusal, KeepsAll, KeepsDoubt, RefusesVersion, Runs, StoresLater, WhyNot}
 
 -- the connection that a release gives back
 abbrev pub connection_of : {S : Type 0} {g : Ghosts S} → Project S g → Held S
@@ -102,6 +104,14 @@ RefusesStanding g conn result =
 abbrev pub IsUnlimited : {S : Type 0} {g : Ghosts S} → Project S g → Type 0
 IsUnlimited project = (state_of project).step_limit ≡ None
 
+-- the connection is open
+abbrev pub IsOpen : {S : Type 0} {g : Ghosts S} → Project S g → Type 0
+IsOpen project = HasCleanDisk (state_of project) → IsTrue (state_of project).is_open
+
+-- so is one that comes back, but after want of memory or of the disk
+abbrev pub ServesAgain : {S : Type 0} (g : Ghosts S) → Held S × Fault → Type 0
+ServesAgain g refusal = HasCleanDisk (state g refusal.0) → IsFailure refusal.1 ⊎ IsTrue (state g refusal.0).is_open
+
 abbrev pub DoubtsStill : {S : Type 0} (g : Ghosts S) → Held S → Held S → Type 0
 DoubtsStill g conn again = KeepsDoubt (state g conn) (state g again)
 
@@ -126,9 +136,15 @@ CarriesOut old new answer changes result =
 abbrev pub KeepsLimit : {S : Type 0} {g : Ghosts S} → Project S g → Project S g → Type 0
 KeepsLimit old new = (state_of new).step_limit ≡ (state_of old).step_limit
 
--- after Ok the connection is open
-abbrev pub ServesAfterOk : {S T E : Type 0} {g : Ghosts S} → Project S g → Result T E → Type 0
-ServesAfterOk new result = HasCleanDisk (state_of new) → OnOk result (IsTrue (state_of new).is_open)
+-- after Ok, and after each fault but want of memory or of the disk, the connection is open
+abbrev pub ServesOn : {S T : Type 0} {g : Ghosts S} → Project S g → Result T Fault → Type 0
+ServesOn {S} {T} {g} new result = ServesUnlessFailed g (connection_of new) result
+
+-- over an adopted project it is told why a command was not done
+abbrev pub TellsWhy : {S T : Type 0} {g : Ghosts S} → Project S g → Project S g → Command → Result T Fault → Type 0
+TellsWhy old new command result =
+    HasCleanDisk (state_of new) → IsUnlimited old → (world : World) → IsProject world → GoesOn (state_of old) world
+    → IfErr result (WhyNot (has_ended new) world (request_of command))
 
 -- ---- a question
 

@@ -1,7 +1,7 @@
 -- Sessions and lives: what was acknowledged, what was cut, and which worlds a stop may leave.
-use Rattle.std.specs.Prelude.{Bool, List, [], ◌∷◌, ◌++◌, option_to_list, if◌then◌else◌, Option, Some, None}
+use Rattle.std.specs.Prelude.{Bool, List, [], ◌∷◌, ◌++◌, option_to_list, if◌then◌else◌, Option}
 use Rattle.wu_core.specs.World.{World}
-use Rattle.wu_passes.specs.Machine.{fold_steps, step}
+use Rattle.wu_passes.specs.Machine.{fold_steps}
 use Rattle.wu_passes.specs.Requests.{Request}
 
 -- the requests that were answered with success, in order, and the one during which the session ended, if there is one
@@ -20,24 +20,16 @@ world_acknowledged world session = fold_steps world session.acknowledged
 abbrev pub world_accepted : World → Session → World
 world_accepted world session = fold_steps world (accepted session)
 
--- the worlds that a stop may leave: before the cut request or after it, and no other; with none, the one
-abbrev pub worlds_left : World → Session → List World
-worlds_left world session = worlds_by session.cut
-  where
-    worlds_by : Option Request → List World
-    worlds_by None = world_acknowledged world session ∷ []
-    worlds_by (Some cut) = world_acknowledged world session ∷ step (world_acknowledged world session) cut ∷ []
-
 -- a session of a life, with what its next reopening found of its cut request: true where it was done
 pub record Lived : Type 0 where
   pub session : Session
   pub is_cut_in : Bool
 
 -- the world after a session, as its next reopening found it
-abbrev pub world_after : World → Lived → World
-world_after world lived = if lived.is_cut_in then world_accepted world lived.session else world_acknowledged world lived.session
+abbrev pub world_lived : World → Lived → World
+world_lived world lived = if lived.is_cut_in then world_accepted world lived.session else world_acknowledged world lived.session
 
 -- the world after a life: session by session
 abbrev pub world_of_life : World → List Lived → World
 world_of_life world [] = world
-world_of_life world (lived ∷ more) = world_of_life (world_after world lived) more
+world_of_life world (lived ∷ more) = world_of_life (world_lived world lived) more

@@ -16,8 +16,9 @@ use Rattle.wu_schema.specs.Versions.{HasProject, HasVersion, LacksProject}
 use Rattle.wu_passes.specs.declared.command.Answer.{Answer}
 use Rattle.wu_passes.specs.Committing.{FoundAs}
 use Rattle.wu_passes.specs.Machine.{present_version, reply, step}
-use Rattle.wu_passes.specs.Planning.{IsStoreFault, reply_of_answer}
-use Rattle.wu_passes.specs.Requests.{Request}
+use Rattle.wu_passes.specs.Planning.{reply_of_answer}
+use Rattle.wu_store.specs.Loading.{IsStoreFault}
+use Rattle.wu_passes.specs.Requests.{Reply, Request}
 
 -- the tables stand for this world, all is committed, and a stop leaves nothing but tables that stand for it
 pub record GoesOn (s : State) (world : World) : Type 0 where
@@ -45,6 +46,22 @@ Runs world request has_ended new result =
 -- a fault that may end a session
 abbrev pub MayEnd : Fault → Type 0
 MayEnd fault = (fault ≡ Memory) ⊎ (fault ≡ Broken)
+
+-- the machine does it
+abbrev pub IsAnswered : World → Request → Type 0
+IsAnswered world request = (answer : Reply) × (reply world request ≡ Ok answer)
+
+-- Why a command was not done. It ended the session: the disk failed, or memory was wanted for what the machine does.
+-- It did not: the machine refuses it, memory was wanted, or a statement of what the machine does was refused.
+abbrev pub WhyNot : Bool → World → Request → Fault → Type 0
+WhyNot true world request fault = (fault ≡ Broken) ⊎ ((fault ≡ Memory) × IsAnswered world request)
+WhyNot false world request fault =
+    (reply world request ≡ Err fault) ⊎ ((fault ≡ Memory) ⊎ ((fault ≡ NotAProject) × IsAnswered world request))
+
+-- within a transaction a refused statement alone leaves the session on
+abbrev pub IsCutBy : Bool → Fault → Type 0
+IsCutBy true fault = MayEnd fault
+IsCutBy false fault = fault ≡ NotAProject
 
 -- no project is there: nothing has its name, or what has it lacks a column
 abbrev pub IsVacant : State → Type 0

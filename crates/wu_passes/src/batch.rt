@@ -8,7 +8,8 @@ ghost use Rattle.wu_core.specs.Limits.{most_workunits};
 ghost use Rattle.wu_core.specs.Reads.{Gives};
 ghost use Rattle.wu_feed.specs.Limits.{most_rows};
 ghost use Rattle.wu_passes.specs.Batches.{new_workunit};
-ghost use Rattle.wu_passes.specs.Planning.{additions, batch_of, FindsEarlier, FindsFree, IsNewBatch, IsOpenAfter, IsRead, IsRepeated, IsStoreFault, KeepsImport, KeepsTables, KnowsNext, KnowsTaken, KnowsUsed, NeverEnded, NeverRefused, OpenOrFails, OverWorlds, PlansBatch, PlansJobs, PlansNew, RefusesName, RefusesRepeat, WasOpen};
+ghost use Rattle.wu_passes.specs.Planning.{additions, batch_of, FindsFree, HasVerdicts, IsNewBatch, IsProject, IsRepeated, KeepsImport, KnowsTaken, KnowsUsed, NeverEnded, NeverRefused, OpenOrFails, PlansBatch, PlansJobs, PlansNew, RefusesName, RefusesRepeat};
+ghost use Rattle.wu_store.specs.Loading.{FindsEarlier, IsRead, IsStoreFault, KeepsTables, KnowsNext, NotRefusedIn, OverWorlds, ServesUnlessFailed, StaysUnlessFailed, WasOpen};
 
 use crate::command::{Answer, Batch};
 use sqlite::{Alter, Connection};
@@ -20,8 +21,7 @@ use wu_core::{
 use wu_feed::{Job, Jobs, read_jobs, read_template};
 use wu_schema::fault_of;
 use wu_store::{
-    Change, Import, StoredImport, Verdicts, has_archived, has_workunit, import_from, import_rows,
-    next_number_from, next_number_row,
+    Change, Import, StoredImport, Verdicts, has_archived, has_workunit, import_of, next_number,
 };
 
 /// What a command will answer, and what it changes.
@@ -36,39 +36,12 @@ fn copy_name(name: &Name) -> Result<Name, Fault>
     Ok(name.copy()?)
 }
 
-/// The import of this kind and name, if there was one.
-fn earlier_import<S: Alter>(
-    conn: &mut Connection<S>,
-    alloc: Global,
-    kind: ImportKind,
-    name: &Name,
-) -> Result<Option<StoredImport>, Fault>
-    ensures mode { conn.old.in_transaction ≡ false → conn.new.in_transaction ≡ false }
-    ensures read { IsRead (state S.Store conn.old) (state S.Store conn.new) }
-    ensures same { KeepsTables S.Store conn.old conn.new result }
-    ensures open { WasOpen S.Store conn.old conn.new result }
-    ensures opens { IsOpenAfter S.Store conn.new result }
-    ensures fault { IfErr result IsStoreFault }
-    ensures found { OverWorlds S.Store conn.old conn.new (FindsEarlier kind name.now result) }
-{
-    let rows = match import_rows(conn, kind, name) {
-        Ok(rows) => rows,
-        Err(error) => return Err(fault_of(&error)),
-    };
-    match rows.first() {
-        Some(row) => match import_from(alloc, kind, row) {
-            Ok(import) => Ok(Some(import)),
-            Err(fault) => Err(fault),
-        },
-        None => Ok(None),
-    }
-}
-
 /// Whether the name belongs to a workunit that is present, or that was archived.
 fn is_taken<S: Alter>(conn: &mut Connection<S>, name: &Name) -> Result<bool, Fault>
     ensures mode { conn.old.in_transaction ≡ false → conn.new.in_transaction ≡ false }
     ensures read { IsRead (state S.Store conn.old) (state S.Store conn.new) }
     ensures same { KeepsTables S.Store conn.old conn.new result }
+    ensures opens { ServesUnlessFailed S.Store conn.new result }
     ensures fault { IfErr result IsStoreFault }
     ensures unrefused { NeverRefused S.Store conn.old conn.new result }
     ensures taken { OverWorlds S.Store conn.old conn.new (KnowsTaken name.now result) }
@@ -95,6 +68,7 @@ fn is_used<S: Alter>(conn: &mut Connection<S>, earlier: &[Job], name: &Name) -> 
     ensures mode { conn.old.in_transaction ≡ false → conn.new.in_transaction ≡ false }
     ensures read { IsRead (state S.Store conn.old) (state S.Store conn.new) }
     ensures same { KeepsTables S.Store conn.old conn.new result }
+    ensures opens { StaysUnlessFailed S.Store conn.old conn.new result }
     ensures fault { IfErr result IsStoreFault }
     ensures unrefused { NeverRefused S.Store conn.old conn.new result }
     ensures used { OverWorlds S.Store conn.old conn.new (KnowsUsed earlier.now name.now result) }
@@ -111,6 +85,7 @@ fn check_names<S: Alter>(conn: &mut Connection<S>, jobs: &[Job]) -> Result<(), F
     ensures mode { conn.old.in_transaction ≡ false → conn.new.in_transaction ≡ false }
     ensures read { IsRead (state S.Store conn.old) (state S.Store conn.new) }
     ensures same { KeepsTables S.Store conn.old conn.new result }
+    ensures opens { StaysUnlessFailed S.Store conn.old conn.new result }
     ensures fault { IfErr result RefusesName }
     ensures unrefused { NeverRefused S.Store conn.old conn.new result }
     ensures free { OverWorlds S.Store conn.old conn.new (FindsFree jobs.now result) }
@@ -124,22 +99,6 @@ fn check_names<S: Alter>(conn: &mut Connection<S>, jobs: &[Job]) -> Result<(), F
         }
     }
     Ok(())
-}
-
-/// The number that the next workunit gets.
-fn next_number<S: Alter>(conn: &mut Connection<S>) -> Result<u64, Fault>
-    ensures within { IfOk result (λ next. (1 ≤ next) × (next ≤ most_workunits + 1)) }
-    ensures mode { conn.old.in_transaction ≡ false → conn.new.in_transaction ≡ false }
-    ensures read { IsRead (state S.Store conn.old) (state S.Store conn.new) }
-    ensures same { KeepsTables S.Store conn.old conn.new result }
-    ensures opens { IsOpenAfter S.Store conn.new result }
-    ensures fault { IfErr result IsStoreFault }
-    ensures next { OverWorlds S.Store conn.old conn.new (KnowsNext result) }
-{
-    match next_number_row(conn) {
-        Ok(row) => next_number_from(&row),
-        Err(error) => Err(fault_of(&error)),
-    }
 }
 
 /// A workunit as a batch adds it: without instances.
@@ -286,8 +245,9 @@ fn plan_jobs<'a, S: Alter>(
     ensures mode { conn.old.in_transaction ≡ false → conn.new.in_transaction ≡ false }
     ensures read { IsRead (state S.Store conn.old) (state S.Store conn.new) }
     ensures same { KeepsTables S.Store conn.old conn.new result }
-    ensures opens { IsOpenAfter S.Store conn.new result }
+    ensures opens { StaysUnlessFailed S.Store conn.old conn.new result }
     ensures never { NeverEnded result }
+    ensures unrefused { NotRefusedIn S.Store conn.old conn.new result IsProject }
     ensures plan { OverWorlds S.Store conn.old conn.new (PlansJobs batch.now params jobs result) }
 {
     match check_names(conn, jobs.as_slice()) {
@@ -313,8 +273,9 @@ fn plan_new<'a, S: Alter>(
     ensures mode { conn.old.in_transaction ≡ false → conn.new.in_transaction ≡ false }
     ensures read { IsRead (state S.Store conn.old) (state S.Store conn.new) }
     ensures same { KeepsTables S.Store conn.old conn.new result }
-    ensures opens { IsOpenAfter S.Store conn.new result }
+    ensures opens { StaysUnlessFailed S.Store conn.old conn.new result }
     ensures never { NeverEnded result }
+    ensures unrefused { NotRefusedIn S.Store conn.old conn.new result IsProject }
     ensures plan { OverWorlds S.Store conn.old conn.new (PlansNew batch.now result) }
 {
     let params = match read_template(alloc, batch.template.as_slice()) {
@@ -338,11 +299,12 @@ pub fn plan_batch<'a, S: Alter>(
     ensures read { IsRead (state S.Store conn.old) (state S.Store conn.new) }
     ensures same { KeepsTables S.Store conn.old conn.new result }
     ensures open { OpenOrFails S.Store conn.old conn.new result }
-    ensures opens { IsOpenAfter S.Store conn.new result }
+    ensures opens { ServesUnlessFailed S.Store conn.new result }
     ensures never { NeverEnded result }
+    ensures unrefused { NotRefusedIn S.Store conn.old conn.new result IsProject }
     ensures plan { OverWorlds S.Store conn.old conn.new (PlansBatch batch.now result) }
 {
-    match earlier_import(conn, alloc, ImportKind::Batch, &batch.name) {
+    match import_of(conn, alloc, ImportKind::Batch, &batch.name) {
         Ok(Some(earlier)) => repeated(alloc, batch, earlier),
         Ok(None) => plan_new(conn, alloc, batch),
         Err(fault) => Err(fault),

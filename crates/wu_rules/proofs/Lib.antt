@@ -1,4 +1,5 @@
 pub mod InPlace
 pub mod Lists
+pub mod Placing
 pub mod Outputs
 pub mod Timing

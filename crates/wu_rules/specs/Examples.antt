@@ -46,6 +46,10 @@ due = 1772974800
 abbrev pub a_second_late : ℕ
 a_second_late = 1772974801
 
+-- an hour after the sending
+abbrev pub reporting : ℕ
+reporting = 1772373600
+
 -- sent to a host
 abbrev pub out : List ℕ → Instance
 out host = record fresh {
@@ -60,7 +64,7 @@ abbrev pub back : List ℕ → Outcome → List ℕ → Instance
 back host how output = record (out host) {
   server_state = server.Over;
   outcome = how;
-  received_at = Some 1772373600;
+  received_at = Some reporting;
   output = output;
 }
 
@@ -161,6 +165,13 @@ one_lost = job default_parameters (lost h1 ∷ fresh ∷ fresh ∷ [])
 
 abbrev pub one_failed : Workunit
 one_failed = job default_parameters (failed h1 ∷ fresh ∷ [])
+
+abbrev pub one_back : Workunit
+one_back = job default_parameters (success h1 aa validate.Init ∷ fresh ∷ [])
+
+-- the reply that was missed comes after all
+abbrev pub one_late : Workunit
+one_late = job default_parameters (record (success h1 aa validate.Init) { received_at = Some a_second_late } ∷ fresh ∷ fresh ∷ [])
 
 -- ---- two results that differ, and a third
 

@@ -25,14 +25,18 @@ send_verdict_of w host instance =
 abbrev pub send_verdict_in : Workunit → ℕ → List ℕ → SendVerdict
 send_verdict_in w n host = option_map_or (send_verdict_of w host) (slice_get w.instances n) verdict.Unknown
 
--- on its way to the host since this moment, due after the workunit's delay
-abbrev pub sent_to : Workunit → List ℕ → ℕ → Instance → Instance
-sent_to w host moment instance = record instance {
+-- on its way to the host since this moment, with this deadline
+abbrev pub due_at : ℕ → List ℕ → ℕ → Instance → Instance
+due_at deadline host moment instance = record instance {
   server_state = server.InProgress;
   host = Some host;
   sent_at = Some moment;
-  deadline = Some (moment + w.params.delay_bound);
+  deadline = Some deadline;
 }
+
+-- due after the workunit's delay
+abbrev pub sent_to : Workunit → List ℕ → ℕ → Instance → Instance
+sent_to w host moment = due_at (moment + w.params.delay_bound) host moment
 
 -- the workunit with its instance of this number sent
 abbrev pub sent_in : Workunit → ℕ → List ℕ → ℕ → Workunit

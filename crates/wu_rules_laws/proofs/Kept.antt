@@ -1,12 +1,14 @@
 -- The rules keep workunits well formed.
 use Rattle.std.proofs.Common.{◌≡◌, ℕ, suc, ◌+◌, ◌-◌, ◌<◌, ◌≤◌, nat_lt, nat_le, min, Bool, true, false, cond, List, [], ◌∷◌, map, length, filter, replicate, Option, Some, None, is_some, refl, sym, ap, subst, ◌∙◌, bytes_eq, leb-true, arith}
 use Rattle.std.specs.List.{All, AllByRecursion, list_all}
-use Rattle.std.proofs.lemmas.List.{length-map, length-append, length-replicate}
-use Rattle.std.proofs.lemmas.List.Elements.{All-map, All-weaker, All-append, All-replicate, All-from_recursion, recursion_from_All}
-use Rattle.std.proofs.lemmas.Option.{slice_get_within}
+use Rattle.std.proofs.lemmas.List.{length-map, length-append, length-replicate, length-set}
+use Rattle.std.proofs.lemmas.List.Elements.{All-map, All-weaker, All-append, All-replicate, All-set, All-from_recursion, recursion_from_All}
+use Rattle.std.proofs.lemmas.Option.{slice_get_within, get_or_from_slice_get}
+use Rattle.std.specs.List.{slice_get}
+use Rattle.std.specs.Option.{option_map_or}
 use Rattle.wu_core.specs.Formed.{IsInstance, IsWorkunit}
 use Rattle.wu_core.specs.Parameters.{Parameters, IsParameters}
-use Rattle.wu_core.specs.Workunit.{fresh}
+use Rattle.wu_core.specs.Workunit.{fresh, with_instance}
 use Rattle.wu_core.specs.declared.workunit.Instance.{Instance}
 use Rattle.wu_core.specs.declared.workunit.Workunit.{Workunit}
 use Rattle.wu_core.specs.declared.states.ServerState.TheVariants as server
@@ -24,6 +26,10 @@ use Rattle.wu_rules.specs.Transition.{timed, is_open, needed, allowed, added, ex
 use Rattle.wu_rules.specs.Validation.{is_to_validate, output_at, is_deleted_at, verdict, judged_by, doubted, doubted_or_closed, late_verdict, judged_late_by, raised_target, agreed_on, left_open, decided, validated_by, validated}
 use Rattle.wu_rules.specs.Assimilation.{assimilated, without_output, emptied}
 use Rattle.wu_rules.specs.Cancelling.{cancelled}
+use Rattle.wu_rules.specs.Reporting.{report_verdict_of, report_verdict_in, reported_as, reported_in}
+use Rattle.wu_rules.specs.Sending.{sent_to, sent_in}
+use Rattle.wu_rules.specs.declared.verdicts.ReportVerdict.TheVariants as report
+use Rattle.wu_core.specs.declared.states.Status.{Status}
 use Rattle.wu_rules_laws.specs.Laws.{KeepsFormed}
 use Rattle.wu_rules_laws.proofs.Changed.{placed, length-placed}
 use Rattle.wu_rules_laws.proofs.Granting.{chosen}
@@ -246,6 +252,51 @@ formed_cancelled w h =
     let all = changed closed formed_closed w h in
     record { parameters = h.parameters; instances = all.instances; within = all.within; canonical = all.canonical; done = h.done; done_only = h.done_only }
 
+-- ---- the scheduler
+
+with_instance_formed : (w : Workunit) (n : ℕ) (i : Instance) → IsInstance i → IsWorkunit w → IsWorkunit (with_instance w n i)
+with_instance_formed w n i k h =
+    let long = length-set w.instances n i in
+    record {
+      parameters = h.parameters;
+      instances = All-set IsInstance w.instances n i k h.instances;
+      within = (let le = h.within in omega arith);
+      canonical = λ m e. (let lt = h.canonical m e in omega arith);
+      done = h.done;
+      done_only = h.done_only;
+    }
+
+formed_sent_to : (w : Workunit) (host : List ℕ) (moment : ℕ) (i : Instance) → IsInstance (sent_to w host moment i)
+formed_sent_to w host moment i = record { sent_with_host = refl; due_with_host = refl; unsent = λ e. cc; in_progress = λ e. refl; success = λ e f. refl }
+
+pub formed_sent : (w : Workunit) (n : ℕ) (host : List ℕ) (moment : ℕ) → IsWorkunit w → IsWorkunit (sent_in w n host moment)
+formed_sent w n host moment h = by (slice_get w.instances n)
+  where
+    by : (o : Option Instance) → IsWorkunit (option_map_or (λ instance. with_instance w n (sent_to w host moment instance)) o w)
+    by (Some i) = with_instance_formed w n (sent_to w host moment i) (formed_sent_to w host moment i) h
+    by None = h
+
+formed_reported_as : (moment : ℕ) (status : Status) (output : List ℕ) (i : Instance) → is_some i.host ≡ true → IsInstance i → IsInstance (reported_as moment status output i)
+formed_reported_as moment status output i has h = record { sent_with_host = h.sent_with_host; due_with_host = h.due_with_host; unsent = λ e. cc; in_progress = λ e. has; success = λ e f. has }
+
+-- a report that is taken is of an instance that was sent
+was_sent : (host : List ℕ) (moment : ℕ) (i : Instance) → report_verdict_of host moment i ≡ report.Applied → is_some i.host ≡ true
+was_sent host moment i applied = by i.host refl
+  where
+    by : (o : Option (List ℕ)) → i.host ≡ o → is_some o ≡ true
+    by (Some its) e = refl
+    by None e = cc (rw e at applied)
+
+pub formed_reported : (w : Workunit) (n : ℕ) (host : List ℕ) (moment : ℕ) (status : Status) (output : List ℕ) → report_verdict_in w n host moment ≡ report.Applied → IsWorkunit w → IsWorkunit (reported_in w n moment status output)
+formed_reported w n host moment status output applied h = by (slice_get w.instances n) refl applied
+  where
+    by : (o : Option Instance) → slice_get w.instances n ≡ o → option_map_or (report_verdict_of host moment) o report.Unknown ≡ report.Applied
+        → IsWorkunit (option_map_or (λ instance. with_instance w n (reported_as moment status output instance)) o w)
+    by (Some i) e taken =
+        let at = subst IsInstance (get_or_from_slice_get w.instances n i i e) (h.instances n i (slice_get_within w.instances n i e)) in
+        with_instance_formed w n (reported_as moment status output i) (formed_reported_as moment status output i (was_sent host moment i taken) at) h
+    by None e taken = h
+
 pub keeps_formed : (w : Workunit) → IsWorkunit w → KeepsFormed w
 keeps_formed w h = record {
   transitioned = λ now. formed_transitioned w now h;
@@ -253,4 +304,6 @@ keeps_formed w h = record {
   assimilated = λ now. formed_assimilated w now h;
   emptied = formed_emptied w h;
   cancelled = formed_cancelled w h;
+  sent = λ n host moment. formed_sent w n host moment h;
+  reported = λ n host moment status output applied. formed_reported w n host moment status output applied h;
 }

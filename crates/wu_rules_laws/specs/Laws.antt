@@ -5,11 +5,15 @@ use Rattle.wu_core.specs.declared.workunit.Workunit.{Workunit}
 use Rattle.wu_core.specs.Formed.{IsWorkunit}
 use Rattle.wu_core.specs.declared.workunit.Grant.{Grant}
 use Rattle.wu_core.specs.declared.workunit.Instance.{Instance}
+use Rattle.wu_core.specs.declared.states.Status.{Status}
 use Rattle.wu_core.specs.declared.states.ValidateState.TheVariants as validate
+use Rattle.wu_rules.specs.declared.verdicts.ReportVerdict.TheVariants as report
 use Rattle.wu_rules.specs.Instances.{is_viable, is_open_verdict, is_ready_assimilate, is_ready_file}
 use Rattle.wu_rules.specs.Assimilation.{assimilated, archived, emptied, is_to_delete, is_purgeable}
 use Rattle.wu_rules.specs.Cancelling.{cancelled}
 use Rattle.wu_rules.specs.Counts.{viable, agreeing, is_agreed, consensus}
+use Rattle.wu_rules.specs.Reporting.{report_verdict_in, reported_in}
+use Rattle.wu_rules.specs.Sending.{sent_in}
 use Rattle.wu_rules.specs.Transition.{transitioned}
 use Rattle.wu_rules.specs.Validation.{is_to_validate, validated, grants}
 use Rattle.wu_rules.specs.Waking.{wake}
@@ -109,6 +113,9 @@ pub record KeepsFormed (w : Workunit) : Type 0 where
   pub assimilated : (now : ℕ) → IsWorkunit (assimilated w now)
   pub emptied : IsWorkunit (emptied w)
   pub cancelled : IsWorkunit (cancelled w)
+  pub sent : (n : ℕ) (host : List ℕ) (moment : ℕ) → IsWorkunit (sent_in w n host moment)
+  pub reported : (n : ℕ) (host : List ℕ) (moment : ℕ) (status : Status) (output : List ℕ)
+      → report_verdict_in w n host moment ≡ report.Applied → IsWorkunit (reported_in w n moment status output)
 
 abbrev pub KeepsWorkunitsFormed : Type 0
 KeepsWorkunitsFormed = (w : Workunit) → IsWorkunit w → KeepsFormed w

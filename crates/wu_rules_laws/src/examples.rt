@@ -2,20 +2,59 @@
 #![tactic(auto, unfolding(wu_rules::specs::Transition::transitioned, wu_rules::specs::Waking::wake, wu_rules::specs::Validation::validated, wu_rules::specs::Validation::grants, wu_rules::specs::Assimilation::assimilated, wu_rules::specs::Assimilation::emptied, wu_rules::specs::Assimilation::is_purgeable, wu_rules::specs::Cancelling::cancelled))]
 
 ghost use Rattle.std.specs.Prelude.{◌≡◌, ◌∷◌, [], true, false, Some, None};
+ghost use Rattle.wu_core.specs.declared.states.Status.TheVariants as status;
 ghost use Rattle.wu_core.specs.declared.states.ValidateState.TheVariants as validate;
 ghost use Rattle.wu_rules.specs.Transition.{transitioned};
 ghost use Rattle.wu_rules.specs.Validation.{is_to_validate, validated, grants};
 ghost use Rattle.wu_rules.specs.Cancelling.{cancelled};
 ghost use Rattle.wu_rules.specs.Counts.{is_undecided};
+ghost use Rattle.wu_rules.specs.Reporting.{report_verdict_in, reported_in};
+ghost use Rattle.wu_rules.specs.Sending.{send_verdict_in, sent_in};
+ghost use Rattle.wu_rules.specs.declared.verdicts.ReportVerdict.TheVariants as report;
+ghost use Rattle.wu_rules.specs.declared.verdicts.SendVerdict.TheVariants as send;
 ghost use Rattle.wu_rules.specs.Waking.{wake};
 ghost use Rattle.wu_rules.specs.Assimilation.{assimilated, emptied, is_purgeable};
-ghost use Rattle.wu_rules.specs.Examples.{noon, sending, due, a_second_late, h1, h2, h3, credit, ready, masked, cancelled_mask};
-ghost use Rattle.wu_rules.specs.Examples.{new_job, two_unsent, one_out, one_lost, one_failed, two_differ, two_doubted, third_unsent, third_agrees, second_chosen, two_of_three, two_of_three_chosen, two_of_four, two_of_four_doubted, one_of_one, one_of_one_chosen, four_failed, ended_by_errors, last_out, ended_by_total, three_differ, three_doubted, one_left, ended_by_successes, two_agree, first_chosen, second_may_go, third_after_all, two_unneeded, two_may_go, one_may_go, one_gone_since, one_emptied};
+ghost use Rattle.wu_rules.specs.Examples.{noon, sending, due, a_second_late, reporting, h1, h2, h3, aa, credit, ready, masked, cancelled_mask};
+ghost use Rattle.wu_rules.specs.Examples.{new_job, two_unsent, one_out, one_lost, one_back, one_late, one_failed, two_differ, two_doubted, third_unsent, third_agrees, second_chosen, two_of_three, two_of_three_chosen, two_of_four, two_of_four_doubted, one_of_one, one_of_one_chosen, four_failed, ended_by_errors, last_out, ended_by_total, three_differ, three_doubted, one_left, ended_by_successes, two_agree, first_chosen, second_may_go, third_after_all, two_unneeded, two_may_go, one_may_go, one_gone_since, one_emptied};
 
 /// A new workunit gets its two instances at once, and no more.
 pub fn makes_instances()
     ensures made { transitioned new_job noon ≡ two_unsent }
     ensures once { transitioned two_unsent noon ≡ two_unsent }
+{}
+
+/// An instance goes to a host that has none of its workunit, with a deadline a week later. It is not sent again, and no
+/// other one to that host.
+pub fn sends_to_each_host_once()
+    ensures unknown { send_verdict_in two_unsent 2 h1 ≡ send.Unknown }
+    ensures applied { send_verdict_in two_unsent 0 h1 ≡ send.Applied }
+    ensures sent { sent_in two_unsent 0 h1 sending ≡ one_out }
+    ensures again { send_verdict_in one_out 0 h1 ≡ send.NotUnsent }
+    ensures same_host { send_verdict_in one_out 1 h1 ≡ send.SameHost }
+    ensures other_host { send_verdict_in one_out 1 h2 ≡ send.Applied }
+{}
+
+/// A report is taken once, from the host that has the instance, and not from before it was sent.
+pub fn takes_a_report_once()
+    ensures unknown { report_verdict_in one_out 2 h1 reporting ≡ report.Unknown }
+    ensures not_sent { report_verdict_in one_out 1 h1 reporting ≡ report.NotSent }
+    ensures wrong_host { report_verdict_in one_out 0 h2 reporting ≡ report.WrongHost }
+    ensures before_sent { report_verdict_in one_out 0 h1 1772369999 ≡ report.BeforeSent }
+    ensures applied { report_verdict_in one_out 0 h1 reporting ≡ report.Applied }
+    ensures reported { reported_in one_out 0 reporting status.Success aa ≡ one_back }
+    ensures over { report_verdict_in one_back 0 h1 reporting ≡ report.Over }
+{}
+
+/// A report from before the sending is told as such, also where the instance is over; one of the moment of sending is taken.
+pub fn tells_the_first_cause_of_a_report()
+    ensures before_over { report_verdict_in one_back 0 h1 1772369999 ≡ report.BeforeSent }
+    ensures at_once { report_verdict_in one_out 0 h1 sending ≡ report.Applied }
+{}
+
+/// A reply that was missed is taken when it comes after all.
+pub fn takes_a_late_report()
+    ensures applied { report_verdict_in one_lost 0 h1 a_second_late ≡ report.Applied }
+    ensures reported { reported_in one_lost 0 a_second_late status.Success aa ≡ one_late }
 {}
 
 /// At its deadline an instance is not late; a second later it is lost, and another one is made.

@@ -1,6 +1,6 @@
 //! What is to be seen of a workunit.
 
-use crate::life::{at, instance_at};
+use crate::life::{at, host, instance_at};
 use std::process::Abort;
 use wu_core::{Assimilate, FileDelete, Outcome, ServerState, ValidateState, Workunit};
 use wu_rules::{purgeable, wake_of, wants_deletion, wants_validation};
@@ -16,6 +16,12 @@ pub const LOST: Standing = (ServerState::Over, Outcome::NoReply, ValidateState::
 
 pub const FAILED: Standing = (ServerState::Over, Outcome::ClientError, ValidateState::Init);
 
+pub const DETACHED: Standing = (
+    ServerState::Over,
+    Outcome::ClientDetached,
+    ValidateState::Init,
+);
+
 pub const UNNEEDED: Standing = (ServerState::Over, Outcome::DidntNeed, ValidateState::Init);
 
 /// One thing that is seen of a workunit.
@@ -27,6 +33,10 @@ pub enum Fact {
     Count(usize),
     /// How the instance of this number stands.
     Stands(u32, Standing),
+    /// The host of the instance of this number, as that of this number's, and the seconds of its sending and of its deadline.
+    SentTo(u32, u32, u64, u64),
+    /// When the instance of this number was reported.
+    ReceivedAt(u32, Option<u64>),
     /// That the instance of this number is a success, and what the validator found of it.
     Verdict(u32, ValidateState),
     /// That so many instances, from the first on, are successes, and what the validator found of each.
@@ -65,6 +75,28 @@ fn standing(rt: &impl Abort, workunit: &Workunit, n: u32) -> Standing {
     )
 }
 
+/// Whether the instance of this number was sent to the host of another one at this second, with this deadline.
+fn is_sent_to(
+    rt: &(impl Abort + AllocGlobal),
+    workunit: &Workunit,
+    n: u32,
+    other: u32,
+    sent_at: u64,
+    deadline: u64,
+) -> bool {
+    let instance = instance_at(rt, workunit, n);
+    instance.host == Some(host(rt, other))
+        && instance.sent_at == Some(at(rt, sent_at))
+        && instance.deadline.map(|due| due.seconds()) == Some(deadline)
+}
+
+/// When the instance of this number was reported.
+fn received_at(rt: &impl Abort, workunit: &Workunit, n: u32) -> Option<u64> {
+    instance_at(rt, workunit, n)
+        .received_at
+        .map(|moment| moment.seconds())
+}
+
 /// Whether the instance of this number is a success, and the validator found this of it.
 fn is_success(rt: &impl Abort, workunit: &Workunit, n: u32, found: ValidateState) -> bool {
     standing(rt, workunit, n) == (ServerState::Over, Outcome::Success, found)
@@ -87,11 +119,15 @@ fn may_be_purged(rt: &impl Abort, workunit: &Workunit, seconds: u64, min_age: u6
 }
 
 /// Whether the fact holds of the workunit.
-pub fn holds(rt: &impl Abort, workunit: &Workunit, fact: Fact) -> bool {
+pub fn holds(rt: &(impl Abort + AllocGlobal), workunit: &Workunit, fact: Fact) -> bool {
     match fact {
         Fact::Wake(seconds) => wake_of(workunit) == seconds,
         Fact::Count(count) => workunit.instances.len() == count,
         Fact::Stands(n, state) => standing(rt, workunit, n) == state,
+        Fact::SentTo(n, other, sent_at, deadline) => {
+            is_sent_to(rt, workunit, n, other, sent_at, deadline)
+        }
+        Fact::ReceivedAt(n, seconds) => received_at(rt, workunit, n) == seconds,
         Fact::Verdict(n, found) => is_success(rt, workunit, n, found),
         Fact::Verdicts(count, found) => are_successes(rt, workunit, count, found),
         Fact::Output(n, state) => instance_at(rt, workunit, n).file_delete == state,

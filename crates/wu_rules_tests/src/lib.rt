@@ -1,5 +1,4 @@
-//! Tests of the rules on one workunit, on values: each follows a workunit through its life, and what hosts would send and
-//! report is set by hand.
+//! Tests of the rules on one workunit, on values: each follows a workunit through its life.
 #![tactic(auto)]
 
 #[cfg(test)]

@@ -2,12 +2,19 @@
 
 use std::process::Abort;
 use wu_core::{
-    Assimilate, Bytes, Deadline, ErrorMask, FileDelete, Grant, Instance, Instances, Moment, Name,
-    Outcome, Params, ServerState, ValidateState, Workunit,
+    Assimilate, Bytes, ErrorMask, FileDelete, Grant, Instance, Instances, Moment, Name, Params,
+    Status, Workunit,
 };
+use wu_rules::{ReportVerdict, SendVerdict, report, send};
 
 /// 2026-03-01T12:00:00Z.
 pub const NOON: u64 = 1772366400;
+
+/// An hour later.
+pub const SENDING: u64 = NOON + 3600;
+
+/// Another hour later.
+pub const REPORTING: u64 = NOON + 7200;
 
 /// The moment so many seconds after the start of 1970.
 pub fn at(rt: &impl Abort, seconds: u64) -> Moment {
@@ -54,43 +61,23 @@ pub fn instance_at<'a>(rt: &impl Abort, workunit: &'a Workunit, n: u32) -> &'a I
         .expect(rt, "an instance")
 }
 
-/// Sends an instance to its host at 13:00, with a deadline a week later.
-pub fn send(rt: &(impl Abort + AllocGlobal), workunit: &mut Workunit, n: u32) {
-    let host = host(rt, n);
-    let sent_at = at(rt, NOON + 3600);
-    let deadline = Deadline::new(NOON + 3600 + 604800).expect(rt, "a deadline");
-    let instance = workunit
-        .instances
-        .as_mut_slice()
-        .get_mut(n as usize)
-        .expect(rt, "an instance");
-    instance.server_state = ServerState::InProgress;
-    instance.host = Some(host);
-    instance.sent_at = Some(sent_at);
-    instance.deadline = Some(deadline);
+/// Sends the instance of this number to its host at 13:00, and sees that it goes.
+pub fn send_out(rt: &(impl Abort + AllocGlobal), workunit: &mut Workunit, n: u32) {
+    let verdict = send(workunit, n, host(rt, n), at(rt, SENDING));
+    assert_eq!(rt; verdict, SendVerdict::Applied);
 }
 
-/// Reports an instance.
-pub fn report(
+/// Takes the report of the instance of this number from its host at 14:00, and sees that it is taken.
+pub fn take_back(
     rt: &(impl Abort + AllocGlobal),
     workunit: &mut Workunit,
     n: u32,
-    outcome: Outcome,
+    status: Status,
     output: &[u8],
 ) {
     let output = bytes(rt, output);
-    let received_at = at(rt, NOON + 7200);
-    let instance = workunit
-        .instances
-        .as_mut_slice()
-        .get_mut(n as usize)
-        .expect(rt, "an instance");
-    instance.server_state = ServerState::Over;
-    instance.outcome = outcome;
-    instance.validate_state = ValidateState::Init;
-    instance.file_delete = FileDelete::Init;
-    instance.received_at = Some(received_at);
-    instance.output = output;
+    let verdict = report(workunit, n, &host(rt, n), at(rt, REPORTING), status, output);
+    assert_eq!(rt; verdict, ReportVerdict::Applied);
 }
 
 /// The credit of an instance for its host.

@@ -1,10 +1,13 @@
 //! A workunit's life as a script: what is done to it in turn, and what is seen of it then.
 
 use crate::facts::{Fact, holds};
-use crate::life::{at, grant, job, report, send};
+use crate::life::{at, bytes, grant, host, job, send_out, take_back};
 use std::process::Abort;
-use wu_core::{Fault, Outcome, Params, Workunit};
-use wu_rules::{assimilate, cancel, delete_files, transition, validate};
+use wu_core::{Fault, Params, Status, Workunit};
+use wu_rules::{
+    ReportVerdict, SendVerdict, assimilate, cancel, delete_files, report, send, transition,
+    validate,
+};
 
 /// 2026-03-02T00:00:00Z, when a workunit is assimilated.
 pub const DONE: u64 = 1772409600;
@@ -18,6 +21,12 @@ pub enum Deed {
     Send(u32),
     /// So many instances, from the first on, go to their hosts.
     SendEach(u32),
+    /// An instance is said to be sent to the host of this number's instance, at this second, with this verdict.
+    SendTo(u32, u32, u64, SendVerdict),
+    /// An instance is said to be reported, by the host of this number's instance at this second, with this verdict.
+    ReportBy(u32, u32, u64, ReportVerdict),
+    /// A host has given an instance up.
+    Detach(u32),
     /// An instance is back with a result of these bytes.
     Return(u32, &'static [u8]),
     /// An instance is back with an error of the client.
@@ -84,18 +93,59 @@ fn transitions(rt: &(impl Abort + AllocGlobal), workunit: &mut Workunit, seconds
 /// Sends the first instances to their hosts.
 fn send_each(rt: &(impl Abort + AllocGlobal), workunit: &mut Workunit, count: u32) {
     for n in 0..count {
-        send(rt, workunit, n);
+        send_out(rt, workunit, n);
     }
+}
+
+/// Sends an instance to the host of another one, and sees the verdict.
+fn sends_to(
+    rt: &(impl Abort + AllocGlobal),
+    workunit: &mut Workunit,
+    n: u32,
+    other: u32,
+    seconds: u64,
+    verdict: SendVerdict,
+) {
+    let seen = send(workunit, n, host(rt, other), at(rt, seconds));
+    assert_eq!(rt; seen, verdict);
+}
+
+/// Takes the report of an instance from the host of another one, with a result of one byte, and sees the verdict.
+fn reports_by(
+    rt: &(impl Abort + AllocGlobal),
+    workunit: &mut Workunit,
+    n: u32,
+    other: u32,
+    seconds: u64,
+    verdict: ReportVerdict,
+) {
+    let output = bytes(rt, &[0xaa]);
+    let seen = report(
+        workunit,
+        n,
+        &host(rt, other),
+        at(rt, seconds),
+        Status::Success,
+        output,
+    );
+    assert_eq!(rt; seen, verdict);
 }
 
 /// Does one thing to the workunit.
 fn act(rt: &(impl Abort + AllocGlobal), workunit: &mut Workunit, deed: Deed) {
     match deed {
         Deed::Transition(seconds) => transitions(rt, workunit, seconds),
-        Deed::Send(n) => send(rt, workunit, n),
+        Deed::Send(n) => send_out(rt, workunit, n),
         Deed::SendEach(count) => send_each(rt, workunit, count),
-        Deed::Return(n, output) => report(rt, workunit, n, Outcome::Success, output),
-        Deed::Fail(n) => report(rt, workunit, n, Outcome::ClientError, &[]),
+        Deed::SendTo(n, other, seconds, verdict) => {
+            sends_to(rt, workunit, n, other, seconds, verdict)
+        }
+        Deed::ReportBy(n, other, seconds, verdict) => {
+            reports_by(rt, workunit, n, other, seconds, verdict)
+        }
+        Deed::Detach(n) => take_back(rt, workunit, n, Status::Detached, &[]),
+        Deed::Return(n, output) => take_back(rt, workunit, n, Status::Success, output),
+        Deed::Fail(n) => take_back(rt, workunit, n, Status::ClientError, &[]),
         Deed::Validate(numbers) => grants(rt, workunit, numbers),
         Deed::Archive(mask, canonical, output) => archives(rt, workunit, mask, canonical, output),
         Deed::ArchiveNothing => archives_nothing(rt, workunit),

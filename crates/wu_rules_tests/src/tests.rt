@@ -1,14 +1,14 @@
 //! Workunits through their lives.
 
 use crate::facts::Fact::*;
-use crate::facts::{FAILED, LOST, OUT, UNNEEDED, UNSENT};
-use crate::life::{NOON, job};
+use crate::facts::{DETACHED, FAILED, LOST, OUT, UNNEEDED, UNSENT};
+use crate::life::{NOON, REPORTING, SENDING, job};
 use crate::script::Deed::*;
 use crate::script::Step::{Do, See};
 use crate::script::{DONE, follow};
 use std::process::Abort;
 use wu_core::{Assimilate, FileDelete, Params, ValidateState};
-use wu_rules::wake_of;
+use wu_rules::{ReportVerdict, SendVerdict, wake_of};
 
 /// The last second at which an instance that was sent is not late.
 const DEADLINE: u64 = 1772974800;
@@ -32,6 +32,70 @@ fn makes_two_instances_once(rt: HostRuntime) {
         See(Wake(None)),
         Do(Transition(NOON)),
         See(Count(2)),
+    ];
+    follow(&rt, Params::default(), &script);
+}
+
+/// Two instances are said to be sent to one host: the first goes, and the second doesn't.
+#[test]
+fn sends_to_each_host_once(rt: HostRuntime) {
+    let script = [
+        Do(Transition(NOON)),
+        Do(SendTo(2, 0, SENDING, SendVerdict::Unknown)),
+        Do(SendTo(0, 0, SENDING, SendVerdict::Applied)),
+        See(Stands(0, OUT)),
+        See(SentTo(0, 0, SENDING, DEADLINE)),
+        Do(SendTo(0, 0, SENDING, SendVerdict::NotUnsent)),
+        Do(SendTo(0, 1, REPORTING, SendVerdict::NotUnsent)),
+        See(SentTo(0, 0, SENDING, DEADLINE)),
+        Do(SendTo(1, 0, SENDING, SendVerdict::SameHost)),
+        See(Stands(1, UNSENT)),
+        Do(SendTo(1, 1, SENDING, SendVerdict::Applied)),
+        See(SentTo(1, 1, SENDING, DEADLINE)),
+    ];
+    follow(&rt, Params::default(), &script);
+}
+
+/// Each cause for which a report is skipped, and the report that is taken.
+#[test]
+fn takes_a_report_once(rt: HostRuntime) {
+    let script = [
+        Do(Transition(NOON)),
+        Do(Send(0)),
+        Do(ReportBy(2, 0, REPORTING, ReportVerdict::Unknown)),
+        Do(ReportBy(1, 0, REPORTING, ReportVerdict::NotSent)),
+        Do(ReportBy(0, 1, REPORTING, ReportVerdict::WrongHost)),
+        Do(ReportBy(0, 0, SENDING - 1, ReportVerdict::BeforeSent)),
+        See(Stands(0, OUT)),
+        See(ReceivedAt(0, None)),
+        Do(ReportBy(0, 0, REPORTING, ReportVerdict::Applied)),
+        See(Verdict(0, ValidateState::Init)),
+        See(ReceivedAt(0, Some(REPORTING))),
+        See(OutputLen(0, 1)),
+        Do(ReportBy(0, 1, SENDING - 1, ReportVerdict::WrongHost)),
+        Do(ReportBy(0, 0, SENDING - 1, ReportVerdict::BeforeSent)),
+        Do(ReportBy(0, 0, DEADLINE, ReportVerdict::Over)),
+        See(ReceivedAt(0, Some(REPORTING))),
+    ];
+    follow(&rt, Params::default(), &script);
+}
+
+/// Whom a reply was not expected from any more still replies, once; a host that has given up is not asked again.
+#[test]
+fn takes_a_late_report(rt: HostRuntime) {
+    let script = [
+        Do(Transition(NOON)),
+        Do(SendEach(2)),
+        Do(Detach(1)),
+        See(Stands(1, DETACHED)),
+        Do(ReportBy(1, 1, REPORTING, ReportVerdict::Over)),
+        Do(Transition(DEADLINE + 1)),
+        See(Stands(0, LOST)),
+        Do(ReportBy(0, 0, LATER, ReportVerdict::Applied)),
+        See(Verdict(0, ValidateState::Init)),
+        See(ReceivedAt(0, Some(LATER))),
+        See(SentTo(0, 0, SENDING, DEADLINE)),
+        Do(ReportBy(0, 0, LATER, ReportVerdict::Over)),
     ];
     follow(&rt, Params::default(), &script);
 }

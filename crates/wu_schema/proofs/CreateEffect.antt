@@ -1,5 +1,5 @@
 -- What CREATE TABLE leaves, for any text whose table is known, over any schema.
-use Rattle.wu_schema.proofs.Words.{Blob, Bool, Checked, Command, CompileError, Compiled, CreateTable, Database, Does, Err, Executes, ExecutesIn, Has, HasMade, HasTable, Index, Int, IsDatabase, IsFree, List, Mode, Name, None, Null, Ok, Option, OwnsTree, Parsed, Real, Row, Schema, Some, State, Table, Tally, Text, Value, [], all_from, all_has, and_parts, and_then, ap, arith, cases_Bool, command, compiled, create_table, eq-eqb, eqb-true, false, false_from_ne_true, find, first, got_last, guards, has_either, has_left, has_right, if_select, if◌then◌else◌, inl, inr, is_attached, is_reserved, is_select, is_some, length, meaning, mode_of, nat_le, ne_eqb, next_tree, not, option_or, planned, reads_listing, refl, returning, runs_as, same_name, slice_range, statement_of, subst, sym, timed, true, understood, with_command, ℕ, ◌&&◌, ◌++◌, ◌+◌, ◌<◌, ◌==◌, ◌^◌, ◌∙◌, ◌∷◌, ◌≡◌, ◌≢◌, ◌≤◌, ◌⊎◌}
+use Rattle.wu_schema.proofs.Words.{everything, project_at, Blob, Bool, Checked, Command, CompileError, Compiled, CreateTable, Database, Does, Err, Executes, ExecutesIn, Has, HasMade, HasTable, Index, Int, IsDatabase, IsFree, List, Mode, Name, None, Null, Ok, Option, OwnsTree, Parsed, Real, Row, Schema, Some, State, Table, Tally, Text, Value, [], all_from, all_has, and_parts, and_then, ap, arith, cases_Bool, command, compiled, create_table, eq-eqb, eqb-true, false, false_from_ne_true, find, first, got_last, guards, has_either, has_left, has_right, if_select, if◌then◌else◌, inl, inr, is_attached, is_reserved, is_select, is_some, length, meaning, mode_of, nat_le, ne_eqb, next_tree, not, option_or, planned, reads_listing, refl, returning, runs_as, same_name, slice_range, statement_of, subst, sym, timed, true, understood, with_command, ℕ, ◌&&◌, ◌++◌, ◌+◌, ◌<◌, ◌==◌, ◌^◌, ◌∙◌, ◌∷◌, ◌≡◌, ◌≢◌, ◌≤◌, ◌⊎◌}
 use Rattle.std.proofs.lemmas.Bool.{leb-true}
 use Rattle.sqlite_schema.specs.Names.{table_named, index_named, view_named}
 use Rattle.sqlite_catalog.specs.Listing.{IsTableRow, IsIndexRow, IsDefined}
@@ -11,7 +11,9 @@ use Rattle.sqlite_resolve.specs.Define as define
 use Rattle.sqlite_resolve.specs.declared.error.CompileError.TheVariants as wrong
 use Rattle.sqlite_resolve.specs.Compile.{creates as creates_by, table_defined_by, table_in}
 use Rattle.sqlite.specs.Command.TheVariants.{CreateTable as Make, Nothing}
-use Rattle.sqlite.specs.Does.{lacks_sequence}
+use Rattle.sqlite.specs.Does.{lacks_sequence, sequence_text}
+use Rattle.std.specs.Prelude.{codes}
+use Rattle.wu_schema.specs.Made.{IsSequence, keys_of}
 use Rattle.wu_schema.proofs.CreateLemmas.{create_planned, keeps_table, placed_append}
 use Rattle.wu_schema.proofs.EffectLemmas.{went, same_value}
 use Rattle.wu_schema.proofs.SelectLemmas.{CompilesTo, compiles_to}
@@ -186,6 +188,22 @@ created_grows old new made is rows = subst (λ (s : Schema). Grows old (record n
   new_indexes = λ i has. elim (has_either old.schema.indexes _ i has) [ inl before ↦ inl before | inr own ↦ inr (unguarded old.schema i (own_high old.schema made i own)) ];
 })
 
+abbrev made_of : Checked Table → Table
+made_of (Ok t) = t
+made_of (Err e) = project_at 0
+
+-- SQLite's own table has its name, and no unique key
+sequence_made : table_defined_by sequence_text ≡ Ok (made_of (table_defined_by sequence_text))
+unfolding everything table_defined_by table_in
+sequence_made = refl
+
+sequence_named : ((made_of (table_defined_by sequence_text)).name ≡ codes "sqlite_sequence") × ((made_of (table_defined_by sequence_text)).uniques ≡ [])
+unfolding everything table_defined_by table_in
+sequence_named = (refl, refl)
+
+sequence_is : (t : Table) → table_defined_by sequence_text ≡ Ok t → (t.name ≡ codes "sqlite_sequence") × (t.uniques ≡ [])
+sequence_is t is = let same = same_value (sym is ∙ sequence_made) in (ap (λ (u : Table). u.name) same ∙ sequence_named.0, ap (λ (u : Table). u.uniques) same ∙ sequence_named.1)
+
 module _ (text name : List ℕ) (table : ℕ → Table) (d : Defines text name table) (old new : Database) (free : table_named old.schema name ≡ None) (sound : IsDatabase new) where
   abbrev added : Table
   added = record (table 0) { tree = next_tree old.schema }
@@ -195,14 +213,13 @@ module _ (text name : List ℕ) (table : ℕ → Table) (d : Defines text name t
 
   -- one CREATE, and what may have been made behind it
   makes : (mid : Database) → mid.schema ≡ created old.schema (table 0) → mid.trees (next_tree old.schema) ≡ [] → KeepsRows old.schema.tables old.trees mid.trees → Grows mid new
-      → ((i : Index) → Has new.schema.indexes i → Has mid.schema.indexes i ⊎ (next_tree mid.schema ≤ i.table)) → HasMade old new (name, table)
-  makes mid is empty kept more later =
+      → ((t : Table) → Has new.schema.tables t → Has mid.schema.tables t ⊎ IsSequence t) → ((i : Index) → Has new.schema.indexes i → Has mid.schema.indexes i) → HasMade old new (name, table)
+  makes mid is empty kept more later_table later =
       let on : Grows old new = grows_both old mid new (created_grows old mid (table 0) is kept) more in
       let listed : Has mid.schema.tables added = subst (λ (s : Schema). Has s.tables added) (sym is) (has_right old.schema.tables (added ∷ []) added (inl refl)) in
       let still = more.keeps.tables added listed in
       let first = made_table old.schema name table free d.named d.placed (tree_low new sound added still.0) in
       let own : OwnsTree mid.schema added = subst (λ (s : Schema). OwnsTree s added) (sym is) (owns_created old.schema (table 0)) in
-      let above = table_below mid.schema added listed in
       record {
         has = subst (HasTable new.schema name (length old.schema.tables)) is_added (more.named name (length old.schema.tables) added (subst (λ s. HasTable s name (length old.schema.tables) added) (sym is) first));
         placed = ap (λ (t : Table). t.tree) (sym is_added);
@@ -214,12 +231,17 @@ module _ (text name : List ℕ) (table : ℕ → Table) (d : Defines text name t
         keeps_own = on.owns;
         views = on.keeps.views;
         indexes = on.keeps.indexes;
-        new_indexes = λ i has. elim (later i has) [
-          | inl before ↦ elim (has_either old.schema.indexes _ i (subst (λ (s : Schema). Has s.indexes i) is before)) [
+        new_tables = λ t has. elim (later_table t has) [
+          | inl before ↦ elim (has_either old.schema.tables (added ∷ []) t (subst (λ (s : Schema). Has s.tables t) is before)) [
             | inl old_one ↦ inl old_one
-            | inr own ↦ inr (inl (subst (λ (t : Table). Has (automatics t 0 (next_tree old.schema + 1) t.uniques) i) is_added own))
+            | inr (inl same) ↦ inr (inl (same ∙ is_added))
+            | inr (inr none) ↦ absurd none
           ]
-          | inr behind ↦ inr (inr (omega (arith, behind, above)))
+          | inr sequence ↦ inr (inr sequence)
+        ];
+        new_indexes = λ i has. elim (has_either old.schema.indexes _ i (subst (λ (s : Schema). Has s.indexes i) is (later i has))) [
+          | inl old_one ↦ inl old_one
+          | inr own ↦ inr (subst (λ (t : Table). Has (keys_of t (next_tree old.schema + 1)) i) is_added own)
         ];
         sound = sound;
       }
@@ -237,9 +259,20 @@ module _ (text name : List ℕ) (table : ℕ → Table) (d : Defines text name t
         | inl lacks ↦
             let more = rw lacks at made.2 in
             let again : new.schema ≡ created mid.schema more.table = ap (λ (b : Database). b.schema) end ∙ more.is in
+            let counts = sequence_is more.table more.defined in
             by (created_grows mid new more.table again (subst (λ (b : Database). KeepsRows mid.schema.tables mid.trees b.trees) (sym end) more.others))
-            (λ i has. elim (has_either mid.schema.indexes _ i (subst (λ (s : Schema). Has s.indexes i) again has)) [ inl before ↦ inl before | inr own ↦ inr (own_high mid.schema more.table i own) ])
-        | inr has ↦ let all : new ≡ mid = end ∙ same_value (rw has at made.2) in by (grows_same mid new all) (λ i has. inl (subst (λ (b : Database). Has b.schema.indexes i) all has))
+            (λ t has. elim (has_either mid.schema.tables _ t (subst (λ (s : Schema). Has s.tables t) again has)) [
+              | inl before ↦ inl before
+              | inr (inl same) ↦ inr (ap (λ (u : Table). u.name) same ∙ counts.0)
+              | inr (inr none) ↦ absurd none
+            ])
+            (λ i has. elim (has_either mid.schema.indexes _ i (subst (λ (s : Schema). Has s.indexes i) again has)) [
+              | inl before ↦ before
+              | inr own ↦ absurd (subst (λ keys. Has (automatics (record more.table { tree = next_tree mid.schema }) 0 (next_tree mid.schema + 1) keys) i) counts.1 own)
+            ])
+        | inr has ↦
+            let all : new ≡ mid = end ∙ same_value (rw has at made.2) in
+            by (grows_same mid new all) (λ t has. inl (subst (λ (b : Database). Has b.schema.tables t) all has)) (λ i has. subst (λ (b : Database). Has b.schema.indexes i) all has)
       ]
 
 module _ (schema : Schema) (text name : List ℕ) (table : ℕ → Table) (d : Defines text name table) where

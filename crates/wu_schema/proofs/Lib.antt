@@ -25,3 +25,4 @@ pub mod VersionTexts
 pub mod VersionLemmas
 pub mod StandsOver
 pub mod IndexEffect
+pub mod OneLemmas

@@ -1,7 +1,7 @@
 -- The seven tables, one after another, and the row of a fresh project.
-use Rattle.wu_schema.proofs.Words.{Database, Has, HasMade, HasNamed, HasTable, HasTables, HoldsAll, Index, IsDatabase, IsPermutation-refl, List, ListsAll, ProjectTrees, PutsOne, Row, Schema, Table, [], all_has, and_parts, ap, archived_at, arith, cases_Bool, codes, eqb-true, false, first_key, host_at, import_at, inl, inr, length, next_tree, project_at, put_row, refl, stored_project, subst, sym, ℕ, ◌++◌, ◌+◌, ◌==◌, ◌∙◌, ◌∷◌, ◌≡◌}
+use Rattle.wu_schema.proofs.Words.{Database, Has, HasMade, HasNamed, HasTable, HasTables, HoldsAll, Index, IsDatabase, IsPermutation-refl, List, ListsAll, ProjectTrees, PutsOne, Row, Schema, Table, [], all_has, and_parts, ap, archived_at, arith, cases_Bool, codes, eqb-true, false, first_key, host_at, import_at, inl, inr, length, next_tree, project_at, put_row, refl, stored_project, subst, sym, ℕ, ◌++◌, ◌+◌, ◌==◌, ◌∙◌, ◌∷◌, ◌≡◌, ◌⊎◌}
 use Rattle.wu_core.specs.World.{empty_world}
-use Rattle.wu_schema.specs.Made.{MakesAll, Named, MakesProject, work_tables, record_tables}
+use Rattle.wu_schema.specs.Made.{MakesAll, Named, MakesProject, IsSequence, keys_of, work_tables, record_tables}
 use Rattle.wu_schema.proofs.StandsLemmas.{but_one, is_there}
 use Rattle.wu_schema.proofs.Parts.{Part, Project, Workunits, Instances, Grants, Hosts, Archive, Imports, HasParts, Holds, IsIn, is_part, keeps_but, name_of, placed, rows_stand, same_part, table_of, tree_in}
 use Rattle.wu_schema.proofs.StandsOver.{Grows, ByBytes, grows_same, grows_both, still_named, still_compares, tables_are}
@@ -20,10 +20,9 @@ made_grows old new named made = record {
   };
   new_indexes = λ i has. elim (made.new_indexes i has) [
     | inl before ↦ inl before
-    | inr (inl own) ↦
+    | inr own ↦
         let table = named.1 (next_tree old.schema) in
         inr (unguarded old.schema i (let on = own_table table 0 (next_tree old.schema + 1) table.uniques i own ∙ made.placed in omega (arith, on)))
-    | inr (inr behind) ↦ inr (unguarded old.schema i (omega (arith, behind)))
   ];
 }
 
@@ -42,10 +41,44 @@ host_compares old new sound made i has guard columns =
     let on = eqb-true i.table (next_tree old.schema) (and_parts i.is_unique (i.table == next_tree old.schema) guard).1 in
     elim (made.new_indexes i has) [
       | inl before ↦ absurd (let low = index_low old sound i before in omega (arith, low, on))
-      | inr (inl (inl own)) ↦ ap (λ (j : Index). (first_key j.order).collation) own
-      | inr (inl (inr none)) ↦ absurd none
-      | inr (inr behind) ↦ absurd (omega (arith, behind, on))
+      | inr (inl own) ↦ ap (λ (j : Index). (first_key j.order).collation) own
+      | inr (inr none) ↦ absurd none
     ]
+
+-- a table of these
+abbrev pub IsListed : List Named → Table → Type 0
+IsListed made t = (named : Named) × (tree : ℕ) × Has made named × (t ≡ named.1 tree)
+
+-- what is there behind them was there, or is one of them
+pub record AddsListed (made : List Named) (old new : Database) : Type 0 where
+  pub tables : (t : Table) → Has new.schema.tables t → Has old.schema.tables t ⊎ (IsListed made t ⊎ IsSequence t)
+  pub indexes : (i : Index) → Has new.schema.indexes i → Has old.schema.indexes i ⊎ ((t : Table) × (tree : ℕ) × IsListed made t × Has (keys_of t tree) i)
+
+listed_later : (first : Named) (made : List Named) (t : Table) → IsListed made t → IsListed (first ∷ made) t
+listed_later first made t is = (is.0, is.1, inr is.2, is.3)
+
+all_add : (old new : Database) (made : List Named) → MakesAll old new made → AddsListed made old new
+all_add old new [] same = record { tables = λ t has. inl (subst (λ (d : Database). Has d.schema.tables t) same has); indexes = λ i has. inl (subst (λ (d : Database). Has d.schema.indexes i) same has) }
+all_add old new (named ∷ made) h =
+    let later = all_add h.0 new made h.2 in
+    record {
+      tables = λ t has. elim (later.tables t has) [
+        | inl before ↦ elim (h.1.new_tables t before) [
+          | inl first ↦ inl first
+          | inr (inl same) ↦ inr (inl (named, next_tree old.schema, inl refl, same))
+          | inr (inr counts) ↦ inr (inr counts)
+        ]
+        | inr (inl listed) ↦ inr (inl (listed_later named made t listed))
+        | inr (inr counts) ↦ inr (inr counts)
+      ];
+      indexes = λ i has. elim (later.indexes i has) [
+        | inl before ↦ elim (h.1.new_indexes i before) [
+          | inl first ↦ inl first
+          | inr own ↦ inr (named.1 (next_tree old.schema), next_tree old.schema + 1, (named, next_tree old.schema, inl refl, refl), own)
+        ]
+        | inr own ↦ inr (own.0, own.1, listed_later named made own.0 own.2, own.3)
+      ];
+    }
 
 -- ---- what one of them is in the end
 
@@ -124,6 +157,7 @@ module _ (old end new : Database) (h : MakesAll old end (work_tables ++ record_t
   makes_project : MakesProject old new
   makes_project =
       let grows = all_grow old end (work_tables ++ record_tables) h in
+      let adds = all_add old end (work_tables ++ record_tables) h in
       record {
         stands = record { trees = trees; tables = subst (λ (s : Schema). HasTables s trees) (sym put.schema) (tables_are 1 end.schema trees there compares); rows = rows_stand new trees empty_world held; sound = put.sound };
         keeps = record {
@@ -132,6 +166,10 @@ module _ (old end new : Database) (h : MakesAll old end (work_tables ++ record_t
               (subst (λ (s : Schema). Has s.tables t) (sym put.schema) still.0, but_one end new trees.project first_row put t still.0 (tree_apart old.schema t has) ∙ still.1);
           indexes = λ i has. subst (λ (s : Schema). Has s.indexes i) (sym put.schema) (grows.keeps.indexes i has);
           views = ap (λ (s : Schema). s.views) put.schema ∙ grows.keeps.views;
+        };
+        adds = record {
+          tables = λ t has. adds.tables t (subst (λ (s : Schema). Has s.tables t) put.schema has);
+          indexes = λ i has. adds.indexes i (subst (λ (s : Schema). Has s.indexes i) put.schema has);
         };
         sound = put.sound;
       }

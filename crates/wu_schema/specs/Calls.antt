@@ -1,5 +1,6 @@
 -- What a call does to a connection, and what a crash may then leave.
 use Rattle.std.specs.Prelude.{◌≡◌, ◌⊎◌, ℕ, false, List, Vec, None, Ok, Result, OnOk, OnErr, IfOk, IfErr, IsTrue}
+use Rattle.sqlite_disk.specs.Disk.{MoreFaults}
 use Rattle.sqlite.specs.Order.{Row}
 use Rattle.sqlite.specs.Tree.{Trees}
 use Rattle.sqlite.specs.State.{State, HasCleanDisk, IsUnchanged, Survives, KeepsCommit, Executes}
@@ -9,10 +10,9 @@ use Rattle.sqlite.specs.Effect.{Database}
 use Rattle.sqlite.specs.declared.error.Error.{Error}
 use Rattle.sqlite.specs.declared.transaction.Transaction.{Transaction}
 use Rattle.wu_core.specs.declared.fault.Fault.{Fault}
-use Rattle.wu_core.specs.declared.fault.Fault.TheVariants.{NotAProject}
+use Rattle.wu_core.specs.declared.fault.Fault.TheVariants.{Broken, NotAProject}
 use Rattle.wu_core.specs.World.{World}
 use Rattle.wu_schema.specs.Faults.{fault_of, IsFailure}
-use Rattle.wu_schema.specs.Made.{MakesProject}
 use Rattle.wu_schema.specs.StandsFor.{StandsFor}
 
 -- a crash leaves these tables and no others
@@ -66,9 +66,22 @@ Serves g old new fault = HasCleanDisk (state g new) → fault ≡ NotAProject �
 abbrev pub ServesOn : {S T : Type 0} → Ghosts S → Held S → Held S → Result T Fault → Type 0
 ServesOn g old new result = HasCleanDisk (state g new) → IfErr result (λ fault. fault ≡ NotAProject → IsUnchanged (state g old) (state g new))
 
+-- the disk failed in this call, or the connection was not open
+abbrev pub HasBroken : {S : Type 0} → Ghosts S → Held S → Held S → Type 0
+HasBroken g old new = MoreFaults (state g old).faults (state g new).faults ⊎ ((state g old).is_open ≡ false)
+
+-- `Broken` tells of that
+abbrev pub BreaksTruly : {S : Type 0} → Ghosts S → Held S → Held S → Fault → Type 0
+BreaksTruly g old new fault = HasCleanDisk (state g new) → fault ≡ Broken → HasBroken g old new
+
 -- the same of an error that would be told so
 abbrev pub ServesAfter : {S T : Type 0} → Ghosts S → Held S → Held S → Result T Error → Type 0
 ServesAfter g old new result = HasCleanDisk (state g new) → IfErr result (λ e. fault_of e ≡ NotAProject → IsUnchanged (state g old) (state g new))
+
+-- such an error leaves an open connection open
+abbrev pub StaysAfter : {S T : Type 0} → Ghosts S → Held S → Held S → Result T Error → Type 0
+StaysAfter g old new result =
+    IsTrue (state g old).is_open → HasCleanDisk (state g new) → IfErr result (λ e. fault_of e ≡ NotAProject → IsTrue (state g new).is_open)
 
 -- while the connection is open, it shows what it showed, or the last commit
 abbrev pub GoesBack : {S : Type 0} → Ghosts S → Held S → Held S → Type 0
@@ -149,7 +162,3 @@ Undoes g old new result = HasCleanDisk (state g new) → OnErr result (IsUndone 
 -- and whatever it answers, a stop leaves what it left before, or what is made.
 abbrev pub MayMake : {S : Type 0} → Ghosts S → Held S → Held S → (Database → Database → Type 0) → Type 0
 MayMake g old new Makes = Survives (state g old) (state g new) (IsMade Makes (state g old).now)
-
--- a fresh project is made
-abbrev pub IsCreated : State → State → Type 0
-IsCreated = IsDone MakesProject

@@ -1,10 +1,10 @@
 -- What the statements that make a project do to a database.
-use Rattle.std.specs.Prelude.{◌≡◌, ◌≢◌, ◌⊎◌, ℕ, ℤ, pos, ◌+◌, ◌<◌, List, [], ◌∷◌, length, codes, false}
+use Rattle.std.specs.Prelude.{◌≡◌, ◌≢◌, ◌⊎◌, ℕ, ℤ, pos, ◌+◌, List, [], ◌∷◌, ◌++◌, length, codes, false}
 use Rattle.std.specs.List.{AllByRecursion}
 use Rattle.sqlite.specs.Order.{Row}
 use Rattle.sqlite.specs.declared.types.Value.TheVariants.{Null, Int}
 use Rattle.sqlite.specs.Table.{Table}
-use Rattle.sqlite.specs.Tree.{Trees, put_row}
+use Rattle.sqlite.specs.Tree.{put_row}
 use Rattle.sqlite.specs.Edit.{is_taken}
 use Rattle.sqlite.specs.Effect.{Database, IsDatabase}
 use Rattle.sqlite_schema.specs.declared.schema.Index.{Index}
@@ -26,6 +26,14 @@ pub record PutsOne (old new : Database) (tree : ℕ) (row : Row) : Type 0 where
 abbrev pub Named : Type 0
 Named = List ℕ × (ℕ → Table)
 
+-- the indexes that a table's unique keys make, in trees from this one on
+abbrev pub keys_of : Table → ℕ → List Index
+keys_of table tree = automatics table 0 tree table.uniques
+
+-- the table that SQLite itself keeps where some table counts its rows
+abbrev pub IsSequence : Table → Type 0
+IsSequence table = table.name ≡ codes "sqlite_sequence"
+
 -- the table is there and is empty, and what was there stays
 pub record HasMade (old new : Database) (named : Named) : Type 0 where
   pub has : HasTable new.schema named.0 (length old.schema.tables) (named.1 (next_tree old.schema))
@@ -38,9 +46,11 @@ pub record HasMade (old new : Database) (named : Named) : Type 0 where
   pub keeps_own : (t : Table) → Has old.schema.tables t → OwnsTree old.schema t → OwnsTree new.schema t
   pub views : new.schema.views ≡ old.schema.views
   pub indexes : (i : Index) → Has old.schema.indexes i → Has new.schema.indexes i
-  -- each new index is one of the table's own keys, or of a table that was made behind it
+  -- each new table is this one, or the store's own, and each new index one of this table's own keys
+  pub new_tables : (t : Table) → Has new.schema.tables t
+      → Has old.schema.tables t ⊎ ((t ≡ named.1 (next_tree old.schema)) ⊎ IsSequence t)
   pub new_indexes : (i : Index) → Has new.schema.indexes i
-      → Has old.schema.indexes i ⊎ (Has (automatics (named.1 (next_tree old.schema)) 0 (next_tree old.schema + 1) (named.1 (next_tree old.schema)).uniques) i ⊎ (next_tree old.schema < i.table))
+      → Has old.schema.indexes i ⊎ Has (keys_of (named.1 (next_tree old.schema)) (next_tree old.schema + 1)) i
   pub sound : IsDatabase new
 
 -- the table of this name is made
@@ -74,12 +84,26 @@ pub record KeepsOthers (old new : Database) : Type 0 where
   pub indexes : (i : Index) → Has old.schema.indexes i → Has new.schema.indexes i
   pub views : new.schema.views ≡ old.schema.views
 
+-- the seven tables of a project
+abbrev pub project_tables : List Named
+project_tables = work_tables ++ record_tables
+
+-- one of them, in any tree
+abbrev pub IsOurTable : Table → Type 0
+IsOurTable t = (named : Named) × (tree : ℕ) × Has project_tables named × (t ≡ named.1 tree)
+
+-- a unique key of one of them
+abbrev pub IsOurKey : Index → Type 0
+IsOurKey i = (t : Table) × (tree : ℕ) × IsOurTable t × Has (keys_of t tree) i
+
+-- what is there now was there, or is the project's own
+pub record AddsOurs (old new : Database) : Type 0 where
+  pub tables : (t : Table) → Has new.schema.tables t → Has old.schema.tables t ⊎ (IsOurTable t ⊎ IsSequence t)
+  pub indexes : (i : Index) → Has new.schema.indexes i → Has old.schema.indexes i ⊎ IsOurKey i
+
 -- a fresh project stands beside what was there
 pub record MakesProject (old new : Database) : Type 0 where
   pub stands : StandsFor new empty_world
   pub keeps : KeepsOthers old new
+  pub adds : AddsOurs old new
   pub sound : IsDatabase new
-
--- the tables are those of a fresh project beside what was there
-abbrev pub IsProjectBeside : Database → Trees → Type 0
-IsProjectBeside old trees = (after : Database) × (after.trees ≡ trees) × MakesProject old after

@@ -1,5 +1,5 @@
 -- When a database stands for a world: the tables are there, and their rows are what the world holds.
-use Rattle.std.specs.Prelude.{◌≡◌, ◌⊎◌, false, ℕ, List, [], ◌∷◌, map, drop, codes, None}
+use Rattle.std.specs.Prelude.{◌≡◌, false, ℕ, List, [], ◌∷◌, map, drop, None}
 use Rattle.std.specs.List.{enumerate_from, flat_map}
 use Rattle.std.specs.List.Sorted.{IsPermutation}
 use Rattle.sqlite.specs.Order.{Row}
@@ -13,7 +13,7 @@ use Rattle.wu_core.specs.declared.workunit.Grant.{Grant}
 use Rattle.wu_core.specs.declared.workunit.Instance.{Instance}
 use Rattle.wu_core.specs.declared.workunit.Workunit.{Workunit}
 use Rattle.wu_core.specs.Hosts.{credit_of, grants_of, hosts_of}
-use Rattle.wu_core.specs.World.{World, Import, empty_world, is_import}
+use Rattle.wu_core.specs.World.{World, Import, is_import}
 use Rattle.wu_schema.specs.Stored.{stored_project, stored_workunit, stored_grant, stored_archived, instance_cells, host_cells, import_cells}
 use Rattle.wu_schema.specs.Tables.{ProjectTrees, HasTables}
 
@@ -60,17 +60,3 @@ pub record IsFree (schema : Schema) (name : List ℕ) : Type 0 where
   pub table : table_named schema name ≡ None
   pub index : index_named schema name ≡ None
   pub view : view_named schema name ≡ None
-
--- no project is there: none of the seven names is taken
-pub record IsAbsent (schema : Schema) : Type 0 where
-  pub project : IsFree schema (codes "project")
-  pub workunit : IsFree schema (codes "workunit")
-  pub result : IsFree schema (codes "result")
-  pub grant : IsFree schema (codes "credit_grant")
-  pub host : IsFree schema (codes "host")
-  pub archived : IsFree schema (codes "archived")
-  pub import : IsFree schema (codes "import")
-
--- no project yet, or a fresh one: nothing is in the world before the first command
-abbrev pub StandsOrAbsent : Database → World → Type 0
-StandsOrAbsent db world = StandsFor db world ⊎ (IsAbsent db.schema × (world ≡ empty_world))

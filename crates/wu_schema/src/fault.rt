@@ -1,8 +1,8 @@
 //! An error of the store as a fault.
 
 ghost use Rattle.std.specs.Prelude.{◌≡◌, false};
-ghost use Rattle.wu_schema.specs.Faults.{fault_of, commit_fault_of, IsTold};
-ghost use Rattle.wu_schema.specs.Calls.{CommitsNothing, GoesBack, Serves};
+ghost use Rattle.wu_schema.specs.Faults.{fault_of, commit_fault_of, IsFailure, IsTold};
+ghost use Rattle.wu_schema.specs.Calls.{BreaksTruly, CommitsNothing, GoesBack, Serves};
 
 use sqlite::{Alter, Connection, Error, ErrorCode};
 use sqlite_resolve::CompileError;
@@ -39,11 +39,13 @@ pub fn commit_fault_of(error: &Error) -> Fault
     }
 }
 
-/// Whether the connection still serves, as a fault: the answer `NotAProject` says so.
+/// Whether the connection still serves, as a fault: the answer `NotAProject` says so. `Broken` says that the disk failed,
+/// or that the connection was not open.
 fn probe<S: Alter>(conn: &mut Connection<S>) -> Fault
     ensures mode { conn.old.in_transaction ≡ false → conn.new.in_transaction ≡ false }
     ensures kind { IsTold result }
     ensures serves { Serves S.Store conn.old conn.new result }
+    ensures breaks { BreaksTruly S.Store conn.old conn.new result }
     ensures back { GoesBack S.Store conn.old conn.new }
     ensures crash { CommitsNothing S.Store conn.old conn.new }
 {
@@ -55,10 +57,14 @@ fn probe<S: Alter>(conn: &mut Connection<S>) -> Fault
 
 /// The fault of a statement that was refused inside a transaction, which was then rolled back.
 ///
-/// `NotAProject` says that the connection still serves, outside any transaction; after any other fault it may not.
+/// `NotAProject` says that the connection still serves, outside any transaction; after any other fault it may not. Want
+/// of memory and a failure of the disk are told as such. A statement that is refused for another cause is `Broken` only
+/// where the disk then failed, or the connection was not open.
 pub fn fault_after<S: Alter>(conn: &mut Connection<S>, error: &Error) -> Fault
     ensures mode { conn.old.in_transaction ≡ false → conn.new.in_transaction ≡ false }
     ensures kind { result ≡ Fault.NotAProject → fault_of error.now ≡ Fault.NotAProject }
+    ensures failed { IsFailure (fault_of error.now) → result ≡ fault_of error.now }
+    ensures refused { fault_of error.now ≡ Fault.NotAProject → BreaksTruly S.Store conn.old conn.new result }
     ensures told { IsTold result }
     ensures serves { Serves S.Store conn.old conn.new result }
     ensures back { GoesBack S.Store conn.old conn.new }

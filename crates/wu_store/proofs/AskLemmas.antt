@@ -1,10 +1,11 @@
 -- A SELECT of ours, whole: what it does to the connection, what it answers and which errors it tells.
-use Rattle.wu_schema.proofs.Words.{Bool, CommitsShowing, Err, Error, FailsToQuery, Ghosts, HasCleanDisk, Held, IfErr, IfOk, IsErrAnd, IsFailure, IsSome, List, None, Ok, Option, QueriesRow, Reads, Result, Row, Shown, Some, StandsFor, State, Survives, Vec, World, [], arith, false, fault_of, inl, inr, length, not, option_to_list, refl, state, subst, sym, ℕ, ⊤, ◌++◌, ◌<◌, ◌==◌, ◌∙◌, ◌∷◌, ◌≡◌}
-use Rattle.wu_schema.specs.Calls.{Tells, OnlyFails}
+use Rattle.wu_schema.proofs.Words.{Bool, CommitsShowing, Err, Error, FailsToQuery, Ghosts, HasCleanDisk, Held, IfErr, IfOk, IsErrAnd, IsFailure, IsSome, IsUnchanged, List, None, NotAProject, Ok, Option, QueriesRow, Reads, Result, Row, Shown, Some, StandsFor, State, Survives, Vec, World, [], arith, false, fault_of, inl, inr, length, not, option_to_list, refl, state, subst, sym, ℕ, ⊤, ◌++◌, ◌<◌, ◌==◌, ◌∙◌, ◌∷◌, ◌≡◌}
+use Rattle.wu_schema.specs.Calls.{Tells, OnlyFails, ServesAfter}
 use Rattle.wu_schema.proofs.CallLemmas.{err_on}
-use Rattle.wu_schema.proofs.ReadLemmas.{IsSelect, all_read, row_unchanged, row_failed_back, reads_survive, row_ok, row_err, if_ok, if_err, on_ok}
+use Rattle.wu_schema.proofs.ReadLemmas.{IsSelect, all_read, row_unchanged, row_failed_back, reads_survive, row_ok, shown_unchanged, row_err, if_ok, if_err, on_ok}
 use Rattle.wu_schema.proofs.SelectLemmas.{Asked, Fits, IsTyped, parsed_of, select_of}
 use Rattle.wu_schema.proofs.ToldLemmas.{asked_told}
+use Rattle.wu_schema.proofs.VersionLemmas.{query_serves}
 use Rattle.wu_schema.proofs.Parts.{Part, IsIn, table_in, name_of, parts_there}
 
 -- what a question does, answers and tells
@@ -12,6 +13,7 @@ pub record HasAsked {S T : Type 0} (g : Ghosts S) (old new : Held S) (result : R
   pub reads : Reads g old new result
   pub answers : Tells g old new result Is
   pub told : OnlyFails g old new result
+  pub serves : ServesAfter g old new result
 
 -- what is taken from the end of at most one
 pub only_taken : {X : Type 0} (found rest : List X) (o taken : Option X) → found ≡ option_to_list o → found ≡ rest ++ option_to_list taken → (0 < length found → IsSome taken) → taken ≡ o
@@ -31,6 +33,7 @@ module _ {S T U : Type 0} (g : Ghosts S) (old new : Held S) (Is : T → World �
     reads = record { mode = it.reads.mode; unchanged = it.reads.unchanged; back = λ clean. tt; crash = it.reads.crash };
     answers = λ clean world s. made world (it.answers clean world s);
     told = λ clean. tt;
+    serves = λ clean. tt;
   }
 
   pub asked_err : (e : Error) (r : Result U Error) → IsErrAnd r (λ d. d ≡ e) → HasAsked g old new (Err e) Is → HasAsked g old new r Then
@@ -39,6 +42,7 @@ module _ {S T U : Type 0} (g : Ghosts S) (old new : Held S) (Is : T → World �
     reads = record { mode = it.reads.mode; unchanged = λ clean. tt; back = it.reads.back; crash = it.reads.crash };
     answers = λ clean. tt;
     told = λ clean. subst (λ x. (world : World) → StandsFor (state g old).now world → old.step_limit ≡ None → IsFailure (fault_of x)) (sym same) (it.told clean);
+    serves = λ clean. subst (λ x. fault_of x ≡ NotAProject → IsUnchanged (state g old) (state g new)) (sym same) (it.serves clean);
   }
 
 module _ {S : Type 0} (g : Ghosts S) (p : Part) (in_p : (version : ℕ) → IsIn p version) (q : Asked) (fits : (tree : ℕ) → Fits (name_of p) (table_in p tree) q) (old new : Held S) (given params : Row) (same : given ≡ params)
@@ -65,12 +69,18 @@ module _ {S : Type 0} (g : Ghosts S) (p : Part) (in_p : (version : ℕ) → IsIn
     reads = all_read g q.text selects given old new mode survives r ok err;
     answers = λ clean. if_ok r _ _ (λ rows h. found rows.items (subst (λ ps. Shown q.text ps before after rows.items) same h)) (ok clean);
     told = λ clean. if_err r _ _ fails_told (err clean);
+    serves = λ clean. if_err r _ _ (λ e h is. query_serves q.text selects given before after e h is) (err clean);
   }
 
   none_told : ((world : World) → StandsFor before.now world → ¬ Shown q.text params before after []) → (e : Error) → QueriesRow q.text given before after (Err e) → (world : World) → StandsFor before.now world → before.step_limit ≡ None → IsFailure (fault_of e)
   unfolding QueriesRow
   none_told there e (inl failed) = fails_told e failed
   none_told there e (inr none) = λ world s unlimited. absurd (there world s (subst (λ ps. Shown q.text ps before after []) same none.1))
+
+  row_serves : (e : Error) → QueriesRow q.text given before after (Err e) → fault_of e ≡ NotAProject → IsUnchanged before after
+  unfolding QueriesRow
+  row_serves e (inl failed) is = query_serves q.text selects given before after e failed is
+  row_serves e (inr none) is = shown_unchanged q.text selects given before after [] none.1
 
   -- its first row, where there is one
   pub asked_row : (Is : Row → World → Type 0) → ((row : Row) → QueriesRow q.text params before after (Ok row) → (world : World) → StandsFor before.now world → Is row world) → ((world : World) → StandsFor before.now world → ¬ Shown q.text params before after [])
@@ -84,6 +94,7 @@ module _ {S : Type 0} (g : Ghosts S) (p : Part) (in_p : (version : ℕ) → IsIn
     };
     answers = λ clean. row_ok q.text given before after r _ (λ x h. found x (subst (λ ps. QueriesRow q.text ps before after (Ok x)) same h)) (row clean);
     told = λ clean. row_err q.text given before after r _ (none_told there) (row clean);
+    serves = λ clean. row_err q.text given before after r _ row_serves (row clean);
   }
 
   -- whether there is a row

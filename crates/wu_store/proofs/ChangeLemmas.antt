@@ -1,6 +1,6 @@
 -- What the statements that change a project do to the world that it stands for.
-use Rattle.wu_schema.proofs.Words.{Archived, Executes, Grant, Import, Instance, Int, Integer, List, None, Null, Ok, Option, Some, StandsFor, State, Text, Workunit, World, [], archived_at, archived_cells, arith, bound_value, cast, cast_row, codes, grant_at, grant_cells, import_at, import_cells, instance_cells, map, number, number_or_null, of_z, option_map, pos, refl, result_at, stored_workunit, text_or_null, to_z, to_z-of_z, value_rows, w64, workunit_at, workunit_row, ℕ, ℤ, ◌<◌, ◌^◌, ◌∷◌, ◌≡◌}
-use Rattle.wu_store.specs.Changes.{HasInstances, PutsGrant, bare, with_archived, with_import, with_instance, with_next, with_placed}
+use Rattle.wu_schema.proofs.Words.{Archived, Executes, Grant, Import, Instance, Int, Integer, List, None, Null, Ok, Option, Some, StandsFor, PutsOne, State, Text, Workunit, World, [], archived_at, archived_cells, arith, bound_value, cast, cast_row, codes, grant_at, grant_cells, import_at, import_cells, instance_cells, map, number, number_or_null, of_z, option_map, pos, refl, result_at, stored_workunit, text_or_null, to_z, to_z-of_z, value_rows, w64, workunit_at, workunit_row, ℕ, ℤ, ◌<◌, ◌^◌, ◌∷◌, ◌≡◌}
+use Rattle.wu_store.specs.Changes.{HasInstances, LacksNumber, PutsGrant, bare, with_archived, with_import, with_instance, with_next, with_placed}
 use Rattle.std.proofs.lemmas.Int.{fits_signed_from_abs}
 use Rattle.sqlite.specs.Values as values
 use Rattle.sqlite.specs.Kind.TheVariants.{Text as KindText}
@@ -10,7 +10,7 @@ use Rattle.wu_store.proofs.UpdateLemmas.{update_text}
 use Rattle.wu_store.proofs.UpdateEffect.{updates_project, sets_next}
 use Rattle.wu_schema.proofs.StandsLemmas.{is_there}
 use Rattle.wu_store.proofs.StandsWith.{stands_with_import, stands_with_next}
-use Rattle.wu_store.proofs.PlacedLemmas.{stands_with_placed, stands_with_instance}
+use Rattle.wu_store.proofs.PlacedLemmas.{was_free, stands_with_placed, stands_with_instance}
 use Rattle.wu_store.proofs.ListedLemmas.{stands_with_archived}
 
 cast_number : (n : ℕ) → cast Integer (number n) ≡ number n
@@ -60,10 +60,13 @@ pub puts_grant : (old new : State) (g : Grant) (count : ℕ) → Executes grant_
 puts_grant old new g count h t has = puts_one (codes "credit_grant") grant_at grant_put grant_fits (grant_cells g) old new has.grant.0 t.grant has.grant.1 (Null ∷ Null ∷ grant_cells g) _ (grant_kept t.grant g) refl count h
 
 module _ (old new : State) (world : World) (s : StandsFor old.now world) where
-  pub puts_workunit : (w : Workunit) (count : ℕ) → Executes workunit_put.text (workunit_row w) old new (Ok count) → StandsFor new.now (with_placed (bare w) world)
+  put_workunit : (w : Workunit) (count : ℕ) → Executes workunit_put.text (workunit_row w) old new (Ok count) → PutsOne old.now new.now s.trees.workunit (stored_workunit w)
+  put_workunit w count h = puts_one (codes "workunit") workunit_at workunit_put workunit_fits (workunit_row w) old new s.tables.workunit.0 s.trees.workunit s.tables.workunit.1 (stored_workunit w) (stored_workunit w) (workunit_kept s.trees.workunit w) refl count h
+
+  pub puts_workunit : (w : Workunit) (count : ℕ) → Executes workunit_put.text (workunit_row w) old new (Ok count) → LacksNumber w.number world.workunits × StandsFor new.now (with_placed (bare w) world)
   puts_workunit w count h =
-      stands_with_placed old.now new.now world s (bare w) (puts_one (codes "workunit") workunit_at workunit_put workunit_fits (workunit_row w) old new s.tables.workunit.0 s.trees.workunit s.tables.workunit.1 (stored_workunit w) (stored_workunit w) (workunit_kept s.trees.workunit w) refl count h)
-      refl
+      let put = put_workunit w count h in
+      (was_free old.now new.now world s w put, stands_with_placed old.now new.now world s (bare w) put refl)
 
   pub puts_instance : (number n : ℕ) (i : Instance) → HasInstances number n world.workunits → (count : ℕ) → Executes instance_put.text (instance_cells number n i) old new (Ok count) → StandsFor new.now (with_instance number i world)
   puts_instance number n i has count h =

@@ -1,5 +1,5 @@
 -- What the SELECT of a workunit's instances answers.
-use Rattle.wu_schema.proofs.Words.{AllByRecursion, Binary, Bool, Instance, Int, IsAscending, IsPermutation, IsPermutation-filter, IsPermutation-map, IsTable, Less, List, None, Option, Output, Row, Shown, Some, StandsFor, State, Workunit, World, [], ap, append-nil, arith, column, drop, enumerate_from, eqb-true, equal, filter, find, flat_map, instance_cells, instance_row, instances_of, length, lit, map, map-map, negsuc, number, option_to_list, refl, stored_workunit, subst, sym, ℕ, ◌+◌, ◌<◌, ◌==◌, ◌∙◌, ◌∷◌, ◌≡◌, ◌≤◌}
+use Rattle.wu_schema.proofs.Words.{AllByRecursion, Binary, Bool, Instance, Int, IsAscending, IsPermutation, IsPermutation-filter, IsPermutation-map, IsTable, Less, List, None, Option, Output, Row, Shown, Some, StandsFor, State, Workunit, World, [], ap, append-nil, arith, column, drop, enumerate_from, equal, filter, find, flat_map, instance_cells, instance_row, instances_of, lit, map, map-map, negsuc, number, option_to_list, refl, subst, sym, ℕ, ◌+◌, ◌<◌, ◌==◌, ◌∙◌, ◌∷◌, ◌≡◌}
 use Rattle.wu_store.specs.Answers.{instance_rows_of}
 use Rattle.std.specs.Option.{option_map_or}
 use Rattle.wu_schema.proofs.RowLemmas.{filter_same, one_test}
@@ -7,15 +7,8 @@ use Rattle.wu_schema.proofs.PutLemmas.{number_less}
 use Rattle.wu_store.proofs.InstanceLemmas.{fits, instances_left, cells_left}
 use Rattle.wu_store.proofs.SelectTexts.{instances_asked, instances_fits, instances_tests, instances_shows}
 use Rattle.wu_schema.proofs.Parts.{Instances}
-use Rattle.wu_store.proofs.ReadAnswers.{asked_answers, find_only}
-use Rattle.wu_store.proofs.OnceLemmas.{one_passes}
-use Rattle.wu_store.proofs.PlacedLemmas.{table_rises}
+use Rattle.wu_store.proofs.ReadAnswers.{asked_answers, find_only, once_numbered}
 use Rattle.wu_store.proofs.OrderAnswers.{by_key, pair, passing, sure_sorted}
-
--- ---- no two workunits have one number
-
-once_numbered : (n : ℕ) (ws : List Workunit) → IsTable (map stored_workunit ws) → length (filter (λ (w : Workunit). w.number == n) ws) ≤ 1
-once_numbered n ws up = one_passes (λ (w : Workunit). w.number == n) (λ a b. a.number < b.number) ws (λ a b has_a has_b low p q. let same = eqb-true _ _ p ∙ sym (eqb-true _ _ q) in absurd (omega (arith, low, same))) (table_rises ws up)
 
 listed_from : (f : Workunit → List Row) (o : Option Workunit) → flat_map f (option_to_list o) ≡ option_map_or f o []
 listed_from f None = refl

@@ -28,5 +28,6 @@ pub mod UpsertEffect
 pub mod NameKey
 pub mod InPlaceLemmas
 pub mod HostEffect
+pub mod LoadLemmas
 mod ChangingLemmas
 mod VerdictLemmas

@@ -1,7 +1,8 @@
 -- A workunit at its place in order of number, and its instances beside those of the others.
-use Rattle.wu_schema.proofs.Words.{AllByRecursion, Bool, Database, Equal, Greater, HoldsAll, Instance, Int, IsAscending, IsPermutation, IsPermutation-refl, IsPermutation-sym, IsPermutation-trans, IsShaped-put_row, IsTable, Less, List, ListsAll, Ordering, PutsOne, Row, StandsFor, Workunit, World, [], all_has, ap, arith, cases_Bool, drop, enumerate_from, eq-eqb, eqb-true, false, filter, flat_map, if◌then◌else◌, inl, inr, instance_cells, instances_of, int_cmp, is_eq, is_taken, length, list_any, map, map-append, nat_tests, next_rowid, not, pos, put_row, refl, rowid, some_has, stored_workunit, subst, sym, true, value_cmp, value_cmp-Int, ℕ, ◌++◌, ◌+◌, ◌<◌, ◌==◌, ◌||◌, ◌∙◌, ◌∷◌, ◌≡◌}
-use Rattle.wu_store.specs.Changes.{HasInstances, bare, with_instance, with_placed, without_workunit}
-use Rattle.std.proofs.Common.{append_assoc}
+use Rattle.wu_schema.proofs.Words.{AllByRecursion, Bool, Database, Equal, Greater, HoldsAll, Instance, Int, IsAscending, IsPermutation, IsPermutation-refl, IsPermutation-sym, IsPermutation-trans, IsShaped-put_row, IsTable, Less, List, ListsAll, Ordering, PutsOne, Row, StandsFor, Workunit, World, [], all_has, ap, arith, cases_Bool, drop, enumerate_from, eq-eqb, eqb-true, false, filter, flat_map, if◌then◌else◌, inl, inr, instance_cells, instances_of, int_cmp, is_eq, is_taken, length, list_any, map, map-append, nat_tests, next_rowid, not, pos, put_row, refl, rowid, some_has, stored_workunit, subst, sym, true, value_cmp, value_cmp-Int, ℕ, ◌++◌, ◌+◌, ◌<◌, ◌==◌, ◌||◌, ◌∙◌, ◌∷◌, ◌≡◌, find, take, get_or, Some, option_map, ne_eqb}
+use Rattle.wu_store.specs.Changes.{HasInstances, with_instance, with_placed, without_workunit, AddsInstance}
+use Rattle.std.proofs.Common.{append_assoc, length-take-le}
+use Rattle.std.proofs.lemmas.List.{take_more}
 use Rattle.std.specs.Ordering.{nat_cmp, match_ordering}
 use Rattle.std.specs.Cmp.{nat_cmp_is}
 use Rattle.wu_store.specs.Changes.{IsAbove, HasNumber, LacksNumber, placed, with_replaced, with_workunit, and_instance}
@@ -204,17 +205,18 @@ module _ (old new : Database) (world : World) (s : StandsFor old world) where
   pub keeps_put : (p : Part) (row : Row) → IsIn p world.version → PutsOne old new (tree_in s.trees p) row → Keeps world.version s.trees old new (is_part p)
   keeps_put p row in_p put = keeps_but world.version old s.trees (parts_there old world s) new p in_p (but_one old new (tree_in s.trees p) row put)
 
+  -- since its row was put in, no workunit had its number
+  pub was_free : (w : Workunit) → PutsOne old new s.trees.workunit (stored_workunit w) → LacksNumber w.number world.workunits
+  was_free w put = absent_from w world.workunits (subst (λ rs. is_taken rs (stored_workunit w) ≡ false) s.rows.workunits.same put.fresh)
+
   -- a workunit that has no instances yet; since its row was put in, no other had its number
   pub stands_with_placed : (w : Workunit) → PutsOne old new s.trees.workunit (stored_workunit w) → w.instances ≡ [] → StandsFor new (with_placed w world)
   stands_with_placed w put none =
       frame_one old new world (with_placed w world) s Workunits put.schema refl (keeps_put Workunits (stored_workunit w) tt put) carry
       (lists_still put.rows (lists_placed w world.workunits (old.trees s.trees.workunit) s.rows.workunits)) put.sound
     where
-      absent : LacksNumber w.number world.workunits
-      absent = absent_from w world.workunits (subst (λ rs. is_taken rs (stored_workunit w) ≡ false) s.rows.workunits.same put.fresh)
-
       brings : IsPermutation (flat_map instances_of world.workunits) (flat_map instances_of (placed w world.workunits))
-      brings = subst (λ front. IsPermutation (front ++ flat_map instances_of world.workunits) (flat_map instances_of (placed w world.workunits))) (no_instances w none) (placed_brings instances_of w world.workunits absent)
+      brings = subst (λ front. IsPermutation (front ++ flat_map instances_of world.workunits) (flat_map instances_of (placed w world.workunits))) (no_instances w none) (placed_brings instances_of w world.workunits (was_free w put))
 
       carry : (q : Part) → is_part Workunits q ≡ false → (rows : List Row) → Holds q rows world → Holds q rows (with_placed w world)
       carry Workunits off rows h = absurd (cc)
@@ -234,9 +236,46 @@ module _ (old new : Database) (world : World) (s : StandsFor old world) where
       carry Instances off rows h = absurd (cc)
       carry _ off rows h = h
 
--- a workunit above all that has no instances yet
-pub placed_above : (w : Workunit) (world : World) → IsAbove w.number world.workunits → w.instances ≡ [] → with_placed (bare w) world ≡ with_workunit w world
-placed_above w world above none = (λ i. with_placed (record w { instances = sym none i }) world) ∙ (λ i. record world { workunits = placed_last w world.workunits above i })
+-- one above all comes last, and no other has its number
+pub placed_above : (w : Workunit) (world : World) → IsAbove w.number world.workunits → with_placed w world ≡ with_workunit w world
+placed_above w world above = λ i. record world { workunits = placed_last w world.workunits above i }
+
+-- what was put at its place is found there
+placed_found : (w : Workunit) (ws : List Workunit) → find (λ (v : Workunit). v.number == w.number) (placed w ws) ≡ Some w
+placed_found w [] = rw (eq-eqb w.number w.number refl) refl
+placed_found w (v ∷ vs) = go (nat_cmp v.number w.number) refl (placed_found w vs)
+  where
+    same : (w.number == w.number) ≡ true
+    same = eq-eqb w.number w.number refl
+
+    go : (o : Ordering) → nat_cmp v.number w.number ≡ o → find (λ (u : Workunit). u.number == w.number) (placed w vs) ≡ Some w → find (λ (u : Workunit). u.number == w.number) (match_ordering o (v ∷ placed w vs) (w ∷ vs) (w ∷ v ∷ vs)) ≡ Some w
+    go Less is again = let low = less_number v.number w.number (numbers_compare v.number w.number ∙ is) in rw (ne_eqb v.number w.number (λ e. omega (arith, e, low))) again
+    go Equal is again = rw same refl
+    go Greater is again = rw same refl
+
+-- the first so many instances of a workunit
+abbrev pub first_instances : ℕ → Workunit → Workunit
+first_instances n w = record w { instances = take n w.instances }
+
+-- the next instance of a workunit that is put in with its first ones
+pub next_instance : (old new : Database) (w : Workunit) (n : ℕ) (i d : Instance) (world : World) → LacksNumber w.number world.workunits → n < length w.instances → get_or w.instances n d ≡ i
+    → AddsInstance w.number n i old new → StandsFor old (with_placed (first_instances n w) world) → StandsFor new (with_placed (first_instances (n + 1) w) world)
+next_instance old new w n i d world none low at adds s =
+    let before = first_instances n w in
+    let counted : length (take n w.instances) ≡ n = length-take-le n w.instances (omega (arith, low)) in
+    let has : HasInstances w.number n (placed before world.workunits) = ap (λ o. option_map (λ (v : Workunit). length v.instances) o) (placed_found before world.workunits) ∙ ap (λ m. Some m) counted in
+    let more : and_instance w.number i before ≡ first_instances (n + 1) w =
+    ap (λ b. if b then record w { instances = take n w.instances ++ i ∷ [] } else before) (eq-eqb w.number w.number refl)
+    ∙ (λ k. record w { instances = (ap (λ one. take n w.instances ++ one ∷ []) (sym at) ∙ sym (take_more w.instances n d low)) k }) in
+    subst (StandsFor new) (instance_placed before i world none ∙ ap (λ v. with_placed v world) more) (adds (with_placed before world) s has)
+
+-- a workunit that was deleted has no number
+lacks_others : (n : ℕ) (ws : List Workunit) → LacksNumber n (filter (is_other n) ws)
+lacks_others n [] = refl
+lacks_others n (w ∷ ws) = elim (cases_Bool (w.number == n)) [
+  | inl on ↦ rw on (lacks_others n ws)
+  | inr off ↦ rw (off, off) (lacks_others n ws)
+]
 
 -- a workunit of a world that is deleted and then added is replaced
 pub replaced_is : (db : Database) (world : World) (s : StandsFor db world) (w : Workunit) → HasNumber w.number world.workunits → with_placed w (without_workunit w.number world) ≡ with_replaced w world

@@ -1,6 +1,6 @@
 -- What the SELECTs without an order answer of the world that the tables stand for.
 use Rattle.wu_schema.proofs.Words.{Answers, Archived, Binary, Bool, Has, Import, ImportKind, IsAscending, IsPermutation, IsPermutation-filter, IsPermutation-map, IsPermutation-trans, IsTable, List, None, Ok, Option, QueriesRow, Row, Shown, Some, StandsFor, State, Table, Text, Workunit, World, [], and_from, and_parts, ap, arith, bytes_eq, bytes_eq-Decides, cases_Bool, codes, column, cond, drop, enumerate_from, eq-eqb, eqb-true, equal, eval_all, false, false_from_ne_true, filter, filter-map, find, first_key, holds, import_cells, import_kind_code, inl, inr, is_import, length, length-map, length_permutation, list_all, list_any, map, map-map, mapped_has, ne_eqb, not, number, one_permutation, option_map, option_to_list, pos, project_at, refl, stored_archived, stored_workunit, subst, suc, sym, true, workunit_at, workunit_row, ℕ, ◌&&◌, ◌+◌, ◌<◌, ◌==◌, ◌||◌, ◌∙◌, ◌∷◌, ◌≡◌, ◌≤◌}
-use Rattle.wu_store.specs.Answers.{has_name, kept_of, next_row, row_named, was_archived}
+use Rattle.wu_store.specs.Answers.{has_name, kept_of, next_row, row_named, row_numbered, was_archived}
 use Rattle.wu_schema.specs.Stored.{kept_cells}
 use Rattle.wu_schema.proofs.AnswerLemmas.{answers_are, meeting, row_answers, showing, shown_answers}
 use Rattle.wu_store.proofs.EqualLemmas.{text_equal, number_equal, number_tied}
@@ -11,7 +11,7 @@ use Rattle.wu_schema.proofs.QueryLemmas.{alone, plain_query}
 use Rattle.wu_schema.proofs.RowLemmas.{filter_same, no_rows, one_test}
 use Rattle.wu_schema.proofs.Parts.{Part, Project, Workunits, Archive, Imports, IsIn, table_in, table_of, tree_in, name_of, parts_there}
 use Rattle.wu_schema.proofs.SelectLemmas.{Asked, Fits, compiles, query_of, tests_of, terms_of}
-use Rattle.wu_store.proofs.SelectTexts.{import_asked, import_fits, import_tests, import_shows, workunit_asked, workunit_fits, workunit_tests, named_asked, named_fits, all_shows, archived_asked, archived_fits, next_asked, next_fits, next_shows}
+use Rattle.wu_store.proofs.SelectTexts.{import_asked, import_fits, import_tests, import_shows, workunit_asked, workunit_fits, workunit_tests, named_asked, named_fits, numbered_asked, numbered_fits, numbered_tests, all_shows, archived_asked, archived_fits, next_asked, next_fits, next_shows}
 
 -- a SELECT of a part of the project
 module _ (p : Part) (q : Asked) (fits : (tree : ℕ) → Fits (name_of p) (table_in p tree) q) (old new : State) (world : World) (s : StandsFor old.now world) (in_p : IsIn p world.version) (params : Row) (rows : List Row) where
@@ -69,6 +69,22 @@ find_only q (x ∷ xs) few = elim (cases_Bool (q x)) [
   | inr off ↦ rw off (find_only q xs (rw off at few))
 ]
 
+-- the row of the one workunit that passes a test
+one_row : (q : Workunit → Bool) (p : Row → Bool) (shows : Row → Row) (ws : List Workunit) (stored rows : List Row) → stored ≡ map stored_workunit ws → length (filter q ws) ≤ 1 → ((w : Workunit) → p (stored_workunit w) ≡ q w)
+    → ((w : Workunit) → shows (stored_workunit w) ≡ workunit_row w) → IsPermutation (map shows (filter p stored)) rows → rows ≡ option_to_list (option_map workunit_row (find q ws))
+one_row q p shows ws stored rows are once same shown found =
+    let kept : filter p stored ≡ map stored_workunit (filter q ws) = ap (filter p) are ∙ kept_mapped p q stored_workunit ws same in
+    let seen : map shows (filter p stored) ≡ map workunit_row (filter q ws) = ap (map shows) kept ∙ map-map shows stored_workunit (filter q ws) ∙ (λ i. map (λ w. shown w i) (filter q ws)) in
+    only_answer workunit_row (filter q ws) rows once (subst (λ rs. IsPermutation rs rows) seen found) ∙ ap (map workunit_row) (find_only q ws once) ∙ listed (find q ws)
+  where
+    listed : (o : Option Workunit) → map workunit_row (option_to_list o) ≡ option_to_list (option_map workunit_row o)
+    listed None = refl
+    listed (Some w) = refl
+
+-- no two workunits have one number
+pub once_numbered : (n : ℕ) (ws : List Workunit) → IsTable (map stored_workunit ws) → length (filter (λ (w : Workunit). w.number == n) ws) ≤ 1
+once_numbered n ws up = one_passes (λ (w : Workunit). w.number == n) (λ a b. a.number < b.number) ws (λ a b has_a has_b low p q. let same = eqb-true _ _ p ∙ sym (eqb-true _ _ q) in absurd (omega (arith, low, same))) (table_rises ws up)
+
 -- ---- the next number
 
 module _ (old new : State) (world : World) (s : StandsFor old.now world) where
@@ -115,15 +131,18 @@ module _ (old new : State) (world : World) (s : StandsFor old.now world) (name :
   -- the row of the one workunit of the name
   pub named_found : Shown named_asked.text (Text name ∷ []) old new rows → rows ≡ option_to_list (row_named name world)
   named_found h =
-      let found = asked_rows Workunits named_asked named_fits old new world s tt (Text name ∷ []) rows refl h in
-      let kept = ap (filter (λ r. list_all (holds ((Text name ∷ []) ∷ r ∷ [])) workunit_tests)) s.rows.workunits.same ∙ kept_mapped _ (λ (w : Workunit). bytes_eq w.name name) stored_workunit world.workunits (λ w. one_test _ ∙ text_equal w.name name) in
-      let shown = ap (map (λ r. eval_all all_shows ((Text name ∷ []) ∷ r ∷ []))) kept ∙ map-map (λ r. eval_all all_shows ((Text name ∷ []) ∷ r ∷ [])) stored_workunit (filter (λ (w : Workunit). bytes_eq w.name name) world.workunits) in
-      only_answer workunit_row (filter (λ (w : Workunit). bytes_eq w.name name) world.workunits) rows named_once (subst (λ rs. IsPermutation rs rows) shown found)
-      ∙ ap (map workunit_row) (find_only (λ (w : Workunit). bytes_eq w.name name) world.workunits named_once) ∙ listed (find (λ (w : Workunit). bytes_eq w.name name) world.workunits)
-    where
-      listed : (o : Option Workunit) → map workunit_row (option_to_list o) ≡ option_to_list (option_map workunit_row o)
-      listed None = refl
-      listed (Some w) = refl
+      one_row (λ (w : Workunit). bytes_eq w.name name) (λ r. list_all (holds ((Text name ∷ []) ∷ r ∷ [])) workunit_tests) (λ r. eval_all all_shows ((Text name ∷ []) ∷ r ∷ [])) world.workunits _ rows s.rows.workunits.same named_once
+      (λ w. one_test _ ∙ text_equal w.name name) (λ w. refl) (asked_rows Workunits named_asked named_fits old new world s tt (Text name ∷ []) rows refl h)
+
+-- ---- by number
+
+module _ (old new : State) (world : World) (s : StandsFor old.now world) (n : ℕ) (rows : List Row) where
+  -- the row of the one workunit of the number
+  pub numbered_found : Shown numbered_asked.text (number n ∷ []) old new rows → rows ≡ option_to_list (row_numbered n world)
+  numbered_found h =
+      one_row (λ (w : Workunit). w.number == n) (λ r. list_all (holds ((number n ∷ []) ∷ r ∷ [])) numbered_tests) (λ r. eval_all all_shows ((number n ∷ []) ∷ r ∷ [])) world.workunits _ rows s.rows.workunits.same
+      (once_numbered n world.workunits (subst IsTable s.rows.workunits.same s.rows.workunits.shaped.0)) (λ w. one_test _ ∙ number_equal w.number n) (λ w. refl)
+      (asked_rows Workunits numbered_asked numbered_fits old new world s tt (number n ∷ []) rows refl h)
 
 -- ---- an import
 

@@ -57,7 +57,7 @@ as_columns (v ∷ row) = ap (λ rest. v ∷ rest) (shifted v row 0 (length row) 
 abbrev progress_of : Workunit → Progress
 progress_of w = record { error_mask = w.error_mask; canonical = w.canonical; assimilate = w.assimilate; file_delete = w.file_delete; done_at = w.done_at }
 
-not_ok : {T U : Type 0} (f : Fault) (t : T) (u : U) → Gives (Err f) (Ok t) → Gives (Err f) (Ok u)
+pub not_ok : {T U : Type 0} (f : Fault) (t : T) (u : U) → Gives (Err f) (Ok t) → Gives (Err f) (Ok u)
 not_ok f t u (inl ok) = absurd cc
 not_ok f t u (inr memory) = let is : f ≡ Memory = cc in inr (ap (λ g. Err g) is)
 

@@ -1,5 +1,5 @@
 -- Two worlds for which one database stands are one world, but for the order of their imports.
-use Rattle.wu_schema.proofs.Words.{Archived, Blob, Database, Grant, Has, HasNamed, HoldsAll, Import, ImportKind, Instance, Int, IsPermutation, IsPermutation-filter, IsPermutation-map, IsPermutation-sym, IsPermutation-trans, IsTable, List, None, Option, Output, Row, Some, StandsFor, Table, Text, Value, Workunit, World, [], all_from, all_has, ap, append-nil, arith, column, drop, enumerate_from, eq-eqb, false, filter, filter_none, flat_map, if◌then◌else◌, import_cells, import_kind_code, inl, inr, instance_row, instances_of, map, ne_eqb, number_or_null, on_total, pos, refl, slice_get, stored_archived, stored_grant, stored_project, stored_workunit, subst, sym, text_or_null, true, value_cmp_total, verdict_digits, ℕ, ◌+◌, ◌-◌, ◌<◌, ◌==◌, ◌∙◌, ◌∷◌, ◌≡◌}
+use Rattle.wu_schema.proofs.Words.{Archived, Blob, Database, Grant, Has, HasNamed, HoldsAll, Import, ImportKind, Instance, Int, IsPermutation, IsPermutation-filter, IsPermutation-map, IsPermutation-sym, IsPermutation-trans, IsTable, List, None, Option, Output, Row, Some, StandsFor, Table, Text, Value, Workunit, World, [], all_from, all_has, ap, append-nil, arith, column, drop, enumerate_from, eq-eqb, false, filter, filter_none, flat_map, if◌then◌else◌, import_cells, import_kind_code, inl, inr, instance_row, instances_of, map, ne_eqb, Null, number_or_null, on_total, pos, refl, slice_get, stored_archived, stored_grant, stored_project, stored_workunit, subst, sym, text_or_null, true, value_cmp_total, verdict_digits, workunit_row, ℕ, ◌+◌, ◌-◌, ◌<◌, ◌==◌, ◌∙◌, ◌∷◌, ◌≡◌}
 use Rattle.wu_core.specs.declared.mask.ErrorMask.{ErrorMask}
 use Rattle.wu_core.specs.declared.states.ServerState.{ServerState}
 use Rattle.wu_core.specs.declared.states.ServerState.TheVariants as server
@@ -196,9 +196,19 @@ instance_again m = λ i. record m {
   received_at = maybe_again m.received_at i;
 }
 
+-- two lists of instances that have the same rows are one
+pub same_instances : (a b : List Instance) → map instance_row a ≡ map instance_row b → a ≡ b
+same_instances a b rows = sym (restored instance_row read_instance instance_again a) ∙ ap (map read_instance) rows ∙ restored instance_row read_instance instance_again b
+
+-- two workunits that have one row are one, but for their instances
+pub same_workunit : (v w : Workunit) → workunit_row v ≡ workunit_row w → v ≡ record w { instances = v.instances }
+same_workunit v w rows =
+    let stored : stored_workunit v ≡ stored_workunit w = ap (λ r. column r 0 ∷ Null ∷ drop 1 r) rows in
+    sym (workunit_again v) ∙ (λ i. read_workunit (stored i) v.instances) ∙ workunit_again (record w { instances = v.instances })
+
 -- ---- a workunit's instances
 
-only_one : (v : Workunit) (ws : List Workunit) → Rises ws → Has ws v → filter (λ (w : Workunit). w.number == v.number) ws ≡ v ∷ []
+pub only_one : (v : Workunit) (ws : List Workunit) → Rises ws → Has ws v → filter (λ (w : Workunit). w.number == v.number) ws ≡ v ∷ []
 only_one v [] up has = absurd has
 only_one v (w ∷ ws) up (inl same) =
     let on : (w.number == v.number) ≡ true = ap (λ (u : Workunit). w.number == u.number) same ∙ eq-eqb w.number w.number refl in
@@ -214,8 +224,7 @@ instances_one v u same perm =
     let pairs : pairs_from u.number 0 u.instances ≡ pairs_from v.number 0 v.instances =
     two_orders by_key (on_total (λ (o : Output). column o.0 0) value_cmp_total) (pairs_from v.number 0 v.instances) (pairs_from u.number 0 u.instances) (rising v.number 0 v.instances) (rising u.number 0 u.instances)
     (IsPermutation-map cell_pair (instances_of v) (instances_of u) perm) in
-    let rows : map instance_row u.instances ≡ map instance_row v.instances = sym (shown_from u.number 0 u.instances) ∙ ap (map (λ (o : Output). o.1)) pairs ∙ shown_from v.number 0 v.instances in
-    sym (restored instance_row read_instance instance_again u.instances) ∙ ap (map read_instance) rows ∙ restored instance_row read_instance instance_again v.instances
+    same_instances u.instances v.instances (sym (shown_from u.number 0 u.instances) ∙ ap (map (λ (o : Output). o.1)) pairs ∙ shown_from v.number 0 v.instances)
 
 module _ (ws_a ws_b : List Workunit) (up_a : Rises ws_a) (up_b : Rises ws_b) (same : IsPermutation (flat_map instances_of ws_a) (flat_map instances_of ws_b)) where
   of_number : (v : Workunit) (ws : List Workunit) → Rises ws → Has ws v → filter (fits v.number (λ b. b)) (flat_map instances_of ws) ≡ instances_of v

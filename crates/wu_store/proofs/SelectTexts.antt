@@ -40,6 +40,18 @@ pub named_fits : (tree : ℕ) → Fits (codes "workunit") (workunit_at tree) nam
 unfolding everything
 named_fits tree = record { shown = refl; tests = refl; strict = refl; order = tt; height = (698, refl); few = omega arith; limit = λ schema. refl; read = refl; typed = refl }
 
+-- ---- the row of the workunit of a number
+
+abbrev pub numbered_asked : Asked
+numbered_asked = record { text = codes "SELECT number, name, min_quorum, target_nresults, max_error_results, max_total_results, max_success_results, delay_bound, credit, input, error_mask, canonical, assimilate, file_delete, done_at FROM workunit WHERE number = ?1"; parameters = codes "?1" ∷ []; shown = 0 ∷ 1 ∷ 2 ∷ 3 ∷ 4 ∷ 5 ∷ 6 ∷ 7 ∷ 8 ∷ 9 ∷ 10 ∷ 11 ∷ 12 ∷ 13 ∷ 14 ∷ []; tests = (0, compare.Eq, 0) ∷ []; order = None; limit = None; upto = lit (Int (negsuc 0)) }
+
+pub numbered_fits : (tree : ℕ) → Fits (codes "workunit") (workunit_at tree) numbered_asked
+unfolding everything
+numbered_fits tree = record { shown = refl; tests = refl; strict = refl; order = tt; height = (698, refl); few = omega arith; limit = λ schema. refl; read = refl; typed = refl }
+
+abbrev pub numbered_tests : List Term
+numbered_tests = same (col 1 0) (col 0 0) ∷ []
+
 -- ---- the archived workunit of a name
 
 abbrev pub archived_asked : Asked

@@ -29,9 +29,19 @@ next_row world = number world.next_number ∷ []
 abbrev pub all_rows : World → List Row
 all_rows world = map workunit_row world.workunits
 
--- the row of the workunit of this name, if one is present
+-- the workunit of this number, if it is present, and its row
+abbrev pub numbered : ℕ → World → Option Workunit
+numbered number world = find (λ (w : Workunit). w.number == number) world.workunits
+
+abbrev pub row_numbered : ℕ → World → Option Row
+row_numbered number world = option_map workunit_row (numbered number world)
+
+-- the workunit of this name, if one is present, and its row
+abbrev pub named : List ℕ → World → Option Workunit
+named name world = find (λ (w : Workunit). bytes_eq w.name name) world.workunits
+
 abbrev pub row_named : List ℕ → World → Option Row
-row_named name world = option_map workunit_row (find (λ (w : Workunit). bytes_eq w.name name) world.workunits)
+row_named name world = option_map workunit_row (named name world)
 
 -- the first workunit above this number
 abbrev pub first_above : ℕ → World → Option Workunit
@@ -43,4 +53,4 @@ row_above number world = option_map workunit_row (first_above number world)
 
 -- the rows of the instances of the workunit of this number, in order of theirs; none where it is not there
 abbrev pub instance_rows_of : ℕ → World → List Row
-instance_rows_of number world = option_map_or (λ (w : Workunit). map instance_row w.instances) (find (λ (w : Workunit). w.number == number) world.workunits) []
+instance_rows_of number world = option_map_or (λ (w : Workunit). map instance_row w.instances) (numbered number world) []

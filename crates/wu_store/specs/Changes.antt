@@ -45,9 +45,17 @@ LacksNumber number ws = list_any (λ (w : Workunit). w.number == number) ws ≡ 
 abbrev pub HasNumber : ℕ → List Workunit → Type 0
 HasNumber number ws = list_any (λ (w : Workunit). w.number == number) ws ≡ true
 
+-- no workunit of the world had this number
+abbrev pub WasFree : ℕ → Database → Database → Type 0
+WasFree number old new = (world : World) → StandsFor old world → LacksNumber number world.workunits
+
 -- with it in place of the one of its number
 abbrev pub with_replaced : Workunit → World → World
 with_replaced w world = record world { workunits = map (λ v. if v.number == w.number then w else v) world.workunits }
+
+-- the workunit takes the place of the present one of its number
+abbrev pub Replaces : Workunit → Database → Database → Type 0
+Replaces w old new = (world : World) → StandsFor old world → HasNumber w.number world.workunits → StandsFor new (with_replaced w world)
 
 -- without the workunit of this number, and so without its instances
 abbrev pub without_workunit : ℕ → World → World
@@ -68,6 +76,10 @@ HasInstances number n ws = option_map (λ (w : Workunit). length w.instances) (f
 -- the instance is added, where its number is the next one of its workunit
 abbrev pub AddsInstance : ℕ → ℕ → Instance → Database → Database → Type 0
 AddsInstance number n i old new = (world : World) → StandsFor old world → HasInstances number n world.workunits → StandsFor new (with_instance number i world)
+
+-- the instances of a new workunit are added, where its row stands without them
+abbrev pub AddsInstances : Workunit → Database → Database → Type 0
+AddsInstances w old new = (world : World) → LacksNumber w.number world.workunits → StandsFor old (with_placed (bare w) world) → StandsFor new (with_placed w world)
 
 -- with a grant more
 abbrev pub with_grant : Grant → World → World

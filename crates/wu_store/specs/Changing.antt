@@ -1,11 +1,11 @@
 -- What the changes of a command make of a world, and of the tables that stand for it.
-use Rattle.std.specs.Prelude.{◌≡◌, List, [], ◌∷◌, ⊤}
+use Rattle.std.specs.Prelude.{List, [], ◌∷◌, ⊤}
 use Rattle.sqlite.specs.Effect.{Database}
 use Rattle.wu_core.specs.World.{World, Import}
-use Rattle.wu_store.specs.Changes.{with_workunit, with_import, with_next, IsAbove}
+use Rattle.wu_store.specs.Changes.{with_workunit, with_replaced, with_import, with_next, HasNumber, IsAbove}
 use Rattle.wu_schema.specs.StandsFor.{StandsFor}
 use Rattle.wu_store.specs.declared.changes.Change.{Change}
-use Rattle.wu_store.specs.declared.changes.Change.TheVariants.{Add, Next, Keep}
+use Rattle.wu_store.specs.declared.changes.Change.TheVariants.{Add, Replace, Next, Keep}
 use Rattle.wu_store.specs.declared.changes.Import.{Import as Kept}
 
 -- an import as it is kept
@@ -22,6 +22,7 @@ import_of_change kept = record {
 -- the world with one change
 abbrev pub made : Change → World → World
 made (Add w) world = with_workunit w world
+made (Replace w) world = with_replaced w world
 made (Next number) world = with_next number world
 made (Keep kept) world = with_import (import_of_change kept) world
 
@@ -30,9 +31,10 @@ abbrev pub made_all : List Change → World → World
 made_all [] world = world
 made_all (change ∷ more) world = made_all more (made change world)
 
--- a workunit is new and has no instances yet
+-- a workunit that is added has a number above all, and one that takes a place has that of a present one
 abbrev pub IsRight : Change → World → Type 0
-IsRight (Add w) world = IsAbove w.number world.workunits × (w.instances ≡ [])
+IsRight (Add w) world = IsAbove w.number world.workunits
+IsRight (Replace w) world = HasNumber w.number world.workunits
 IsRight (Next number) world = ⊤
 IsRight (Keep kept) world = ⊤
 

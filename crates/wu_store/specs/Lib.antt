@@ -3,4 +3,5 @@ pub mod Reading
 pub mod Answers
 pub mod Changes
 pub mod Worlds
+pub mod Loading
 pub mod Changing

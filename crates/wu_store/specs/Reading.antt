@@ -14,7 +14,7 @@ use Rattle.wu_core.specs.declared.workunit.Workunit.{Workunit}
 use Rattle.wu_core.specs.declared.workunit.Instance.{Instance}
 use Rattle.wu_core.specs.Codes.{assimilate_code, file_delete_code, outcome_code, server_state_code, validate_state_code}
 use Rattle.wu_core.specs.Formed.{IsInstance}
-use Rattle.wu_core.specs.Limits.{last_deadline, last_moment, longest_input, longest_output, most_workunits}
+use Rattle.wu_core.specs.Limits.{last_deadline, last_moment, longest_input, longest_output, most_instances, most_workunits}
 use Rattle.wu_core.specs.Mask.{error_mask_code}
 use Rattle.wu_core.specs.Names.{is_name}
 use Rattle.wu_core.specs.Parameters.{IsParameters}
@@ -124,6 +124,11 @@ pub record MayBeInstance (i : Instance) : Type 0 where
 pub record IsStoredInstance (i : Instance) : Type 0 where
   pub values : MayBeInstance i
   pub formed : IsInstance i
+
+-- rows of the table of results may be those of one workunit's instances
+pub record AreStoredInstances (instances : List Instance) : Type 0 where
+  pub each : All IsStoredInstance instances
+  pub few : length instances ≤ most_instances
 
 abbrev pub AreVerdicts : ImportKind → List ℕ → Type 0
 AreVerdicts kind verdicts = All (λ verdict. verdict ≤ last_skip kind) verdicts

@@ -1,10 +1,13 @@
 //! Changes of a project's tables, and lists of them inside a transaction.
 
 ghost use Rattle.std.specs.Prelude.{[], ◌∷◌};
-ghost use Rattle.wu_schema.specs.Calls.{Writes, Works, Does};
+ghost use Rattle.wu_schema.specs.Calls.{Writes, Works, Does, Changes};
+ghost use Rattle.wu_store.specs.Changes.{with_placed, AddsInstances, Replaces};
 ghost use Rattle.wu_store.specs.Changing.{MakesWorlds};
 
-use crate::statements::{insert_import, insert_workunit, set_next_number};
+use crate::statements::{
+    delete_workunit, insert_import, insert_instance, insert_workunit, set_next_number,
+};
 use crate::verdicts::Verdicts;
 use sqlite::{Alter, Error, Transaction};
 use std::alloc::Global;
@@ -25,12 +28,46 @@ pub struct Import<'a> {
 /// One change of a project's tables.
 #[derive(Debug, Drop)]
 pub enum Change<'a> {
-    /// A workunit of a new number is added.
+    /// A workunit of a new number is added, with its instances.
     Add(Workunit),
+    /// A workunit takes the place of the present one of its number, with its instances.
+    Replace(Workunit),
     /// The number of the next workunit is set.
     Next(u64),
     /// An import is kept.
     Keep(Import<'a>),
+}
+
+/// Adds the rows of a workunit's instances, numbered from 0. Its own row is there without them.
+fn insert_instances<S: Alter>(tx: &mut Transaction<'_, S>, workunit: &Workunit) -> Result<(), Error>
+    ensures works { Works S.Store tx.old tx.new result }
+    ensures adds { Does S.Store tx.old tx.new result (AddsInstances workunit.now) }
+{
+    let instances = workunit.instances.as_slice();
+    let mut n = 0;
+    for instance in instances {
+        insert_instance(tx, workunit.number, n, instance)?;
+        n += 1;
+    }
+    Ok(())
+}
+
+/// Adds a workunit at its place in order of number, with its instances.
+fn add<S: Alter>(tx: &mut Transaction<'_, S>, workunit: &Workunit) -> Result<(), Error>
+    ensures writes { Writes S.Store tx.old tx.new result }
+    ensures adds { Changes S.Store tx.old tx.new result (with_placed workunit.now) }
+{
+    insert_workunit(tx, workunit)?;
+    insert_instances(tx, workunit)
+}
+
+/// Puts a workunit in the place of the present one of its number, with its instances in place of those.
+fn replace<S: Alter>(tx: &mut Transaction<'_, S>, workunit: &Workunit) -> Result<(), Error>
+    ensures writes { Writes S.Store tx.old tx.new result }
+    ensures replaces { Does S.Store tx.old tx.new result (Replaces workunit.now) }
+{
+    delete_workunit(tx, workunit.number)?;
+    add(tx, workunit)
 }
 
 fn make<S: Alter>(tx: &mut Transaction<'_, S>, change: &Change<'_>) -> Result<(), Error>
@@ -38,7 +75,8 @@ fn make<S: Alter>(tx: &mut Transaction<'_, S>, change: &Change<'_>) -> Result<()
     ensures makes { Does S.Store tx.old tx.new result (MakesWorlds (change.now ∷ [])) }
 {
     match change {
-        Change::Add(workunit) => insert_workunit(tx, workunit),
+        Change::Add(workunit) => add(tx, workunit),
+        Change::Replace(workunit) => replace(tx, workunit),
         Change::Next(number) => set_next_number(tx, *number),
         Change::Keep(import) => insert_import(tx, import),
     }

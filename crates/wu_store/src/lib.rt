@@ -3,15 +3,17 @@
 
 mod changes;
 pub mod laws;
+mod loading;
 mod rows;
 mod statements;
 mod verdicts;
 
 pub use changes::{Change, Import, apply};
+pub use loading::{import_of, load, load_named, next_number};
 pub use rows::{StoredImport, import_from, instance_from, next_number_from, workunit_from};
 pub use statements::{
     delete_workunit, has_archived, has_workunit, import_rows, insert_archived, insert_grant,
     insert_import, insert_instance, insert_workunit, instance_rows, next_number_row,
-    set_next_number, workunit_row_above, workunit_row_named, workunit_rows,
+    set_next_number, workunit_row, workunit_row_above, workunit_row_named, workunit_rows,
 };
 pub use verdicts::Verdicts;

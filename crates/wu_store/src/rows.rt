@@ -1,6 +1,6 @@
 //! What a stored row means: a value, or `NotAProject` where it is no value of its type.
 
-ghost use Rattle.std.specs.Prelude.{◌≡◌, ◌⊎◌, ◌<◌, ◌≤◌, ℕ, ⊤, [], ◌∷◌, ◌-◌, length, IfOk, IfErr, SomeIff};
+ghost use Rattle.std.specs.Prelude.{◌≡◌, ◌⊎◌, ◌<◌, ◌≤◌, ℕ, ⊤, [], ◌∷◌, ◌-◌, length, map, IfOk, IfErr, SomeIff};
 ghost use Rattle.std.specs.Bool.{Decides};
 ghost use Rattle.sqlite.specs.Order.{column};
 ghost use Rattle.sqlite.specs.declared.types.Value.TheVariants.{Int, Text, Blob};
@@ -10,15 +10,15 @@ ghost use Rattle.wu_core.specs.Parameters.{IsParameters};
 ghost use Rattle.wu_core.specs.World.{last_skip};
 ghost use Rattle.wu_schema.specs.Stored.{instance_row, number, number_or_null, text_or_null, parameter_cells, verdict_digits, workunit_row};
 ghost use Rattle.wu_schema.specs.Restoring.{Restores};
-ghost use Rattle.wu_store.specs.Reading.{assimilate_cell, file_delete_cell, mask_cell, outcome_cell, server_state_cell, validate_state_cell, verdicts_cell, IsOutput, columns, progress_cells, IsInput, IsMoment, IsName, IsPlace, IsProgress, IsStoredWorkunit, AreVerdicts, IsNextNumber, IsStoredImport, stored_import_row, AreMoments, IsDeadline, IsHost, IsStoredInstance, MayBeInstance, moment_cells, state_cells};
+ghost use Rattle.wu_store.specs.Reading.{assimilate_cell, file_delete_cell, mask_cell, outcome_cell, server_state_cell, validate_state_cell, verdicts_cell, IsOutput, columns, progress_cells, IsInput, IsMoment, IsName, IsPlace, IsProgress, IsStoredWorkunit, AreVerdicts, IsNextNumber, IsStoredImport, stored_import_row, AreMoments, AreStoredInstances, IsDeadline, IsHost, IsStoredInstance, MayBeInstance, moment_cells, state_cells};
 
 use sqlite::Row;
 use sqlite::types::ValueRef;
 use std::alloc::Global;
 use wu_core::{
     Assimilate, Bytes, Deadline, ErrorMask, Fault, FileDelete, ImportKind, Instance, Instances,
-    LONGEST_INPUT, LONGEST_OUTPUT, MOST_WORKUNITS, Moment, Name, Outcome, Params, ServerState,
-    ValidateState, Workunit,
+    LONGEST_INPUT, LONGEST_OUTPUT, MOST_INSTANCES, MOST_WORKUNITS, Moment, Name, Outcome, Params,
+    ServerState, ValidateState, Workunit,
 };
 use wu_schema::{number_at, read_column};
 
@@ -315,6 +315,20 @@ pub fn instance_from(alloc: Global, row: &Row) -> Result<Instance, Fault>
     } else {
         Err(Fault::NotAProject)
     }
+}
+
+/// The instances of such rows, in their order: those of one workunit, which has at most 100.
+pub(crate) fn instances_from(alloc: Global, rows: &[Row]) -> Result<Instances, Fault>
+    ensures { Restores (map instance_row) AreStoredInstances rows.now result }
+{
+    if rows.len() > MOST_INSTANCES as usize {
+        return Err(Fault::NotAProject);
+    }
+    let mut instances = Vec::new(alloc);
+    for row in rows {
+        instances.push(instance_from(alloc, row)?)?;
+    }
+    Ok(Instances::from_vec(instances))
 }
 
 fn bytes_at(row: &Row, at: usize) -> Result<Bytes, Fault>

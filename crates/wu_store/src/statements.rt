@@ -2,9 +2,9 @@
 
 ghost use Rattle.std.specs.Prelude.{◌≡◌, ◌<◌, ◌≤◌, ◌^◌, [], pos, option_map, IfOk, IfErr, OnOk};
 ghost use Rattle.wu_store.specs.Changing.{import_of_change};
-ghost use Rattle.wu_store.specs.Changes.{bare, with_placed, without_workunit, with_grant, with_archived, with_import, with_next, AddsInstance, Credits, PutsGrant};
-ghost use Rattle.wu_schema.specs.Calls.{Reads, Answers, AnswersRows, OnlyFails, Writes, Does, Changes};
-ghost use Rattle.wu_store.specs.Answers.{all_rows, has_name, instance_rows_of, kept_of, next_row, row_above, row_named, was_archived};
+ghost use Rattle.wu_store.specs.Changes.{bare, with_placed, without_workunit, with_grant, with_archived, with_import, with_next, AddsInstance, Credits, PutsGrant, WasFree};
+ghost use Rattle.wu_schema.specs.Calls.{Reads, Answers, AnswersRows, OnlyFails, ServesAfter, StaysAfter, Writes, Does, Changes};
+ghost use Rattle.wu_store.specs.Answers.{all_rows, has_name, instance_rows_of, kept_of, next_row, row_above, row_named, row_numbered, was_archived};
 
 use crate::changes::Import;
 use sqlite::{Alter, Connection, Error, Row, Transaction, params};
@@ -67,6 +67,7 @@ pub fn import_rows<S: Alter>(
     ensures reads { Reads S.Store conn.old conn.new result }
     ensures answers { AnswersRows S.Store conn.old conn.new result (kept_of kind name.now) }
     ensures told { OnlyFails S.Store conn.old conn.new result }
+    ensures serves { ServesAfter S.Store conn.old conn.new result }
 {
     conn.query_all(
         "SELECT template, content, first_number, verdicts FROM import WHERE kind = ?1 AND name = ?2",
@@ -79,6 +80,7 @@ pub fn has_workunit<S: Alter>(conn: &mut Connection<S>, name: &Name) -> Result<b
     ensures reads { Reads S.Store conn.old conn.new result }
     ensures answers { Answers S.Store conn.old conn.new result (has_name name.now) }
     ensures told { OnlyFails S.Store conn.old conn.new result }
+    ensures serves { ServesAfter S.Store conn.old conn.new result }
 {
     let rows = conn.query_all(
         "SELECT number FROM workunit WHERE name = ?1",
@@ -92,6 +94,7 @@ pub fn has_archived<S: Alter>(conn: &mut Connection<S>, name: &Name) -> Result<b
     ensures reads { Reads S.Store conn.old conn.new result }
     ensures answers { Answers S.Store conn.old conn.new result (was_archived name.now) }
     ensures told { OnlyFails S.Store conn.old conn.new result }
+    ensures serves { ServesAfter S.Store conn.old conn.new result }
 {
     let rows = conn.query_all(
         "SELECT number FROM archived WHERE name = ?1",
@@ -105,6 +108,7 @@ pub fn next_number_row<S: Alter>(conn: &mut Connection<S>) -> Result<Row, Error>
     ensures reads { Reads S.Store conn.old conn.new result }
     ensures answers { Answers S.Store conn.old conn.new result next_row }
     ensures told { OnlyFails S.Store conn.old conn.new result }
+    ensures serves { ServesAfter S.Store conn.old conn.new result }
 {
     conn.query_row("SELECT next_number FROM project", &[])
 }
@@ -114,11 +118,33 @@ pub fn workunit_rows<S: Alter>(conn: &mut Connection<S>) -> Result<Vec<Row>, Err
     ensures reads { Reads S.Store conn.old conn.new result }
     ensures answers { AnswersRows S.Store conn.old conn.new result all_rows }
     ensures told { OnlyFails S.Store conn.old conn.new result }
+    ensures serves { ServesAfter S.Store conn.old conn.new result }
 {
     conn.query_all(
         "SELECT number, name, min_quorum, target_nresults, max_error_results, max_total_results, max_success_results, delay_bound, credit, input, error_mask, canonical, assimilate, file_delete, done_at FROM workunit ORDER BY number",
         &[],
     )
+}
+
+/// The row of the workunit of this number, or none. A number from 2^63 on is an error.
+pub fn workunit_row<S: Alter>(conn: &mut Connection<S>, number: u64) -> Result<Option<Row>, Error>
+    ensures reads { Reads S.Store conn.old conn.new result }
+    ensures answers { Answers S.Store conn.old conn.new result (row_numbered number) }
+    ensures told { number < 2 ^ 63 → OnlyFails S.Store conn.old conn.new result }
+    ensures serves { StaysAfter S.Store conn.old conn.new result }
+{
+    let number = match signed(number) {
+        Ok(number) => number,
+        Err(error) => return Err(error),
+    };
+    let found = conn.query_all(
+        "SELECT number, name, min_quorum, target_nresults, max_error_results, max_total_results, max_success_results, delay_bound, credit, input, error_mask, canonical, assimilate, file_delete, done_at FROM workunit WHERE number = ?1",
+        params![number],
+    );
+    match found {
+        Ok(mut rows) => Ok(rows.pop()),
+        Err(error) => Err(error),
+    }
 }
 
 /// The row of the workunit of this name, or none.
@@ -129,6 +155,7 @@ pub fn workunit_row_named<S: Alter>(
     ensures reads { Reads S.Store conn.old conn.new result }
     ensures answers { Answers S.Store conn.old conn.new result (row_named name.now) }
     ensures told { OnlyFails S.Store conn.old conn.new result }
+    ensures serves { ServesAfter S.Store conn.old conn.new result }
 {
     let mut rows = conn.query_all(
         "SELECT number, name, min_quorum, target_nresults, max_error_results, max_total_results, max_success_results, delay_bound, credit, input, error_mask, canonical, assimilate, file_delete, done_at FROM workunit WHERE name = ?1",
@@ -145,6 +172,7 @@ pub fn workunit_row_above<S: Alter>(
     ensures reads { Reads S.Store conn.old conn.new result }
     ensures answers { Answers S.Store conn.old conn.new result (row_above number) }
     ensures told { number < 2 ^ 63 → OnlyFails S.Store conn.old conn.new result }
+    ensures serves { StaysAfter S.Store conn.old conn.new result }
 {
     let number = match signed(number) {
         Ok(number) => number,
@@ -166,6 +194,7 @@ pub fn instance_rows<S: Alter>(conn: &mut Connection<S>, workunit: u64) -> Resul
     ensures reads { Reads S.Store conn.old conn.new result }
     ensures answers { AnswersRows S.Store conn.old conn.new result (instance_rows_of workunit) }
     ensures told { workunit < 2 ^ 63 → OnlyFails S.Store conn.old conn.new result }
+    ensures serves { StaysAfter S.Store conn.old conn.new result }
 {
     let workunit = match signed(workunit) {
         Ok(workunit) => workunit,
@@ -177,12 +206,14 @@ pub fn instance_rows<S: Alter>(conn: &mut Connection<S>, workunit: u64) -> Resul
     )
 }
 
-/// Adds the row of a workunit at its place in order of number, without its instances. A number that is there is refused.
+/// Adds the row of a workunit at its place in order of number, without its instances. The table's key refuses a number
+/// that is there.
 pub fn insert_workunit<S: Alter>(
     tx: &mut Transaction<'_, S>,
     workunit: &Workunit,
 ) -> Result<(), Error>
     ensures writes { Writes S.Store tx.old tx.new result }
+    ensures free { Does S.Store tx.old tx.new result (WasFree workunit.now.number) }
     ensures puts { Changes S.Store tx.old tx.new result (with_placed (bare workunit.now)) }
 {
     let params = workunit.params;

@@ -1,11 +1,19 @@
 //! Tests of whole projects: the worked examples of a batch, what stands in a database that is adopted, what a stop of a
-//! file's calls leaves, and lives of a batch each.
+//! file's calls leaves, lives of a batch each, what is flushed, and what is as long as it may be.
 #![tactic(auto)]
 
 #[cfg(test)]
 mod adoption;
 #[cfg(test)]
 mod batches;
+#[cfg(test)]
+mod cuts;
+#[cfg(test)]
+mod disks;
+#[cfg(test)]
+mod instances;
+#[cfg(test)]
+mod limits;
 #[cfg(test)]
 mod lives;
 #[cfg(test)]

@@ -3,6 +3,7 @@
 //! What a test does is written for any disk, and what it asks of a store stands in a few functions over any store: that
 //! the store over two files serves is proved again at each call of such a function.
 
+use crate::disks::files_of;
 use crate::setting::{
     ONE_JOB, ONE_WORKUNIT, TWO_WORKUNITS, adopted, batch, imports, is_bytes, is_count, is_run,
     opened, shows, shows_lines,
@@ -11,13 +12,15 @@ use sqlite::{Alter, Connection, FileStore, Files, Options};
 use sqlite_disk::{Crash, Disk, Memory};
 use std::process::Abort;
 use wu_drive::{Command, Project, Run};
-use wu_lives::{drive_stop_and_open, live, live_all, stop_and_open};
+use wu_lives::{
+    adopt_stop_and_adopt, drive_stop_and_open, live, live_all, open_and_adopt, stop_and_open,
+};
 
 /// What the batch of one job prints.
-const FIRST_ADDED: &str = "batch b1: 1 added, first 1\n";
+pub const FIRST_ADDED: &str = "batch b1: 1 added, first 1\n";
 
 /// Another jobs file.
-const SECOND_JOB: &[u8] = b"name,input\njob_2,\n";
+pub const SECOND_JOB: &[u8] = b"name,input\njob_2,\n";
 
 /// What the batch of the other file prints after the first.
 const SECOND_ADDED: &str = "batch b2: 1 added, first 2\n";
@@ -31,7 +34,7 @@ fn empty_files(rt: &(impl Abort + AllocGlobal)) -> Files<Memory> {
 }
 
 /// The project of a connection over files.
-fn resumed<D: Disk + Drop>(
+pub fn resumed<D: Disk + Drop>(
     rt: &(impl Abort + AllocGlobal),
     conn: Connection<FileStore<D>>,
 ) -> Project<FileStore<D>> {
@@ -39,7 +42,7 @@ fn resumed<D: Disk + Drop>(
 }
 
 /// A project over two files, fresh where they are empty.
-fn begun<D: Disk + Drop>(
+pub fn begun<D: Disk + Drop>(
     rt: &(impl Abort + AllocGlobal),
     files: Files<D>,
 ) -> Project<FileStore<D>> {
@@ -61,11 +64,12 @@ fn did_first(rt: &impl Abort, run: Run, out: &[u8]) {
     is_bytes(rt, out, FIRST_ADDED.as_bytes());
 }
 
-/// Takes the first batch, and gives the connection back.
+/// Sees that the project shows no workunit, takes the first batch, and gives the connection back.
 fn takes_first<S: Alter>(
     rt: &(impl Abort + AllocGlobal),
     mut project: Project<S>,
 ) -> Connection<S> {
+    shows(rt, &mut project, "");
     imports(rt, &mut project, "b1", ONE_JOB, FIRST_ADDED);
     project.release()
 }
@@ -163,4 +167,45 @@ fn lives_twice<D: Crash + Drop>(rt: &(impl Abort + AllocGlobal), files: Files<D>
 #[test]
 fn a_life_goes_on_from_the_one_before(rt: HostRuntime) {
     lives_twice(&rt, empty_files(&rt));
+}
+
+/// A project that is begun in one call.
+fn begun_at_once<D: Disk + Drop>(
+    rt: &(impl Abort + AllocGlobal),
+    files: Files<D>,
+) -> Project<FileStore<D>> {
+    assert!(rt; files.may_be_used());
+    open_and_adopt(rt.alloc(), files, Options::new(1)).expect(rt, "a project")
+}
+
+/// Begins over blank files with no workunit, takes both batches, and goes on over the same files.
+fn begins_and_goes_on<D: Disk + Drop>(rt: &(impl Abort + AllocGlobal), files: Files<D>) {
+    let mut project = begun_at_once(rt, files);
+    takes_both(rt, &mut project, "");
+    goes_on(rt, begun_at_once(rt, files_of(rt, project)), TWO_WORKUNITS);
+}
+
+#[test]
+fn a_project_begins_over_blank_files_and_goes_on_over_its_own(rt: HostRuntime) {
+    begins_and_goes_on(&rt, empty_files(&rt));
+}
+
+/// A project that is adopted before a stop and after it.
+fn adopted_twice<D: Crash + Drop>(
+    rt: &(impl Abort + AllocGlobal),
+    conn: Connection<FileStore<D>>,
+) -> Project<FileStore<D>> {
+    adopt_stop_and_adopt(rt.alloc(), conn, Options::new(2)).expect(rt, "a project")
+}
+
+/// Stops after an adoption of blank files, and after an adoption of a project with one workunit.
+fn stops_after_adoptions<D: Crash + Drop>(rt: &(impl Abort + AllocGlobal), files: Files<D>) {
+    let conn = opened(rt, files).ok().expect(rt, "an open");
+    let conn = takes_first(rt, adopted_twice(rt, conn));
+    goes_on(rt, adopted_twice(rt, conn), ONE_WORKUNIT);
+}
+
+#[test]
+fn an_adoption_is_found_after_a_stop(rt: HostRuntime) {
+    stops_after_adoptions(&rt, empty_files(&rt));
 }

@@ -1,12 +1,12 @@
 //! Statements that no command runs yet, over the tables of a project.
 
-use crate::setting::{answers, bytes, fresh, imports, is_count, runs};
+use crate::setting::{answers, bytes, fresh, imports, is_bytes, is_count, is_fault, is_text, runs};
 use sqlite::{Connection, MemStore};
 use std::process::Abort;
-use wu_core::{Archived, ErrorMask, Grant, Instance, Moment, Name};
+use wu_core::{Archived, ErrorMask, Fault, Grant, ImportKind, Instance, Moment, Name, Workunit};
 use wu_store::{
-    delete_workunit, insert_archived, insert_grant, insert_instance, instance_rows,
-    workunit_row_above, workunit_row_named,
+    Change, apply, delete_workunit, import_of, insert_archived, insert_grant, insert_instance,
+    instance_rows, load, load_named, next_number, workunit_row_above, workunit_row_named,
 };
 
 /// The jobs file of two workunits.
@@ -108,6 +108,25 @@ fn archives(
     tx.commit().expect(rt, "a commit");
 }
 
+/// The present workunit of this number, with its instances.
+fn loaded(
+    rt: &(impl Abort + AllocGlobal),
+    conn: &mut Connection<MemStore>,
+    number: u64,
+) -> Workunit {
+    load(conn, rt.alloc(), number)
+        .expect(rt, "an answer")
+        .expect(rt, "a workunit")
+}
+
+/// Makes one change in a transaction; whether it was made.
+fn changed(rt: &impl Abort, conn: &mut Connection<MemStore>, change: Change<'_>) -> bool {
+    assert!(rt; conn.is_autocommit());
+    let mut tx = conn.transaction();
+    let is_made = apply(&mut tx, &[change]).is_ok();
+    tx.commit().is_ok() && is_made
+}
+
 #[test]
 fn a_host_has_the_sums_of_its_grants(rt: HostRuntime) {
     let mut conn = two_jobs(&rt);
@@ -206,4 +225,99 @@ fn instances_are_those_of_their_workunit(rt: HostRuntime) {
     has_instances(&rt, &mut conn, 1, 2);
     has_instances(&rt, &mut conn, 2, 1);
     has_instances(&rt, &mut conn, 3, 0);
+}
+
+#[test]
+fn a_workunit_is_loaded_with_its_instances(rt: HostRuntime) {
+    let mut conn = two_jobs(&rt);
+    let first = loaded(&rt, &mut conn, 1);
+    is_text(&rt, first.name.as_str(), "job_1");
+    is_bytes(&rt, first.input.as_slice(), b"\x00\xff");
+    is_count(&rt, first.instances.len(), 2);
+    let second = load_named(&mut conn, rt.alloc(), &named(&rt, "job_2"))
+        .expect(&rt, "an answer")
+        .expect(&rt, "a workunit");
+    assert_eq!(rt; second.number, 2);
+    is_count(&rt, second.instances.len(), 1);
+}
+
+#[test]
+fn an_absent_workunit_is_not_loaded(rt: HostRuntime) {
+    let mut conn = two_jobs(&rt);
+    let third = load(&mut conn, rt.alloc(), 3).expect(&rt, "an answer");
+    assert!(rt; third.is_none());
+    let named = load_named(&mut conn, rt.alloc(), &named(&rt, "job_3")).expect(&rt, "an answer");
+    assert!(rt; named.is_none());
+}
+
+#[test]
+fn a_row_that_is_no_instance_is_no_project(rt: HostRuntime) {
+    let mut conn = two_jobs(&rt);
+    runs(
+        &rt,
+        &mut conn,
+        "UPDATE result SET server_state = 3 WHERE workunit = 1 AND n = 1",
+    );
+    match load(&mut conn, rt.alloc(), 1) {
+        Ok(_) => panic!(rt; "loaded"),
+        Err(fault) => is_fault(&rt, fault, Fault::NotAProject),
+    }
+    is_count(&rt, loaded(&rt, &mut conn, 2).instances.len(), 1);
+}
+
+#[test]
+fn a_workunit_takes_the_place_of_the_present_one(rt: HostRuntime) {
+    let mut conn = two_jobs(&rt);
+    let mut workunit = loaded(&rt, &mut conn, 1);
+    workunit.canonical = Some(1);
+    assert!(rt; workunit.instances.len() < 100);
+    workunit
+        .instances
+        .add_unsent(rt.alloc(), 1)
+        .expect(&rt, "memory");
+    assert!(rt; changed(&rt, &mut conn, Change::Replace(workunit)));
+    let again = loaded(&rt, &mut conn, 1);
+    assert_eq!(rt; again.canonical, Some(1));
+    is_count(&rt, again.instances.len(), 3);
+    answers(&rt, &mut conn, "SELECT count(*) FROM workunit", 2);
+    answers(&rt, &mut conn, "SELECT count(*) FROM result", 4);
+}
+
+#[test]
+fn a_workunit_is_added_with_its_instances(rt: HostRuntime) {
+    let mut conn = two_jobs(&rt);
+    let mut workunit = loaded(&rt, &mut conn, 1);
+    workunit.number = 3;
+    workunit.name = named(&rt, "job_3");
+    assert!(rt; changed(&rt, &mut conn, Change::Add(workunit)));
+    is_count(&rt, loaded(&rt, &mut conn, 3).instances.len(), 2);
+}
+
+#[test]
+fn a_number_or_a_name_that_is_there_is_refused(rt: HostRuntime) {
+    let mut conn = two_jobs(&rt);
+    let mut numbered = loaded(&rt, &mut conn, 1);
+    numbered.name = named(&rt, "job_3");
+    assert!(rt; !changed(&rt, &mut conn, Change::Add(numbered)));
+    let mut named = loaded(&rt, &mut conn, 1);
+    named.number = 3;
+    assert!(rt; !changed(&rt, &mut conn, Change::Add(named)));
+    answers(&rt, &mut conn, "SELECT count(*) FROM workunit", 2);
+}
+
+#[test]
+fn an_import_and_the_next_number_are_found(rt: HostRuntime) {
+    let mut conn = two_jobs(&rt);
+    let first = import_of(&mut conn, rt.alloc(), ImportKind::Batch, &named(&rt, "b1"))
+        .expect(&rt, "an answer")
+        .expect(&rt, "an import");
+    is_bytes(&rt, first.content.as_slice(), TWO_JOBS);
+    assert_eq!(rt; first.first_number, 1);
+    is_bytes(&rt, first.verdicts.as_slice(), b"\x00\x00");
+    let other = import_of(&mut conn, rt.alloc(), ImportKind::Sent, &named(&rt, "b1")).expect(
+        &rt,
+        "an answer",
+    );
+    assert!(rt; other.is_none());
+    assert_eq!(rt; next_number(&mut conn).expect(&rt, "a number"), 3);
 }

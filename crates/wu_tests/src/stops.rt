@@ -2,6 +2,7 @@
 //!
 //! An open of what is left finds all of the adoption or of the batch, or nothing of it.
 
+use crate::disks::{MOST_CALLS, Side, copies, empty_files};
 use crate::setting::{
     TWO_WORKUNITS, adopted, answers, batch, imports, is_fault, number, opened, says, shows,
 };
@@ -10,13 +11,6 @@ use sqlite_disk::{Crash, Disk, Fuse, Memory};
 use std::process::Abort;
 use wu_core::Fault;
 use wu_drive::Project;
-
-/// The file whose calls stop.
-#[derive(Clone, Copy, Drop)]
-enum Side {
-    Log,
-    Database,
-}
 
 /// What is left of the files: all that was written, or only what was synced.
 #[derive(Clone, Copy, Drop)]
@@ -31,9 +25,6 @@ enum Task {
     Adopt,
     Batch,
 }
-
-/// More calls than any run makes on a file.
-const MOST_CALLS: u64 = 1000;
 
 /// The jobs file of the batch.
 const TWO_JOBS: &[u8] = b"name,input\njob_1,00ff\njob_2,\n";
@@ -187,36 +178,6 @@ fn recovers_over<D: Disk + Drop>(
     recovers(rt, conn, task, was_done);
 }
 
-/// The two files, where the calls on this one stop after so many.
-fn fused(log: Memory, db: Memory, side: Side, calls: u64) -> Files<Fuse<Memory>> {
-    let (log_calls, db_calls) = match side {
-        Side::Log => (calls, u64::MAX),
-        Side::Database => (u64::MAX, calls),
-    };
-    Files {
-        log: Fuse::new(log, log_calls),
-        db: Fuse::new(db, db_calls),
-    }
-}
-
-/// A synced file of the same bytes.
-fn copied(rt: &(impl Abort + AllocGlobal), file: &Fuse<Memory>) -> Memory {
-    let mut copy = Memory::new(rt.alloc());
-    copy.write_at(0, file.inner().bytes()).expect(rt, "a write");
-    copy.sync().expect(rt, "a sync");
-    copy
-}
-
-/// Copies of the two files, where the calls on this one stop after so many.
-fn copies(
-    rt: &(impl Abort + AllocGlobal),
-    files: &Files<Fuse<Memory>>,
-    side: Side,
-    calls: u64,
-) -> Files<Fuse<Memory>> {
-    fused(copied(rt, &files.log), copied(rt, &files.db), side, calls)
-}
-
 /// What is left of the files, where no call stops.
 fn remains(
     rt: &(impl Abort + AllocGlobal),
@@ -331,16 +292,6 @@ fn stops_everywhere(rt: &(impl Abort + AllocGlobal), files: &Files<Fuse<Memory>>
         stops_each(rt, files, task, Side::Log, loss);
         stops_each(rt, files, task, Side::Database, loss);
     }
-}
-
-/// Two empty files.
-fn empty_files(rt: &(impl Abort + AllocGlobal)) -> Files<Fuse<Memory>> {
-    fused(
-        Memory::new(rt.alloc()),
-        Memory::new(rt.alloc()),
-        Side::Log,
-        u64::MAX,
-    )
 }
 
 /// The files of a fresh project.

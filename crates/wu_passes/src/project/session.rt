@@ -4,9 +4,10 @@ ghost use Rattle.std.specs.Prelude.{◌≡◌, ◌<◌, ◌≤◌, ℕ, true, fa
 ghost use Rattle.sqlite.specs.State.{HasCleanDisk};
 ghost use Rattle.sqlite.specs.Held.{state};
 ghost use Rattle.wu_passes.specs.Machine.{present_version};
-ghost use Rattle.wu_passes.specs.Planning.{IsOpenAfter, IsRead, IsStoreFault, KeepsTables, NeverEnded, OpenOrFails, OverWorlds, PlansFor, request_of};
-ghost use Rattle.wu_passes.specs.Standing.{FindsKnown, FindsWorld, GoesBackRefused, KeepsDoubt, KeepsFound, KeepsWhole, LeavesFresh, MakesBeside, MakesFresh, MayEnd, RefusesOnly, RefusesWhole, TellsLater, TellsStored};
-ghost use Rattle.wu_passes.specs.Projects.{AdoptsBeside, AdoptsFresh, AdoptsKnown, AdoptsWhole, AdoptsWorld, AnswersEnded, CarriesOut, ComesBack, connection_of, DoubtsStill, GivesBack, GoesStill, has_ended, IsLater, IsOver, IsUnlimited, KeepsLimit, RefusesAdoption, RefusesStanding, RunsOn, ServesAfterOk, ShowsWorkunits, state_of, TellsStoredLater, WasOpenBefore};
+ghost use Rattle.wu_passes.specs.Planning.{IsProject, NeverEnded, OpenOrFails, PlansFor, request_of};
+ghost use Rattle.wu_store.specs.Loading.{IsRead, IsStoreFault, KeepsTables, NotRefusedIn, OverWorlds, ServesUnlessFailed};
+ghost use Rattle.wu_passes.specs.Standing.{FindsKnown, FindsWorld, GoesBackRefused, IsCutBy, KeepsDoubt, KeepsFound, KeepsWhole, LeavesFresh, MakesBeside, MakesFresh, MayEnd, RefusesOnly, RefusesWhole, TellsLater, TellsStored};
+ghost use Rattle.wu_passes.specs.Projects.{AdoptsBeside, AdoptsFresh, AdoptsKnown, AdoptsWhole, AdoptsWorld, AnswersEnded, CarriesOut, ComesBack, connection_of, DoubtsStill, GivesBack, GoesStill, has_ended, IsLater, IsOpen, IsOver, IsUnlimited, KeepsLimit, RefusesAdoption, RefusesStanding, RunsOn, ServesAgain, ServesOn, ShowsWorkunits, state_of, TellsStoredLater, TellsWhy, WasOpenBefore};
 
 use crate::batch::{Plan, plan_batch};
 use crate::command::{Answer, Command};
@@ -48,6 +49,7 @@ fn find_or_create<S: Alter>(conn: &mut Connection<S>) -> Result<(), Fault>
     ensures back { GoesBackRefused S.Store conn.old conn.new result }
     ensures only { RefusesOnly S.Store conn.old conn.new result }
     ensures limit { (state S.Store conn.new).step_limit ≡ (state S.Store conn.old).step_limit }
+    ensures opens { ServesUnlessFailed S.Store conn.new result }
 {
     match version_of(conn) {
         Ok(Some(version)) => check_version(version),
@@ -66,8 +68,9 @@ fn plan<'a, S: Alter>(
     ensures read { IsRead (state S.Store conn.old) (state S.Store conn.new) }
     ensures same { KeepsTables S.Store conn.old conn.new result }
     ensures open { OpenOrFails S.Store conn.old conn.new result }
-    ensures opens { IsOpenAfter S.Store conn.new result }
+    ensures opens { ServesUnlessFailed S.Store conn.new result }
     ensures never { NeverEnded result }
+    ensures unrefused { NotRefusedIn S.Store conn.old conn.new result IsProject }
     ensures plan { OverWorlds S.Store conn.old conn.new (PlansFor (request_of command.now) result) }
 {
     match command {
@@ -81,7 +84,7 @@ impl<S: Alter> Project<S> {
     /// A project that is found is not touched, whatever comes of it. A database with none of the project's tables gets
     /// them, in one transaction; tables of other names are left alone. A later version is `NewSchema`, where it is
     /// stored. `NotAProject` is a connection inside a transaction, a taken name, or a table `project` with other rows.
-    /// With each refusal the connection comes back.
+    /// With each refusal the connection comes back, and is open but after want of memory or a failure of the disk.
     pub fn adopt(mut conn: Connection<S>) -> Result<Self, (Connection<S>, Fault)>
         ensures busy { conn.in_transaction ≡ true → result ≡ Err (conn, Fault.NotAProject) }
         ensures begins { IfOk result GoesStill }
@@ -99,6 +102,8 @@ impl<S: Alter> Project<S> {
         ensures back { IfErr result (GivesBack S.Store conn) }
         ensures only { RefusesStanding S.Store conn result }
         ensures unlimited { IfOk result IsUnlimited }
+        ensures opens { IfOk result IsOpen }
+        ensures serves { conn.in_transaction ≡ false → IfErr result (ServesAgain S.Store) }
     {
         if !conn.is_autocommit() {
             return Err((conn, Fault::NotAProject));
@@ -131,16 +136,18 @@ impl<S: Alter> Project<S> {
     /// Runs a command: its changes in one transaction, then its answer.
     ///
     /// All is computed before the transaction begins. A fault before it changes nothing; only `Broken` ends the session
-    /// there. A statement that is refused within it is rolled back. `Memory` and `Broken` from within end the session.
+    /// there. A statement that is refused within it is `NotAProject`, and is rolled back. `Memory` and `Broken` from
+    /// within end the session. After every other fault the connection is open.
     pub fn run(&mut self, alloc: Global, command: &Command) -> Result<Answer, Fault>
         ensures ended { IsOver self.old → AnswersEnded self.old self.new result }
         ensures clean { KeepsDoubt (state_of self.old) (state_of self.new) }
         ensures ends { GoesStill self.old → IsOver self.new → IsErrAnd result MayEnd }
         ensures broken { GoesStill self.old → result ≡ Err Fault.Broken → IsOver self.new }
-        ensures opens { ServesAfterOk self.new result }
+        ensures opens { GoesStill self.old → ServesOn self.new result }
         ensures limit { KeepsLimit self.old self.new }
         ensures never { GoesStill self.old → NeverEnded result }
         ensures runs { GoesStill self.old → RunsOn self.old self.new command.now result }
+        ensures why { GoesStill self.old → TellsWhy self.old self.new command.now result }
     {
         if self.has_ended {
             return Err(Fault::Ended);
@@ -163,7 +170,8 @@ impl<S: Alter> Project<S> {
         ensures clean { KeepsDoubt (state_of self.old) (state_of self.new) }
         ensures ends { IsOver self.new → IsErrAnd result MayEnd }
         ensures broken { result ≡ Err Fault.Broken → IsOver self.new }
-        ensures opens { IsTrue (state_of self.old).is_open → ServesAfterOk self.new result }
+        ensures opens { IsTrue (state_of self.old).is_open → ServesOn self.new result }
+        ensures cause { IfErr result (IsCutBy (has_ended self.new)) }
         ensures limit { KeepsLimit self.old self.new }
         ensures never { NeverEnded result }
         ensures done { CarriesOut self.old self.new answer changes.now result }
@@ -188,6 +196,7 @@ impl<S: Alter> Project<S> {
         ensures broken { result ≡ Err Fault.Broken → IsOver self.new }
         ensures read { IsRead (state_of self.old) (state_of self.new) }
         ensures open { WasOpenBefore self.old self.new result }
+        ensures opens { GoesStill self.old → ServesOn self.new result }
         ensures rows { ShowsWorkunits self.old self.new result }
         ensures fault { GoesStill self.old → IfErr result IsStoreFault }
     {

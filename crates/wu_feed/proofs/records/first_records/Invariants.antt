@@ -1,4 +1,4 @@
-use Rattle.std.proofs.Common.{◌≡◌, ◌<◌, ℕ, List, Some, map, length}
+use Rattle.std.proofs.Common.{◌≡◌, true, ◌<◌, ℕ, List, Some, map, length}
 use Rattle.csv.specs.Reading.{Reached, Ready, default_config, source_of, strip_bom}
 use Rattle.csv.specs.Records.{fields_of}
 use Rattle.csv.specs.declared.parser.State.TheVariants as st
@@ -9,4 +9,4 @@ abbrev pub invariant-loop-record : goal.invariant-loop-record
 invariant-loop-record l = (l.record-iterator.rdr.trim ≡ trim.None) × Ready l.record-iterator.rdr × (0 < l.record-iterator.left) × (l.record-iterator.rdr.config ≡ default_config)
     × (y : List ℕ) × (source_of (λ s. Some s.now) l.record-iterator.rdr ≡ Some y)
     × Reached default_config st.StartRecord (strip_bom l.fn.text) (map fields_of l.records.items) l.record-iterator.rdr.state y
-    × (length l.records.items < 1002)
+    × (length l.records.items < 1002) × (l.record-iterator.rdr.flexible ≡ true)

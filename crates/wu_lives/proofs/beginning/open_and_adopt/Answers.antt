@@ -1,7 +1,8 @@
 use Rattle.std.proofs.Common.{arith}
 use Rattle.sqlite.specs.State.{HasCleanDisk}
 use Rattle.sqlite.specs.Files.{file_state}
-use Rattle.wu_lives.proofs.BeginningLemmas.{blank_vacant, empty_project, goes_from}
+use Rattle.wu_drive.proofs.DrivingLemmas.{empty_project}
+use Rattle.wu_lives.proofs.BeginningLemmas.{blank_vacant, goes_from}
 use Rattle.wu_lives.proofs.beginning.open_and_adopt.Goals as goal
 
 pub returns-in-Ok-adopt-clause-blank : goal.returns-in-Ok-adopt-clause-blank

@@ -1,15 +1,17 @@
-use Rattle.std.proofs.Common.{◌≡◌, ◌⊎◌, ◌≤◌, length, ap, sym, subst, take, inl, inr, arith, ◌∙◌}
+use Rattle.std.proofs.Common.{List, Vec, Global, ◌≡◌, ◌⊎◌, ◌≤◌, ◌++◌, ◌∷◌, [], length, ap, sym, subst, take, inl, inr, arith, refl, ◌∙◌}
 use Rattle.std.proofs.Math.Logic.{∥∥₁_elim, ∥∥₁_map}
 use Rattle.std.proofs.Math.Seq.{take-length}
 use Rattle.sqlite.specs.Files.{file_state}
 use Rattle.wu_passes.specs.Projects.{GoesStill}
-use Rattle.wu_lives.specs.Reopening.{commands_of, HasLived}
-use Rattle.wu_lives.proofs.ReopeningLemmas.{lived_none, lived_next, one_more}
+use Rattle.wu_passes.specs.declared.command.Command.{Command}
+use Rattle.wu_passes.specs.Sessions.{world_of_life}
+use Rattle.wu_lives.specs.Lives.{TellsLives, Told}
+use Rattle.wu_lives.proofs.ReopeningLemmas.{lived_more, lived_none, of_more, one_more, written_more}
 use Rattle.wu_lives.proofs.reopening.live_all.Goals as goal
 
 pub loop-commands-init : goal.loop-commands-init
 loop-commands-init g c = (
-  λ clean world project goes. rw (c.new-runs.ensures.items) (∣ lived_none world _ project goes ∣₁),
+  ([], record { their_commands = refl; their_runs = sym c.new-runs.ensures.items }, refl, λ clean world project goes. ∣ lived_none world _ project goes ∣₁),
   λ clean. clean,
   λ on. elim on [
     | inl going ↦ going
@@ -20,11 +22,19 @@ loop-commands-init g c = (
 
 pub loop-commands-preserved : goal.loop-commands-preserved
 loop-commands-preserved g c =
-    let (found, was, begins, count) = c.loop-commands.invariant in (
-      λ clean world project goes.
-          ∥∥₁_elim (found (c.in-Some.ensures.clean clean) world project goes) squash₁ (λ lived. ∥∥₁_map (c.in-Some.ensures.found clean lived.last lived.project lived.goes) (λ holds.
-          lived_next world c.args.lives.now c.loop-commands.commands-index c.commands-item.result c.commands-item.result c.as_slice.result.now c.loop-commands.runs.items _ c.in-Some.lived.0 _ _
-          c.loop-commands-test.true (sym c.commands-item.is) c.as_slice.ensures.value c.in-Ok.ensures.items lived holds)),
+    let ((told, are, written, found), was, begins, count) = c.loop-commands.invariant in
+    let (answers, texts, replied) = c.in-Some.ensures.answers in
+    let next : Told = record { commands = c.as_slice.result.now; answers = answers; run = c.in-Some.lived.0 } in (
+      (
+        told ++ next ∷ [],
+        of_more c.args.lives.now c.loop-commands.commands-index c.commands-item.result c.commands-item.result c.loop-commands.runs.items _ told next c.loop-commands-test.true (sym c.commands-item.is) c.as_slice.ensures.value
+            c.in-Ok.ensures.items are,
+        written_more _ _ _ told next written texts,
+        λ clean world project goes.
+            ∥∥₁_elim (found (c.in-Some.ensures.clean clean) world project goes) squash₁ (λ lived.
+            ∥∥₁_map (c.in-Some.ensures.found clean (world_of_life world lived.life) lived.project lived.goes) (λ holds.
+            lived_more world told next _ _ lived holds (replied clean (world_of_life world lived.life) lived.project lived.goes))),
+      ),
       λ clean. was (c.in-Some.ensures.clean clean),
       λ on. c.in-Some.ensures.begins,
       one_more c.loop-commands.runs.items _ _ _ c.in-Ok.ensures.items count,
@@ -39,9 +49,7 @@ returns g c =
       clean = was;
       begins = λ on. begins (subst (λ n. GoesStill c.args.project ⊎ (1 ≤ n)) (sym whole) on);
       count = count ∙ whole;
-      found = λ clean world project goes.
-          let runs = c.loop-commands.runs.items in
-          let end = file_state c.loop-commands.project.conn in
-          subst (λ ls. ∥ HasLived world (commands_of ls) runs end ∥₁) (take-length lives)
-          (subst (λ k. ∥ HasLived world (commands_of (take k lives)) runs end ∥₁) whole (found clean world project goes));
+      found =
+          let tells : List (Vec Command Global) → Type 0 = λ ls. TellsLives (g.W.Write.contents c.args.out.now) (g.W.Write.contents c.loop-commands.out) (file_state c.args.project.conn) ls c.loop-commands.runs.items (file_state c.loop-commands.project.conn) in
+          subst tells (take-length lives) (subst (λ k. tells (take k lives)) whole found);
     }

@@ -1,12 +1,13 @@
 use Rattle.std.proofs.Common.{◌≡◌, ◌⊎◌, ◌≤◌, length, take}
 use Rattle.sqlite.specs.Files.{file_state}
 use Rattle.wu_passes.specs.Projects.{GoesStill}
-use Rattle.wu_lives.specs.Reopening.{FindsLives, WasClean}
+use Rattle.wu_lives.specs.Lives.{TellsLives}
+use Rattle.wu_lives.specs.Reopening.{WasClean}
 use Rattle.wu_lives.proofs.reopening.live_all.Given as goal
 
 abbrev pub invariant-loop-commands : goal.invariant-loop-commands
 invariant-loop-commands g l =
-    FindsLives (file_state l.initial.project.conn) (take l.commands-index l.lives) l.runs.items (file_state l.project.conn)
+    TellsLives (g.W.Write.contents l.initial.out) (g.W.Write.contents l.out) (file_state l.initial.project.conn) (take l.commands-index l.lives) l.runs.items (file_state l.project.conn)
     × WasClean (file_state l.initial.project.conn) (file_state l.project.conn)
     × (GoesStill l.initial.project ⊎ (1 ≤ l.commands-index) → GoesStill l.project)
     × (length l.runs.items ≡ l.commands-index)

@@ -4,7 +4,8 @@ use Rattle.sqlite.specs.Effect.{Database}
 use Rattle.sqlite.specs.Held.{state}
 use Rattle.wu_store.specs.Answers.{has_name, was_archived}
 use Rattle.wu_schema.specs.StandsFor.{StandsFor}
-use Rattle.wu_passes.proofs.AskLemmas.{never_refused, taken_is}
+use Rattle.wu_store.proofs.LoadLemmas.{never_refused}
+use Rattle.wu_passes.proofs.AskLemmas.{taken_is}
 use Rattle.wu_passes.proofs.batch.is_taken.Goals as goal
 
 pub returns-in-Ok-true-clause-taken : goal.returns-in-Ok-true-clause-taken

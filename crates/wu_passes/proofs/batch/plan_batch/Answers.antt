@@ -1,4 +1,6 @@
 use Rattle.std.proofs.Common.{inr}
+use Rattle.wu_core.specs.declared.import.ImportKind.TheVariants as kind
+use Rattle.wu_passes.proofs.AskLemmas.{found_in_range}
 use Rattle.wu_passes.proofs.BatchLemmas.{batch_repeated}
 use Rattle.wu_passes.proofs.batch.plan_batch.Goals as goal
 
@@ -8,3 +10,7 @@ returns-in-Ok-Some-clause-plan g c clean world stands project =
 
 pub returns-in-Err-clause-plan : goal.returns-in-Err-clause-plan
 returns-in-Err-clause-plan g c clean world stands project = inr (c.in-Err.ensures.found clean world stands)
+
+pub returns-in-Err-clause-unrefused : goal.returns-in-Err-clause-unrefused
+returns-in-Err-clause-unrefused g c clean world stands project limit =
+    c.in-Err.ensures.unrefused clean world stands (found_in_range kind.Batch c.args.batch.now.name world project.verdicts) limit

@@ -18,3 +18,6 @@ returns-clause-plan g c clean world stands project new template_is file_is =
     let free : first_taken world c.args.jobs ≡ None = rw c.as_slice.ensures at (c.in-Ok.ensures.free before world stands) in
     let next_is = c.in-Ok-next_number.ensures.next clean world still in
     jobs_planned world project c.args.batch.now.name c.args.batch.now.template c.args.batch.now.file c.args.params c.args.jobs _ c.new_batch.result new template_is file_is free next_is (search rules) c.new_batch.ensures.plan c.new_batch.ensures.fault
+
+pub returns-in-Err-clause-unrefused : goal.returns-in-Err-clause-unrefused
+returns-in-Err-clause-unrefused g c clean world stands project limit = c.in-Err.ensures.unrefused clean world stands limit

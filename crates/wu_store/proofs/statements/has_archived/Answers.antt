@@ -12,7 +12,7 @@ returns-in_err-rows g c =
     let q = c.in_err-rows.ensures in
     let given = also (ap bound_value c.params-to_sql.ensures ∙ ap (λ t. Text t) c.as_str.ensures) no_more in
     let it = any_err g.S.Store Archive (λ _. tt) archived_asked archived_fits c.args.conn.now c.query_all.new.self _ (Text c.args.name.now ∷ []) given refl (λ _. refl) q.mode q.survives (was_archived c.args.name.now) c.in_err-rows.field-0.0 q.err c.from_residual.result c.from_residual.ensures.1 in
-    record { reads = it.reads; answers = it.answers; told = it.told }
+    record { reads = it.reads; answers = it.answers; told = it.told; serves = it.serves }
 
 pub returns : goal.returns
 returns g c =
@@ -20,4 +20,4 @@ returns g c =
     let given = also (ap bound_value c.params-to_sql.ensures ∙ ap (λ t. Text t) c.as_str.ensures) no_more in
     let it = asked_any g.S.Store Archive (λ _. tt) archived_asked archived_fits c.args.conn.now c.query_all.new.self _ (Text c.args.name.now ∷ []) given refl (λ _. refl) q.mode q.survives (was_archived c.args.name.now)
     (λ rows h world s. archived_found (state g.S.Store c.args.conn.now) (state g.S.Store c.query_all.new.self) world s c.args.name.now rows h) c.in_ok-rows.rows q.ok _ (ap not c.is_empty.ensures ∙ ap (λ n. not (n == 0)) c.in_ok-rows.rows.ok.0) in
-    record { reads = it.reads; answers = it.answers; told = it.told }
+    record { reads = it.reads; answers = it.answers; told = it.told; serves = it.serves }

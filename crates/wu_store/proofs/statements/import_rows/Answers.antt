@@ -15,4 +15,4 @@ returns g c =
     let given = also (ap bound_value c.params-to_sql.ensures ∙ ap number c.code.ensures) (also (ap bound_value c.params-to_sql-2.ensures ∙ ap (λ t. Text t) c.as_str.ensures) no_more) in
     let it = asked_all g.S.Store Imports (λ _. tt) import_asked import_fits old new _ (number (import_kind_code c.args.kind) ∷ Text c.args.name.now ∷ []) given refl (λ _. refl) q.mode q.survives
     (λ rows world. rows ≡ kept_of c.args.kind c.args.name.now world) (λ rows h world s. import_found (state g.S.Store old) (state g.S.Store new) world s c.args.kind c.args.name.now rows h) c.query_all.result q.ok q.err in
-    record { reads = it.reads; answers = it.answers; told = it.told }
+    record { reads = it.reads; answers = it.answers; told = it.told; serves = it.serves }

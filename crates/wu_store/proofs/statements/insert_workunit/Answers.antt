@@ -1,12 +1,13 @@
-use Rattle.wu_schema.proofs.Words.{Blob, Int, Text, ap, bound_value, number, state, workunit_row, ◌∙◌, ◌≡◌}
+use Rattle.wu_schema.proofs.Words.{Blob, HasCleanDisk, Int, OnOk, StandsFor, Text, World, ap, bound_value, number, state, workunit_row, ◌∙◌, ◌≡◌}
+use Rattle.wu_store.specs.Changes.{LacksNumber, bare, with_placed}
 use Rattle.wu_store.proofs.InsertTexts.{workunit_put}
 use Rattle.wu_schema.proofs.InsertEffect.{also, no_more}
-use Rattle.wu_schema.proofs.CallLemmas.{ran_as}
+use Rattle.wu_schema.proofs.CallLemmas.{ok_on, ran_as}
 use Rattle.wu_store.proofs.ChangeLemmas.{sent, bound_number_or_null, bound_seconds, puts_workunit}
 use Rattle.wu_store.proofs.statements.insert_workunit.Goals as goal
 
-pub returns-clause-puts : goal.returns-clause-puts
-returns-clause-puts g c clean =
+pub returns : goal.returns
+returns g c =
     let w = c.args.workunit.now in
     let given : _ ≡ workunit_row w = also (ap bound_value c.params-to_sql.ensures ∙ ap (λ z. Int z) (sent _ w.number c.in_ok-number.ensures.value c.in_ok-number.ensures.within))
     (also (ap bound_value c.params-to_sql-2.ensures ∙ ap (λ t. Text t) c.as_str.ensures)
@@ -23,4 +24,12 @@ returns-clause-puts g c clean =
     (also (ap bound_value c.params-to_sql-13.ensures ∙ ap number c.code-2.ensures)
     (also (ap bound_value c.params-to_sql-14.ensures ∙ ap number c.code-3.ensures)
     (also (ap bound_value c.params-to_sql-15.ensures ∙ bound_seconds _ w.done_at c.seconds_of-done_at.ensures) no_more)))))))))))))) in
-    ran_as (state g.S.Store c.args.tx.now.conn.now) (state g.S.Store c.execute.new.tx.conn.now) workunit_put.text _ _ given c.execute.result (c.execute.ensures.ran clean) (λ count ran world s. puts_workunit (state g.S.Store c.args.tx.now.conn.now) (state g.S.Store c.execute.new.tx.conn.now) world s w count ran)
+    let old = state g.S.Store c.args.tx.now.conn.now in
+    let new = state g.S.Store c.execute.new.tx.conn.now in
+    let made : HasCleanDisk new → OnOk c.execute.result ((world : World) → StandsFor old.now world → LacksNumber w.number world.workunits × StandsFor new.now (with_placed (bare w) world)) =
+    λ clean. ran_as old new workunit_put.text _ _ given c.execute.result (c.execute.ensures.ran clean) (λ count ran world s. puts_workunit old new world s w count ran) in
+    record {
+      writes = c.execute.ensures.writes;
+      free = λ clean. ok_on c.execute.result _ _ (λ it world s. (it world s).0) (made clean);
+      puts = λ clean. ok_on c.execute.result _ _ (λ it world s. (it world s).1) (made clean);
+    }

@@ -13,4 +13,4 @@ returns g c =
     let q = c.query_row.ensures in
     let it = asked_row g.S.Store Project (λ _. tt) next_asked next_fits old new [] [] refl refl (λ _. refl) q.mode q.survives (λ row world. row ≡ next_row world)
     (λ row h world s. next_found (state g.S.Store old) (state g.S.Store new) world s row h) (λ world s. next_there (state g.S.Store old) (state g.S.Store new) world s) c.query_row.result q.row in
-    record { reads = it.reads; answers = it.answers; told = it.told }
+    record { reads = it.reads; answers = it.answers; told = it.told; serves = it.serves }

@@ -17,11 +17,11 @@ returns-in-Ok-found g c =
     let given = also (ap bound_value c.params-to_sql.ensures ∙ ap (λ z. Int z) (sent _ c.args.number c.in-Ok.ensures.value c.in-Ok.ensures.within)) no_more in
     let it = asked_first g.S.Store Workunits (λ _. tt) above_asked above_fits old new _ (number c.args.number ∷ []) given refl (λ _. refl) q.mode q.survives (row_above c.args.number)
     (λ rows h world s. above_found (state g.S.Store old) (state g.S.Store new) world s c.args.number rows h) rows q.ok c.pop.new.self.items c.pop.result c.pop.ensures.items (λ some. c.pop.ensures.variant.1 (omega (arith, some, rows.ok.0))) in
-    record { reads = it.reads; answers = it.answers; told = λ _. it.told }
+    record { reads = it.reads; answers = it.answers; told = λ _. it.told; serves = λ was clean. tt }
 
 pub returns-in-Err-found : goal.returns-in-Err-found
 returns-in-Err-found g c =
     let q = c.in-Err-found.ensures in
     let given = also (ap bound_value c.params-to_sql.ensures ∙ ap (λ z. Int z) (sent _ c.args.number c.in-Ok.ensures.value c.in-Ok.ensures.within)) no_more in
     let it = any_err g.S.Store Workunits (λ _. tt) above_asked above_fits c.args.conn.now c.query_all-found.new.self _ (number c.args.number ∷ []) given refl (λ _. refl) q.mode q.survives (row_above c.args.number) c.in-Err-found.error q.err _ refl in
-    record { reads = it.reads; answers = it.answers; told = λ _. it.told }
+    record { reads = it.reads; answers = it.answers; told = λ _. it.told; serves = λ was clean is. (it.serves clean is).0.is_open }

@@ -13,4 +13,4 @@ returns g c =
     let q = c.query_all.ensures in
     let it = asked_all g.S.Store Workunits (λ _. tt) all_asked all_fits old new [] [] refl refl (λ _. refl) q.mode q.survives (λ rows world. rows ≡ all_rows world)
     (λ rows h world s. workunits_found (state g.S.Store old) (state g.S.Store new) world s rows h) c.query_all.result q.ok q.err in
-    record { reads = it.reads; answers = it.answers; told = it.told }
+    record { reads = it.reads; answers = it.answers; told = it.told; serves = it.serves }

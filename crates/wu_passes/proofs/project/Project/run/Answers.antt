@@ -1,9 +1,10 @@
-use Rattle.std.proofs.Common.{sym, subst, arith, inl, inr, IsTrue}
+use Rattle.std.proofs.Common.{rules, sym, subst, arith, inl, inr, IsTrue}
 use Rattle.sqlite.specs.Effect.{Database}
 use Rattle.sqlite.specs.State.{HasCleanDisk}
 use Rattle.sqlite.specs.Held.{state}
 use Rattle.wu_schema.specs.StandsFor.{StandsFor}
-use Rattle.wu_passes.proofs.StandingLemmas.{goes_read, plan_refused}
+use Rattle.wu_passes.proofs.StandingLemmas.{cut_why, goes_read, plan_refused, refused_open, refused_why, reply_is}
+use Rattle.wu_passes.specs.Planning.{reply_of_answer}
 use Rattle.wu_passes.proofs.project.Project.run.Goals as goal
 
 pub returns-in-Ok-clause-runs : goal.returns-in-Ok-clause-runs
@@ -20,3 +21,20 @@ returns-then-ne-clause-runs g c goes_on clean world project goes = (
   plan_refused (state g.S.Store c.args.self.now.conn) world _ c.plan.result c.in-Err.fault c.in-Err.is goes (c.plan.ensures.open clean) (λ stands. c.in-Err.ensures.plan clean world stands project),
   rw goes_on (goes_read _ _ world clean c.plan.ensures.read goes),
 )
+
+pub returns-in-Ok-clause-why : goal.returns-in-Ok-clause-why
+returns-in-Ok-clause-why g c goes_on clean unlimited world project goes =
+    let before : HasCleanDisk (state g.S.Store c.plan.new.conn) = omega (arith, c.carry_out.ensures.clean) in
+    let is_open : IsTrue (state g.S.Store c.args.self.now.conn).is_open = elim (c.in-Ok.ensures.open before) [ inl is ↦ is | inr fails ↦ absurd (let no = fails.1 in cc) ] in
+    let planned = c.in-Ok.ensures.plan before world (goes.stands is_open).0 project in
+    cut_why _ world _ c.carry_out.result (reply_of_answer c.in-Ok.field-0.answer, reply_is world _ c.in-Ok.field-0.answer c.in-Ok.field-0.changes.items planned) c.carry_out.ensures.cause
+
+pub returns-then-ne-clause-why : goal.returns-then-ne-clause-why
+returns-then-ne-clause-why g c goes_on clean unlimited world project goes =
+    let told = plan_refused (state g.S.Store c.args.self.now.conn) world _ c.plan.result c.in-Err.fault c.in-Err.is goes (c.plan.ensures.open clean) (λ stands. c.in-Err.ensures.plan clean world stands project) in
+    rw goes_on (refused_why world _ c.in-Err.fault (search rules)
+    (λ refused.
+    let still = refused_open (state g.S.Store c.plan.new.conn) c.in-Err.fault refused (c.in-Err.ensures.opens clean) in
+    let stands = (goes.stands ((c.plan.ensures.read.back clean).was_open still)).0 in
+    c.in-Err.ensures.unrefused clean world stands project unlimited refused)
+    told)

@@ -1,0 +1,5 @@
+use Rattle.wu_feed.proofs.FaultLemmas.{sends_told}
+use Rattle.wu_feed.proofs.sends.read_sends.Goals as goal
+
+pub returns-clause-told : goal.returns-clause-told
+returns-clause-told c = sends_told c.args.file.now c.read_file.result c.read_file.ensures.exact

@@ -1,0 +1,222 @@
+//! Files of sends: a header `result,host,moment`, and a row for each instance that was sent.
+
+ghost use Rattle.std.specs.Prelude.{◌≡◌, ◌≤◌, ◌∷◌, [], IfErr, IfOk, length};
+ghost use Rattle.csv.specs.Records.{fields_of};
+ghost use Rattle.wu_core.specs.Reads.{Gives};
+ghost use Rattle.wu_feed.specs.Limits.{most_rows};
+ghost use Rattle.wu_feed.specs.Rows.{is_header, IsFileFault};
+ghost use Rattle.wu_feed.specs.Sends.{send_of, sends_header, sends_of_file};
+
+use crate::moment::read_moment;
+use crate::records::{fault_at, three_fields};
+use crate::rows::{Row, Rows, read_file};
+use csv::ByteRecord;
+use std::alloc::Global;
+use wu_core::{Fault, FileCause, Moment, Name, ResultName};
+
+/// An instance, by its workunit's name and its number, was sent to a host.
+#[derive(Debug, Drop)]
+pub struct SendRow {
+    pub workunit: Name,
+    /// 0 to 99.
+    pub n: u32,
+    pub host: Name,
+    pub moment: Moment,
+}
+
+/// Sends in the order of their rows.
+pub type Sends = Rows<SendRow>;
+
+/// The send of three fields: the instance, the host and the moment. The first field at fault decides.
+pub fn read_send(
+    alloc: Global,
+    number: u32,
+    name: &[u8],
+    host: &[u8],
+    moment: &[u8],
+) -> Result<SendRow, Fault>
+    ensures { Gives result (send_of number (name.now ∷ host.now ∷ moment.now ∷ [])) }
+{
+    let ResultName { workunit, n } = match ResultName::read(alloc, name) {
+        Ok(name) => name,
+        Err(Fault::Memory) => return Err(Fault::Memory),
+        Err(_) => return Err(fault_at(number, FileCause::Result)),
+    };
+    let host = match Name::read(alloc, host) {
+        Ok(host) => host,
+        Err(Fault::Memory) => return Err(Fault::Memory),
+        Err(_) => return Err(fault_at(number, FileCause::Host)),
+    };
+    match read_moment(moment) {
+        Ok(moment) => Ok(SendRow {
+            workunit,
+            n,
+            host,
+            moment,
+        }),
+        Err(_) => Err(fault_at(number, FileCause::Moment)),
+    }
+}
+
+impl Row for SendRow {
+    ghost use Rattle.wu_feed.specs.Sends.{send_of, sends_header};
+
+    ghost names = { sends_header };
+
+    ghost row_of = { send_of };
+
+    fn is_header(row: &ByteRecord) -> bool {
+        match three_fields(row) {
+            Some((first, second, third)) => {
+                first == b"result".as_slice()
+                    && second == b"host".as_slice()
+                    && third == b"moment".as_slice()
+            }
+            None => false,
+        }
+    }
+
+    fn read(alloc: Global, number: u32, row: &ByteRecord) -> Result<Self, Fault> {
+        match three_fields(row) {
+            Some((name, host, moment)) => read_send(alloc, number, name, host, moment),
+            None => Err(fault_at(number, FileCause::Fields)),
+        }
+    }
+}
+
+/// The sends of a file of at most 1,048,576 bytes: a header `result,host,moment` and at most 1,000 rows, each the name of
+/// an instance, a host and a moment. Any other file is `BadFile` with its first faulty row (records numbered from 1, the
+/// header; 0 for the file's length) and the first cause there, from left to right.
+pub fn read_sends(alloc: Global, file: &[u8]) -> Result<Sends, Fault>
+    ensures exact { Gives result (sends_of_file file.now) }
+    ensures told { IfErr result IsFileFault }
+    ensures few { IfOk result (λ sends. length sends ≤ most_rows) }
+{
+    read_file(alloc, file)
+}
+
+#[cfg(test)]
+mod tests {
+    use super::*;
+
+    /// The fault of a file of one row.
+    fn fault_of(rt: &(impl std::process::Abort + AllocGlobal), row: &str) -> Option<Fault> {
+        let file = format!(in rt.alloc(); "result,host,moment\n{row}\n").expect(rt, "memory");
+        read_sends(rt.alloc(), file.as_bytes()).err()
+    }
+
+    #[test]
+    fn reads_two_sends(rt: HostRuntime) {
+        let file =
+            b"result,host,moment\njob_1_0,h1,2026-03-01T13:00:00Z\r\n\"job_1_1\",h1,2026-03-01T13:00:00Z\n";
+        let sends = read_sends(rt.alloc(), file.as_slice())
+            .expect(&rt, "a file of sends")
+            .into_vec();
+        assert_eq!(rt; sends.len(), 2);
+        for (n, row) in sends.iter().enumerate() {
+            assert_eq!(rt; row.workunit.as_str(), "job_1");
+            assert_eq!(rt; row.n as usize, n);
+            assert_eq!(rt; row.host.as_str(), "h1");
+            assert_eq!(rt; row.moment.seconds(), 1772370000);
+        }
+    }
+
+    #[test]
+    fn takes_no_row(rt: HostRuntime) {
+        let sends = read_sends(rt.alloc(), b"result,host,moment\n").expect(&rt, "a header");
+        assert!(rt; sends.is_empty());
+    }
+
+    #[test]
+    fn refuses_other_headers(rt: HostRuntime) {
+        for text in [
+            "",
+            "job_1_0,h1,2026-03-01T13:00:00Z\n",
+            "result,host\n",
+            "host,result,moment\n",
+            "result,host,moment,status\n",
+            "result,host,Moment\n",
+        ] {
+            let fault = read_sends(rt.alloc(), text.as_bytes()).err();
+            assert_eq!(rt;
+                fault,
+                Some(Fault::BadFile {
+                    row: 1,
+                    cause: FileCause::Header
+                }),
+                "{text}"
+            );
+        }
+    }
+
+    #[test]
+    fn tells_the_first_cause(rt: HostRuntime) {
+        for (row, cause) in [
+            ("job_1_0,h1", FileCause::Fields),
+            ("job_1_0,h/1,noon,", FileCause::Fields),
+            ("job_1_00,h/1,noon", FileCause::Result),
+            ("job,h/1,noon", FileCause::Result),
+            ("job_1_0,h/1,noon", FileCause::Host),
+            ("job_1_0,h1,2026-03-01T13:00:60Z", FileCause::Moment),
+        ] {
+            assert_eq!(rt;
+                fault_of(&rt, row),
+                Some(Fault::BadFile { row: 2, cause }),
+                "{row}"
+            );
+        }
+    }
+
+    #[test]
+    fn tells_the_first_faulty_row(rt: HostRuntime) {
+        let fault = fault_of(
+            &rt,
+            "job_1_0,h1,2026-03-01T13:00:00Z\njob_1_1,h 1,\njob_1_2",
+        );
+        assert_eq!(rt;
+            fault,
+            Some(Fault::BadFile {
+                row: 3,
+                cause: FileCause::Host
+            })
+        );
+    }
+
+    #[test]
+    fn takes_a_thousand_rows(rt: HostRuntime) {
+        let mut file = Vec::new(rt.alloc());
+        file.extend_from_slice(b"result,host,moment\n")
+            .expect(&rt, "memory");
+        for _ in 0..1000 {
+            file.extend_from_slice(b"a_0,h,2026-03-01T13:00:00Z\n")
+                .expect(&rt, "memory");
+        }
+        let sends = read_sends(rt.alloc(), file.as_slice()).expect(&rt, "1000 rows");
+        assert_eq!(rt; sends.len(), 1000);
+        file.extend_from_slice(b"one more\n").expect(&rt, "memory");
+        let fault = read_sends(rt.alloc(), file.as_slice()).err();
+        assert_eq!(rt;
+            fault,
+            Some(Fault::BadFile {
+                row: 1002,
+                cause: FileCause::TooManyRows
+            })
+        );
+    }
+
+    #[test]
+    fn refuses_more_than_a_mebibyte(rt: HostRuntime) {
+        let mut file = Vec::new(rt.alloc());
+        for _ in 0..1_048_577 {
+            file.push(b'\n').expect(&rt, "memory");
+        }
+        let fault = read_sends(rt.alloc(), file.as_slice()).err();
+        assert_eq!(rt;
+            fault,
+            Some(Fault::BadFile {
+                row: 0,
+                cause: FileCause::TooLong
+            })
+        );
+    }
+}

@@ -1,0 +1,170 @@
+//! What a scheduler did with one instance: it sent it to a host, or a host reported it.
+
+ghost use Rattle.std.specs.Prelude.{◌≡◌, ◌≢◌, ◌+◌, ◌&&◌, not};
+ghost use Rattle.std.specs.List.{list_any};
+ghost use Rattle.wu_core.specs.Statuses.{outcome_of};
+ghost use Rattle.wu_rules.specs.Instances.{is_over};
+ghost use Rattle.wu_rules.specs.Reporting.{is_no_reply, is_sent_after, report_verdict_of, report_verdict_in, reported_as, reported_in};
+ghost use Rattle.wu_rules.specs.Sending.{due_at, is_of, send_verdict_of, send_verdict_in, sent_in};
+ghost use Rattle.wu_rules.specs.declared.verdicts.ReportVerdict.TheVariants as report_verdict;
+ghost use Rattle.wu_rules.specs.declared.verdicts.SendVerdict.TheVariants as send_verdict;
+
+use crate::instance::{is_over, is_unsent};
+use crate::verdicts::{ReportVerdict, SendVerdict};
+use wu_core::{
+    Bytes, Deadline, FileDelete, Instance, Instances, Moment, Name, Outcome, ServerState, Status,
+    ValidateState, Workunit,
+};
+
+/// Whether the instance is this host's.
+fn is_of(instance: &Instance, host: &Name) -> bool
+    ensures { result ≡ is_of host.now instance.now }
+{
+    match &instance.host {
+        Some(its) => its == host,
+        None => false,
+    }
+}
+
+/// Whether some instance is this host's.
+fn has_one_of(instances: &Instances, host: &Name) -> bool
+    ensures { result ≡ list_any (is_of host.now) instances.now }
+{
+    instances.iter().any(|instance| is_of(instance, host))
+}
+
+/// The verdict on sending the instance of this number to the host.
+fn send_verdict(workunit: &Workunit, n: u32, host: &Name) -> SendVerdict
+    ensures { result ≡ send_verdict_in workunit.now n host.now }
+{
+    match workunit.instances.as_slice().get(n as usize) {
+        None => SendVerdict::Unknown,
+        Some(instance) if !is_unsent(instance) => SendVerdict::NotUnsent,
+        Some(_) if has_one_of(&workunit.instances, host) => SendVerdict::SameHost,
+        Some(_) => SendVerdict::Applied,
+    }
+}
+
+/// When an instance of the workunit is due that is sent at the moment.
+fn deadline_of(workunit: &Workunit, sent_at: Moment) -> Deadline
+    ensures { result ≡ sent_at + workunit.now.params.delay_bound }
+{
+    sent_at.after(workunit.params.delay_bound())
+}
+
+/// The instance goes to the host.
+fn put_in_progress(instance: &mut Instance, host: Name, sent_at: Moment, deadline: Deadline)
+    ensures { instance.new ≡ due_at deadline host sent_at instance.old }
+{
+    instance.server_state = ServerState::InProgress;
+    instance.host = Some(host);
+    instance.sent_at = Some(sent_at);
+    instance.deadline = Some(deadline);
+}
+
+/// Sends the instance of this number to the host: it is in progress from this moment on, and due after the workunit's
+/// delay. The instance has to wait to be sent, and the host to have none of its workunit; else nothing changes, and the
+/// verdict says why.
+pub fn send(workunit: &mut Workunit, n: u32, host: Name, moment: Moment) -> SendVerdict
+    ensures verdict { result ≡ send_verdict_in workunit.old n host }
+    ensures applied { result ≡ send_verdict.Applied → workunit.new ≡ sent_in workunit.old n host moment }
+    ensures skipped { result ≢ send_verdict.Applied → workunit.new ≡ workunit.old }
+{
+    let verdict = send_verdict(workunit, n, &host);
+    if verdict == SendVerdict::Applied {
+        let deadline = deadline_of(workunit, moment);
+        let instance = &mut workunit.instances.as_mut_slice()[n as usize];
+        put_in_progress(instance, host, moment, deadline);
+    }
+    verdict
+}
+
+/// Whether the instance was sent after the moment.
+fn is_sent_after(instance: &Instance, moment: Moment) -> bool
+    ensures { result ≡ is_sent_after moment instance.now }
+{
+    match instance.sent_at {
+        Some(sent_at) => moment < sent_at,
+        None => false,
+    }
+}
+
+/// Whether the instance has ended, and not for want of a reply.
+fn has_ended(instance: &Instance) -> bool
+    ensures { result ≡ (is_over instance.now && not (is_no_reply instance.now.outcome)) }
+{
+    is_over(instance) && instance.outcome != Outcome::NoReply
+}
+
+/// The verdict on the host's report of the instance.
+fn report_verdict_of(instance: &Instance, host: &Name, moment: Moment) -> ReportVerdict
+    ensures { result ≡ report_verdict_of host.now moment instance.now }
+{
+    if instance.host.is_none() {
+        ReportVerdict::NotSent
+    } else if !is_of(instance, host) {
+        ReportVerdict::WrongHost
+    } else if is_sent_after(instance, moment) {
+        ReportVerdict::BeforeSent
+    } else if has_ended(instance) {
+        ReportVerdict::Over
+    } else {
+        ReportVerdict::Applied
+    }
+}
+
+/// The verdict on the host's report of the instance of this number.
+fn report_verdict(workunit: &Workunit, n: u32, host: &Name, moment: Moment) -> ReportVerdict
+    ensures { result ≡ report_verdict_in workunit.now n host.now moment }
+{
+    match workunit.instances.as_slice().get(n as usize) {
+        Some(instance) => report_verdict_of(instance, host, moment),
+        None => ReportVerdict::Unknown,
+    }
+}
+
+/// The outcome that a status stands for.
+fn outcome_of(status: Status) -> Outcome
+    ensures { result ≡ outcome_of status }
+{
+    match status {
+        Status::Success => Outcome::Success,
+        Status::ClientError => Outcome::ClientError,
+        Status::Detached => Outcome::ClientDetached,
+    }
+}
+
+/// The instance is over with what its host says.
+fn end_as(instance: &mut Instance, received_at: Moment, status: Status, output: Bytes)
+    ensures { instance.new ≡ reported_as received_at status output instance.old }
+{
+    instance.server_state = ServerState::Over;
+    instance.outcome = outcome_of(status);
+    instance.validate_state = ValidateState::Init;
+    instance.file_delete = FileDelete::Init;
+    instance.received_at = Some(received_at);
+    instance.output = output;
+}
+
+/// Takes the host's report of the instance of this number: it is over at this moment with what the host says, its output
+/// is kept, and it waits for the validator. The host has to be the one that it was sent to, no later than the moment, and
+/// it must not have ended but for want of a reply; else nothing changes, and the verdict says why.
+pub fn report(
+    workunit: &mut Workunit,
+    n: u32,
+    host: &Name,
+    moment: Moment,
+    status: Status,
+    output: Bytes,
+) -> ReportVerdict
+    ensures verdict { result ≡ report_verdict_in workunit.old n host.now moment }
+    ensures applied { result ≡ report_verdict.Applied → workunit.new ≡ reported_in workunit.old n moment status output }
+    ensures skipped { result ≢ report_verdict.Applied → workunit.new ≡ workunit.old }
+{
+    let verdict = report_verdict(workunit, n, host, moment);
+    if verdict == ReportVerdict::Applied {
+        let instance = &mut workunit.instances.as_mut_slice()[n as usize];
+        end_as(instance, moment, status, output);
+    }
+    verdict
+}

@@ -1,0 +1,188 @@
+-- What is loaded of a project is what the world has, step by step.
+use Rattle.wu_schema.proofs.Words.{Bool, Err, Fault, Gives, IfErr, Import, ImportKind, Instance, IsFailure, List, None, NotAProject, Ok, Option, Result, Row, Some, Workunit, World, [], ap, arith, bytes_eq, cases_Bool, eqb-true, filter, find, if◌then◌else◌, inl, inr, instance_row, is_import, length, length-map, map, map-append, number, refl, slice_get, subst, sym, take, verdict_digits, workunit_row, ℕ, ◌++◌, ◌+◌, ◌<◌, ◌==◌, ◌∙◌, ◌∷◌, ◌≡◌, ◌≢◌, ◌≤◌}
+use Rattle.std.specs.Prelude.{All, IfSome, MatchResult, get_or}
+use Rattle.std.specs.Option.{option_map_or}
+use Rattle.sqlite_rules.proofs.ListLemmas.{has_found}
+use Rattle.wu_schema.proofs.QuietLemmas.{same_some}
+use Rattle.std.proofs.lemmas.List.{get_or-map, take_more}
+use Rattle.wu_core.specs.Limits.{most_instances}
+use Rattle.wu_schema.specs.Restoring.{Restores}
+use Rattle.wu_schema.specs.Stored.{kept_cells}
+use Rattle.wu_store.specs.Answers.{instance_rows_of, kept_of, named, numbered, row_named, row_numbered}
+use Rattle.wu_store.specs.Changes.{bare}
+use Rattle.wu_store.specs.Loading.{FindsInstances, LoadsInstances, LoadsImport, IsEarlier, IsLoadable, IsRowOf, IsStoreFault, instances_at}
+use Rattle.wu_store.specs.Reading.{AreStoredInstances, IsNextNumber, IsStoredImport, IsStoredInstance, IsStoredWorkunit, stored_import_row}
+use Rattle.wu_store.specs.declared.rows.StoredImport.{StoredImport}
+use Rattle.wu_store.proofs.ReadingLemmas.{not_ok, same_verdicts}
+use Rattle.wu_store.proofs.PlacedLemmas.{Rises}
+use Rattle.wu_store.proofs.SameWorld.{only_one, same_instances, same_workunit}
+
+-- ---- what is refused
+
+-- a failure is no refusal
+pub never_refused : (fault : Fault) → IsFailure fault → fault ≢ NotAProject
+never_refused fault (inl memory) refused = cc
+never_refused fault (inr broken) refused = cc
+
+-- what is stored of a value is read
+pub never_unread : {T C : Type 0} (stored_as : T → C) (IsValue : T → Type 0) (stored : C) (r : Result T Fault) (value : T) → Restores stored_as IsValue stored r → IsValue value → stored ≡ stored_as value → IfErr r (λ fault. fault ≢ NotAProject)
+never_unread stored_as IsValue stored (Ok x) value reads is same = tt
+never_unread stored_as IsValue stored (Err f) value reads is same = elim (reads.found value is same) [ inl ok ↦ absurd cc | inr memory ↦ λ refused. cc ]
+
+-- ---- the next number
+
+pub next_is : (n : ℕ) (row : Row) (r : Result ℕ Fault) → row ≡ number n ∷ [] → Restores (λ next. number next ∷ []) IsNextNumber row r → MatchResult r (λ next. next ≡ n) IsStoreFault
+next_is n row (Ok next) is reads = let same : number n ∷ [] ≡ number next ∷ [] = sym is ∙ reads.value.0 in cc
+next_is n row (Err fault) is reads = elim reads.refused [ inl memory ↦ inl memory | inr other ↦ inr (inr other) ]
+
+-- ---- the first of what passes a test
+
+found_none : {X : Type 0} (p : X → Bool) (xs : List X) → filter p xs ≡ [] → find p xs ≡ None
+found_none p [] none = refl
+found_none p (x ∷ xs) none = elim (cases_Bool (p x)) [
+  | inl is ↦ absurd (let some : x ∷ filter p xs ≡ [] = subst (λ b. (if b then x ∷ filter p xs else filter p xs) ≡ []) is none in cc)
+  | inr not ↦ rw not (found_none p xs (subst (λ b. (if b then x ∷ filter p xs else filter p xs) ≡ []) not none))
+]
+
+found_first : {X : Type 0} (p : X → Bool) (xs : List X) (one : X) (more : List X) → filter p xs ≡ one ∷ more → find p xs ≡ Some one
+found_first p [] one more some = absurd cc
+found_first p (x ∷ xs) one more some = elim (cases_Bool (p x)) [
+  | inl is ↦ rw is (let same : x ∷ filter p xs ≡ one ∷ more = subst (λ b. (if b then x ∷ filter p xs else filter p xs) ≡ one ∷ more) is some in cc)
+  | inr not ↦ rw not (found_first p xs one more (subst (λ b. (if b then x ∷ filter p xs else filter p xs) ≡ one ∷ more) not some))
+]
+
+pub no_first : (rows : List Row) → slice_get rows 0 ≡ None → rows ≡ []
+no_first [] is = refl
+no_first (row ∷ more) is = absurd cc
+
+pub one_first : (rows : List Row) (row : Row) → slice_get rows 0 ≡ Some row → (more : List Row) × (rows ≡ row ∷ more)
+one_first [] row is = absurd cc
+one_first (first ∷ more) row is = (more, cc)
+
+-- ---- an import
+
+-- no row, no import
+pub none_earlier : (k : ImportKind) (name : List ℕ) (world : World) → kept_of k name world ≡ [] → find (is_import k name) world.imports ≡ None
+none_earlier k name world none = found_none (is_import k name) world.imports (unmapped (filter (is_import k name) world.imports) none)
+  where
+    unmapped : (imports : List Import) → map kept_cells imports ≡ [] → imports ≡ []
+    unmapped [] is = refl
+    unmapped (import ∷ more) is = absurd cc
+
+-- the stored import of a row is the world's
+same_import : (import : Import) (stored : StoredImport) → kept_cells import ≡ stored_import_row stored
+    → (stored.template ≡ import.template) × (stored.content ≡ import.content) × (stored.first_number ≡ import.first_number) × (stored.verdicts ≡ import.verdicts)
+same_import import stored is =
+    let digits : verdict_digits stored.verdicts ≡ verdict_digits import.verdicts = cc in
+    (cc, cc, cc, same_verdicts stored.verdicts import.verdicts digits)
+
+module _ (k : ImportKind) (name : List ℕ) (world : World) (row : Row) (more : List Row) (rows : kept_of k name world ≡ row ∷ more) where
+  -- the first row is that of the import
+  row_of_import : (import : Import) × (find (is_import k name) world.imports ≡ Some import) × (kept_cells import ≡ row)
+  row_of_import = among (filter (is_import k name) world.imports) refl rows
+    where
+      among : (imports : List Import) → filter (is_import k name) world.imports ≡ imports → map kept_cells imports ≡ row ∷ more → (import : Import) × (find (is_import k name) world.imports ≡ Some import) × (kept_cells import ≡ row)
+      among [] are is = absurd cc
+      among (import ∷ others) are is = (import, found_first (is_import k name) world.imports import others are, cc)
+
+  pub some_earlier : (stored : StoredImport) → Restores stored_import_row (IsStoredImport k) row (Ok stored) → IsEarlier (find (is_import k name) world.imports) (Some stored)
+  some_earlier stored reads =
+      let it = row_of_import in
+      let same = same_import it.0 stored (it.2 ∙ reads.value.0) in
+      (it.0, it.1, same.0, same.1, same.2, same.3)
+
+  pub import_read : (r : Result StoredImport Fault) → Restores stored_import_row (IsStoredImport k) row r → LoadsImport k name world → IfErr r (λ fault. fault ≢ NotAProject)
+  import_read r reads has =
+      let it = row_of_import in
+      let stored : StoredImport = record { template = it.0.template; content = it.0.content; first_number = it.0.first_number; verdicts = it.0.verdicts } in
+      never_unread stored_import_row (IsStoredImport k) row r stored reads (rw it.1 at has) (sym it.2)
+
+-- ---- instances
+
+-- one more row is one more instance
+pub instances_more : (are : List Instance) (rows : List Row) (i : ℕ) (one : Instance) (d : Row) → map instance_row are ≡ take i rows → i < length rows → get_or rows i d ≡ instance_row one → map instance_row (are ++ one ∷ []) ≡ take (i + 1) rows
+instances_more are rows i one d so_far low at =
+    map-append instance_row are (one ∷ []) ∙ ap (λ rs. rs ++ instance_row one ∷ []) so_far ∙ ap (λ r. take i rows ++ r ∷ []) (sym at) ∙ sym (take_more rows i d low)
+
+-- a row that can't be read is that of no instance
+pub instance_unread : (rows : List Row) (i : ℕ) (d row : Row) (f : Fault) → i < length rows → get_or rows i d ≡ row → Restores instance_row IsStoredInstance row (Err f) → Restores (map instance_row) AreStoredInstances rows (Err f)
+instance_unread rows i d row f low at unread = record {
+  value = tt;
+  found = found;
+  refused = unread.refused;
+}
+  where
+    found : (others : List Instance) → AreStoredInstances others → rows ≡ map instance_row others → Gives (Err f) (Ok others)
+    found [] are same = absurd (let none : length rows ≡ 0 = ap (λ rs. length rs) same in omega (arith, none, low))
+    found (one ∷ others) are same =
+        let within : i < length (one ∷ others) = subst (λ n. i < n) (ap (λ rs. length rs) same ∙ length-map (one ∷ others) instance_row) low in
+        not_ok f (get_or (one ∷ others) i one) (one ∷ others) (unread.found (get_or (one ∷ others) i one) (are.each i one within) (sym at ∙ ap (λ rs. get_or rs i d) same ∙ get_or-map instance_row (one ∷ others) i one d within))
+
+pub instances_restored : (rows : List Row) (are : List Instance) → map instance_row are ≡ rows → All IsStoredInstance are → length rows ≤ most_instances → Restores (map instance_row) AreStoredInstances rows (Ok are)
+instances_restored rows are is each few = record {
+  value = (sym is, record { each = each; few = omega (arith, few, ap (λ rs. length rs) (sym is) ∙ length-map are instance_row) });
+  found = λ others stored same. inl (ap (λ xs. Ok xs) (same_instances are others (is ∙ same)));
+  refused = tt;
+}
+
+rows_at : (n : ℕ) (world : World) → instance_rows_of n world ≡ map instance_row (instances_at n world)
+rows_at n world = go (numbered n world)
+  where
+    go : (o : Option Workunit) → option_map_or (λ (w : Workunit). map instance_row w.instances) o [] ≡ map instance_row (option_map_or (λ (w : Workunit). w.instances) o [])
+    go None = refl
+    go (Some w) = refl
+
+module _ (n : ℕ) (world : World) (rows : List Row) (are : rows ≡ instance_rows_of n world) where
+  pub instances_found : (r : Result (List Instance) Fault) → Restores (map instance_row) AreStoredInstances rows r → FindsInstances n r world
+  instances_found (Ok found) reads = same_instances found (instances_at n world) (sym reads.value.0 ∙ are ∙ rows_at n world)
+  instances_found (Err f) reads = elim reads.refused [ inl memory ↦ inl memory | inr other ↦ inr (inr other) ]
+
+  pub instances_read : (r : Result (List Instance) Fault) → Restores (map instance_row) AreStoredInstances rows r → AreStoredInstances (instances_at n world) → IfErr r (λ fault. fault ≢ NotAProject)
+  instances_read r reads stored = never_unread (map instance_row) AreStoredInstances rows r (instances_at n world) reads stored (are ∙ rows_at n world)
+
+-- ---- a workunit
+
+at_present : (w : Workunit) (world : World) → numbered w.number world ≡ Some w → instances_at w.number world ≡ w.instances
+at_present w world is = ap (λ o. option_map_or (λ (v : Workunit). v.instances) o []) is
+
+-- no row is that of none
+pub none_found : (world : World) (found : Option Workunit) → IsRowOf None found world → None ≡ found
+none_found world None of = refl
+none_found world (Some w) of = absurd (let e = of.row_is in cc)
+
+module _ (row : Row) (world : World) where
+  -- a row that was read, and its instances
+  pub whole_found : (v : Workunit) (are : List Instance) (found : Option Workunit) → Restores workunit_row IsStoredWorkunit row (Ok v) → are ≡ instances_at v.number world → IsRowOf (Some row) found world → Some (record v { instances = are }) ≡ found
+  whole_found v are None reads is of = absurd (let e = of.row_is in cc)
+  whole_found v are (Some w) reads is of =
+      let same = same_workunit v w (sym reads.value.0 ∙ same_some of.row_is) in
+      let instances : are ≡ w.instances = is ∙ ap (λ (u : Workunit). instances_at u.number world) same ∙ at_present w world of.present in
+      λ i. Some (record (same i) { instances = instances i })
+
+  -- the row of a workunit that can be read is read,
+  pub row_read : (r : Result Workunit Fault) (found : Option Workunit) → Restores workunit_row IsStoredWorkunit row r → IsRowOf (Some row) found world → IsLoadable found → IfErr r (λ fault. fault ≢ NotAProject)
+  row_read r None reads of can = absurd (let e = of.row_is in cc)
+  row_read r (Some w) reads of can = never_unread workunit_row IsStoredWorkunit row r (bare w) reads can.row (same_some of.row_is)
+
+  -- and so are its instances
+  pub instances_can : (v : Workunit) (found : Option Workunit) → Restores workunit_row IsStoredWorkunit row (Ok v) → IsRowOf (Some row) found world → IsLoadable found → LoadsInstances v.number world
+  instances_can v None reads of can = absurd (let e = of.row_is in cc)
+  instances_can v (Some w) reads of can =
+      let same : v.number ≡ w.number = ap (λ (u : Workunit). u.number) (same_workunit v w (sym reads.value.0 ∙ same_some of.row_is)) in
+      (omega (arith, same, can.number), subst (λ n. AreStoredInstances (instances_at n world)) (sym same) (subst AreStoredInstances (sym (at_present w world of.present)) can.instances))
+
+-- the row of a number is that of the present workunit
+pub row_of_number : (n : ℕ) (world : World) (row : Option Row) → row ≡ row_numbered n world → IsRowOf row (numbered n world) world
+row_of_number n world row is = record { present = go (numbered n world) refl; row_is = is }
+  where
+    go : (o : Option Workunit) → numbered n world ≡ o → IfSome o (λ w. numbered w.number world ≡ Some w)
+    go None found = tt
+    go (Some w) found = subst (λ m. numbered m world ≡ Some w) (sym (eqb-true w.number n (has_found (λ (v : Workunit). v.number == n) world.workunits w found).1)) found
+
+-- and so is that of a name, since no two workunits have one number
+pub row_of_name : (name : List ℕ) (world : World) (row : Option Row) → Rises world.workunits → row ≡ row_named name world → IsRowOf row (named name world) world
+row_of_name name world row up is = record { present = go (named name world) refl; row_is = is }
+  where
+    go : (o : Option Workunit) → named name world ≡ o → IfSome o (λ w. numbered w.number world ≡ Some w)
+    go None found = tt
+    go (Some w) found = found_first (λ (v : Workunit). v.number == w.number) world.workunits w [] (only_one w world.workunits up (has_found (λ (v : Workunit). bytes_eq v.name name) world.workunits w found).0)

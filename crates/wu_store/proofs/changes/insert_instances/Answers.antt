@@ -1,0 +1,39 @@
+use Rattle.wu_schema.proofs.Words.{HasCleanDisk, StandsFor, ap, arith, get_or, length, refl, state, subst, sym, take, take_all, ◌<◌, ◌∙◌, ◌≡◌, ◌+◌}
+use Rattle.wu_schema.proofs.CallLemmas.{part_none, part_then}
+use Rattle.wu_store.specs.Changes.{AddsInstance, with_placed}
+use Rattle.wu_store.proofs.PlacedLemmas.{next_instance}
+use Rattle.wu_store.proofs.changes.insert_instances.Goals as goal
+
+pub loop-instance-init : goal.loop-instance-init
+loop-instance-init g c = (refl, refl, part_none _, λ _. (λ within. within, λ world none s. s))
+
+pub loop-instance-preserved : goal.loop-instance-preserved
+loop-instance-preserved g c =
+    let (place, same, part, before) = c.loop-instance.invariant in
+    let wrote = c.insert_instance.ensures.writes in
+    let w = c.args.workunit.now in
+    let i = c.loop-instance.instance-index in
+    let one = c.instance-item.result in
+    let items = c.as_slice-instances.ensures.items in
+    let low : i < length w.instances = omega (arith, c.loop-instance-test.true, ap (λ is. length is) items) in
+    let at : get_or w.instances i one ≡ one = ap (λ is. get_or is i one) (sym items) ∙ sym c.instance-item.is in
+    let old = (state g.S.Store c.loop-instance.tx.conn.now).now in
+    let new = (state g.S.Store c.insert_instance.new.tx.conn.now).now in (
+      ap (λ n. n + 1) place,
+      wrote.same_reference ∙ same,
+      part_then _ _ _ part wrote.part,
+      λ clean.
+          let still : HasCleanDisk (state g.S.Store c.loop-instance.tx.conn.now) = omega (arith, wrote.part.survives.clean) in
+          let adds : AddsInstance w.number i one old new = subst (λ n. AddsInstance w.number n one old new) place (c.in_ok-insert_instance.ensures.puts clean) in (
+            λ within. c.in_ok-insert_instance.ensures.writes.inside clean,
+            λ world none s. next_instance old new w i one one world none low at adds ((before still).1 world none s),
+          ),
+    )
+
+pub returns-clause-adds : goal.returns-clause-adds
+returns-clause-adds g c clean world none s =
+    let (place, same, part, before) = c.loop-instance.invariant in
+    let w = c.args.workunit.now in
+    let items = c.as_slice-instances.ensures.items in
+    let whole : take c.loop-instance.instance-index w.instances ≡ w.instances = ap (take c.loop-instance.instance-index) (sym items) ∙ take_all _ _ c.loop-instance-test.false ∙ items in
+    subst (λ is. StandsFor (state g.S.Store c.loop-instance.tx.conn.now).now (with_placed (record w { instances = is }) world)) whole ((before clean).1 world none s)

@@ -1,0 +1,12 @@
+use Rattle.wu_schema.proofs.Words.{HasCleanDisk, IsPart, IsTrue, StandsFor, World, state, ◌≡◌}
+use Rattle.wu_store.specs.Changes.{LacksNumber, bare, with_placed}
+use Rattle.wu_store.proofs.PlacedLemmas.{first_instances}
+use Rattle.wu_store.proofs.changes.insert_instances.Given as goal
+
+abbrev pub invariant-loop-instance : goal.invariant-loop-instance
+invariant-loop-instance g l =
+    (l.n ≡ l.instance-index)
+    × (l.tx.conn.ghost_name ≡ l.initial.tx.conn.ghost_name)
+    × IsPart (state g.S.Store l.initial.tx.conn.now) (state g.S.Store l.tx.conn.now)
+    × (HasCleanDisk (state g.S.Store l.tx.conn.now) → (IsTrue l.initial.tx.conn.now.in_transaction → IsTrue l.tx.conn.now.in_transaction)
+    × ((world : World) → LacksNumber l.workunit.number world.workunits → StandsFor (state g.S.Store l.initial.tx.conn.now).now (with_placed (bare l.workunit) world) → StandsFor (state g.S.Store l.tx.conn.now).now (with_placed (first_instances l.instance-index l.workunit) world)))

@@ -1,0 +1,139 @@
+-- What is loaded of a project: the present workunit of a number or a name with its instances, an import, the next number.
+use Rattle.std.specs.Prelude.{◌≡◌, ◌≢◌, ◌⊎◌, ℕ, ◌<◌, ◌^◌, List, [], Option, Some, None, Result, find, option_map, IfErr, IfSome, IsTrue, OnOk, MatchResult}
+use Rattle.std.specs.Option.{option_map_or}
+use Rattle.sqlite.specs.Held.{Held, state}
+use Rattle.sqlite.specs.Order.{Row}
+use Rattle.sqlite.specs.State.{State, HasCleanDisk, Survives}
+use Rattle.sqlite.specs.Store.{Ghosts}
+use Rattle.wu_core.specs.declared.fault.Fault.{Fault}
+use Rattle.wu_core.specs.declared.fault.Fault.TheVariants.{Memory, Broken, NotAProject}
+use Rattle.wu_core.specs.declared.import.ImportKind.{ImportKind}
+use Rattle.wu_core.specs.declared.workunit.Instance.{Instance}
+use Rattle.wu_core.specs.declared.workunit.Workunit.{Workunit}
+use Rattle.wu_core.specs.World.{World, Import, is_import}
+use Rattle.wu_schema.specs.Calls.{IsBack}
+use Rattle.wu_schema.specs.Faults.{IsFailure}
+use Rattle.wu_schema.specs.StandsFor.{StandsFor}
+use Rattle.wu_schema.specs.Stored.{workunit_row}
+use Rattle.wu_store.specs.Answers.{named, numbered}
+use Rattle.wu_store.specs.Changes.{bare}
+use Rattle.wu_store.specs.Reading.{AreStoredInstances, AreVerdicts, IsNextNumber, IsStoredWorkunit}
+use Rattle.wu_store.specs.declared.rows.StoredImport.{StoredImport}
+
+-- ---- what a call that reads says of the tables, and of each world that they stand for
+
+-- a fault of memory, of the disk, or of a statement or a row
+abbrev pub IsStoreFault : Fault → Type 0
+IsStoreFault fault = (fault ≡ Memory) ⊎ ((fault ≡ Broken) ⊎ (fault ≡ NotAProject))
+
+-- A call that reads leaves all as it was: nothing is committed, and an open connection shows the last commit.
+pub record IsRead (old new : State) : Type 0 where
+  pub survives : Survives old new (λ _. ⊥)
+  pub back : HasCleanDisk new → IsBack old new
+
+-- so it does where it succeeds
+abbrev pub StaysSame : State → State → Type 0
+StaysSame old new = new.now ≡ old.now
+
+-- with Ok the tables are as they were
+abbrev pub KeepsTables : {S T E : Type 0} → Ghosts S → Held S → Held S → Result T E → Type 0
+KeepsTables g old new result = HasCleanDisk (state g new) → OnOk result (StaysSame (state g old) (state g new))
+
+-- with Ok the connection was open
+abbrev pub WasOpen : {S T E : Type 0} → Ghosts S → Held S → Held S → Result T E → Type 0
+WasOpen g old new result = HasCleanDisk (state g new) → OnOk result (IsTrue (state g old).is_open)
+
+-- after Ok, and after each fault but want of memory or of the disk, the connection is open
+abbrev pub ServesUnlessFailed : {S T : Type 0} → Ghosts S → Held S → Result T Fault → Type 0
+ServesUnlessFailed g new result =
+    HasCleanDisk (state g new)
+    → MatchResult result (λ _. IsTrue (state g new).is_open) (λ fault. IsFailure fault ⊎ IsTrue (state g new).is_open)
+
+-- where it was open
+abbrev pub StaysUnlessFailed : {S T : Type 0} → Ghosts S → Held S → Held S → Result T Fault → Type 0
+StaysUnlessFailed g old new result = IsTrue (state g old).is_open → ServesUnlessFailed g new result
+
+-- this holds of each world that the tables stand for
+abbrev pub OverWorlds : {S : Type 0} → Ghosts S → Held S → Held S → (World → Type 0) → Type 0
+OverWorlds g old new Is = HasCleanDisk (state g new) → (world : World) → StandsFor (state g old).now world → Is world
+
+-- where the tables stand for such a world and steps have no limit, no read is refused
+abbrev pub NotRefusedIn : {S T : Type 0} → Ghosts S → Held S → Held S → Result T Fault → (World → Type 0) → Type 0
+NotRefusedIn g old new result Is =
+    HasCleanDisk (state g new) → (world : World) → StandsFor (state g old).now world → Is world → old.step_limit ≡ None → IfErr result (λ fault. fault ≢ NotAProject)
+
+-- ---- a workunit with its instances
+
+-- the values of a workunit and of its instances are such as their rows are read as
+pub record IsStorable (w : Workunit) : Type 0 where
+  pub number : w.number < 2 ^ 63
+  pub row : IsStoredWorkunit (bare w)
+  pub instances : AreStoredInstances w.instances
+
+-- if a workunit is found, it can be read
+abbrev pub IsLoadable : Option Workunit → Type 0
+IsLoadable found = IfSome found IsStorable
+
+-- the number is one that a row may have, and its workunit, if there is one, can be read
+abbrev pub LoadsNumbered : ℕ → World → Type 0
+LoadsNumbered number world = (number < 2 ^ 63) × IsLoadable (numbered number world)
+
+-- the workunit of this name, if there is one, can be read
+abbrev pub LoadsNamed : List ℕ → World → Type 0
+LoadsNamed name world = IsLoadable (named name world)
+
+-- the present workunit of this number is found, with its instances, or none where there is none
+abbrev pub FindsNumbered : ℕ → Result (Option Workunit) Fault → World → Type 0
+FindsNumbered number result world = MatchResult result (λ loaded. loaded ≡ numbered number world) IsStoreFault
+
+-- that of this name
+abbrev pub FindsNamed : List ℕ → Result (Option Workunit) Fault → World → Type 0
+FindsNamed name result world = MatchResult result (λ loaded. loaded ≡ named name world) IsStoreFault
+
+-- the instances of the workunit of this number; none where it is not there
+abbrev pub instances_at : ℕ → World → List Instance
+instances_at number world = option_map_or (λ (w : Workunit). w.instances) (numbered number world) []
+
+-- these are found
+abbrev pub FindsInstances : ℕ → Result (List Instance) Fault → World → Type 0
+FindsInstances number result world = MatchResult result (λ instances. instances ≡ instances_at number world) IsStoreFault
+
+-- the number is one that a row may have, and these can be read
+abbrev pub LoadsInstances : ℕ → World → Type 0
+LoadsInstances number world = (number < 2 ^ 63) × AreStoredInstances (instances_at number world)
+
+-- the row is that of this workunit, which is present; no row is that of none
+pub record IsRowOf (row : Option Row) (found : Option Workunit) (world : World) : Type 0 where
+  pub present : IfSome found (λ w. numbered w.number world ≡ Some w)
+  pub row_is : row ≡ option_map workunit_row found
+
+-- the workunit of a row is found, with its instances
+abbrev pub FindsOfRow : Option Row → Result (Option Workunit) Fault → World → Type 0
+FindsOfRow row result world = (found : Option Workunit) → IsRowOf row found world → MatchResult result (λ loaded. loaded ≡ found) IsStoreFault
+
+-- the row is that of a workunit that can be read
+abbrev pub IsLoadableRow : Option Row → World → Type 0
+IsLoadableRow row world = (found : Option Workunit) × IsRowOf row found world × IsLoadable found
+
+-- ---- an import, and the next number
+
+-- the import of this kind and name, if there was one, as it was stored
+abbrev pub IsEarlier : Option Import → Option StoredImport → Type 0
+IsEarlier import None = import ≡ None
+IsEarlier import (Some stored) = (kept : Import) × (import ≡ Some kept) × (stored.template ≡ kept.template) × (stored.content ≡ kept.content) × (stored.first_number ≡ kept.first_number) × (stored.verdicts ≡ kept.verdicts)
+
+-- the earlier import of this kind and name is found
+abbrev pub FindsEarlier : ImportKind → List ℕ → Result (Option StoredImport) Fault → World → Type 0
+FindsEarlier kind name result world = MatchResult result (IsEarlier (find (is_import kind name) world.imports)) IsStoreFault
+
+-- if there was one, its verdicts are such as its kind has
+abbrev pub LoadsImport : ImportKind → List ℕ → World → Type 0
+LoadsImport kind name world = IfSome (find (is_import kind name) world.imports) (λ import. AreVerdicts kind import.verdicts)
+
+-- the next number is found
+abbrev pub KnowsNext : Result ℕ Fault → World → Type 0
+KnowsNext result world = MatchResult result (λ next. next ≡ world.next_number) IsStoreFault
+
+-- it is one that the next workunit may get
+abbrev pub LoadsNext : World → Type 0
+LoadsNext world = IsNextNumber world.next_number

@@ -1,0 +1,155 @@
+//! What is loaded of a project: a workunit with its instances, an import, the next number.
+
+ghost use Rattle.std.specs.Prelude.{◌≡◌, false, IfErr, IfOk};
+ghost use Rattle.sqlite.specs.Held.{state};
+ghost use Rattle.wu_store.specs.Loading.{FindsEarlier, FindsInstances, FindsNamed, FindsNumbered, FindsOfRow, LoadsNext, LoadsInstances, LoadsImport, IsLoadableRow, IsRead, IsStoreFault, KeepsTables, KnowsNext, LoadsNamed, LoadsNumbered, NotRefusedIn, OverWorlds, ServesUnlessFailed, StaysUnlessFailed, WasOpen};
+ghost use Rattle.wu_store.specs.Reading.{IsNextNumber};
+
+use crate::rows::{StoredImport, import_from, instances_from, next_number_from, workunit_from};
+use crate::statements::{
+    import_rows, instance_rows, next_number_row, workunit_row, workunit_row_named,
+};
+use sqlite::{Alter, Connection, Row};
+use std::alloc::Global;
+use wu_core::{Fault, ImportKind, Instances, Name, Workunit};
+use wu_schema::fault_of;
+
+/// The instances of the workunit of this number, in their order; none where it is not there.
+fn instances_of<S: Alter>(
+    conn: &mut Connection<S>,
+    alloc: Global,
+    workunit: u64,
+) -> Result<Instances, Fault>
+    ensures mode { conn.old.in_transaction ≡ false → conn.new.in_transaction ≡ false }
+    ensures read { IsRead (state S.Store conn.old) (state S.Store conn.new) }
+    ensures same { KeepsTables S.Store conn.old conn.new result }
+    ensures open { WasOpen S.Store conn.old conn.new result }
+    ensures opens { StaysUnlessFailed S.Store conn.old conn.new result }
+    ensures fault { IfErr result IsStoreFault }
+    ensures found { OverWorlds S.Store conn.old conn.new (FindsInstances workunit result) }
+    ensures unrefused { NotRefusedIn S.Store conn.old conn.new result (LoadsInstances workunit) }
+{
+    match instance_rows(conn, workunit) {
+        Ok(rows) => instances_from(alloc, &rows),
+        Err(error) => Err(fault_of(&error)),
+    }
+}
+
+/// The workunit of a row, with its instances; of no row none.
+fn with_instances<S: Alter>(
+    conn: &mut Connection<S>,
+    alloc: Global,
+    row: Option<Row>,
+) -> Result<Option<Workunit>, Fault>
+    ensures mode { conn.old.in_transaction ≡ false → conn.new.in_transaction ≡ false }
+    ensures read { IsRead (state S.Store conn.old) (state S.Store conn.new) }
+    ensures same { KeepsTables S.Store conn.old conn.new result }
+    ensures opens { StaysUnlessFailed S.Store conn.old conn.new result }
+    ensures fault { IfErr result IsStoreFault }
+    ensures found { OverWorlds S.Store conn.old conn.new (FindsOfRow row result) }
+    ensures unrefused { NotRefusedIn S.Store conn.old conn.new result (IsLoadableRow row) }
+{
+    let Some(row) = row else {
+        return Ok(None);
+    };
+    let mut workunit = match workunit_from(alloc, &row) {
+        Ok(workunit) => workunit,
+        Err(fault) => return Err(fault),
+    };
+    match instances_of(conn, alloc, workunit.number) {
+        Ok(instances) => workunit.instances = instances,
+        Err(fault) => return Err(fault),
+    }
+    Ok(Some(workunit))
+}
+
+/// The present workunit of this number, with its instances, or none.
+///
+/// `NotAProject` where a row is no value, or the number is not below 2^63.
+pub fn load<S: Alter>(
+    conn: &mut Connection<S>,
+    alloc: Global,
+    number: u64,
+) -> Result<Option<Workunit>, Fault>
+    ensures mode { conn.old.in_transaction ≡ false → conn.new.in_transaction ≡ false }
+    ensures read { IsRead (state S.Store conn.old) (state S.Store conn.new) }
+    ensures same { KeepsTables S.Store conn.old conn.new result }
+    ensures open { WasOpen S.Store conn.old conn.new result }
+    ensures opens { StaysUnlessFailed S.Store conn.old conn.new result }
+    ensures fault { IfErr result IsStoreFault }
+    ensures found { OverWorlds S.Store conn.old conn.new (FindsNumbered number result) }
+    ensures unrefused { NotRefusedIn S.Store conn.old conn.new result (LoadsNumbered number) }
+{
+    match workunit_row(conn, number) {
+        Ok(row) => with_instances(conn, alloc, row),
+        Err(error) => Err(fault_of(&error)),
+    }
+}
+
+/// The present workunit of this name, with its instances, or none. `NotAProject` where a row is no value.
+pub fn load_named<S: Alter>(
+    conn: &mut Connection<S>,
+    alloc: Global,
+    name: &Name,
+) -> Result<Option<Workunit>, Fault>
+    ensures mode { conn.old.in_transaction ≡ false → conn.new.in_transaction ≡ false }
+    ensures read { IsRead (state S.Store conn.old) (state S.Store conn.new) }
+    ensures same { KeepsTables S.Store conn.old conn.new result }
+    ensures open { WasOpen S.Store conn.old conn.new result }
+    ensures opens { ServesUnlessFailed S.Store conn.new result }
+    ensures fault { IfErr result IsStoreFault }
+    ensures found { OverWorlds S.Store conn.old conn.new (FindsNamed name.now result) }
+    ensures unrefused { NotRefusedIn S.Store conn.old conn.new result (LoadsNamed name.now) }
+{
+    match workunit_row_named(conn, name) {
+        Ok(row) => with_instances(conn, alloc, row),
+        Err(error) => Err(fault_of(&error)),
+    }
+}
+
+/// The import of this kind and name, if there was one. `NotAProject` where its row is no value.
+pub fn import_of<S: Alter>(
+    conn: &mut Connection<S>,
+    alloc: Global,
+    kind: ImportKind,
+    name: &Name,
+) -> Result<Option<StoredImport>, Fault>
+    ensures mode { conn.old.in_transaction ≡ false → conn.new.in_transaction ≡ false }
+    ensures read { IsRead (state S.Store conn.old) (state S.Store conn.new) }
+    ensures same { KeepsTables S.Store conn.old conn.new result }
+    ensures open { WasOpen S.Store conn.old conn.new result }
+    ensures opens { ServesUnlessFailed S.Store conn.new result }
+    ensures fault { IfErr result IsStoreFault }
+    ensures found { OverWorlds S.Store conn.old conn.new (FindsEarlier kind name.now result) }
+    ensures unrefused { NotRefusedIn S.Store conn.old conn.new result (LoadsImport kind name.now) }
+{
+    let rows = match import_rows(conn, kind, name) {
+        Ok(rows) => rows,
+        Err(error) => return Err(fault_of(&error)),
+    };
+    match rows.first() {
+        Some(row) => match import_from(alloc, kind, row) {
+            Ok(import) => Ok(Some(import)),
+            Err(fault) => Err(fault),
+        },
+        None => Ok(None),
+    }
+}
+
+/// The number that the next workunit gets, from 1 to one past the last. `NotAProject` where its row has no such number.
+pub fn next_number<S: Alter>(conn: &mut Connection<S>) -> Result<u64, Fault>
+    ensures within { IfOk result IsNextNumber }
+    ensures mode { conn.old.in_transaction ≡ false → conn.new.in_transaction ≡ false }
+    ensures read { IsRead (state S.Store conn.old) (state S.Store conn.new) }
+    ensures same { KeepsTables S.Store conn.old conn.new result }
+    ensures open { WasOpen S.Store conn.old conn.new result }
+    ensures opens { ServesUnlessFailed S.Store conn.new result }
+    ensures fault { IfErr result IsStoreFault }
+    ensures next { OverWorlds S.Store conn.old conn.new (KnowsNext result) }
+    ensures unrefused { NotRefusedIn S.Store conn.old conn.new result LoadsNext }
+{
+    match next_number_row(conn) {
+        Ok(row) => next_number_from(&row),
+        Err(error) => Err(fault_of(&error)),
+    }
+}
