@@ -16,10 +16,12 @@ use Rattle.wu_drive.specs.declared.runs.Run.{Run}
 use Rattle.wu_drive.specs.Driving.{AnswerAll, Drives, NotDone, world_after}
 use Rattle.wu_passes.specs.Machine.{fold_steps, reply, step}
 use Rattle.wu_passes.specs.Planning.{IsProject, request_of, reply_of_answer}
-use Rattle.wu_store.specs.Loading.{IsStoreFault}
+use Rattle.wu_store.specs.Loading.{IsStorable, IsStoreFault}
 use Rattle.wu_passes.specs.Requests.{Request}
 use Rattle.wu_passes.specs.Standing.{GoesOn, Runs, Stands, WhyNot}
 use Rattle.wu_passes.proofs.BatchLemmas.{keeps_project}
+use Rattle.wu_passes.proofs.PassKeeps.{keeps_project_cancel}
+use Rattle.wu_passes.proofs.StorableLemmas.{keeps_project_reported, keeps_project_sent}
 
 pub fold_more : (world : World) (requests : List Request) (one : Request) → fold_steps world (requests ++ one ∷ []) ≡ step (fold_steps world requests) one
 fold_more world [] one = refl
@@ -40,6 +42,9 @@ next_world world commands i command d low there =
 
 keeps_by : (world : World) (command : Command) → IsProject world → IsProject (step world (request_of command))
 keeps_by world (command.Batch batch) project = keeps_project world project batch.name batch.template batch.file
+keeps_by world (command.Sent file) project = keeps_project_sent world project file.name file.file
+keeps_by world (command.Reported file) project = keeps_project_reported world project file.name file.file
+keeps_by world (command.Cancel name) project = keeps_project_cancel world project name
 
 pub keeps_all : (world : World) (commands : List Command) → IsProject world → IsProject (fold_steps world (map request_of commands))
 keeps_all world [] project = project
@@ -47,7 +52,14 @@ keeps_all world (command ∷ more) project = keeps_all (step world (request_of c
 
 -- a fresh project is one
 pub empty_project : IsProject empty_world
-empty_project = record { present = refl; above = tt; next = (omega arith, omega arith); verdicts = All-nil (λ (i : Import). AreVerdicts i.kind i.verdicts) }
+empty_project = record {
+  present = refl;
+  above = tt;
+  next = (omega arith, omega arith);
+  verdicts = All-nil (λ (i : Import). AreVerdicts i.kind i.verdicts);
+  storable = All-nil IsStorable;
+  names = λ i j d order low. absurd (omega (arith, low));
+}
 
 pub one_fault : (a b : Fault) → ◌≡◌ {A = Option Fault} (Some a) (Some b) → a ≡ b
 one_fault a b same = cc

@@ -11,7 +11,7 @@ use Rattle.wu_passes.specs.Committing.{FoundAs}
 use Rattle.wu_drive.specs.Driving.{Drives, Lengthens, session_of, world_after}
 use Rattle.wu_passes.specs.Machine.{step}
 use Rattle.wu_passes.specs.Planning.{request_of}
-use Rattle.wu_passes.specs.Sessions.{Lived, Session, world_acknowledged, world_accepted, world_lived, world_of_life}
+use Rattle.wu_passes.specs.Sessions.{Lived, world_accepted, world_lived, world_of_life}
 use Rattle.wu_drive.proofs.DrivingLemmas.{fold_more}
 
 -- one session more

@@ -1,103 +1,85 @@
--- Rows that stand for the same are shown by the same line.
-use Rattle.std.proofs.Common.{◌≡◌, ℕ, ◌+◌, ◌<◌, ◌++◌, take, drop, map, flat_map, get_or, length, Option, Some, None, List, refl, sym, ap, subst, ◌∙◌, arith, take-append-drop}
-use Rattle.std.proofs.KnownBytes.{Appends-trans}
-use Rattle.std.proofs.lemmas.List.{get_or_default, get_or-map, length-map}
+-- The lines that a walk hands out are written one after another.
+use Rattle.std.proofs.Common.{◌≡◌, ℕ, List, [], ◌∷◌, ◌++◌, flat_map, Option, Some, None, Result, Ok, Err, arith, refl, sym, ap, subst, ◌∙◌, append_assoc, append-nil}
+use Rattle.std.proofs.KnownBytes.{Appends-nil, Appends-trans}
 use Rattle.std.proofs.lemmas.List.Concat.{flat_map-append}
+use Rattle.std.specs.Prelude.{IsTrue}
 use Rattle.std.specs.Io.KnownBytes.{Appends}
+use Rattle.std.specs.declared.vec.IntoIter.{IntoIter}
 use Rattle.sqlite.specs.Order.{Row}
-use Rattle.wu_core.specs.declared.states.Assimilate.{Assimilate}
-use Rattle.wu_core.specs.declared.states.Assimilate.TheVariants as assimilate
-use Rattle.wu_core.specs.declared.states.FileDelete.{FileDelete}
-use Rattle.wu_core.specs.declared.states.FileDelete.TheVariants as file_delete
-use Rattle.wu_core.specs.declared.workunit.Workunit.{Workunit}
-use Rattle.wu_core.specs.Codes.{assimilate_code, file_delete_code}
-use Rattle.wu_core.specs.Mask.{error_mask_code}
-use Rattle.wu_schema.specs.Stored.{number_or_null, workunit_row}
-use Rattle.wu_drive.proofs.WritingLemmas.{AppendsFront-after, AppendsFront-longer, AppendsFront-part, flat_map_at, flat_map_next}
+use Rattle.sqlite.specs.State.{HasCleanDisk}
+use Rattle.sqlite_trees.specs.declared.store.Store.{Ghosts}
+use Rattle.wu_passes.proofs.WalkLemmas.{reads_none, reads_then}
+use Rattle.wu_passes.specs.declared.lines.WorkunitLine.{WorkunitLine}
+use Rattle.wu_passes.specs.declared.project.walk.WorkunitWalk.{WorkunitWalk}
+use Rattle.wu_passes.specs.Projects.{state_of}
+use Rattle.wu_passes.specs.Walks.{HandsFirst, HasLeft, OnlyReads, walked}
+use Rattle.wu_drive.proofs.WritingLemmas.{AppendsFront-after, AppendsFront-longer, AppendsFront-part}
 use Rattle.wu_drive.specs.Texts.{workunit_line}
 use Rattle.wu_drive.specs.Writing.{AppendsFront}
 
-same_number : (a b : Option ℕ) → number_or_null a ≡ number_or_null b → a ≡ b
-same_number None None is = refl
-same_number None (Some n) is = absurd cc
-same_number (Some n) None is = absurd cc
-same_number (Some n) (Some m) is = cc
+-- the lines that were there are those that were written, and then those that the walk has left
+abbrev pub HasShown : {S A : Type 0} {g : Ghosts S} → WorkunitWalk S (IntoIter Row A) g → Option (List ℕ) → Option (List ℕ) → List WorkunitLine → Type 0
+HasShown walk a b lines =
+    (done : List WorkunitLine) × (rest : List WorkunitLine) × (lines ≡ done ++ rest) × HasLeft walk rest × Appends a b (flat_map workunit_line done)
 
-same_assimilate : (a b : Assimilate) → assimilate_code a ≡ assimilate_code b → a ≡ b
-same_assimilate assimilate.Init assimilate.Init is = refl
-same_assimilate assimilate.Init assimilate.Ready is = absurd cc
-same_assimilate assimilate.Init assimilate.Done is = absurd cc
-same_assimilate assimilate.Ready assimilate.Init is = absurd cc
-same_assimilate assimilate.Ready assimilate.Ready is = refl
-same_assimilate assimilate.Ready assimilate.Done is = absurd cc
-same_assimilate assimilate.Done assimilate.Init is = absurd cc
-same_assimilate assimilate.Done assimilate.Ready is = absurd cc
-same_assimilate assimilate.Done assimilate.Done is = refl
+module _ {S A W : Type 0} {g : Ghosts S} (contents : W → Option (List ℕ)) where
+  -- a walk, and what was written of it
+  pub record IsUnderWay (old new : WorkunitWalk S (IntoIter Row A) g) (out_old out_new : W) : Type 0 where
+    pub same_reference : new.project.ghost_name ≡ old.project.ghost_name
+    pub reads : OnlyReads (walked old) (walked new)
+    pub open_still : HasCleanDisk (state_of (walked new)) → IsTrue (state_of (walked old)).is_open → IsTrue (state_of (walked new)).is_open
+    pub shown : HasCleanDisk (state_of (walked new)) → (lines : List WorkunitLine) → HasLeft old lines → HasShown new (contents out_old) (contents out_new) lines
 
-same_file_delete : (a b : FileDelete) → file_delete_code a ≡ file_delete_code b → a ≡ b
-same_file_delete file_delete.Init file_delete.Init is = refl
-same_file_delete file_delete.Init file_delete.Ready is = absurd cc
-same_file_delete file_delete.Init file_delete.Done is = absurd cc
-same_file_delete file_delete.Init file_delete.Error is = absurd cc
-same_file_delete file_delete.Ready file_delete.Init is = absurd cc
-same_file_delete file_delete.Ready file_delete.Ready is = refl
-same_file_delete file_delete.Ready file_delete.Done is = absurd cc
-same_file_delete file_delete.Ready file_delete.Error is = absurd cc
-same_file_delete file_delete.Done file_delete.Init is = absurd cc
-same_file_delete file_delete.Done file_delete.Ready is = absurd cc
-same_file_delete file_delete.Done file_delete.Done is = refl
-same_file_delete file_delete.Done file_delete.Error is = absurd cc
-same_file_delete file_delete.Error file_delete.Init is = absurd cc
-same_file_delete file_delete.Error file_delete.Ready is = absurd cc
-same_file_delete file_delete.Error file_delete.Done is = absurd cc
-same_file_delete file_delete.Error file_delete.Error is = refl
+  -- one step further
+  pub under_way : (old mid new : WorkunitWalk S (IntoIter Row A) g) (a b c : W) → IsUnderWay old mid a b → OnlyReads (walked mid) (walked new)
+      → new.project.ghost_name ≡ mid.project.ghost_name
+      → (HasCleanDisk (state_of (walked new)) → IsTrue (state_of (walked mid)).is_open → IsTrue (state_of (walked new)).is_open)
+      → (HasCleanDisk (state_of (walked new)) → (lines : List WorkunitLine) → HasLeft old lines → HasShown new (contents a) (contents c) lines)
+      → IsUnderWay old new a c
+  under_way old mid new a b c before reads same opens shown =
+      record {
+        same_reference = same ∙ before.same_reference;
+        reads = reads_then (walked old) (walked mid) (walked new) before.reads reads;
+        open_still = λ clean was. opens clean (before.open_still (omega (arith, reads.read.survives.clean, clean)) was);
+        shown = shown;
+      }
 
--- a line shows nothing but what the row keeps
-pub same_line : (v w : Workunit) → workunit_row v ≡ workunit_row w → workunit_line v ≡ workunit_line w
-same_line v w is =
-    let number : v.number ≡ w.number = cc in
-    let name : v.name ≡ w.name = cc in
-    let quorum : v.params.min_quorum ≡ w.params.min_quorum = cc in
-    let target : v.params.target_nresults ≡ w.params.target_nresults = cc in
-    let errors : v.params.max_error_results ≡ w.params.max_error_results = cc in
-    let total : v.params.max_total_results ≡ w.params.max_total_results = cc in
-    let successes : v.params.max_success_results ≡ w.params.max_success_results = cc in
-    let delay : v.params.delay_bound ≡ w.params.delay_bound = cc in
-    let credit : v.params.credit ≡ w.params.credit = cc in
-    let input : v.input ≡ w.input = cc in
-    let mask : error_mask_code v.error_mask ≡ error_mask_code w.error_mask = cc in
-    let canonical = same_number v.canonical w.canonical cc in
-    let assimilated = same_assimilate v.assimilate w.assimilate cc in
-    let deleted = same_file_delete v.file_delete w.file_delete cc in
-    let done = same_number v.done_at w.done_at cc in
-    rw (number, name, quorum, target, errors, total, successes, delay, credit, input, mask, canonical, assimilated, deleted, done) refl
+module _ {S A : Type 0} {g : Ghosts S} (walk new : WorkunitWalk S (IntoIter Row A) g) where
+  text_of : (lines done rest : List WorkunitLine) → lines ≡ done ++ rest → flat_map workunit_line lines ≡ flat_map workunit_line done ++ flat_map workunit_line rest
+  text_of lines done rest is = ap (flat_map workunit_line) is ∙ flat_map-append workunit_line done rest
 
--- the value of a row has the line of the workunit at its place
-pub line_at : (rows : List Row) (workunits : List Workunit) (i : ℕ) (row : Row) (v : Workunit) → rows ≡ map workunit_row workunits → i < length rows → row ≡ get_or rows i row → row ≡ workunit_row v
-    → (w : Workunit) × (i < length workunits) × (w ≡ get_or workunits i w) × (workunit_line v ≡ workunit_line w)
-line_at rows workunits i row v are low at is =
-    let long : length rows ≡ length workunits = ap (λ rs. length rs) are ∙ length-map workunits workunit_row in
-    let within : i < length workunits = omega (arith, low, long) in
-    let w = get_or workunits i v in
-    let there : row ≡ workunit_row w = at ∙ ap (λ rs. get_or rs i row) are ∙ get_or-map workunit_row workunits i v row within in
-    (w, within, get_or_default workunits i v w within, same_line v w (sym is ∙ there))
+  -- what was written is a beginning
+  pub shown_front : (a b : Option (List ℕ)) (lines : List WorkunitLine) → HasShown walk a b lines → AppendsFront a b (flat_map workunit_line lines)
+  shown_front a b lines (done, rest, is, has, shown) =
+      subst (AppendsFront a b) (sym (text_of lines done rest is)) (AppendsFront-part a b (flat_map workunit_line done) (flat_map workunit_line rest) shown)
 
--- the lines of the first workunits are a beginning
-pub shown_before : (a b : Option (List ℕ)) (workunits : List Workunit) (i : ℕ) → Appends a b (flat_map workunit_line (take i workunits)) → AppendsFront a b (flat_map workunit_line workunits)
-shown_before a b workunits i shown =
-    let split : flat_map workunit_line workunits ≡ flat_map workunit_line (take i workunits) ++ flat_map workunit_line (drop i workunits) =
-    ap (flat_map workunit_line) (sym (take-append-drop i workunits)) ∙ flat_map-append workunit_line (take i workunits) (drop i workunits) in
-    subst (AppendsFront a b) (sym split) (AppendsFront-part a b (flat_map workunit_line (take i workunits)) (flat_map workunit_line (drop i workunits)) shown)
+  -- and so it is where the next line was cut
+  pub shown_cut : (a b c : Option (List ℕ)) (lines : List WorkunitLine) (line : WorkunitLine) → HasShown walk a b lines
+      → ((rest : List WorkunitLine) → HasLeft walk rest → HandsFirst rest (Some line) new) → AppendsFront b c (workunit_line line) → AppendsFront a c (flat_map workunit_line lines)
+  shown_cut a b c lines line (done, rest, is, has, shown) hands cut =
+      let first = hands rest has in
+      let whole = text_of lines done rest is ∙ ap (λ l. flat_map workunit_line done ++ flat_map workunit_line l) first.1
+      ∙ sym (append_assoc (flat_map workunit_line done) (workunit_line line) (flat_map workunit_line first.0)) in
+      let part = AppendsFront-after a b c (flat_map workunit_line done) (workunit_line line) shown cut in
+      subst (AppendsFront a c) (sym whole) (AppendsFront-longer a c (flat_map workunit_line done ++ workunit_line line) (flat_map workunit_line first.0) part)
 
--- and so they are where the next line was cut
-pub shown_cut : (a b c : Option (List ℕ)) (workunits : List Workunit) (i : ℕ) (w : Workunit) (line : List ℕ) → i < length workunits → w ≡ get_or workunits i w → line ≡ workunit_line w
-    → Appends a b (flat_map workunit_line (take i workunits)) → AppendsFront b c line → AppendsFront a c (flat_map workunit_line workunits)
-shown_cut a b c workunits i w line within at is shown cut =
-    let part = AppendsFront-after a b c (flat_map workunit_line (take i workunits)) (workunit_line w) shown (subst (AppendsFront b c) is cut) in
-    subst (AppendsFront a c) (sym (flat_map_at workunit_line workunits i w within at)) (AppendsFront-longer a c _ (flat_map workunit_line (drop (i + 1) workunits)) part)
+  -- one line more
+  pub shown_next : (a b c : Option (List ℕ)) (lines : List WorkunitLine) (line : WorkunitLine) → HasShown walk a b lines
+      → ((rest : List WorkunitLine) → HasLeft walk rest → HandsFirst rest (Some line) new) → Appends b c (workunit_line line) → HasShown new a c lines
+  shown_next a b c lines line (done, rest, is, has, shown) hands next =
+      let first = hands rest has in
+      let whole : flat_map workunit_line (done ++ line ∷ []) ≡ flat_map workunit_line done ++ workunit_line line =
+      flat_map-append workunit_line done (line ∷ []) ∙ ap (λ l. flat_map workunit_line done ++ l) (append-nil (workunit_line line)) in (
+        done ++ line ∷ [],
+        first.0,
+        is ∙ ap (λ l. done ++ l) first.1 ∙ sym (append_assoc done (line ∷ []) first.0),
+        first.2,
+        subst (Appends a c) (sym whole) (Appends-trans a b c (flat_map workunit_line done) (workunit_line line) shown next),
+      )
 
--- one line more
-pub shown_next : (a b c : Option (List ℕ)) (workunits : List Workunit) (i : ℕ) (w : Workunit) (line : List ℕ) → i < length workunits → w ≡ get_or workunits i w → line ≡ workunit_line w
-    → Appends a b (flat_map workunit_line (take i workunits)) → Appends b c line → Appends a c (flat_map workunit_line (take (i + 1) workunits))
-shown_next a b c workunits i w line within at is shown next =
-    subst (Appends a c) (sym (flat_map_next workunit_line workunits i w within at)) (Appends-trans a b c _ (workunit_line w) shown (subst (Appends b c) is next))
+  -- and at the end all is written
+  pub shown_whole : (a b : Option (List ℕ)) (lines : List WorkunitLine) → HasShown walk a b lines
+      → ((rest : List WorkunitLine) → HasLeft walk rest → HandsFirst rest None new) → Appends a b (flat_map workunit_line lines)
+  shown_whole a b lines (done, rest, is, has, shown) hands =
+      let all : lines ≡ done = is ∙ ap (λ l. done ++ l) (hands rest has) ∙ append-nil done in
+      subst (λ l. Appends a b (flat_map workunit_line l)) (sym all) shown

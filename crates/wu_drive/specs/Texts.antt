@@ -16,7 +16,11 @@ use Rattle.wu_core.specs.Mask.{error_mask_code}
 use Rattle.wu_core.specs.Words.{server_state_word, outcome_word, validate_state_word, assimilate_word, file_delete_word, template_key_word, file_cause_word}
 use Rattle.wu_core.specs.World.{World}
 use Rattle.wu_rules.specs.Instances.{is_unsent, is_in_progress, is_over}
-use Rattle.wu_passes.specs.Requests.{Pass, Transition, Validate, Assimilate, Delete, Purge, Reply, Imported, Passed, Cancelled, Upgraded}
+use Rattle.wu_passes.specs.declared.lines.WorkunitLine.{WorkunitLine}
+use Rattle.wu_passes.specs.Lines.{workunit_lines}
+use Rattle.wu_store.specs.declared.due.Pass.{Pass}
+use Rattle.wu_store.specs.declared.due.Pass.TheVariants.{Transition, Validate, Assimilate, Delete, Purge}
+use Rattle.wu_passes.specs.Requests.{Reply, Imported, Passed, Cancelled, Upgraded}
 
 abbrev pub line_end : List ℕ
 line_end = 10 ∷ []
@@ -141,17 +145,17 @@ reply_text (Passed pass handled) = pass_word pass ++ codes ": " ++ decimal handl
 reply_text (Cancelled name) = codes "cancel " ++ name ++ codes ": done" ++ line_end
 reply_text (Upgraded from to) = codes "upgrade: " ++ decimal from ++ codes " to " ++ decimal to ++ line_end
 
-abbrev pub parameters_text : Workunit → List ℕ
+abbrev pub parameters_text : WorkunitLine → List ℕ
 parameters_text w =
     codes " quorum=" ++ decimal w.params.min_quorum ++ codes " target=" ++ decimal w.params.target_nresults
     ++ codes " max_error=" ++ decimal w.params.max_error_results ++ codes " max_total=" ++ decimal w.params.max_total_results
     ++ codes " max_success=" ++ decimal w.params.max_success_results ++ codes " delay=" ++ decimal w.params.delay_bound
     ++ codes " credit=" ++ decimal w.params.credit
 
--- the line of a workunit
-abbrev pub workunit_line : Workunit → List ℕ
+-- the line of a workunit, by its values
+abbrev pub workunit_line : WorkunitLine → List ℕ
 workunit_line w =
-    decimal w.number ++ codes " " ++ w.name ++ codes " input=" ++ decimal (length w.input) ++ parameters_text w
+    decimal w.number ++ codes " " ++ w.name ++ codes " input=" ++ decimal w.input ++ parameters_text w
     ++ codes " mask=" ++ decimal (error_mask_code w.error_mask) ++ codes " canonical=" ++ or_dash decimal w.canonical
     ++ codes " assimilate=" ++ assimilate_word w.assimilate ++ codes " delete=" ++ file_delete_word w.file_delete
     ++ codes " done=" ++ or_dash moment_text w.done_at ++ line_end
@@ -213,7 +217,7 @@ summary_text world =
 
 -- the text of a view
 abbrev pub view_text : World → Sight → List ℕ
-view_text world Workunits = flat_map workunit_line world.workunits
+view_text world Workunits = flat_map workunit_line (workunit_lines world)
 view_text world Results = flat_map (λ w. flat_map (result_line w) (enumerate_from 0 w.instances)) world.workunits
 view_text world Hosts = flat_map (host_line world) (hosts_of world.grants)
 view_text world Archive = flat_map archived_line world.archived

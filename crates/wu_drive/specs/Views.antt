@@ -1,19 +1,21 @@
 -- What is shown of a project.
-use Rattle.std.specs.Prelude.{◌≡◌, ◌⊎◌, ℕ, List, map, flat_map, Option, Result, Err}
+use Rattle.std.specs.Prelude.{◌≡◌, ◌⊎◌, ℕ, List, flat_map, Option, Result, Err}
+use Rattle.std.specs.declared.vec.IntoIter.{IntoIter}
 use Rattle.sqlite.specs.Order.{Row}
 use Rattle.sqlite.specs.State.{HasCleanDisk}
 use Rattle.sqlite_trees.specs.declared.store.Store.{Ghosts}
 use Rattle.wu_core.specs.declared.fault.Fault.{Fault}
-use Rattle.wu_core.specs.declared.fault.Fault.TheVariants.{Ended, Memory, NotAProject, Output}
-use Rattle.wu_core.specs.declared.workunit.Workunit.{Workunit}
+use Rattle.wu_core.specs.declared.fault.Fault.TheVariants.{Ended, Output}
 use Rattle.wu_core.specs.World.{World}
-use Rattle.wu_schema.specs.Stored.{workunit_row}
 use Rattle.wu_drive.specs.declared.views.View.{View}
 use Rattle.wu_drive.specs.declared.views.View.TheVariants as view
 use Rattle.wu_store.specs.Loading.{IsStoreFault}
 use Rattle.wu_passes.specs.Standing.{GoesOn}
+use Rattle.wu_passes.specs.declared.lines.WorkunitLine.{WorkunitLine}
 use Rattle.wu_passes.specs.declared.project.Project.{Project}
+use Rattle.wu_passes.specs.declared.project.walk.WorkunitWalk.{WorkunitWalk}
 use Rattle.wu_passes.specs.Projects.{GoesStill, IsOver, state_of}
+use Rattle.wu_passes.specs.Walks.{HasLeft, walked}
 use Rattle.wu_drive.specs.Texts.{Sight, Workunits, view_text, workunit_line}
 use Rattle.wu_drive.specs.Writing.{WritesTo}
 
@@ -21,19 +23,15 @@ use Rattle.wu_drive.specs.Writing.{WritesTo}
 abbrev pub sight_of : View → Sight
 sight_of view.Workunits = Workunits
 
--- the text can't be written, or a row can't be read
-abbrev pub IsRowFault : Fault → Type 0
-IsRowFault fault = (fault ≡ Output) ⊎ ((fault ≡ Memory) ⊎ (fault ≡ NotAProject))
-
 -- the text can't be written, or the store can't be read
 abbrev pub IsViewFault : Fault → Type 0
 IsViewFault fault = (fault ≡ Output) ⊎ IsStoreFault fault
 
--- the lines of the workunits that rows stand for are written
-abbrev pub WritesWorkunits : {W T : Type 0} → (W → Option (List ℕ)) → List Row → W → W → Result T Fault → Type 0
-WritesWorkunits contents rows out_old out_new result =
-    (workunits : List Workunit) → rows ≡ map workunit_row workunits
-    → WritesTo contents out_old out_new (flat_map workunit_line workunits) result
+-- the lines that a walk had left are written
+abbrev pub WritesLeft : {S A W T : Type 0} {store : Ghosts S} → (W → Option (List ℕ)) → WorkunitWalk S (IntoIter Row A) store → WorkunitWalk S (IntoIter Row A) store → W → W → Result T Fault → Type 0
+WritesLeft contents old new out_old out_new result =
+    HasCleanDisk (state_of (walked new)) → (lines : List WorkunitLine) → HasLeft old lines
+    → WritesTo contents out_old out_new (flat_map workunit_line lines) result
 
 -- where a session goes on over a world and the disk does not fail, a view's text of that world is written
 abbrev pub Shows : {S W T : Type 0} {store : Ghosts S} → (W → Option (List ℕ)) → Project S store → Project S store → W → W → View → Result T Fault → Type 0

@@ -8,6 +8,7 @@ ghost use Rattle.wu_core.specs.declared.import.ImportKind.TheVariants.{Batch, Se
 ghost use Rattle.wu_core.specs.World.{empty_world};
 ghost use Rattle.wu_core.specs.Workunit.{fresh};
 ghost use Rattle.wu_rules.specs.Examples.{h1, out};
+ghost use Rattle.wu_passes.specs.Lines.{line_of};
 ghost use Rattle.wu_drive.specs.Examples.{given_up, new_job, three_grants};
 ghost use Rattle.wu_drive.specs.Texts.{archived_line, fault_text, import_text, moment_text, result_line, summary_text, view_text, workunit_line, Hosts};
 
@@ -21,7 +22,7 @@ pub fn prints_moments()
 
 /// The line of a new workunit, and that of its first instance before and after it is sent.
 pub fn prints_a_workunit()
-    ensures workunit { workunit_line new_job
+    ensures workunit { workunit_line (line_of new_job)
         ≡ codes "1 job_1 input=2 quorum=2 target=2 max_error=3 max_total=10 max_success=6"
         ++ codes " delay=604800 credit=1 mask=0 canonical=- assimilate=INIT delete=INIT done=-\n" }
     ensures instance { result_line new_job (0, fresh)

@@ -2,7 +2,8 @@
 
 ghost use Rattle.std.specs.Prelude.{◌≡◌, IsOkUnless};
 ghost use Rattle.wu_core.specs.declared.fault.Fault.TheVariants.{Output};
-ghost use Rattle.wu_drive.specs.Texts.{applied_count, batch_text, number_or_dash, report_skip_word, send_skip_word};
+ghost use Rattle.wu_drive.specs.Texts.{applied_count, batch_text, import_text, number_or_dash, reply_text, report_skip_word, send_skip_word};
+ghost use Rattle.wu_passes.specs.Requests.{Cancelled};
 ghost use Rattle.wu_drive.specs.Writing.{answer_text, applied_text, file_word, piece_text, skip_word, skipped_line, skipped_lines, WritesTo};
 
 use crate::output::{Piece, flush, write_pieces};
@@ -160,22 +161,54 @@ fn write_batch<W: Write>(out: &mut W, name: &Name, first: u64, verdicts: &[u8]) 
     )
 }
 
+/// Writes the text of an import's answer.
+fn write_import<W: Write>(
+    out: &mut W,
+    kind: ImportKind,
+    name: &Name,
+    first: u64,
+    verdicts: &[u8],
+) -> Result<(), Fault>
+    ensures bytes { WritesTo W.contents out.old out.new
+        (import_text kind name.now first verdicts.now) result }
+    ensures fault { IsOkUnless result Output }
+{
+    match kind {
+        ImportKind::Batch => write_batch(out, name, first, verdicts),
+        ImportKind::Sent => write_applied(out, AppliedFile::Sends, name, verdicts),
+        ImportKind::Reported => write_applied(out, AppliedFile::Reports, name, verdicts),
+    }
+}
+
+/// Writes that a workunit was given up.
+fn write_cancelled<W: Write>(out: &mut W, workunit: &Name) -> Result<(), Fault>
+    ensures bytes { WritesTo W.contents out.old out.new (reply_text (Cancelled workunit.now)) result }
+    ensures fault { IsOkUnless result Output }
+{
+    write_pieces(
+        out,
+        &[
+            Piece::Text("cancel "),
+            Piece::Text(workunit.as_str()),
+            Piece::Text(": done"),
+            Piece::Text("\n"),
+        ],
+    )
+}
+
 /// Writes the text of an answer.
 fn write_text<W: Write>(out: &mut W, answer: &Answer) -> Result<(), Fault>
     ensures bytes { WritesTo W.contents out.old out.new (answer_text answer.now) result }
     ensures fault { IsOkUnless result Output }
 {
-    let Answer::Imported {
-        kind,
-        name,
-        first,
-        verdicts,
-    } = answer;
-    let verdicts = verdicts.as_slice();
-    match kind {
-        ImportKind::Batch => write_batch(out, name, *first, verdicts),
-        ImportKind::Sent => write_applied(out, AppliedFile::Sends, name, verdicts),
-        ImportKind::Reported => write_applied(out, AppliedFile::Reports, name, verdicts),
+    match answer {
+        Answer::Imported {
+            kind,
+            name,
+            first,
+            verdicts,
+        } => write_import(out, *kind, name, *first, verdicts.as_slice()),
+        Answer::Cancelled { workunit } => write_cancelled(out, workunit),
     }
 }
 

@@ -4,19 +4,19 @@ ghost use Rattle.std.specs.Prelude.{◌≡◌, Err, IfErr, IsOkUnless};
 ghost use Rattle.wu_core.specs.declared.fault.Fault.TheVariants.{Output};
 ghost use Rattle.wu_drive.specs.Projects.{EndsAsBroken, KeepsWorld};
 ghost use Rattle.wu_drive.specs.Texts.{workunit_line};
-ghost use Rattle.wu_drive.specs.Views.{IsRowFault, IsViewFault, RefusesEnded, Shows, WritesWorkunits};
+ghost use Rattle.wu_drive.specs.Views.{IsViewFault, RefusesEnded, Shows, WritesLeft};
 ghost use Rattle.wu_drive.specs.Writing.{WritesTo};
 ghost use Rattle.wu_store.specs.Loading.{IsRead};
 ghost use Rattle.wu_passes.specs.Projects.{GoesStill, IsOver, KeepsLimit, ServesOn, state_of};
 ghost use Rattle.wu_passes.specs.Standing.{KeepsDoubt};
+ghost use Rattle.wu_passes.specs.Walks.{OnlyReads, StaysServing, walked};
 
 use crate::output::{Piece, flush, write_pieces};
-use sqlite::{Alter, Row};
+use sqlite::Alter;
 use std::alloc::Global;
 use std::io::Write;
-use wu_core::{Fault, Workunit};
-use wu_passes::Project;
-use wu_store::workunit_from;
+use wu_core::Fault;
+use wu_passes::{Project, WorkunitLine, WorkunitWalk};
 
 /// A view of a project.
 #[derive(Clone, Copy, Debug, PartialEq, Eq)]
@@ -26,19 +26,19 @@ pub enum View {
 }
 
 /// Writes the line of a workunit.
-fn write_workunit<W: Write>(out: &mut W, workunit: &Workunit) -> Result<(), Fault>
-    ensures bytes { WritesTo W.contents out.old out.new (workunit_line workunit.now) result }
+fn write_workunit<W: Write>(out: &mut W, line: &WorkunitLine) -> Result<(), Fault>
+    ensures bytes { WritesTo W.contents out.old out.new (workunit_line line.now) result }
     ensures fault { IsOkUnless result Output }
 {
-    let params = workunit.params;
+    let params = line.params;
     write_pieces(
         out,
         &[
-            Piece::Number(workunit.number),
+            Piece::Number(line.number),
             Piece::Text(" "),
-            Piece::Text(workunit.name.as_str()),
+            Piece::Text(line.name.as_str()),
             Piece::Text(" input="),
-            Piece::Number(workunit.input.len() as u64),
+            Piece::Number(line.input),
             Piece::Text(" quorum="),
             Piece::Number(u64::from(params.min_quorum())),
             Piece::Text(" target="),
@@ -54,33 +54,52 @@ fn write_workunit<W: Write>(out: &mut W, workunit: &Workunit) -> Result<(), Faul
             Piece::Text(" credit="),
             Piece::Number(u64::from(params.credit())),
             Piece::Text(" mask="),
-            Piece::Number(u64::from(workunit.error_mask.code())),
+            Piece::Number(u64::from(line.error_mask.code())),
             Piece::Text(" canonical="),
-            Piece::Place(workunit.canonical),
+            Piece::Place(line.canonical),
             Piece::Text(" assimilate="),
-            Piece::Text(workunit.assimilate.word()),
+            Piece::Text(line.assimilate.word()),
             Piece::Text(" delete="),
-            Piece::Text(workunit.file_delete.word()),
+            Piece::Text(line.file_delete.word()),
             Piece::Text(" done="),
-            Piece::When(workunit.done_at),
+            Piece::When(line.done_at),
             Piece::Text("\n"),
         ],
     )
 }
 
-/// Writes the lines of the workunits that rows stand for. A row that stands for none is `NotAProject`.
-fn write_workunits<W: Write>(alloc: Global, rows: &[Row], out: &mut W) -> Result<(), Fault>
-    ensures text { WritesWorkunits W.contents rows.now out.old out.new result }
-    ensures fault { IfErr result IsRowFault }
+/// Writes the lines that a walk has left.
+fn write_lines<S: Alter, W: Write>(walk: &mut WorkunitWalk<'_, S>, out: &mut W) -> Result<(), Fault>
+    ensures same_reference { walk.new.project.ghost_name ≡ walk.old.project.ghost_name }
+    ensures reads { OnlyReads (walked walk.old) (walked walk.new) }
+    ensures opens { StaysServing (walked walk.old) (walked walk.new) result }
+    ensures text { WritesLeft W.contents walk.old walk.new out.old out.new result }
+    ensures fault { IfErr result IsViewFault }
 {
-    for row in rows {
-        let workunit = workunit_from(alloc, row)?;
-        write_workunit(out, &workunit)?;
+    while let Some(line) = walk.next()? {
+        write_workunit(out, &line)?;
     }
     Ok(())
 }
 
-/// Writes the line of each workunit, and flushes.
+/// Writes the lines of all workunits. It ends no session.
+fn walk_lines<S: Alter, W: Write>(
+    alloc: Global,
+    project: &mut Project<S>,
+    out: &mut W,
+) -> Result<(), Fault>
+    ensures ended { RefusesEnded W.contents project.old project.new out.old out.new result }
+    ensures reads { OnlyReads project.old project.new }
+    ensures opens { GoesStill project.old → ServesOn project.new result }
+    ensures goes { KeepsWorld project.old project.new }
+    ensures text { Shows W.contents project.old project.new out.old out.new View.Workunits result }
+    ensures fault { GoesStill project.old → IfErr result IsViewFault }
+{
+    let mut walk = project.walk_workunits(alloc)?;
+    write_lines(&mut walk, out)
+}
+
+/// Writes the line of each workunit, and flushes once. A failure of the disk ends the session.
 fn show_workunits<S: Alter, W: Write>(
     alloc: Global,
     project: &mut Project<S>,
@@ -97,9 +116,15 @@ fn show_workunits<S: Alter, W: Write>(
     ensures fault { GoesStill project.old → IfErr result IsViewFault }
     ensures opens { GoesStill project.old → ServesOn project.new result }
 {
-    let rows = project.workunit_rows()?;
-    write_workunits(alloc, rows.as_slice(), out)?;
-    flush(out)
+    match walk_lines(alloc, project, out) {
+        Ok(()) => flush(out),
+        Err(fault) => {
+            if fault == Fault::Broken {
+                project.end_session();
+            }
+            Err(fault)
+        }
+    }
 }
 
 /// Writes the lines of a view. It changes no table; a failure of the disk ends the session.

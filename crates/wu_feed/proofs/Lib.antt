@@ -3,7 +3,7 @@ mod InputLemmas
 mod JobLemmas
 mod MomentLemmas
 mod RecordLemmas
-mod ReportLemmas
+pub mod RangeLemmas
 mod RowLemmas
 mod TemplateLemmas
 mod FaultLemmas

@@ -3,6 +3,7 @@ pub mod Inputs
 pub mod Jobs
 pub mod Limits
 pub mod Moments
+pub mod Ranges
 pub mod Reports
 pub mod Rows
 pub mod Sends

@@ -2,9 +2,9 @@
 
 ghost use Rattle.std.specs.Prelude.{◌≡◌, ◌≤◌, All, IfErr, IfOk, length};
 ghost use Rattle.csv.specs.Records.{fields_of};
-ghost use Rattle.wu_core.specs.Limits.{longest_input};
 ghost use Rattle.wu_core.specs.Reads.{Gives};
 ghost use Rattle.wu_feed.specs.Limits.{most_rows};
+ghost use Rattle.wu_feed.specs.Ranges.{IsJob};
 ghost use Rattle.wu_feed.specs.Rows.{IsFileFault};
 ghost use Rattle.wu_feed.specs.Jobs.{is_jobs_header, job_of, jobs_of_file};
 
@@ -77,7 +77,7 @@ pub fn read_jobs(alloc: Global, file: &[u8]) -> Result<Jobs, Fault>
     ensures exact { Gives result (jobs_of_file file.now) }
     ensures told { IfErr result IsFileFault }
     ensures few { IfOk result (λ jobs. length jobs ≤ most_rows) }
-    ensures short { IfOk result (All (λ job. length job.input ≤ longest_input)) }
+    ensures ranged { IfOk result (All IsJob) }
 {
     read_file(alloc, file)
 }

@@ -2,9 +2,9 @@
 
 ghost use Rattle.std.specs.Prelude.{◌≡◌, ◌≤◌, All, IfErr, IfOk, length};
 ghost use Rattle.csv.specs.Records.{fields_of};
-ghost use Rattle.wu_core.specs.Limits.{longest_output};
 ghost use Rattle.wu_core.specs.Reads.{Gives};
 ghost use Rattle.wu_feed.specs.Limits.{most_rows};
+ghost use Rattle.wu_feed.specs.Ranges.{IsReportRow};
 ghost use Rattle.wu_feed.specs.Reports.{report_of, reported_output, reports_header, reports_of_file};
 ghost use Rattle.wu_feed.specs.Rows.{is_header, IsFileFault};
 
@@ -102,7 +102,7 @@ pub fn read_reports(alloc: Global, file: &[u8]) -> Result<Reports, Fault>
     ensures exact { Gives result (reports_of_file file.now) }
     ensures told { IfErr result IsFileFault }
     ensures few { IfOk result (λ reports. length reports ≤ most_rows) }
-    ensures short { IfOk result (All (λ report. length report.output ≤ longest_output)) }
+    ensures ranged { IfOk result (All IsReportRow) }
 {
     read_file(alloc, file)
 }

@@ -1,9 +1,10 @@
 //! Files of sends: a header `result,host,moment`, and a row for each instance that was sent.
 
-ghost use Rattle.std.specs.Prelude.{◌≡◌, ◌≤◌, ◌∷◌, [], IfErr, IfOk, length};
+ghost use Rattle.std.specs.Prelude.{◌≡◌, ◌≤◌, ◌∷◌, [], All, IfErr, IfOk, length};
 ghost use Rattle.csv.specs.Records.{fields_of};
 ghost use Rattle.wu_core.specs.Reads.{Gives};
 ghost use Rattle.wu_feed.specs.Limits.{most_rows};
+ghost use Rattle.wu_feed.specs.Ranges.{IsSendRow};
 ghost use Rattle.wu_feed.specs.Rows.{is_header, IsFileFault};
 ghost use Rattle.wu_feed.specs.Sends.{send_of, sends_header, sends_of_file};
 
@@ -91,6 +92,7 @@ pub fn read_sends(alloc: Global, file: &[u8]) -> Result<Sends, Fault>
     ensures exact { Gives result (sends_of_file file.now) }
     ensures told { IfErr result IsFileFault }
     ensures few { IfOk result (λ sends. length sends ≤ most_rows) }
+    ensures ranged { IfOk result (All IsSendRow) }
 {
     read_file(alloc, file)
 }

@@ -41,7 +41,7 @@ and_first : (a b : Bool) → (a && b) ≡ true → a ≡ true
 and_first true b is = refl
 and_first false b is = absurd cc
 
-kind_is : (one other : ImportKind) → (import_kind_code one == import_kind_code other) ≡ true → one ≡ other
+pub kind_is : (one other : ImportKind) → (import_kind_code one == import_kind_code other) ≡ true → one ≡ other
 kind_is kind.Batch kind.Batch is = refl
 kind_is kind.Batch kind.Sent is = absurd cc
 kind_is kind.Batch kind.Reported is = absurd cc

@@ -2,39 +2,39 @@
 use Rattle.std.proofs.Common.{append_assoc, ◌≡◌, ◌⊎◌, ℕ, suc, ◌+◌, ◌<◌, ◌≤◌, ◌==◌, Bool, true, false, List, [], ◌∷◌, ◌++◌, length, get_or, map, Option, Some, None, Result, Ok, Err, IfOk, IfErr, refl, sym, ap, subst, ◌∙◌, inl, inr, arith, nat_lt}
 use Rattle.std.proofs.lemmas.Bool.Decides.{nat_tests}
 use Rattle.std.proofs.lemmas.Slice.Eq.{bytes_eq-Decides}
-use Rattle.std.proofs.lemmas.Bool.{cases_Bool}
-use Rattle.std.proofs.lemmas.List.{append-nil}
-use Rattle.std.proofs.lemmas.List.Elements.{All-append, All-cons, All-get_or, All-nil, All-replicate}
-use Rattle.std.specs.List.{enumerate_from}
-use Rattle.std.specs.Prelude.{find, bytes_eq, ◌&&◌, if◌then◌else◌}
+use Rattle.std.proofs.lemmas.Bool.{cases_Bool, or_parts}
+use Rattle.std.proofs.lemmas.List.{append-nil, length-append, map-append}
+use Rattle.std.proofs.lemmas.List.Folds.{list_any-append}
+use Rattle.std.proofs.lemmas.List.Elements.{All-append, All-from_recursion, All-get_or, All-head, All-nil, All-push, All-replicate, All-tail}
+use Rattle.std.proofs.Math.Seq.{take-append_seam}
+use Rattle.std.specs.List.{AllByRecursion, enumerate_from}
+use Rattle.std.specs.Prelude.{◌≢◌, All, take, find, bytes_eq, if◌then◌else◌}
 use Rattle.wu_core.specs.declared.fault.Fault.{Fault}
 use Rattle.wu_core.specs.declared.fault.Fault.TheVariants.{Memory, NameUsed, TooMany, WorkunitUsed}
 use Rattle.wu_core.specs.declared.workunit.Workunit.{Workunit}
 use Rattle.wu_core.specs.Limits.{most_workunits}
-use Rattle.wu_core.specs.Parameters.{Parameters}
-use Rattle.wu_core.specs.World.{World, Import, is_import, last_skip}
-use Rattle.wu_store.specs.Reading.{AreVerdicts}
+use Rattle.wu_core.specs.Parameters.{IsParameters, Parameters}
+use Rattle.wu_core.specs.World.{World, Import, last_skip}
+use Rattle.wu_store.specs.Reading.{AreVerdicts, IsStoredInstance}
 use Rattle.wu_feed.specs.declared.jobs.Job.{Job}
 use Rattle.wu_feed.specs.Jobs.{jobs_of_file}
+use Rattle.wu_feed.specs.Ranges.{IsJob}
 use Rattle.wu_feed.specs.Templates.{template_of}
+use Rattle.wu_feed.proofs.RangeLemmas.{jobs_ranged, template_ranged}
 use Rattle.wu_store.specs.Changes.{IsAbove}
-use Rattle.wu_core.specs.declared.import.ImportKind.{ImportKind}
-use Rattle.wu_core.specs.declared.import.ImportKind.TheVariants as kind
-use Rattle.wu_core.specs.Codes.{import_kind_code}
-use Rattle.wu_store.specs.declared.rows.StoredImport.{StoredImport}
-use Rattle.wu_passes.specs.declared.command.Answer.TheVariants as answer
-use Rattle.wu_passes.specs.Batches.{all_applied, first_number, first_taken, new_workunit, unless_taken, with_jobs}
+use Rattle.wu_passes.specs.Batches.{all_applied, first_number, first_taken, is_one_of, job_names, new_workunit, unless_taken, with_jobs}
 use Rattle.wu_store.specs.Changing.{AreRight, import_of_change, made, made_all}
 use Rattle.wu_passes.specs.Imports.{batch_given, batch_read, Done, Given, jobs_kept, first_answer, has_content, import_of, imported, imported_after, kept_import}
 use Rattle.wu_passes.specs.Machine.{done, step, world_of}
 use Rattle.wu_passes.specs.Planning.{additions, first_of, IsNewBatch, IsPlan, IsProject, Plans, TellsTaken, reply_of_answer}
-use Rattle.wu_store.specs.Loading.{IsEarlier, IsStoreFault}
-use Rattle.wu_passes.specs.Requests.{AskBatch, Imported, Reply}
+use Rattle.wu_store.specs.Loading.{IsStorable, IsStoreFault}
+use Rattle.wu_passes.specs.Requests.{AskBatch, Reply}
 use Rattle.wu_passes.specs.Sound.{IsGiven, IsSound}
-use Rattle.wu_passes.specs.declared.batch.Plan.{Plan}
+use Rattle.wu_passes.specs.declared.imports.Plan.{Plan}
 use Rattle.wu_store.specs.declared.changes.Change.{Change}
 use Rattle.wu_store.specs.declared.changes.Change.TheVariants.{Next, Keep}
 use Rattle.wu_store.specs.declared.changes.Import.{Import as Kept}
+use Rattle.wu_passes.proofs.ApartLemmas.{Apart, apart_more, apart_pairs, names_of, pairs_apart}
 use Rattle.wu_passes.proofs.PlanLemmas.{added}
 
 -- the world with workunits more
@@ -118,38 +118,10 @@ module _ (world : World) (project : IsProject world) (name template file : List 
           ∙ ap {B = Done} (λ (a : Reply). (a, with_kept (import_of_change new.kept) (with_jobs world params jobs))) (sym new.answer)
           ∙ ap {B = Done} (λ (w : World). (reply_of_answer plan.answer, w)) (sym (ap (λ changes. made_all changes world) new.changes ∙ made_new new.kept))
 
--- what is found passes the test
-find_passes : {X : Type 0} (p : X → Bool) (xs : List X) (x : X) → find p xs ≡ Some x → p x ≡ true
-find_passes p [] x found = absurd cc
-find_passes p (y ∷ ys) x found = elim (cases_Bool (p y)) [
-  | inl is ↦ let same : Some y ≡ Some x = subst (λ b. (if b then Some y else find p ys) ≡ Some x) is found in let it : y ≡ x = cc in subst (λ z. p z ≡ true) it is
-  | inr not ↦ find_passes p ys x (subst (λ b. (if b then Some y else find p ys) ≡ Some x) not found)
-]
-
-bytes_same : (a b : List ℕ) → bytes_eq a b ≡ true → a ≡ b
-bytes_same a b is = (bytes_eq-Decides a b).0 is
-
-both_true : (a b : Bool) → (a && b) ≡ true → (a ≡ true) × (b ≡ true)
-both_true true b is = (refl, is)
-both_true false b is = absurd cc
-
-batch_code : (k : ImportKind) → (import_kind_code k == 1) ≡ true → k ≡ kind.Batch
-batch_code kind.Batch is = refl
-batch_code kind.Sent is = absurd cc
-batch_code kind.Reported is = absurd cc
-
--- a batch that is refused, or that came before
+-- a batch that is refused
 module _ (world : World) (project : IsProject world) (name template file : List ℕ) where
-  asked_of : done world (AskBatch name template file) ≡ imported world (batch_given name template file)
+  pub asked_of : done world (AskBatch name template file) ≡ imported world (batch_given name template file)
   asked_of = rw project.present refl
-
-  pub came_before : (import : Import) → import_of world (batch_given name template file) ≡ Some import → has_content (batch_given name template file) import ≡ true
-      → done world (AskBatch name template file) ≡ Ok (first_answer import, world)
-  came_before import found same = asked_of ∙ rw (found, same) refl
-
-  pub other_content : (import : Import) → import_of world (batch_given name template file) ≡ Some import → has_content (batch_given name template file) import ≡ false
-      → done world (AskBatch name template file) ≡ Err NameUsed
-  other_content import found other = asked_of ∙ rw (found, other) refl
 
   pub bad_template : (fault : Fault) → import_of world (batch_given name template file) ≡ None → template_of template ≡ Err fault → done world (AskBatch name template file) ≡ Err fault
   bad_template fault fresh is = asked_of ∙ rw (fresh, is) refl
@@ -182,39 +154,6 @@ module _ (world : World) (project : IsProject world) (name template file : List 
       (subst (λ n. IsNewBatch (batch_given name template file) n params jobs plan) next_is new)
   jobs_planned params jobs next (Err fault) fresh template_is file_is free next_is few new err = inr (inl err)
 
-  kind_of : (kept : Import) → is_import kind.Batch name kept ≡ true → kept.kind ≡ kind.Batch
-  kind_of kept is = batch_code kept.kind (both_true _ _ is).0
-
-  name_of : (kept : Import) → is_import kind.Batch name kept ≡ true → kept.name ≡ name
-  name_of kept is = bytes_same kept.name name (both_true _ _ is).1
-
-  same_stored : (earlier : StoredImport) (kept : Import) → earlier.template ≡ kept.template → earlier.content ≡ kept.content
-      → has_content (batch_given name template file) kept ≡ (bytes_eq earlier.template template && bytes_eq earlier.content file)
-  same_stored earlier kept template_is content_is = rw (template_is, content_is) refl
-
-  same_answer : (first : ℕ) (verdicts : List ℕ) (kept : Import) → kept.kind ≡ kind.Batch → kept.name ≡ name → first ≡ kept.first_number → verdicts ≡ kept.verdicts
-      → Imported kind.Batch name first verdicts ≡ first_answer kept
-  same_answer first verdicts kept kind_is name_is first_is verdicts_are = rw (kind_is, name_is, first_is, verdicts_are) refl
-
-  pub batch_repeated : (earlier : StoredImport) (r : Result Plan Fault) → IsEarlier (import_of world (batch_given name template file)) (Some earlier)
-      → IfOk r (λ plan. ((bytes_eq earlier.template template && bytes_eq earlier.content file) ≡ true) × (plan.answer ≡ answer.Imported kind.Batch name earlier.first_number earlier.verdicts) × (plan.changes.items ≡ []))
-      → IfErr r (λ fault. (fault ≡ Memory) ⊎ ((fault ≡ NameUsed) × ((bytes_eq earlier.template template && bytes_eq earlier.content file) ≡ false)))
-      → IsPlan world (AskBatch name template file) r
-  batch_repeated earlier (Ok plan) (kept, found, template_is, content_is, first_is, verdicts_are) (same, answer_is, nothing) err = record {
-    done = came_before kept found (same_stored earlier kept template_is content_is ∙ same) ∙ ap (λ (it : Done). Ok it) again;
-    right = subst (λ changes. AreRight changes world) (sym nothing) tt;
-  }
-    where
-      is_it : is_import kind.Batch name kept ≡ true
-      is_it = find_passes (is_import kind.Batch name) world.imports kept found
-
-      again : ◌≡◌ {A = Done} (first_answer kept, world) (reply_of_answer plan.answer, made_all plan.changes.items world)
-      again = ap {B = Done} (λ (a : Reply). (a, world)) (sym (same_answer earlier.first_number earlier.verdicts kept (kind_of kept is_it) (name_of kept is_it) first_is verdicts_are) ∙ sym (ap (λ a. reply_of_answer a) answer_is))
-          ∙ ap {B = Done} (λ (w : World). (reply_of_answer plan.answer, w)) (sym (ap (λ changes. made_all changes world) nothing))
-  batch_repeated earlier (Err fault) (kept, found, template_is, content_is, first_is, verdicts_are) ok (inl memory) = inr (inl memory)
-  batch_repeated earlier (Err fault) (kept, found, template_is, content_is, first_is, verdicts_are) ok (inr other) =
-      inl (other_content kept found (same_stored earlier kept template_is content_is ∙ other.1) ∙ ap (λ (f : Fault). Err f) (sym other.0))
-
 above_news : (params : Parameters) (n : ℕ) (jobs : List Job) (ws : List Workunit) → IsAbove n ws → IsAbove (n + length jobs) (ws ++ news params (enumerate_from n jobs))
 above_news params n [] ws above = let same : n ≡ n + 0 = omega arith in subst (λ k. IsAbove k (ws ++ [])) same (subst (λ us. IsAbove n us) (sym (append-nil ws)) above)
 above_news params n (job ∷ jobs) ws above =
@@ -227,42 +166,105 @@ above_news params n (job ∷ jobs) ws above =
 abbrev pub KeepsProject : World → Result Done Fault → Type 0
 KeepsProject world result = IsProject (world_of world result)
 
-keeps_if : (b : Bool) (world : World) (one other : Result Done Fault) → KeepsProject world one → KeepsProject world other → KeepsProject world (if b then one else other)
+pub keeps_if : (b : Bool) (world : World) (one other : Result Done Fault) → KeepsProject world one → KeepsProject world other → KeepsProject world (if b then one else other)
 keeps_if true world one other first second = first
 keeps_if false world one other first second = second
 
-module _ (world : World) (project : IsProject world) where
-  keeps_kept : (given : Given) (jobs : List Job) (after : World) → IsProject after → KeepsProject world (jobs_kept given world jobs (Ok after))
-  keeps_kept given jobs after is = record {
-    present = is.present;
-    above = is.above;
-    next = is.next;
-    verdicts = All-append (λ (i : Import). AreVerdicts i.kind i.verdicts) after.imports (kept_import given (first_number world jobs) (all_applied jobs) ∷ []) is.verdicts
-        (All-cons (λ (i : Import). AreVerdicts i.kind i.verdicts) (kept_import given (first_number world jobs) (all_applied jobs)) [] (All-replicate (λ verdict. verdict ≤ last_skip given.kind) (length jobs) 0 (omega arith)) (All-nil (λ (i : Import). AreVerdicts i.kind i.verdicts)));
-  }
+-- one that keeps an import more
+pub keeps_import : (after : World) → IsProject after → (import : Import) → AreVerdicts import.kind import.verdicts → IsProject (with_kept import after)
+keeps_import after project import told = record {
+  present = project.present;
+  above = project.above;
+  next = project.next;
+  verdicts = All-push (λ (i : Import). AreVerdicts i.kind i.verdicts) after.imports import project.verdicts told;
+  storable = project.storable;
+  names = project.names;
+}
 
-  keeps_jobs : (given : Given) (params : Parameters) (jobs : List Job) (taken : Option (ℕ × List ℕ)) → KeepsProject world (jobs_kept given world jobs (unless_taken world params jobs taken))
-  keeps_jobs given params jobs (Some place) = project
-  keeps_jobs given params jobs None = elim (cases_Bool (nat_lt (most_workunits + 1) (world.next_number + length jobs))) [
+-- a workunit that a batch adds can be read
+new_storable : (params : Parameters) (n : ℕ) (job : Job) → IsParameters params → IsJob job → n ≤ most_workunits → IsStorable (new_workunit params n job)
+new_storable params n job ranged is low = record {
+  number = omega (arith, low);
+  row = record { name = is.name; parameters = ranged; input = is.input; canonical = tt; stamped = record { moment = tt; done = λ e. cc; done_only = λ e. cc }; bare = refl };
+  instances = record { each = All-nil IsStoredInstance; few = omega arith };
+}
+
+news_storable : (params : Parameters) (n : ℕ) (jobs : List Job) → IsParameters params → All IsJob jobs → n + length jobs ≤ most_workunits + 1
+    → AllByRecursion IsStorable (news params (enumerate_from n jobs))
+news_storable params n [] ranged each few = tt
+news_storable params n (job ∷ jobs) ranged each few =
+    (new_storable params n job ranged (All-head IsJob job jobs each) (omega (arith, few)), news_storable params (n + 1) jobs ranged (All-tail IsJob job jobs each) (omega (arith, few)))
+
+-- ---- the names of new workunits
+
+-- none of these names is that of a workunit
+is_free : (ws : List Workunit) (name : List ℕ) → is_one_of (names_of ws) name ≡ false → AllByRecursion (λ (v : Workunit). v.name ≢ name) ws
+is_free [] name free = tt
+is_free (w ∷ ws) name free =
+    let parts = or_parts (bytes_eq w.name name) (is_one_of (names_of ws) name) free in
+    ((λ same. let is = (bytes_eq-Decides w.name name).1 same in let no : true ≡ false = sym is ∙ parts.0 in cc), is_free ws name parts.1)
+
+free_parts : (one other : List (List ℕ)) (name : List ℕ) → is_one_of (one ++ other) name ≡ false → (is_one_of one name ≡ false) × (is_one_of other name ≡ false)
+free_parts one other name free = or_parts (is_one_of one name) (is_one_of other name) (sym (list_any-append (λ it. bytes_eq it name) one other) ∙ free)
+
+free_of_both : (one other : List (List ℕ)) (name : List ℕ) → is_one_of one name ≡ false → is_one_of other name ≡ false → is_one_of (one ++ other) name ≡ false
+free_of_both one other name first second = list_any-append (λ it. bytes_eq it name) one other ∙ rw (first, second) refl
+
+-- where no job's name is taken, by what was there or by an earlier job, all names differ
+apart_news : (params : Parameters) (n k : ℕ) (jobs : List Job) (old archived past all : List (List ℕ)) (ws : List Workunit) → names_of ws ≡ old ++ past → all ≡ past ++ job_names jobs → length past ≡ k
+    → find (λ p. is_one_of ((old ++ archived) ++ take p.0 all) p.1) (enumerate_from k (job_names jobs)) ≡ None → Apart ws → Apart (ws ++ news params (enumerate_from n jobs))
+apart_news params n k [] old archived past all ws named are long free apart = subst (λ us. Apart us) (sym (append-nil ws)) apart
+apart_news params n k (job ∷ jobs) old archived past all ws named are long free apart = elim (cases_Bool (is_one_of ((old ++ archived) ++ take k all) job.name)) [
+  | inl taken ↦ absurd (let some : Some (k, job.name) ≡ None = rw taken at free in cc)
+  | inr not ↦
+      let before : take k all ≡ past = ap (λ names. take k names) are ∙ ap (λ count. take count (past ++ job_names (job ∷ jobs))) (sym long) ∙ take-append_seam past (job_names (job ∷ jobs)) in
+      let parts = free_parts (old ++ archived) past job.name (subst (λ names. is_one_of ((old ++ archived) ++ names) job.name ≡ false) before not) in
+      let here = free_of_both old past job.name (free_parts old archived job.name parts.0).0 parts.1 in
+      let mine = is_free ws job.name (subst (λ names. is_one_of names job.name ≡ false) (sym named) here) in
+      let one = new_workunit params n job in
+      let rest = apart_news params (n + 1) (k + 1) jobs old archived (past ++ job.name ∷ []) all (ws ++ one ∷ [])
+      (map-append (λ (w : Workunit). w.name) ws (one ∷ []) ∙ ap (λ names. names ++ job.name ∷ []) named ∙ append_assoc old past (job.name ∷ []))
+      (are ∙ sym (append_assoc past (job.name ∷ []) (job_names jobs)))
+      (let more = length-append past (job.name ∷ []) in omega (arith, more, long))
+      (rw not at free)
+      (apart_more ws one apart mine) in
+      subst (λ us. Apart us) (append_assoc ws (one ∷ []) (news params (enumerate_from (n + 1) jobs))) rest
+]
+
+apart_jobs : (world : World) (params : Parameters) (jobs : List Job) → Apart world.workunits → first_taken world jobs ≡ None
+    → Apart (world.workunits ++ news params (enumerate_from world.next_number jobs))
+apart_jobs world params jobs apart free =
+    apart_news params world.next_number 0 jobs (names_of world.workunits) (map (λ row. row.name) world.archived) [] (job_names jobs) world.workunits
+    (sym (append-nil (names_of world.workunits))) refl refl free apart
+
+module _ (world : World) (project : IsProject world) where
+  keeps_jobs : (given : Given) (params : Parameters) (jobs : List Job) → IsParameters params → All IsJob jobs → (taken : Option (ℕ × List ℕ)) → first_taken world jobs ≡ taken
+      → KeepsProject world (jobs_kept given world jobs (unless_taken world params jobs taken))
+  keeps_jobs given params jobs ranged each (Some place) free = project
+  keeps_jobs given params jobs ranged each None free = elim (cases_Bool (nat_lt (most_workunits + 1) (world.next_number + length jobs))) [
     | inl many ↦ rw many project
     | inr few ↦
         let within : world.next_number + length jobs ≤ most_workunits + 1 = grind (arith, nat_tests) in
-        rw few (keeps_kept given jobs (with_jobs world params jobs) (record {
+        rw few (keeps_import (with_jobs world params jobs) (record {
           present = project.present;
           above = above_news params world.next_number jobs world.workunits project.above;
           next = (let first = project.next.0 in omega (arith, first), within);
           verdicts = project.verdicts;
-        }))
+          storable = All-append IsStorable world.workunits (news params (enumerate_from world.next_number jobs)) project.storable
+              (All-from_recursion IsStorable (news params (enumerate_from world.next_number jobs)) (news_storable params world.next_number jobs ranged each within));
+          names = apart_pairs (world.workunits ++ news params (enumerate_from world.next_number jobs)) (apart_jobs world params jobs (pairs_apart world.workunits project.names) free);
+        }) (kept_import given (first_number world jobs) (all_applied jobs)) (All-replicate (λ verdict. verdict ≤ last_skip given.kind) (length jobs) 0 (omega arith)))
   ]
 
-  keeps_read : (given : Given) (params : Result Parameters Fault) (jobs : Result (List Job) Fault) → KeepsProject world (batch_read given world params jobs)
-  keeps_read given (Err fault) jobs = project
-  keeps_read given (Ok params) (Err fault) = project
-  keeps_read given (Ok params) (Ok jobs) = keeps_jobs given params jobs (first_taken world jobs)
+  keeps_read : (given : Given) (params : Result Parameters Fault) (jobs : Result (List Job) Fault) → ((is : Parameters) → params ≡ Ok is → IsParameters is)
+      → ((are : List Job) → jobs ≡ Ok are → All IsJob are) → KeepsProject world (batch_read given world params jobs)
+  keeps_read given (Err fault) jobs ranged each = project
+  keeps_read given (Ok params) (Err fault) ranged each = project
+  keeps_read given (Ok params) (Ok jobs) ranged each = keeps_jobs given params jobs (ranged params refl) (each jobs refl) (first_taken world jobs) refl
 
   keeps_imported : (name template file : List ℕ) (earlier : Option Import) → KeepsProject world (imported_after world (batch_given name template file) earlier)
   keeps_imported name template file (Some import) = keeps_if (has_content (batch_given name template file) import) world (Ok (first_answer import, world)) (Err NameUsed) project project
-  keeps_imported name template file None = keeps_read (batch_given name template file) (template_of template) (jobs_of_file file)
+  keeps_imported name template file None = keeps_read (batch_given name template file) (template_of template) (jobs_of_file file) (template_ranged template) (jobs_ranged file)
 
   pub keeps_project : (name template file : List ℕ) → IsProject (step world (AskBatch name template file))
   keeps_project name template file = subst (λ r. KeepsProject world r) (sym (asked_of world project name template file)) (keeps_imported name template file (import_of world (batch_given name template file)))

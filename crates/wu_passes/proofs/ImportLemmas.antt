@@ -17,18 +17,16 @@ use Rattle.wu_feed.specs.declared.jobs.Job.{Job}
 use Rattle.wu_feed.specs.Jobs.{jobs_of_file}
 use Rattle.wu_feed.specs.Templates.{template_of}
 use Rattle.wu_feed.specs.Reports.{reports_of_file}
-use Rattle.wu_feed.specs.declared.reports.ReportRow.{ReportRow}
 use Rattle.wu_feed.specs.Sends.{sends_of_file}
-use Rattle.wu_feed.specs.declared.sends.SendRow.{SendRow}
 use Rattle.wu_rules.specs.Counts.{is_undecided}
 use Rattle.wu_rules.specs.Cancelling.{cancelled}
 use Rattle.wu_passes.specs.Batches.{jobs_added, unless_taken, first_taken, with_jobs, first_number, all_applied}
-use Rattle.wu_passes.specs.Imports.{Done, Given, batch_given, sent_given, reported_given, import_of, has_content, first_answer, kept_import, keeping, jobs_kept, batch_read, sends_read, reports_read, newly_imported, imported_after, imported}
+use Rattle.wu_passes.specs.Imports.{Done, Given, batch_given, sent_given, reported_given, import_of, has_content, first_answer, kept_import, keeping, jobs_kept, batch_read, rows_read, newly_imported, imported_after, imported}
 use Rattle.wu_passes.specs.Laws.{AnswersAgain, ImportsActOnce}
 use Rattle.wu_passes.specs.Machine.{present_version, is_limit_right, cancel_done, done_now, is_upgrade, done, reply_of, world_of, step, fold_steps}
 use Rattle.wu_passes.specs.Passes.{passed, handled}
 use Rattle.wu_passes.specs.Requests.{Request, AskBatch, AskSent, AskReported, AskPass, AskCancel, AskUpgrade, Reply, Passed, Cancelled}
-use Rattle.wu_passes.specs.FileRows.{send_verdict, after_send, after_sends, send_verdicts, report_verdict, after_report, after_reports, report_verdicts, as_sent, as_reported}
+use Rattle.wu_passes.specs.FileRows.{Rule, after_row, after_rows, report_rule, row_verdict, row_verdicts, send_rule}
 use Rattle.wu_passes.specs.Worlds.{workunit_named, with_named}
 
 -- the schema is not an older one
@@ -89,19 +87,12 @@ same_named : (world : World) (name : List ℕ) (change : Workunit → Workunit) 
 same_named world name change = record { imports = refl; version = refl }
 
 -- rows of sends and of reports add no import
-same_sends : (world : World) (rows : List SendRow) → Same world (after_sends world rows)
-same_sends world [] = record { imports = refl; version = refl }
-same_sends world (row ∷ rows) =
-    same_then world (after_send world row) (after_sends (after_send world row) rows)
-    (same_if (send_verdict world row == 0) world (with_named world row.workunit (as_sent row)) (same_named world row.workunit (as_sent row)))
-    (same_sends (after_send world row) rows)
-
-same_reports : (world : World) (rows : List ReportRow) → Same world (after_reports world rows)
-same_reports world [] = record { imports = refl; version = refl }
-same_reports world (row ∷ rows) =
-    same_then world (after_report world row) (after_reports (after_report world row) rows)
-    (same_if (report_verdict world row == 0) world (with_named world row.workunit (as_reported row)) (same_named world row.workunit (as_reported row)))
-    (same_reports (after_report world row) rows)
+same_rows : {Row : Type 0} → (rule : Rule Row) (world : World) (rows : List Row) → Same world (after_rows rule world rows)
+same_rows rule world [] = record { imports = refl; version = refl }
+same_rows rule world (row ∷ rows) =
+    same_then world (after_row rule world row) (after_rows rule (after_row rule world row) rows)
+    (same_if (row_verdict rule world row == 0) world (with_named world (rule.workunit row) (rule.image row)) (same_named world (rule.workunit row) (rule.image row)))
+    (same_rows rule (after_row rule world row) rows)
 
 -- jobs add no import
 abbrev SameIfOk : World → Result World Fault → Type 0
@@ -133,18 +124,14 @@ new_batch given world (Ok params) (Err fault) = tt
 new_batch given world (Ok params) (Ok jobs) =
     new_jobs given world jobs (jobs_added world params jobs) (same_jobs world params jobs (first_taken world jobs))
 
-new_sends : (given : Given) (world : World) (rows : Result (List SendRow) Fault) → New world given (sends_read given world rows)
-new_sends given world (Err fault) = tt
-new_sends given world (Ok rows) = (after_sends world rows, 0, send_verdicts world rows, same_sends world rows, refl)
-
-new_reports : (given : Given) (world : World) (rows : Result (List ReportRow) Fault) → New world given (reports_read given world rows)
-new_reports given world (Err fault) = tt
-new_reports given world (Ok rows) = (after_reports world rows, 0, report_verdicts world rows, same_reports world rows, refl)
+new_rows : {Row : Type 0} → (rule : Rule Row) (given : Given) (world : World) (rows : Result (List Row) Fault) → New world given (rows_read rule given world rows)
+new_rows rule given world (Err fault) = tt
+new_rows rule given world (Ok rows) = (after_rows rule world rows, 0, row_verdicts rule world rows, same_rows rule world rows, refl)
 
 new_import : (world : World) (given : Given) (k : ImportKind) → New world given (newly_imported world given k)
 new_import world given kind.Batch = new_batch given world (template_of given.template) (jobs_of_file given.content)
-new_import world given kind.Sent = new_sends given world (sends_of_file given.content)
-new_import world given kind.Reported = new_reports given world (reports_of_file given.content)
+new_import world given kind.Sent = new_rows send_rule given world (sends_of_file given.content)
+new_import world given kind.Reported = new_rows report_rule given world (reports_of_file given.content)
 
 stays_by_new : (world : World) (given : Given) (result : Result Done Fault) → New world given result → StaysBy world result
 stays_by_new world given (Err fault) new = stays_refused world fault

@@ -17,7 +17,7 @@ use Rattle.wu_passes.specs.Planning.{FailsToRead, IsPlan, Plans, reply_of_answer
 use Rattle.wu_store.specs.Loading.{IsRead, IsStoreFault}
 use Rattle.wu_passes.specs.Requests.{Request}
 use Rattle.wu_passes.specs.Standing.{GoesOn, HasEnded, IsAnswered, IsCutBy, IsRefusal, KeepsAll, KeepsShown, LeavesAlso, StoresLater, TellsLater, WhyNot}
-use Rattle.wu_passes.specs.declared.batch.Plan.{Plan}
+use Rattle.wu_passes.specs.declared.imports.Plan.{Plan}
 use Rattle.wu_passes.specs.declared.command.Answer.{Answer}
 use Rattle.wu_store.specs.declared.changes.Change.{Change}
 

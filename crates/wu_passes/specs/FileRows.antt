@@ -1,53 +1,62 @@
 -- Rows of files of sends and of reports: the verdict of a row on a world, and what it makes of one.
-use Rattle.std.specs.Prelude.{ℕ, ◌==◌, if◌then◌else◌, List, [], ◌∷◌}
+use Rattle.std.specs.Prelude.{◌≡◌, ℕ, ◌==◌, if◌then◌else◌, List, [], ◌∷◌}
 use Rattle.std.specs.Option.{option_map_or}
 use Rattle.wu_core.specs.declared.workunit.Workunit.{Workunit}
 use Rattle.wu_core.specs.World.{World}
 use Rattle.wu_feed.specs.declared.reports.ReportRow.{ReportRow}
 use Rattle.wu_feed.specs.declared.sends.SendRow.{SendRow}
-use Rattle.wu_rules.specs.declared.verdicts.ReportVerdict.TheVariants as report
-use Rattle.wu_rules.specs.declared.verdicts.SendVerdict.TheVariants as send
 use Rattle.wu_rules.specs.Reporting.{report_verdict_in, reported_in}
 use Rattle.wu_rules.specs.Sending.{send_verdict_in, sent_in}
 use Rattle.wu_rules.specs.Verdicts.{report_verdict_code, send_verdict_code}
 use Rattle.wu_passes.specs.Worlds.{workunit_named, with_named}
 
--- the number of the verdict on a row: 0 where it is applied, else why it is skipped
-abbrev pub send_verdict : World → SendRow → ℕ
-send_verdict world row =
-    send_verdict_code (option_map_or (λ w. send_verdict_in w row.n row.host) (workunit_named world row.workunit) send.Unknown)
+-- What a kind of rows says: the name of a row's workunit, the number of the verdict on it (0 where it is applied, else why
+-- it is skipped), and what it makes of the workunit.
+pub record Rule (Row : Type 0) : Type 0 where
+  pub workunit : Row → List ℕ
+  pub verdict : Row → Workunit → ℕ
+  pub image : Row → Workunit → Workunit
 
-abbrev pub report_verdict : World → ReportRow → ℕ
-report_verdict world row =
-    report_verdict_code (option_map_or (λ w. report_verdict_in w row.n row.host row.moment) (workunit_named world row.workunit) report.Unknown)
+abbrev pub send_rule : Rule SendRow
+send_rule = record {
+  workunit = λ row. row.workunit;
+  verdict = λ row w. send_verdict_code (send_verdict_in w row.n row.host);
+  image = λ row w. sent_in w row.n row.host row.moment;
+}
 
--- what a row makes of its workunit
-abbrev pub as_sent : SendRow → Workunit → Workunit
-as_sent row w = sent_in w row.n row.host row.moment
+abbrev pub report_rule : Rule ReportRow
+report_rule = record {
+  workunit = λ row. row.workunit;
+  verdict = λ row w. report_verdict_code (report_verdict_in w row.n row.host row.moment);
+  image = λ row w. reported_in w row.n row.moment row.status row.output;
+}
 
-abbrev pub as_reported : ReportRow → Workunit → Workunit
-as_reported row w = reported_in w row.n row.moment row.status row.output
+-- name and number are as they were
+pub record KeepsIdentity (old new : Workunit) : Type 0 where
+  pub name : new.name ≡ old.name
+  pub number : new.number ≡ old.number
 
--- a row that is applied changes its instance, another changes nothing
-abbrev pub after_send : World → SendRow → World
-after_send world row = if send_verdict world row == 0 then with_named world row.workunit (as_sent row) else world
+-- a workunit as a row with this verdict leaves it
+abbrev pub left_by : {Row : Type 0} → Rule Row → Row → ℕ → Workunit → Workunit
+left_by rule row verdict w = if verdict == 0 then rule.image row w else w
 
-abbrev pub after_report : World → ReportRow → World
-after_report world row = if report_verdict world row == 0 then with_named world row.workunit (as_reported row) else world
+-- the verdict on a row whose workunit is not present
+abbrev pub unknown : ℕ
+unknown = 1
+
+abbrev pub row_verdict : {Row : Type 0} → Rule Row → World → Row → ℕ
+row_verdict rule world row = option_map_or (rule.verdict row) (workunit_named world (rule.workunit row)) unknown
+
+-- a row that is applied changes its workunit, another changes nothing
+abbrev pub after_row : {Row : Type 0} → Rule Row → World → Row → World
+after_row rule world row =
+    if row_verdict rule world row == 0 then with_named world (rule.workunit row) (rule.image row) else world
 
 -- a file's rows in order, each on what the rows before left
-abbrev pub after_sends : World → List SendRow → World
-after_sends world [] = world
-after_sends world (row ∷ rows) = after_sends (after_send world row) rows
+abbrev pub after_rows : {Row : Type 0} → Rule Row → World → List Row → World
+after_rows rule world [] = world
+after_rows rule world (row ∷ rows) = after_rows rule (after_row rule world row) rows
 
-abbrev pub send_verdicts : World → List SendRow → List ℕ
-send_verdicts world [] = []
-send_verdicts world (row ∷ rows) = send_verdict world row ∷ send_verdicts (after_send world row) rows
-
-abbrev pub after_reports : World → List ReportRow → World
-after_reports world [] = world
-after_reports world (row ∷ rows) = after_reports (after_report world row) rows
-
-abbrev pub report_verdicts : World → List ReportRow → List ℕ
-report_verdicts world [] = []
-report_verdicts world (row ∷ rows) = report_verdict world row ∷ report_verdicts (after_report world row) rows
+abbrev pub row_verdicts : {Row : Type 0} → Rule Row → World → List Row → List ℕ
+row_verdicts rule world [] = []
+row_verdicts rule world (row ∷ rows) = row_verdict rule world row ∷ row_verdicts rule (after_row rule world row) rows

@@ -11,11 +11,9 @@ use Rattle.wu_feed.specs.Jobs.{jobs_of_file}
 use Rattle.wu_feed.specs.Templates.{template_of}
 use Rattle.wu_passes.specs.Batches.{jobs_added, first_number, all_applied}
 use Rattle.wu_feed.specs.Reports.{reports_of_file}
-use Rattle.wu_feed.specs.declared.reports.ReportRow.{ReportRow}
 use Rattle.wu_feed.specs.Sends.{sends_of_file}
-use Rattle.wu_feed.specs.declared.sends.SendRow.{SendRow}
 use Rattle.wu_passes.specs.Requests.{Reply, Imported}
-use Rattle.wu_passes.specs.FileRows.{after_sends, send_verdicts, after_reports, report_verdicts}
+use Rattle.wu_passes.specs.FileRows.{Rule, after_rows, row_verdicts, report_rule, send_rule}
 
 -- a reply, and the world after it
 abbrev pub Done : Type 0
@@ -74,19 +72,16 @@ batch_read given world (Err fault) jobs = Err fault
 batch_read given world (Ok params) (Err fault) = Err fault
 batch_read given world (Ok params) (Ok jobs) = jobs_kept given world jobs (jobs_added world params jobs)
 
-abbrev pub sends_read : Given → World → Result (List SendRow) Fault → Result Done Fault
-sends_read given world (Err fault) = Err fault
-sends_read given world (Ok rows) = Ok (keeping given 0 (send_verdicts world rows) (after_sends world rows))
-
-abbrev pub reports_read : Given → World → Result (List ReportRow) Fault → Result Done Fault
-reports_read given world (Err fault) = Err fault
-reports_read given world (Ok rows) = Ok (keeping given 0 (report_verdicts world rows) (after_reports world rows))
+-- a new file of rows is refused, or its rows are applied or skipped
+abbrev pub rows_read : {Row : Type 0} → Rule Row → Given → World → Result (List Row) Fault → Result Done Fault
+rows_read rule given world (Err fault) = Err fault
+rows_read rule given world (Ok rows) = Ok (keeping given 0 (row_verdicts rule world rows) (after_rows rule world rows))
 
 -- what a file makes that was not imported before
 abbrev pub newly_imported : World → Given → ImportKind → Result Done Fault
 newly_imported world given kind.Batch = batch_read given world (template_of given.template) (jobs_of_file given.content)
-newly_imported world given kind.Sent = sends_read given world (sends_of_file given.content)
-newly_imported world given kind.Reported = reports_read given world (reports_of_file given.content)
+newly_imported world given kind.Sent = rows_read send_rule given world (sends_of_file given.content)
+newly_imported world given kind.Reported = rows_read report_rule given world (reports_of_file given.content)
 
 -- an import that comes again answers its first answer and changes nothing; other content of the same name is refused
 abbrev pub imported_after : World → Given → Option Import → Result Done Fault

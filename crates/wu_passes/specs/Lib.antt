@@ -6,6 +6,7 @@ pub mod Machine
 pub mod Passes
 pub mod Requests
 pub mod FileRows
+pub mod Touched
 pub mod Sessions
 pub mod Sound
 pub mod Worlds
@@ -13,3 +14,5 @@ pub mod Committing
 pub mod Planning
 pub mod Standing
 pub mod Projects
+pub mod Lines
+pub mod Walks

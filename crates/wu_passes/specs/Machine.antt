@@ -10,7 +10,9 @@ use Rattle.wu_rules.specs.Counts.{is_undecided}
 use Rattle.wu_rules.specs.Cancelling.{cancelled}
 use Rattle.wu_passes.specs.Imports.{Done, imported, batch_given, sent_given, reported_given}
 use Rattle.wu_passes.specs.Passes.{passed, handled}
-use Rattle.wu_passes.specs.Requests.{Pass, Purge, Request, AskBatch, AskSent, AskReported, AskPass, AskCancel, AskUpgrade, Reply, Passed, Cancelled, Upgraded}
+use Rattle.wu_store.specs.declared.due.Pass.{Pass}
+use Rattle.wu_store.specs.declared.due.Pass.TheVariants.{Purge}
+use Rattle.wu_passes.specs.Requests.{Request, AskBatch, AskSent, AskReported, AskPass, AskCancel, AskUpgrade, Reply, Passed, Cancelled, Upgraded}
 use Rattle.wu_passes.specs.Worlds.{workunit_named, with_named}
 
 -- the version that a project is created at

@@ -1,36 +1,45 @@
 -- The plan of a command: what it will answer and what it changes, before anything is changed.
-use Rattle.std.specs.Prelude.{◌≡◌, ◌≢◌, ◌⊎◌, ℕ, All, ◌+◌, ◌==◌, ◌&&◌, Bool, true, false, bytes_eq, if◌then◌else◌, List, [], ◌∷◌, ◌++◌, map, length, Some, None, Result, Ok, Err, find, IfErr, IsTrue, MatchResult}
+use Rattle.std.specs.Prelude.{◌≡◌, ◌≢◌, ◌⊎◌, ℕ, All, AllPairs, ◌+◌, ◌==◌, ◌&&◌, Bool, true, false, bytes_eq, if◌then◌else◌, List, [], ◌∷◌, ◌++◌, map, length, Some, None, Result, Ok, Err, find, IfErr, IfOk, IsTrue, MatchResult}
 use Rattle.std.specs.List.{enumerate_from}
 use Rattle.sqlite.specs.Held.{Held, state}
 use Rattle.sqlite.specs.State.{HasCleanDisk}
 use Rattle.sqlite.specs.Store.{Ghosts}
 use Rattle.wu_core.specs.declared.fault.Fault.{Fault}
-use Rattle.wu_core.specs.declared.fault.Fault.TheVariants.{Memory, Ended, NameUsed, NotAProject, WorkunitUsed}
+use Rattle.wu_core.specs.declared.fault.Fault.TheVariants.{Memory, Ended, NameUsed, NotAProject, NotOpenToCancel, WorkunitUsed}
+use Rattle.wu_core.specs.declared.workunit.Workunit.{Workunit}
 use Rattle.wu_core.specs.Parameters.{Parameters}
+use Rattle.wu_rules.specs.Cancelling.{cancelled}
+use Rattle.wu_rules.specs.Counts.{is_undecided}
 use Rattle.wu_core.specs.World.{World, is_import}
 use Rattle.wu_feed.specs.declared.jobs.Job.{Job}
+use Rattle.wu_core.specs.declared.import.ImportKind.{ImportKind}
 use Rattle.wu_core.specs.declared.import.ImportKind.TheVariants as kind
 use Rattle.wu_feed.specs.Jobs.{jobs_of_file}
 use Rattle.wu_feed.specs.Templates.{template_of}
 use Rattle.wu_store.specs.Reading.{AreVerdicts}
-use Rattle.wu_store.specs.Changes.{IsAbove}
-use Rattle.wu_store.specs.Loading.{IsStoreFault, LoadsNext}
+use Rattle.wu_store.specs.Changes.{IsAbove, with_import}
+use Rattle.wu_store.specs.Loading.{AreStorable, IsStoreFault, LoadsNext}
 use Rattle.wu_store.specs.declared.rows.StoredImport.{StoredImport}
 use Rattle.wu_schema.specs.StandsFor.{StandsFor}
-use Rattle.wu_passes.specs.declared.batch.Plan.{Plan}
+use Rattle.wu_passes.specs.declared.imports.Plan.{Plan}
+use Rattle.wu_passes.specs.declared.imports.Source.{Source}
+use Rattle.wu_passes.specs.declared.files.Left.{Left}
 use Rattle.wu_store.specs.declared.changes.Change.{Change}
-use Rattle.wu_store.specs.declared.changes.Change.TheVariants.{Add, Next, Keep}
+use Rattle.wu_store.specs.declared.changes.Change.TheVariants.{Add, Replace, Next, Keep}
 use Rattle.wu_store.specs.declared.changes.Import.{Import as Kept}
 use Rattle.wu_passes.specs.declared.command.Batch.{Batch}
+use Rattle.wu_passes.specs.declared.command.RowsFile.{RowsFile}
 use Rattle.wu_passes.specs.declared.command.Command.{Command}
 use Rattle.wu_passes.specs.declared.command.Command.TheVariants as command
 use Rattle.wu_passes.specs.Batches.{all_applied, first_taken, is_one_of, job_names, new_workunit, taken_names}
 use Rattle.wu_store.specs.Changing.{AreRight, import_of_change, made_all}
 use Rattle.wu_passes.specs.Imports.{Given, batch_given, first_answer, kept_import}
+use Rattle.wu_passes.specs.FileRows.{Rule, after_rows, row_verdicts}
 use Rattle.wu_passes.specs.Machine.{done, present_version}
+use Rattle.wu_passes.specs.Touched.{AreDistinct, IsLeft}
 use Rattle.wu_passes.specs.declared.command.Answer.{Answer}
 use Rattle.wu_passes.specs.declared.command.Answer.TheVariants as answer
-use Rattle.wu_passes.specs.Requests.{Request, AskBatch, Reply, Imported}
+use Rattle.wu_passes.specs.Requests.{Request, AskBatch, AskCancel, AskReported, AskSent, Reply, Cancelled, Imported}
 
 -- what a batch is imported as, and what it asks of the machine
 abbrev pub batch_of : Batch → Given
@@ -39,25 +48,53 @@ batch_of batch = batch_given batch.name batch.template batch.file
 abbrev pub request_of_batch : Batch → Request
 request_of_batch batch = AskBatch batch.name batch.template batch.file
 
+-- what a file of rows of this kind is imported as: no template goes with it
+abbrev pub file_of : ImportKind → RowsFile → Given
+file_of kind file = record { kind = kind; name = file.name; template = []; content = file.file }
+
+-- what is imported of a source
+abbrev pub given_of : Source → Given
+given_of source = record { kind = source.kind; name = source.name.now; template = source.template.now; content = source.content.now }
+
 -- what a command asks of the machine
 abbrev pub request_of : Command → Request
 request_of (command.Batch batch) = request_of_batch batch
+request_of (command.Sent file) = AskSent file.name file.file
+request_of (command.Reported file) = AskReported file.name file.file
+request_of (command.Cancel workunit) = AskCancel workunit
 
 -- the reply that an answer stands for
 abbrev pub reply_of_answer : Answer → Reply
 reply_of_answer (answer.Imported kind name first verdicts) = Imported kind name first verdicts
+reply_of_answer (answer.Cancelled workunit) = Cancelled workunit
 
 -- the verdicts of each import are numbers of verdicts on such a file
 abbrev pub HasVerdicts : World → Type 0
 HasVerdicts world = All (λ import. AreVerdicts import.kind import.verdicts) world.imports
 
--- A world at the present version, whose numbers are as those of each sound world: workunits are below the next number,
--- and that and the verdicts of imports are in range.
+-- A world at the present version, as each sound world is: workunits are below the next number, that and the verdicts of
+-- imports are in range, each workunit can be read, and no two have one name.
 pub record IsProject (world : World) : Type 0 where
   pub present : world.version ≡ present_version
   pub above : IsAbove world.next_number world.workunits
   pub next : LoadsNext world
   pub verdicts : HasVerdicts world
+  pub storable : AreStorable world
+  pub names : AllPairs (λ one other. one.name ≢ other.name) world.workunits
+
+-- the plan that gives a workunit up: its image takes its place
+pub record IsCancelled (w : Workunit) (plan : Plan) : Type 0 where
+  pub undecided : is_undecided w ≡ true
+  pub answer : plan.answer ≡ answer.Cancelled w.name
+  pub changes : plan.changes.items ≡ Replace (cancelled w) ∷ []
+
+-- it is refused where the workunit is not undecided, or for want of memory
+abbrev pub RefusesCancel : Workunit → Fault → Type 0
+RefusesCancel w fault = (fault ≡ Memory) ⊎ ((fault ≡ NotOpenToCancel) × (is_undecided w ≡ false))
+
+-- what the rows of a file left of a world
+abbrev pub LeavesRows : {Row : Type 0} → Rule Row → List Row → Result Left Fault → World → Type 0
+LeavesRows rule rows result world = IfOk result (λ left. IsLeft rule rows world left.touched left.verdicts.items)
 
 -- it never says that the session has ended
 abbrev pub NeverEnded : {T : Type 0} → Result T Fault → Type 0
@@ -107,18 +144,35 @@ pub record IsNewBatch (given : Given) (next : ℕ) (params : Parameters) (jobs :
   pub answer : reply_of_answer plan.answer ≡ first_answer (import_of_change kept)
   pub changes : plan.changes.items ≡ additions params next jobs ++ Keep kept ∷ []
 
--- an earlier batch of this name had the same content
-abbrev pub has_same_content : Batch → StoredImport → Bool
-has_same_content batch earlier = bytes_eq earlier.template batch.template && bytes_eq earlier.content batch.file
+-- an earlier import of this kind and name had the same content
+abbrev pub has_same_content : Given → StoredImport → Bool
+has_same_content given earlier = bytes_eq earlier.template given.template && bytes_eq earlier.content given.content
 
--- the plan of a batch that came before: its first answer, and no change
-abbrev pub IsRepeated : Batch → StoredImport → Plan → Type 0
-IsRepeated batch earlier plan =
-    (has_same_content batch earlier ≡ true) × (plan.answer ≡ answer.Imported kind.Batch batch.name earlier.first_number earlier.verdicts) × (plan.changes.items ≡ [])
+-- the plan of an import that came before: its first answer, and no change
+pub record IsRepeated (given : Given) (earlier : StoredImport) (plan : Plan) : Type 0 where
+  pub same : has_same_content given earlier ≡ true
+  pub answer : plan.answer ≡ answer.Imported given.kind given.name earlier.first_number earlier.verdicts
+  pub nothing : plan.changes.items ≡ []
 
 -- it is refused for other content, or for want of memory
-abbrev pub RefusesRepeat : Batch → StoredImport → Fault → Type 0
-RefusesRepeat batch earlier fault = (fault ≡ Memory) ⊎ ((fault ≡ NameUsed) × (has_same_content batch earlier ≡ false))
+abbrev pub RefusesRepeat : Given → StoredImport → Fault → Type 0
+RefusesRepeat given earlier fault = (fault ≡ Memory) ⊎ ((fault ≡ NameUsed) × (has_same_content given earlier ≡ false))
+
+-- what the rows of a file left is put in place, and the file is kept
+pub record IsNewFile (given : Given) (left : Left) (plan : Plan) : Type 0 where
+  pub kept : Kept
+  pub keeps : KeepsImport given 0 left.verdicts.items kept
+  pub reply : reply_of_answer plan.answer ≡ first_answer (import_of_change kept)
+  pub changes : plan.changes.items ≡ map Replace left.touched ++ Keep kept ∷ []
+  pub distinct : AreDistinct left.touched
+
+-- the plan of a file of these rows: they are applied or skipped, and the file is kept with their verdicts
+pub record IsFilePlan {Row : Type 0} (rule : Rule Row) (given : Given) (rows : List Row) (world : World) (plan : Plan) : Type 0 where
+  pub kept : Kept
+  pub keeps : KeepsImport given 0 (row_verdicts rule world rows) kept
+  pub reply : reply_of_answer plan.answer ≡ first_answer (import_of_change kept)
+  pub made : made_all plan.changes.items world ≡ with_import (import_of_change kept) (after_rows rule world rows)
+  pub right : AreRight plan.changes.items world
 
 -- ---- what a call that reads says of the tables, and of each world that they stand for
 
@@ -146,6 +200,10 @@ FindsFree jobs result world = MatchResult result (λ _. first_taken world jobs �
 -- over a project, the plan of a request
 abbrev pub PlansFor : Request → Result Plan Fault → World → Type 0
 PlansFor request result world = IsProject world → IsPlan world request result
+
+-- of a file of these rows, whose name is new,
+abbrev pub PlansRows : {Row : Type 0} → Rule Row → Given → List Row → Result Plan Fault → World → Type 0
+PlansRows rule given rows result world = MatchResult result (IsFilePlan rule given rows world) IsStoreFault
 
 -- of a batch,
 abbrev pub PlansBatch : Batch → Result Plan Fault → World → Type 0

@@ -1,7 +1,6 @@
 -- A project as its callers know it: what its connection shows, and whether its session has ended.
-use Rattle.std.specs.Prelude.{◌≡◌, ◌⊎◌, ◌<◌, ◌≤◌, ℕ, Bool, true, false, List, map, IfErr, IfOk, IsTrue, MatchResult, None, OnOk, Result, Err, Vec}
+use Rattle.std.specs.Prelude.{◌≡◌, ◌⊎◌, ◌<◌, ◌≤◌, ℕ, Bool, true, false, List, IfErr, IfOk, IsTrue, MatchResult, None, OnOk, Result, Err}
 use Rattle.sqlite.specs.Held.{Held, state}
-use Rattle.sqlite.specs.Order.{Row}
 use Rattle.sqlite.specs.State.{State, HasCleanDisk}
 use Rattle.sqlite.specs.Store.{Ghosts}
 use Rattle.wu_core.specs.declared.fault.Fault.{Fault}
@@ -11,7 +10,6 @@ use Rattle.wu_schema.specs.Calls.{IsBack}
 use Rattle.wu_schema.specs.Faults.{IsFailure}
 use Rattle.wu_schema.specs.Made.{MakesProject}
 use Rattle.wu_schema.specs.StandsFor.{StandsFor}
-use Rattle.wu_schema.specs.Stored.{workunit_row}
 use Rattle.wu_schema.specs.Versions.{HasProject, HasVersion}
 use Rattle.wu_store.specs.declared.changes.Change.{Change}
 use Rattle.wu_passes.specs.declared.command.Answer.{Answer}
@@ -150,8 +148,3 @@ TellsWhy old new command result =
 
 abbrev pub WasOpenBefore : {S T E : Type 0} {g : Ghosts S} → Project S g → Project S g → Result T E → Type 0
 WasOpenBefore old new result = HasCleanDisk (state_of new) → OnOk result (IsTrue (state_of old).is_open)
-
--- the rows are those of all workunits, in order of number
-abbrev pub ShowsWorkunits : {S A : Type 0} {g : Ghosts S} → Project S g → Project S g → Result (Vec Row A) Fault → Type 0
-ShowsWorkunits old new result =
-    HasCleanDisk (state_of new) → (world : World) → StandsFor (state_of old).now world → IfOk result (λ rows. rows.items ≡ map workunit_row world.workunits)

@@ -1,14 +1,7 @@
 -- What a project is asked at schema version 1, and what it answers.
 use Rattle.std.specs.Prelude.{ℕ, List}
 use Rattle.wu_core.specs.declared.import.ImportKind.{ImportKind}
-
--- the five passes over the workunits
-pub data Pass : Type 0 where
-  Transition : Pass
-  Validate : Pass
-  Assimilate : Pass
-  Delete : Pass
-  Purge : Pass
+use Rattle.wu_store.specs.declared.due.Pass.{Pass}
 
 pub data Request : Type 0 where
   -- adds the jobs of a file, with the parameters of a template

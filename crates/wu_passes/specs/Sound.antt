@@ -14,6 +14,7 @@ use Rattle.wu_core.specs.Limits.{most_credit, most_instances, most_workunits}
 use Rattle.wu_core.specs.World.{World, last_skip}
 use Rattle.wu_rules.specs.Instances.{is_success, is_unsent}
 use Rattle.wu_rules.specs.Counts.{is_clear}
+use Rattle.wu_store.specs.Loading.{AreStorable}
 use Rattle.wu_passes.specs.Machine.{step}
 use Rattle.wu_passes.specs.Requests.{Request}
 
@@ -68,6 +69,8 @@ IsGiven world number = (1 ≤ number) × (number < world.next_number)
 pub record IsSound (world : World) : Type 0 where
   pub next_number : (1 ≤ world.next_number) × (world.next_number ≤ most_workunits + 1)
   pub formed : All IsWorkunit world.workunits
+  -- the values of each workunit are in their ranges
+  pub storable : AreStorable world
   pub consistent : All IsConsistent world.workunits
   pub recorded : All (IsRecorded world) world.workunits
   pub given : All (λ w. IsGiven world w.number) world.workunits

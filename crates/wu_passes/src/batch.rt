@@ -8,10 +8,11 @@ ghost use Rattle.wu_core.specs.Limits.{most_workunits};
 ghost use Rattle.wu_core.specs.Reads.{Gives};
 ghost use Rattle.wu_feed.specs.Limits.{most_rows};
 ghost use Rattle.wu_passes.specs.Batches.{new_workunit};
-ghost use Rattle.wu_passes.specs.Planning.{additions, batch_of, FindsFree, HasVerdicts, IsNewBatch, IsProject, IsRepeated, KeepsImport, KnowsTaken, KnowsUsed, NeverEnded, NeverRefused, OpenOrFails, PlansBatch, PlansJobs, PlansNew, RefusesName, RefusesRepeat};
+ghost use Rattle.wu_passes.specs.Planning.{additions, batch_of, FindsFree, HasVerdicts, IsNewBatch, IsProject, KnowsTaken, KnowsUsed, NeverEnded, NeverRefused, OpenOrFails, PlansBatch, PlansJobs, PlansNew, RefusesName};
 ghost use Rattle.wu_store.specs.Loading.{FindsEarlier, IsRead, IsStoreFault, KeepsTables, KnowsNext, NotRefusedIn, OverWorlds, ServesUnlessFailed, StaysUnlessFailed, WasOpen};
 
-use crate::command::{Answer, Batch};
+use crate::command::Batch;
+use crate::imports::{Plan, batch_source, imported, kept, repeated};
 use sqlite::{Alter, Connection};
 use std::alloc::Global;
 use wu_core::{
@@ -20,21 +21,7 @@ use wu_core::{
 };
 use wu_feed::{Job, Jobs, read_jobs, read_template};
 use wu_schema::fault_of;
-use wu_store::{
-    Change, Import, StoredImport, Verdicts, has_archived, has_workunit, import_of, next_number,
-};
-
-/// What a command will answer, and what it changes.
-pub struct Plan<'a> {
-    pub answer: Answer,
-    pub changes: Vec<Change<'a>>,
-}
-
-fn copy_name(name: &Name) -> Result<Name, Fault>
-    ensures { Gives result (Ok name.now) }
-{
-    Ok(name.copy()?)
-}
+use wu_store::{Change, has_archived, has_workunit, import_of, next_number};
 
 /// Whether the name belongs to a workunit that is present, or that was archived.
 fn is_taken<S: Alter>(conn: &mut Connection<S>, name: &Name) -> Result<bool, Fault>
@@ -153,59 +140,11 @@ fn applied(alloc: Global, count: usize) -> Result<Bytes, Fault>
     Ok(Bytes::from_vec(verdicts))
 }
 
-fn imported(name: &Name, first: u64, verdicts: Bytes) -> Result<Answer, Fault>
-    ensures { Gives result (Ok (Answer.Imported ImportKind.Batch name.now first verdicts)) }
-{
-    Ok(Answer::Imported {
-        kind: ImportKind::Batch,
-        name: copy_name(name)?,
-        first,
-        verdicts,
-    })
-}
-
-/// The answer of an earlier batch of this name, where it had the same content.
-fn repeated<'a>(alloc: Global, batch: &'a Batch, earlier: StoredImport) -> Result<Plan<'a>, Fault>
-    ensures plan { IfOk result (IsRepeated batch.now earlier) }
-    ensures fault { IfErr result (RefusesRepeat batch.now earlier) }
-{
-    let is_same = earlier.template.as_slice() == batch.template.as_slice()
-        && earlier.content.as_slice() == batch.file.as_slice();
-    if !is_same {
-        return Err(Fault::NameUsed);
-    }
-    Ok(Plan {
-        answer: imported(&batch.name, earlier.first_number, earlier.verdicts)?,
-        changes: Vec::new(alloc),
-    })
-}
-
 /// The first number of so many workunits; 0 where there are none.
 fn first_of(next: u64, count: usize) -> u64
     ensures { result ≡ if count == 0 then 0 else next }
 {
     if count == 0 { 0 } else { next }
-}
-
-/// What is kept of a batch with these verdicts. Its content is lent.
-fn kept_batch<'a>(
-    alloc: Global,
-    batch: &'a Batch,
-    first_number: u64,
-    verdicts: &[u8],
-) -> Result<Import<'a>, Fault>
-    requires { All (λ verdict. verdict ≤ 9) verdicts.now }
-    ensures kept { IfOk result (KeepsImport (batch_of batch.now) first_number verdicts.now) }
-    ensures fault { IfErr result (λ fault. fault ≡ Memory) }
-{
-    Ok(Import {
-        kind: ImportKind::Batch,
-        name: &batch.name,
-        template: &batch.template,
-        content: &batch.file,
-        first_number,
-        verdicts: Verdicts::from_slice(alloc, verdicts)?,
-    })
 }
 
 /// The answer and the changes of a batch of these jobs, none of which is refused.
@@ -223,11 +162,12 @@ fn new_batch<'a>(
     let count = jobs.len();
     let first = first_of(next, count);
     let verdicts = applied(alloc, count)?;
-    let import = kept_batch(alloc, batch, first, verdicts.as_slice())?;
+    let source = batch_source(batch);
+    let import = kept(alloc, &source, first, verdicts.as_slice())?;
     let mut changes = additions(alloc, next, params, jobs)?;
     changes.push(Change::Keep(import))?;
     Ok(Plan {
-        answer: imported(&batch.name, first, verdicts)?,
+        answer: imported(&source, first, verdicts)?,
         changes,
     })
 }
@@ -305,7 +245,7 @@ pub fn plan_batch<'a, S: Alter>(
     ensures plan { OverWorlds S.Store conn.old conn.new (PlansBatch batch.now result) }
 {
     match import_of(conn, alloc, ImportKind::Batch, &batch.name) {
-        Ok(Some(earlier)) => repeated(alloc, batch, earlier),
+        Ok(Some(earlier)) => repeated(alloc, &batch_source(batch), earlier),
         Ok(None) => plan_new(conn, alloc, batch),
         Err(fault) => Err(fault),
     }

@@ -10,11 +10,24 @@ pub struct Batch {
     pub file: Bytes,
 }
 
+/// A file of rows that are applied one by one, or skipped, under the name of its import.
+#[derive(Debug, Drop)]
+pub struct RowsFile {
+    pub name: Name,
+    pub file: Bytes,
+}
+
 /// What a project is asked to do. Each command is done whole or not at all.
 #[derive(Debug, Drop)]
 pub enum Command {
     /// Adds the jobs of a batch.
     Batch(Batch),
+    /// Applies the rows of a file of sends.
+    Sent(RowsFile),
+    /// Applies the rows of a file of reports.
+    Reported(RowsFile),
+    /// Gives an undecided workunit up.
+    Cancel { workunit: Name },
 }
 
 /// What a project answers to a command that it accepted.
@@ -28,5 +41,9 @@ pub enum Answer {
         first: u64,
         /// One for each row: 0 where it was applied, else the number of the skip.
         verdicts: Bytes,
+    },
+    /// The workunit of this name was given up.
+    Cancelled {
+        workunit: Name,
     },
 }

@@ -7,9 +7,10 @@ ghost use Rattle.wu_core.specs.World.{empty_world};
 ghost use Rattle.wu_passes.specs.Batches.{jobs_added};
 ghost use Rattle.wu_passes.specs.Examples.{job_1, three_late, numbers_of, one_out, three_sends, six_reports, one_archived, one_job};
 ghost use Rattle.wu_passes.specs.Machine.{reply};
-ghost use Rattle.wu_passes.specs.Passes.{chosen};
-ghost use Rattle.wu_passes.specs.Requests.{Transition, Validate, Purge, AskPass, AskCancel};
-ghost use Rattle.wu_passes.specs.FileRows.{send_verdicts, report_verdicts};
+ghost use Rattle.wu_store.specs.Due.{chosen};
+ghost use Rattle.wu_passes.specs.Requests.{AskPass, AskCancel};
+ghost use Rattle.wu_store.specs.declared.due.Pass.TheVariants.{Transition, Validate, Purge};
+ghost use Rattle.wu_passes.specs.FileRows.{report_rule, row_verdicts, send_rule};
 
 /// A pass takes workunits by their numbers, and not by how late they are.
 #[tactic(auto, unfolding(wu_rules::specs::Transition::transitioned, wu_rules::specs::Waking::wake))]
@@ -19,12 +20,12 @@ pub fn passes_go_by_number()
 
 /// A host gets one instance of a workunit, and an instance that is out is not sent again.
 pub fn sends_one_instance_a_host()
-    ensures { send_verdicts one_out three_sends ≡ 3 ∷ 2 ∷ 0 ∷ [] }
+    ensures { row_verdicts send_rule one_out three_sends ≡ 3 ∷ 2 ∷ 0 ∷ [] }
 {}
 
 /// Why rows of reports are skipped: no such instance, never sent, another host, before it was sent, and over already.
 pub fn skips_five_reports()
-    ensures { report_verdicts one_out six_reports ≡ 1 ∷ 2 ∷ 3 ∷ 4 ∷ 0 ∷ 5 ∷ [] }
+    ensures { row_verdicts report_rule one_out six_reports ≡ 1 ∷ 2 ∷ 3 ∷ 4 ∷ 0 ∷ 5 ∷ [] }
 {}
 
 /// The name of a workunit that was purged stays taken, and it can't be cancelled any more.

@@ -2,11 +2,17 @@
 #![tactic(auto)]
 
 mod batch;
+mod cancel;
 mod command;
 mod commit;
 pub mod examples;
+mod files;
+mod imports;
 pub mod laws;
+mod lines;
 mod project;
+mod touched;
 
-pub use command::{Answer, Batch, Command};
-pub use project::Project;
+pub use command::{Answer, Batch, Command, RowsFile};
+pub use lines::WorkunitLine;
+pub use project::{Project, WorkunitWalk};

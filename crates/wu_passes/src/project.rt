@@ -3,8 +3,10 @@
 ghost use Rattle.std.specs.Prelude.{◌≡◌, false};
 
 mod session;
+mod walk;
 
 use sqlite::{Alter, Connection};
+pub use walk::WorkunitWalk;
 
 /// A session over the database of a project, from its adoption to its release.
 ///

@@ -3,3 +3,4 @@ pub mod Lists
 pub mod Placing
 pub mod Outputs
 pub mod Timing
+pub mod Keeping

@@ -1,6 +1,6 @@
 -- What the statements that change a project do to the world that it stands for.
-use Rattle.wu_schema.proofs.Words.{Archived, Executes, Grant, Import, Instance, Int, Integer, List, None, Null, Ok, Option, Some, StandsFor, PutsOne, State, Text, Workunit, World, [], archived_at, archived_cells, arith, bound_value, cast, cast_row, codes, grant_at, grant_cells, import_at, import_cells, instance_cells, map, number, number_or_null, of_z, option_map, pos, refl, result_at, stored_workunit, text_or_null, to_z, to_z-of_z, value_rows, w64, workunit_at, workunit_row, ℕ, ℤ, ◌<◌, ◌^◌, ◌∷◌, ◌≡◌}
-use Rattle.wu_store.specs.Changes.{HasInstances, LacksNumber, PutsGrant, bare, with_archived, with_import, with_instance, with_next, with_placed}
+use Rattle.wu_schema.proofs.Words.{Archived, ap, Executes, Grant, Import, Instance, Int, Integer, List, None, Null, Ok, Option, Some, StandsFor, PutsOne, State, Text, Workunit, World, [], archived_at, archived_cells, arith, bound_value, cast, cast_row, codes, grant_at, grant_cells, import_at, import_cells, instance_cells, map, number, number_or_null, of_z, option_map, pos, refl, result_at, stored_archived, stored_grant, stored_workunit, text_or_null, to_z, to_z-of_z, Value, value_rows, w64, workunit_at, workunit_row, ℕ, ℤ, ◌<◌, ◌^◌, ◌∙◌, ◌∷◌, ◌≡◌}
+use Rattle.wu_store.specs.Changes.{HasInstances, IsNextPlace, LacksNumber, PutsGrant, bare, with_archived, with_import, with_instance, with_next, with_placed}
 use Rattle.std.proofs.lemmas.Int.{fits_signed_from_abs}
 use Rattle.sqlite.specs.Values as values
 use Rattle.sqlite.specs.Kind.TheVariants.{Text as KindText}
@@ -30,16 +30,20 @@ cast_text_or_null (Some t) = refl
 instance_kept : (tree w n : ℕ) (i : Instance) → map (λ s. cast_row (result_at tree) s) (value_rows (instance_cells w n i) 12 1 instance_put.terms) ≡ (Null ∷ instance_cells w n i) ∷ []
 instance_kept tree w n i = simp (cast_null, cast_number, cast_number_or_null, cast_text_or_null)
 
-archived_kept : (tree : ℕ) (a : Archived) → map (λ s. cast_row (archived_at tree) s) (value_rows (archived_cells a) 8 1 archived_put.terms) ≡ (Null ∷ Null ∷ archived_cells a) ∷ []
-archived_kept tree a = simp (cast_null, cast_number, cast_number_or_null)
+archived_kept : (tree place : ℕ) (a : Archived) → map (λ s. cast_row (archived_at tree) s) (value_rows (number place ∷ archived_cells a) 8 1 archived_put.terms) ≡ stored_archived (place, a) ∷ []
+archived_kept tree place a = simp (cast_null, cast_number, cast_number_or_null)
 
 import_kept : (tree : ℕ) (import : Import) → map (λ s. cast_row (import_at tree) s) (value_rows (import_cells import) 7 1 import_put.terms) ≡ (Null ∷ import_cells import) ∷ []
 import_kept tree import = simp (cast_null, cast_number)
 
 -- ---- what the parameters are
 
-pub sent : (n : ℤ) (m : ℕ) → n ≡ pos m → m < 2 ^ 63 → to_z w64 (of_z w64 n) ≡ pos m
+sent : (n : ℤ) (m : ℕ) → n ≡ pos m → m < 2 ^ 63 → to_z w64 (of_z w64 n) ≡ pos m
 sent n m is low = rw is (to_z-of_z w64 (pos m) (fits_signed_from_abs w64 (pos m) (omega (arith, low))))
+
+-- a number that fits is bound as it is
+pub sent_number : {v : Value} {n : ℤ} (m : ℕ) → v ≡ Int (to_z w64 (of_z w64 n)) → n ≡ pos m → m < 2 ^ 63 → bound_value v ≡ number m
+sent_number {v} {n} m given is low = ap bound_value given ∙ ap (λ z. Int z) (sent n m is low)
 
 pub bound_number_or_null : (o : Option ℕ) → bound_value (number_or_null o) ≡ number_or_null o
 bound_number_or_null None = refl
@@ -53,11 +57,12 @@ pub bound_text : {B : Type 0} (now : B → List ℕ) (o : Option B) (t : Option 
 bound_text now None t is = rw (← is) refl
 bound_text now (Some b) t is = rw (← is) refl
 
-grant_kept : (tree : ℕ) (g : Grant) → map (λ s. cast_row (grant_at tree) s) (value_rows (grant_cells g) 6 1 grant_put.terms) ≡ (Null ∷ Null ∷ grant_cells g) ∷ []
-grant_kept tree g = simp (cast_null, cast_number)
+grant_kept : (tree place : ℕ) (g : Grant) → map (λ s. cast_row (grant_at tree) s) (value_rows (number place ∷ grant_cells g) 6 1 grant_put.terms) ≡ stored_grant (place, g) ∷ []
+grant_kept tree place g = simp (cast_null, cast_number)
 
-pub puts_grant : (old new : State) (g : Grant) (count : ℕ) → Executes grant_put.text (grant_cells g) old new (Ok count) → PutsGrant g old.now new.now
-puts_grant old new g count h t has = puts_one (codes "credit_grant") grant_at grant_put grant_fits (grant_cells g) old new has.grant.0 t.grant has.grant.1 (Null ∷ Null ∷ grant_cells g) _ (grant_kept t.grant g) refl count h
+pub puts_grant : (old new : State) (place : ℕ) (g : Grant) (count : ℕ) → Executes grant_put.text (number place ∷ grant_cells g) old new (Ok count) → PutsGrant place g old.now new.now
+puts_grant old new place g count h t has =
+    puts_one (codes "credit_grant") grant_at grant_put grant_fits (number place ∷ grant_cells g) old new has.grant.0 t.grant has.grant.1 (stored_grant (place, g)) (stored_grant (place, g)) (grant_kept t.grant place g) refl count h
 
 module _ (old new : State) (world : World) (s : StandsFor old.now world) where
   put_workunit : (w : Workunit) (count : ℕ) → Executes workunit_put.text (workunit_row w) old new (Ok count) → PutsOne old.now new.now s.trees.workunit (stored_workunit w)
@@ -73,10 +78,10 @@ module _ (old new : State) (world : World) (s : StandsFor old.now world) where
       stands_with_instance old.now new.now world s number n i
       (puts_one (codes "result") result_at instance_put instance_fits (instance_cells number n i) old new s.tables.result.0 s.trees.result s.tables.result.1 (Null ∷ instance_cells number n i) _ (instance_kept s.trees.result number n i) refl count h) has
 
-  pub puts_archived : (a : Archived) (count : ℕ) → Executes archived_put.text (archived_cells a) old new (Ok count) → StandsFor new.now (with_archived a world)
-  puts_archived a count h =
-      stands_with_archived old.now new.now world s a
-      (puts_one (codes "archived") archived_at archived_put archived_fits (archived_cells a) old new s.tables.archived.0 s.trees.archived s.tables.archived.1 (Null ∷ Null ∷ archived_cells a) _ (archived_kept s.trees.archived a) refl count h)
+  pub puts_archived : (place : ℕ) (a : Archived) (count : ℕ) → Executes archived_put.text (number place ∷ archived_cells a) old new (Ok count) → IsNextPlace place world.archived → StandsFor new.now (with_archived a world)
+  puts_archived place a count h =
+      stands_with_archived old.now new.now world s place a
+      (puts_one (codes "archived") archived_at archived_put archived_fits (number place ∷ archived_cells a) old new s.tables.archived.0 s.trees.archived s.tables.archived.1 (stored_archived (place, a)) (stored_archived (place, a)) (archived_kept s.trees.archived place a) refl count h)
 
   pub puts_import : (import : Import) (count : ℕ) → Executes import_put.text (import_cells import) old new (Ok count) → StandsFor new.now (with_import import world)
   puts_import import count h =

@@ -1,9 +1,12 @@
 -- From change to change inside a transaction, and over its commit.
-use Rattle.std.proofs.Common.{◌≡◌, ℕ, ◌+◌, ◌<◌, List, [], ◌∷◌, ◌++◌, length, get_or, take, refl, sym, ap, subst, ◌∙◌}
+use Rattle.std.proofs.Common.{◌≡◌, ℕ, ◌+◌, ◌<◌, List, [], ◌∷◌, ◌++◌, length, get_or, take, refl, sym, ap, subst, arith, append-nil, append_assoc, length-append, ◌∙◌}
 use Rattle.std.proofs.lemmas.List.{take_more}
+use Rattle.wu_core.specs.declared.workunit.Archived.{Archived}
+use Rattle.wu_core.specs.declared.workunit.Grant.{Grant}
 use Rattle.sqlite.specs.Effect.{Database}
 use Rattle.wu_core.specs.World.{World}
-use Rattle.wu_store.specs.Changing.{AreRight, IsRight, made, made_all, MakesWorlds}
+use Rattle.wu_store.specs.Changes.{IsNextPlace, with_archived, with_grant}
+use Rattle.wu_store.specs.Changing.{archived_from, granted_from, AreRight, IsRight, made, made_all, MakesWorlds}
 use Rattle.wu_store.specs.declared.changes.Change.{Change}
 
 made_more : (changes : List Change) (change : Change) (world : World) → made_all (changes ++ change ∷ []) world ≡ made change (made_all changes world)
@@ -21,3 +24,24 @@ pub makes_more : (changes : List Change) (i : ℕ) (change d : Change) (a b c : 
 makes_more changes i change d a b c there low one two = subst (λ xs. MakesWorlds xs a c) (sym (take_more changes i d low ∙ ap (λ one. take i changes ++ one ∷ []) there)) (λ world stands right.
     let parts = right_more (take i changes) change world right in
     rw (made_more (take i changes) change world) (two _ (one world stands parts.0) (parts.1, tt)))
+
+-- ---- grants, and archived rows, at places in a row
+
+next_place : {X : Type 0} (place : ℕ) (xs : List X) (x : X) → IsNextPlace place xs → IsNextPlace (place + 1) (xs ++ x ∷ [])
+next_place place xs x next = omega (arith, next, length-append xs (x ∷ []))
+
+pub grants_right : (place : ℕ) (grants : List Grant) (world : World) → IsNextPlace place world.grants → AreRight (granted_from place grants) world
+grants_right place [] world next = tt
+grants_right place (g ∷ grants) world next = (next, grants_right (place + 1) grants (with_grant g world) (next_place place world.grants g next))
+
+pub grants_made : (place : ℕ) (grants : List Grant) (world : World) → made_all (granted_from place grants) world ≡ record world { grants = world.grants ++ grants }
+grants_made place [] world = λ i. record world { grants = sym (append-nil world.grants) i }
+grants_made place (g ∷ grants) world = grants_made (place + 1) grants (with_grant g world) ∙ (λ i. record world { grants = append_assoc world.grants (g ∷ []) grants i })
+
+pub archived_right : (place : ℕ) (rows : List Archived) (world : World) → IsNextPlace place world.archived → AreRight (archived_from place rows) world
+archived_right place [] world next = tt
+archived_right place (a ∷ rows) world next = (next, archived_right (place + 1) rows (with_archived a world) (next_place place world.archived a next))
+
+pub archived_made : (place : ℕ) (rows : List Archived) (world : World) → made_all (archived_from place rows) world ≡ record world { archived = world.archived ++ rows }
+archived_made place [] world = λ i. record world { archived = sym (append-nil world.archived) i }
+archived_made place (a ∷ rows) world = archived_made (place + 1) rows (with_archived a world) ∙ (λ i. record world { archived = append_assoc world.archived (a ∷ []) rows i })

@@ -1,6 +1,6 @@
 -- What the upsert of a grant's host makes of the rows of hosts: those of one grant more.
 use Rattle.wu_schema.proofs.Words.{AllByRecursion, Binary, Bool, Chosen, Database, Executes, Grant, Has, HasTables, Int, Integer, IsDatabase, IsPermutation, IsPermutation-map, IsPermutation-sym, IsShaped, IsShaped-filter, IsShaped-put_row, IsTrue, List, ListsAll, Ok, ProjectTrees, Row, Schema, StandsFor, State, Text, Value, World, [], all_has, and_from, and_parts, ap, ap₂, binary, bytes_eq, bytes_eq-Decides, cases_Bool, cast, column, drop, enumerate_from, equal, false, false_from_ne_true, first_key, grant_cells, has_mapped, has_rowid, host_at, hosts_of, if◌then◌else◌, inl, inr, is_eq, is_int, is_of, map, map-map, mapped_has, next_rowid, number, passes, pos, put_row, refl, row_at_is, rowid, some_from, some_has, stored_grant, subst, sym, true, value_cmp, without_rowid, ℕ, ℤ, ◌++◌, ◌+◌, ◌||◌, ◌∙◌, ◌∷◌, ◌≡◌}
-use Rattle.wu_store.specs.Changes.{PutsGrant}
+use Rattle.wu_store.specs.Changes.{IsNextPlace, PutsGrant}
 use Rattle.sqlite_trees.specs.declared.store.Shape.TheVariants as shape
 use Rattle.sqlite_schema.specs.declared.schema.Constraint.TheVariants.{Datatype}
 use Rattle.sqlite.specs.Kind.TheVariants.{Text as KindText}
@@ -146,9 +146,9 @@ module _ (old new : State) (t : ProjectTrees) (grants : List Grant) (g : Grant) 
 
 -- ---- a grant, and then its host
 
-module _ (old mid new : Database) (world : World) (s : StandsFor old world) (g : Grant) where
-  pub stands_with_grant : PutsGrant g old mid → Credits g mid new → StandsFor new (with_grant g world)
-  stands_with_grant puts credits =
+module _ (old mid new : Database) (world : World) (s : StandsFor old world) (place : ℕ) (g : Grant) where
+  pub stands_with_grant : PutsGrant place g old mid → Credits g mid new → IsNextPlace place world.grants → StandsFor new (with_grant g world)
+  stands_with_grant puts credits next =
       let t = s.trees in
       let there = parts_there old world s in
       let put = puts t s.tables in
@@ -156,7 +156,7 @@ module _ (old mid new : Database) (world : World) (s : StandsFor old world) (g :
       let it = credits t world.grants (subst (λ (x : Schema). HasTables x t) (sym put.schema) s.tables) put.sound (holds_still (first Hosts tt refl) s.rows.hosts) in
       let second = keeps_calm world.version mid t (subst (λ (x : Schema). HasParts world.version x t) (sym put.schema) there) new Hosts tt refl it.others in
       frame old new world (with_grant g world) s of_grants (it.schema ∙ put.schema) refl (keeps_both world.version t old mid new (is_part Grants) (is_part Hosts) first second) carry
-      (fits (lists_still (second Grants tt refl ∙ put.rows) (listed_next grant_cells (old.trees t.grant) world.grants g s.rows.grants)) it.hosts) it.sound
+      (fits (lists_still (second Grants tt refl ∙ put.rows) (listed_next grant_cells (old.trees t.grant) world.grants place g next s.rows.grants)) it.hosts) it.sound
     where
       carry : (q : Part) → of_grants q ≡ false → (rows : List Row) → Holds q rows world → Holds q rows (with_grant g world)
       carry Grants off rows h = absurd (cc)

@@ -29,7 +29,7 @@ instance_fits = record { read = refl; made = λ schema tree. refl; formats = λ 
 -- ---- a grant
 
 abbrev pub grant_put : Put
-grant_put = record { text = codes "INSERT INTO credit_grant (workunit, n, host, credit) VALUES (?1, ?2, ?3, ?4)"; terms = lit Null ∷ lit Null ∷ col 0 0 ∷ col 0 1 ∷ col 0 2 ∷ col 0 3 ∷ [] }
+grant_put = record { text = codes "INSERT INTO credit_grant (seq, workunit, n, host, credit) VALUES (?1, ?2, ?3, ?4, ?5)"; terms = col 0 0 ∷ lit Null ∷ col 0 1 ∷ col 0 2 ∷ col 0 3 ∷ col 0 4 ∷ [] }
 
 pub grant_fits : PutFits (codes "credit_grant") grant_at grant_put
 unfolding everything
@@ -39,8 +39,8 @@ grant_fits = record { read = refl; made = λ schema tree. refl; formats = λ tre
 
 abbrev pub archived_put : Put
 archived_put = record {
-  text = codes "INSERT INTO archived (number, name, error_mask, canonical, output, done_at) VALUES (?1, ?2, ?3, ?4, ?5, ?6)";
-  terms = lit Null ∷ lit Null ∷ col 0 0 ∷ col 0 1 ∷ col 0 2 ∷ col 0 3 ∷ col 0 4 ∷ col 0 5 ∷ [];
+  text = codes "INSERT INTO archived (seq, number, name, error_mask, canonical, output, done_at) VALUES (?1, ?2, ?3, ?4, ?5, ?6, ?7)";
+  terms = col 0 0 ∷ lit Null ∷ col 0 1 ∷ col 0 2 ∷ col 0 3 ∷ col 0 4 ∷ col 0 5 ∷ col 0 6 ∷ [];
 }
 
 pub archived_fits : PutFits (codes "archived") archived_at archived_put

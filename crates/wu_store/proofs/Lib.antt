@@ -3,6 +3,7 @@ pub mod OneOrder
 pub mod SelectTexts
 pub mod EqualLemmas
 pub mod OnceLemmas
+pub mod WorldOnce
 pub mod ReadAnswers
 pub mod AskLemmas
 pub mod OrderAnswers
@@ -29,5 +30,7 @@ pub mod NameKey
 pub mod InPlaceLemmas
 pub mod HostEffect
 pub mod LoadLemmas
-mod ChangingLemmas
+pub mod AboveLemmas
+pub mod ChangingLemmas
+pub mod DueLemmas
 mod VerdictLemmas

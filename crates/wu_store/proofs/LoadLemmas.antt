@@ -1,21 +1,48 @@
 -- What is loaded of a project is what the world has, step by step.
-use Rattle.wu_schema.proofs.Words.{Bool, Err, Fault, Gives, IfErr, Import, ImportKind, Instance, IsFailure, List, None, NotAProject, Ok, Option, Result, Row, Some, Workunit, World, [], ap, arith, bytes_eq, cases_Bool, eqb-true, filter, find, if◌then◌else◌, inl, inr, instance_row, is_import, length, length-map, map, map-append, number, refl, slice_get, subst, sym, take, verdict_digits, workunit_row, ℕ, ◌++◌, ◌+◌, ◌<◌, ◌==◌, ◌∙◌, ◌∷◌, ◌≡◌, ◌≢◌, ◌≤◌}
+use Rattle.wu_schema.proofs.Words.{Bool, Database, Err, Error, Fault, Ghosts, Gives, HasCleanDisk, Held, IfErr, Import, ImportKind, Instance, IsFailure, List, None, NotAProject, Ok, Option, Reads, Result, Row, Some, StandsFor, State, Workunit, World, [], ap, arith, cases_Bool, filter, find, if◌then◌else◌, inl, inr, instance_row, is_import, length, length-map, map, map-append, number, option_map, refl, slice_get, state, subst, sym, take, verdict_digits, workunit_row, ℕ, ◌++◌, ◌+◌, ◌<◌, ◌==◌, ◌∙◌, ◌∷◌, ◌≡◌, ◌≢◌, ◌≤◌}
 use Rattle.std.specs.Prelude.{All, IfSome, MatchResult, get_or}
 use Rattle.std.specs.Option.{option_map_or}
+use Rattle.sqlite.proofs.StateLemmas.{survives_then}
 use Rattle.sqlite_rules.proofs.ListLemmas.{has_found}
+use Rattle.wu_schema.proofs.CallLemmas.{back_none}
 use Rattle.wu_schema.proofs.QuietLemmas.{same_some}
 use Rattle.std.proofs.lemmas.List.{get_or-map, take_more}
 use Rattle.wu_core.specs.Limits.{most_instances}
+use Rattle.wu_schema.specs.Calls.{Answers, IsBack}
 use Rattle.wu_schema.specs.Restoring.{Restores}
 use Rattle.wu_schema.specs.Stored.{kept_cells}
-use Rattle.wu_store.specs.Answers.{instance_rows_of, kept_of, named, numbered, row_named, row_numbered}
+use Rattle.wu_store.specs.Answers.{instance_rows_of, kept_of, numbered}
 use Rattle.wu_store.specs.Changes.{bare}
-use Rattle.wu_store.specs.Loading.{FindsInstances, LoadsInstances, LoadsImport, IsEarlier, IsLoadable, IsRowOf, IsStoreFault, instances_at}
+use Rattle.wu_store.specs.Loading.{Finds, FindsInstances, FindsOfRow, LoadsInstances, LoadsImport, IsEarlier, IsLoadable, IsLoadableRow, IsRead, IsRowOf, IsStoreFault, NotRefusedIn, OverWorlds, instances_at}
 use Rattle.wu_store.specs.Reading.{AreStoredInstances, IsNextNumber, IsStoredImport, IsStoredInstance, IsStoredWorkunit, stored_import_row}
 use Rattle.wu_store.specs.declared.rows.StoredImport.{StoredImport}
 use Rattle.wu_store.proofs.ReadingLemmas.{not_ok, same_verdicts}
-use Rattle.wu_store.proofs.PlacedLemmas.{Rises}
+use Rattle.wu_store.proofs.PlacedLemmas.{Rises, world_rises}
 use Rattle.wu_store.proofs.SameWorld.{only_one, same_instances, same_workunit}
+
+-- ---- from one read to the next
+
+pub read_none : (s : State) → IsRead s s
+read_none s = record {
+  survives = record { clean = omega arith; shield = λ h. h; counts = omega arith; limit = refl; closes = λ _ still. inl still; crash = λ _ db h. inl h };
+  back = λ _. back_none s;
+}
+
+back_then : (a b c : State) → IsBack a b → IsBack b c → IsBack a c
+back_then a b c one two = record {
+  was_open = λ is_open. one.was_open (two.was_open is_open);
+  now = λ is_open. elim (two.now is_open) [
+    | inl same ↦ elim (one.now (two.was_open is_open)) [ inl was ↦ inl (same ∙ was) | inr last ↦ inr (same ∙ last) ]
+    | inr last ↦ inr (last ∙ one.committed (two.was_open is_open))
+  ];
+  committed = λ is_open. two.committed is_open ∙ one.committed (two.was_open is_open);
+}
+
+pub read_then : (a b c : State) → IsRead a b → IsRead b c → IsRead a c
+read_then a b c one two = record {
+  survives = survives_then a b c _ _ (λ _. ⊥) (λ _ db none. none) (λ _ db none. none) one.survives two.survives;
+  back = λ clean. back_then a b c (one.back (omega (arith, two.survives.clean))) (two.back clean);
+}
 
 -- ---- what is refused
 
@@ -171,18 +198,29 @@ module _ (row : Row) (world : World) where
       let same : v.number ≡ w.number = ap (λ (u : Workunit). u.number) (same_workunit v w (sym reads.value.0 ∙ same_some of.row_is)) in
       (omega (arith, same, can.number), subst (λ n. AreStoredInstances (instances_at n world)) (sym same) (subst AreStoredInstances (sym (at_present w world of.present)) can.instances))
 
--- the row of a number is that of the present workunit
-pub row_of_number : (n : ℕ) (world : World) (row : Option Row) → row ≡ row_numbered n world → IsRowOf row (numbered n world) world
-row_of_number n world row is = record { present = go (numbered n world) refl; row_is = is }
+-- the row of the first workunit that passes a test is that of the present one, since no two have one number
+row_of_first : (p : Workunit → Bool) (world : World) (row : Option Row) → Rises world.workunits → row ≡ option_map workunit_row (find p world.workunits) → IsRowOf row (find p world.workunits) world
+row_of_first p world row up is = record { present = go (find p world.workunits) refl; row_is = is }
   where
-    go : (o : Option Workunit) → numbered n world ≡ o → IfSome o (λ w. numbered w.number world ≡ Some w)
+    go : (o : Option Workunit) → find p world.workunits ≡ o → IfSome o (λ w. numbered w.number world ≡ Some w)
     go None found = tt
-    go (Some w) found = subst (λ m. numbered m world ≡ Some w) (sym (eqb-true w.number n (has_found (λ (v : Workunit). v.number == n) world.workunits w found).1)) found
+    go (Some w) found = found_first (λ (v : Workunit). v.number == w.number) world.workunits w [] (only_one w world.workunits up (has_found p world.workunits w found).0)
 
--- and so is that of a name, since no two workunits have one number
-pub row_of_name : (name : List ℕ) (world : World) (row : Option Row) → Rises world.workunits → row ≡ row_named name world → IsRowOf row (named name world) world
-row_of_name name world row up is = record { present = go (named name world) refl; row_is = is }
-  where
-    go : (o : Option Workunit) → named name world ≡ o → IfSome o (λ w. numbered w.number world ≡ Some w)
-    go None found = tt
-    go (Some w) found = found_first (λ (v : Workunit). v.number == w.number) world.workunits w [] (only_one w world.workunits up (has_found (λ (v : Workunit). bytes_eq v.name name) world.workunits w found).0)
+-- a row that was read, of the first workunit that passes a test, and then its instances
+module _ {S : Type 0} (g : Ghosts S) (old mid new : Held S) (p : Workunit → Bool) (row : Option Row) (result : Result (Option Workunit) Fault)
+    (reads : Reads {E = Error} g old mid (Ok row)) (answers : Answers g old mid (Ok row) (λ world. option_map workunit_row (find p world.workunits))) (read : IsRead (state g mid) (state g new)) where
+  mid_clean : HasCleanDisk (state g new) → HasCleanDisk (state g mid)
+  mid_clean clean = omega (arith, read.survives.clean)
+
+  still : HasCleanDisk (state g new) → (world : World) → StandsFor (state g old).now world → StandsFor (state g mid).now world
+  still clean world stands = subst (λ (d : Database). StandsFor d world) (sym (reads.unchanged (mid_clean clean)).0.now_is) stands
+
+  row_is : HasCleanDisk (state g new) → (world : World) → StandsFor (state g old).now world → IsRowOf row (find p world.workunits) world
+  row_is clean world stands = row_of_first p world row (world_rises (state g old).now world stands) (answers (mid_clean clean) world stands)
+
+  pub load_found : OverWorlds g mid new (FindsOfRow row result) → OverWorlds g old new (λ world. Finds (find p world.workunits) result)
+  load_found found clean world stands = found clean world (still clean world stands) (find p world.workunits) (row_is clean world stands)
+
+  pub load_unrefused : NotRefusedIn g mid new result (IsLoadableRow row) → NotRefusedIn g old new result (λ world. IsLoadable (find p world.workunits))
+  load_unrefused unrefused clean world stands can limit =
+      unrefused clean world (still clean world stands) (find p world.workunits, row_is clean world stands, can) (reads.crash.limit ∙ limit)

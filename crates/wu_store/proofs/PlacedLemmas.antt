@@ -1,5 +1,5 @@
 -- A workunit at its place in order of number, and its instances beside those of the others.
-use Rattle.wu_schema.proofs.Words.{AllByRecursion, Bool, Database, Equal, Greater, HoldsAll, Instance, Int, IsAscending, IsPermutation, IsPermutation-refl, IsPermutation-sym, IsPermutation-trans, IsShaped-put_row, IsTable, Less, List, ListsAll, Ordering, PutsOne, Row, StandsFor, Workunit, World, [], all_has, ap, arith, cases_Bool, drop, enumerate_from, eq-eqb, eqb-true, false, filter, flat_map, if◌then◌else◌, inl, inr, instance_cells, instances_of, int_cmp, is_eq, is_taken, length, list_any, map, map-append, nat_tests, next_rowid, not, pos, put_row, refl, rowid, some_has, stored_workunit, subst, sym, true, value_cmp, value_cmp-Int, ℕ, ◌++◌, ◌+◌, ◌<◌, ◌==◌, ◌||◌, ◌∙◌, ◌∷◌, ◌≡◌, find, take, get_or, Some, option_map, ne_eqb}
+use Rattle.wu_schema.proofs.Words.{AllByRecursion, Bool, None, Database, Equal, Greater, HoldsAll, Instance, Int, IsAscending, IsPermutation, IsPermutation-refl, IsPermutation-sym, IsPermutation-trans, IsShaped-put_row, IsTable, Less, List, ListsAll, Ordering, PutsOne, Row, StandsFor, Workunit, World, [], all_has, ap, arith, cases_Bool, drop, enumerate_from, eq-eqb, eqb-true, false, filter, flat_map, if◌then◌else◌, inl, inr, instance_cells, instances_of, int_cmp, is_eq, is_taken, length, list_any, map, map-append, nat_tests, next_rowid, not, pos, put_row, refl, rowid, some_has, stored_workunit, subst, sym, true, value_cmp, value_cmp-Int, ℕ, ◌++◌, ◌+◌, ◌<◌, ◌==◌, ◌||◌, ◌∙◌, ◌∷◌, ◌≡◌, find, take, get_or, Some, option_map, ne_eqb, ◌≢◌}
 use Rattle.wu_store.specs.Changes.{HasInstances, with_instance, with_placed, without_workunit, AddsInstance}
 use Rattle.std.proofs.Common.{append_assoc, length-take-le}
 use Rattle.std.proofs.lemmas.List.{take_more}
@@ -119,6 +119,9 @@ all_rise v (u ∷ us) up = (less_number v.number u.number up.0, all_rise v us up
 pub table_rises : (ws : List Workunit) → IsTable (map stored_workunit ws) → Rises ws
 table_rises [] up = tt
 table_rises (v ∷ vs) up = (all_rise v vs up.0, table_rises vs up.1)
+
+pub world_rises : (db : Database) (world : World) → StandsFor db world → Rises world.workunits
+world_rises db world s = table_rises world.workunits (subst IsTable s.rows.workunits.same s.rows.workunits.shaped.0)
 
 -- one above all comes last
 pub placed_last : (w : Workunit) (ws : List Workunit) → IsAbove w.number ws → placed w ws ≡ ws ++ w ∷ []
@@ -279,4 +282,21 @@ lacks_others n (w ∷ ws) = elim (cases_Bool (w.number == n)) [
 
 -- a workunit of a world that is deleted and then added is replaced
 pub replaced_is : (db : Database) (world : World) (s : StandsFor db world) (w : Workunit) → HasNumber w.number world.workunits → with_placed w (without_workunit w.number world) ≡ with_replaced w world
-replaced_is db world s w there = λ i. record world { workunits = replaces w world.workunits (table_rises world.workunits (subst IsTable s.rows.workunits.same s.rows.workunits.shaped.0)) there i }
+replaced_is db world s w there = λ i. record world { workunits = replaces w world.workunits (world_rises db world s) there i }
+
+-- it is not found, and each other one is
+pub removed_gone : (n : ℕ) (ws : List Workunit) → find (λ (w : Workunit). w.number == n) (filter (is_other n) ws) ≡ None
+removed_gone n [] = refl
+removed_gone n (w ∷ ws) = elim (cases_Bool (w.number == n)) [
+  | inl on ↦ rw on (removed_gone n ws)
+  | inr off ↦ rw (off, off) (removed_gone n ws)
+]
+
+pub others_kept : (n other : ℕ) (ws : List Workunit) → n ≢ other → find (λ (w : Workunit). w.number == other) (filter (is_other n) ws) ≡ find (λ (w : Workunit). w.number == other) ws
+others_kept n other [] apart = refl
+others_kept n other (w ∷ ws) apart = elim (cases_Bool (w.number == n)) [
+  | inl on ↦
+      let no : (w.number == other) ≡ false = ne_eqb w.number other (λ same. apart (sym (eqb-true _ _ on) ∙ same)) in
+      rw (on, no) (others_kept n other ws apart)
+  | inr off ↦ rw off (ap (λ o. if w.number == other then Some w else o) (others_kept n other ws apart))
+]

@@ -1,12 +1,12 @@
 -- What the SELECTs without an order answer of the world that the tables stand for.
-use Rattle.wu_schema.proofs.Words.{Answers, Archived, Binary, Bool, Has, Import, ImportKind, IsAscending, IsPermutation, IsPermutation-filter, IsPermutation-map, IsPermutation-trans, IsTable, List, None, Ok, Option, QueriesRow, Row, Shown, Some, StandsFor, State, Table, Text, Workunit, World, [], and_from, and_parts, ap, arith, bytes_eq, bytes_eq-Decides, cases_Bool, codes, column, cond, drop, enumerate_from, eq-eqb, eqb-true, equal, eval_all, false, false_from_ne_true, filter, filter-map, find, first_key, holds, import_cells, import_kind_code, inl, inr, is_import, length, length-map, length_permutation, list_all, list_any, map, map-map, mapped_has, ne_eqb, not, number, one_permutation, option_map, option_to_list, pos, project_at, refl, stored_archived, stored_workunit, subst, suc, sym, true, workunit_at, workunit_row, ℕ, ◌&&◌, ◌+◌, ◌<◌, ◌==◌, ◌||◌, ◌∙◌, ◌∷◌, ◌≡◌, ◌≤◌}
+use Rattle.wu_schema.proofs.Words.{Answers, Archived, Binary, Bool, Import, ImportKind, IsAscending, IsPermutation, IsPermutation-filter, IsPermutation-map, IsPermutation-trans, List, None, Ok, Option, QueriesRow, Row, Shown, Some, StandsFor, State, Table, Text, Workunit, World, [], and_from, and_parts, ap, arith, bytes_eq, cases_Bool, codes, column, cond, drop, enumerate_from, eq-eqb, eqb-true, equal, eval_all, false, false_from_ne_true, filter, filter-map, find, holds, import_cells, import_kind_code, inl, inr, is_import, length, length-map, length_permutation, list_all, list_any, map, map-map, not, number, one_permutation, option_map, option_to_list, project_at, refl, stored_archived, stored_workunit, subst, suc, sym, true, workunit_row, ℕ, ◌&&◌, ◌+◌, ◌==◌, ◌||◌, ◌∙◌, ◌∷◌, ◌≡◌, ◌≤◌}
 use Rattle.wu_store.specs.Answers.{has_name, kept_of, next_row, row_named, row_numbered, was_archived}
 use Rattle.wu_schema.specs.Stored.{kept_cells}
 use Rattle.wu_schema.proofs.AnswerLemmas.{answers_are, meeting, row_answers, showing, shown_answers}
-use Rattle.wu_store.proofs.EqualLemmas.{text_equal, number_equal, number_tied}
-use Rattle.wu_store.proofs.OnceLemmas.{key_once, one_passes}
-use Rattle.wu_store.proofs.PlacedLemmas.{table_rises}
-use Rattle.wu_schema.proofs.StandsLemmas.{is_there}
+use Rattle.wu_store.proofs.EqualLemmas.{text_equal, number_equal}
+use Rattle.wu_store.proofs.OnceLemmas.{one_passes}
+use Rattle.wu_store.proofs.WorldOnce.{bytes_same, once_named, once_number}
+pub use Rattle.wu_store.proofs.WorldOnce.{once_numbered}
 use Rattle.wu_schema.proofs.QueryLemmas.{alone, plain_query}
 use Rattle.wu_schema.proofs.RowLemmas.{filter_same, no_rows, one_test}
 use Rattle.wu_schema.proofs.Parts.{Part, Project, Workunits, Archive, Imports, IsIn, table_in, table_of, tree_in, name_of, parts_there}
@@ -55,9 +55,6 @@ only_answer f [] answer few same = no_rows answer (length_permutation [] answer 
 only_answer f (x ∷ []) answer few same = one_permutation (f x) answer same
 only_answer f (x ∷ y ∷ xs) answer few same = absurd (omega (arith, few))
 
-bytes_same : (a b c : List ℕ) → bytes_eq a b ≡ true → bytes_eq c b ≡ true → bytes_eq a c ≡ true
-bytes_same a b c p q = (bytes_eq-Decides a c).1 ((bytes_eq-Decides a b).0 p ∙ sym ((bytes_eq-Decides c b).0 q))
-
 none_left : {X : Type 0} (xs : List X) → length xs ≡ 0 → xs ≡ []
 none_left [] h = refl
 none_left (x ∷ xs) h = absurd (omega (arith, h))
@@ -80,10 +77,6 @@ one_row q p shows ws stored rows are once same shown found =
     listed : (o : Option Workunit) → map workunit_row (option_to_list o) ≡ option_to_list (option_map workunit_row o)
     listed None = refl
     listed (Some w) = refl
-
--- no two workunits have one number
-pub once_numbered : (n : ℕ) (ws : List Workunit) → IsTable (map stored_workunit ws) → length (filter (λ (w : Workunit). w.number == n) ws) ≤ 1
-once_numbered n ws up = one_passes (λ (w : Workunit). w.number == n) (λ a b. a.number < b.number) ws (λ a b has_a has_b low p q. let same = eqb-true _ _ p ∙ sym (eqb-true _ _ q) in absurd (omega (arith, low, same))) (table_rises ws up)
 
 -- ---- the next number
 
@@ -119,19 +112,10 @@ module _ (old new : State) (world : World) (s : StandsFor old.now world) (name :
       any_answer _ _ (λ (p : ℕ × Archived). bytes_eq p.1.name name) stored_archived (enumerate_from 1 world.archived) _ rows s.rows.archived.same (λ p. one_test _ ∙ text_equal p.1.name name) (asked_rows Archive archived_asked archived_fits old new world s tt (Text name ∷ []) rows refl h)
       ∙ any_numbered name 1 world.archived
 
-  -- the name is a unique key
-  named_once : length (filter (λ (w : Workunit). bytes_eq w.name name) world.workunits) ≤ 1
-  unfolding first_key
-  named_once = one_passes _ (λ (a b : Workunit). a.number < b.number) world.workunits (λ a b has_a has_b low p q.
-      let stored = λ (w : Workunit) (has : Has world.workunits w). subst (λ rs. Has rs (stored_workunit w)) (sym s.rows.workunits.same) (mapped_has stored_workunit world.workunits w has) in
-      key_once old.now (workunit_at s.trees.workunit) 0 (2 ∷ []) refl s.sound (is_there old.now.schema _ _ s.tables.workunit) (stored_workunit b) (stored_workunit a) (stored b has_b) (stored a has_a)
-      (number_tied a.number b.number ∙ ne_eqb a.number b.number (λ same. omega (arith, same, low))) (pos a.number) (pos b.number) refl refl (λ at. and_from _ _ (text_equal a.name b.name ∙ bytes_same a.name name b.name p q) refl))
-      (table_rises world.workunits (subst IsTable s.rows.workunits.same s.rows.workunits.shaped.0))
-
   -- the row of the one workunit of the name
   pub named_found : Shown named_asked.text (Text name ∷ []) old new rows → rows ≡ option_to_list (row_named name world)
   named_found h =
-      one_row (λ (w : Workunit). bytes_eq w.name name) (λ r. list_all (holds ((Text name ∷ []) ∷ r ∷ [])) workunit_tests) (λ r. eval_all all_shows ((Text name ∷ []) ∷ r ∷ [])) world.workunits _ rows s.rows.workunits.same named_once
+      one_row (λ (w : Workunit). bytes_eq w.name name) (λ r. list_all (holds ((Text name ∷ []) ∷ r ∷ [])) workunit_tests) (λ r. eval_all all_shows ((Text name ∷ []) ∷ r ∷ [])) world.workunits _ rows s.rows.workunits.same (once_named old.now world s name)
       (λ w. one_test _ ∙ text_equal w.name name) (λ w. refl) (asked_rows Workunits named_asked named_fits old new world s tt (Text name ∷ []) rows refl h)
 
 -- ---- by number
@@ -141,7 +125,7 @@ module _ (old new : State) (world : World) (s : StandsFor old.now world) (n : �
   pub numbered_found : Shown numbered_asked.text (number n ∷ []) old new rows → rows ≡ option_to_list (row_numbered n world)
   numbered_found h =
       one_row (λ (w : Workunit). w.number == n) (λ r. list_all (holds ((number n ∷ []) ∷ r ∷ [])) numbered_tests) (λ r. eval_all all_shows ((number n ∷ []) ∷ r ∷ [])) world.workunits _ rows s.rows.workunits.same
-      (once_numbered n world.workunits (subst IsTable s.rows.workunits.same s.rows.workunits.shaped.0)) (λ w. one_test _ ∙ number_equal w.number n) (λ w. refl)
+      (once_number old.now world s n) (λ w. one_test _ ∙ number_equal w.number n) (λ w. refl)
       (asked_rows Workunits numbered_asked numbered_fits old new world s tt (number n ∷ []) rows refl h)
 
 -- ---- an import

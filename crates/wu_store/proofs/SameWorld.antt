@@ -1,5 +1,5 @@
 -- Two worlds for which one database stands are one world, but for the order of their imports.
-use Rattle.wu_schema.proofs.Words.{Archived, Blob, Database, Grant, Has, HasNamed, HoldsAll, Import, ImportKind, Instance, Int, IsPermutation, IsPermutation-filter, IsPermutation-map, IsPermutation-sym, IsPermutation-trans, IsTable, List, None, Option, Output, Row, Some, StandsFor, Table, Text, Value, Workunit, World, [], all_from, all_has, ap, append-nil, arith, column, drop, enumerate_from, eq-eqb, false, filter, filter_none, flat_map, if◌then◌else◌, import_cells, import_kind_code, inl, inr, instance_row, instances_of, map, ne_eqb, Null, number_or_null, on_total, pos, refl, slice_get, stored_archived, stored_grant, stored_project, stored_workunit, subst, sym, text_or_null, true, value_cmp_total, verdict_digits, workunit_row, ℕ, ◌+◌, ◌-◌, ◌<◌, ◌==◌, ◌∙◌, ◌∷◌, ◌≡◌}
+use Rattle.wu_schema.proofs.Words.{Archived, Blob, Database, Grant, Has, HasNamed, HoldsAll, Import, ImportKind, Instance, Int, IsPermutation, IsPermutation-filter, IsPermutation-map, IsPermutation-sym, IsPermutation-trans, List, None, Option, Output, Row, Some, StandsFor, Table, Text, Value, Workunit, World, [], all_from, all_has, ap, append-nil, arith, column, drop, enumerate_from, eq-eqb, false, filter, filter_none, flat_map, if◌then◌else◌, import_cells, import_kind_code, inl, inr, instance_row, instances_of, map, ne_eqb, Null, number_or_null, on_total, pos, refl, slice_get, stored_archived, stored_grant, stored_project, stored_workunit, subst, sym, text_or_null, true, value_cmp_total, verdict_digits, workunit_row, ℕ, ◌+◌, ◌-◌, ◌<◌, ◌==◌, ◌∙◌, ◌∷◌, ◌≡◌}
 use Rattle.wu_core.specs.declared.mask.ErrorMask.{ErrorMask}
 use Rattle.wu_core.specs.declared.states.ServerState.{ServerState}
 use Rattle.wu_core.specs.declared.states.ServerState.TheVariants as server
@@ -21,7 +21,7 @@ use Rattle.wu_store.proofs.InstanceLemmas.{fits, instances_left}
 use Rattle.wu_store.proofs.InstanceAnswers.{cell_pair, pairs_from, rising, shown_from}
 use Rattle.wu_store.proofs.OneOrder.{two_orders}
 use Rattle.wu_store.proofs.OrderAnswers.{by_key}
-use Rattle.wu_store.proofs.PlacedLemmas.{Rises, table_rises}
+use Rattle.wu_store.proofs.PlacedLemmas.{Rises, world_rises}
 
 -- ---- what was stored is read back
 
@@ -268,7 +268,7 @@ one_world db a b s t =
     let instances = one_cells (one_table db _ _ _ s.tables.result t.tables.result) s.rows.instances t.rows.instances in
     let imports = IsPermutation-map read_import _ _ (one_cells (one_table db _ _ _ s.tables.import t.tables.import) s.rows.imports t.rows.imports) in
     record {
-      workunits = same_works a.workunits b.workunits works (brought a.workunits b.workunits (table_rises a.workunits (subst IsTable s.rows.workunits.same s.rows.workunits.shaped.0)) (table_rises b.workunits (subst IsTable t.rows.workunits.same t.rows.workunits.shaped.0)) instances);
+      workunits = same_works a.workunits b.workunits works (brought a.workunits b.workunits (world_rises db a s) (world_rises db b t) instances);
       grants = sym (restored_from stored_grant read_grant (λ p. refl) 1 a.grants) ∙ ap (map read_grant) grants ∙ restored_from stored_grant read_grant (λ p. refl) 1 b.grants;
       archived = sym (restored_from stored_archived read_archived archive_again 1 a.archived) ∙ ap (map read_archived) archived ∙ restored_from stored_archived read_archived archive_again 1 b.archived;
       imports = subst (λ xs. IsPermutation xs b.imports) (restored import_cells read_import import_again a.imports) (subst (IsPermutation (map read_import (map import_cells a.imports))) (restored import_cells read_import import_again b.imports) imports);

@@ -47,6 +47,10 @@ row_named name world = option_map workunit_row (named name world)
 abbrev pub first_above : ℕ → World → Option Workunit
 first_above number world = find (λ (w : Workunit). nat_lt number w.number) world.workunits
 
+-- all workunits above this number, in order of theirs
+abbrev pub all_above : ℕ → World → List Workunit
+all_above number world = filter (λ (w : Workunit). nat_lt number w.number) world.workunits
+
 -- the row of the first workunit above this number, if there is one
 abbrev pub row_above : ℕ → World → Option Row
 row_above number world = option_map workunit_row (first_above number world)

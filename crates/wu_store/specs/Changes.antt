@@ -1,10 +1,8 @@
 -- What each change of version 1 makes of a world.
-use Rattle.std.specs.Prelude.{◌≡◌, ◌≢◌, ℕ, ◌<◌, ◌==◌, true, false, not, List, [], ◌∷◌, ◌++◌, length, map, filter, find, Some, option_map, if◌then◌else◌}
+use Rattle.std.specs.Prelude.{◌≡◌, ◌≢◌, ℕ, ◌+◌, ◌<◌, ◌==◌, true, false, not, List, [], ◌∷◌, ◌++◌, length, map, filter, find, Some, option_map, if◌then◌else◌}
 use Rattle.std.specs.List.{AllByRecursion, list_any}
 use Rattle.std.specs.Ordering.{nat_cmp, match_ordering}
-use Rattle.sqlite.specs.declared.types.Value.TheVariants.{Null, Int}
 use Rattle.sqlite.specs.Order.{Row}
-use Rattle.sqlite.specs.Edit.{next_rowid}
 use Rattle.sqlite.specs.Table.{Table}
 use Rattle.sqlite_schema.specs.declared.schema.Keys.TheVariants.{Enforced}
 use Rattle.sqlite_rules.specs.Lists.{Has}
@@ -15,7 +13,7 @@ use Rattle.wu_core.specs.declared.workunit.Instance.{Instance}
 use Rattle.wu_core.specs.declared.workunit.Workunit.{Workunit}
 use Rattle.wu_core.specs.Hosts.{hosts_of}
 use Rattle.wu_core.specs.World.{World, Import}
-use Rattle.wu_schema.specs.Stored.{grant_cells}
+use Rattle.wu_schema.specs.Stored.{stored_grant}
 use Rattle.wu_schema.specs.Tables.{ProjectTrees, HasTables}
 use Rattle.wu_schema.specs.StandsFor.{StandsFor, HoldsAll, host_of}
 use Rattle.wu_schema.specs.Made.{PutsOne}
@@ -89,6 +87,18 @@ with_grant g world = record world { grants = world.grants ++ g ∷ [] }
 abbrev pub with_archived : Archived → World → World
 with_archived a world = record world { archived = world.archived ++ a ∷ [] }
 
+-- the place behind all of a list, whose places are counted from 1
+abbrev pub IsNextPlace : {X : Type 0} → ℕ → List X → Type 0
+IsNextPlace place xs = place ≡ length xs + 1
+
+-- the grant is added, where its place is the next one of the world's grants
+abbrev pub AddsGrant : ℕ → Grant → Database → Database → Type 0
+AddsGrant place g old new = (world : World) → StandsFor old world → IsNextPlace place world.grants → StandsFor new (with_grant g world)
+
+-- the archived row is added, where its place is the next one of the world's archived rows
+abbrev pub AddsArchived : ℕ → Archived → Database → Database → Type 0
+AddsArchived place a old new = (world : World) → StandsFor old world → IsNextPlace place world.archived → StandsFor new (with_archived a world)
+
 -- with an import more
 abbrev pub with_import : Import → World → World
 with_import import world = record world { imports = world.imports ++ import ∷ [] }
@@ -105,9 +115,9 @@ IsAbove number = AllByRecursion (λ (w : Workunit). w.number < number)
 abbrev pub HoldsHosts : List Row → List Grant → Type 0
 HoldsHosts rows grants = HoldsAll rows (map (host_of grants) (hosts_of grants))
 
--- the row of a grant is put behind those that are there
-abbrev pub PutsGrant : Grant → Database → Database → Type 0
-PutsGrant g old new = (t : ProjectTrees) → HasTables old.schema t → PutsOne old new t.grant (Int (next_rowid (old.trees t.grant)) ∷ Null ∷ grant_cells g)
+-- the row of a grant is put at its place
+abbrev pub PutsGrant : ℕ → Grant → Database → Database → Type 0
+PutsGrant place g old new = (t : ProjectTrees) → HasTables old.schema t → PutsOne old new t.grant (stored_grant (place, g))
 
 -- a grant's host has its credit and one grant more, and each table that no action leads to is as it was
 pub record IsCredited (g : Grant) (t : ProjectTrees) (grants : List Grant) (old new : Database) : Type 0 where

@@ -1,11 +1,14 @@
 -- What the changes of a command make of a world, and of the tables that stand for it.
-use Rattle.std.specs.Prelude.{List, [], ◌∷◌, ⊤}
+use Rattle.std.specs.Prelude.{ℕ, List, [], ◌∷◌, map, ⊤}
+use Rattle.std.specs.List.{enumerate_from}
 use Rattle.sqlite.specs.Effect.{Database}
+use Rattle.wu_core.specs.declared.workunit.Archived.{Archived}
+use Rattle.wu_core.specs.declared.workunit.Grant.{Grant}
 use Rattle.wu_core.specs.World.{World, Import}
-use Rattle.wu_store.specs.Changes.{with_workunit, with_replaced, with_import, with_next, HasNumber, IsAbove}
+use Rattle.wu_store.specs.Changes.{with_workunit, with_replaced, without_workunit, with_grant, with_archived, with_import, with_next, HasNumber, IsAbove, IsNextPlace}
 use Rattle.wu_schema.specs.StandsFor.{StandsFor}
 use Rattle.wu_store.specs.declared.changes.Change.{Change}
-use Rattle.wu_store.specs.declared.changes.Change.TheVariants.{Add, Replace, Next, Keep}
+use Rattle.wu_store.specs.declared.changes.Change.TheVariants.{Add, Replace, Remove, Granted, Archive, Next, Keep}
 use Rattle.wu_store.specs.declared.changes.Import.{Import as Kept}
 
 -- an import as it is kept
@@ -23,6 +26,9 @@ import_of_change kept = record {
 abbrev pub made : Change → World → World
 made (Add w) world = with_workunit w world
 made (Replace w) world = with_replaced w world
+made (Remove number) world = without_workunit number world
+made (Granted _ g) world = with_grant g world
+made (Archive _ a) world = with_archived a world
 made (Next number) world = with_next number world
 made (Keep kept) world = with_import (import_of_change kept) world
 
@@ -31,16 +37,28 @@ abbrev pub made_all : List Change → World → World
 made_all [] world = world
 made_all (change ∷ more) world = made_all more (made change world)
 
--- a workunit that is added has a number above all, and one that takes a place has that of a present one
+-- a workunit that is added has a number above all, one that takes a place has that of a present one, and a grant and an
+-- archived row have the next place of their list
 abbrev pub IsRight : Change → World → Type 0
 IsRight (Add w) world = IsAbove w.number world.workunits
 IsRight (Replace w) world = HasNumber w.number world.workunits
+IsRight (Remove number) world = ⊤
+IsRight (Granted place g) world = IsNextPlace place world.grants
+IsRight (Archive place a) world = IsNextPlace place world.archived
 IsRight (Next number) world = ⊤
 IsRight (Keep kept) world = ⊤
 
 abbrev pub AreRight : List Change → World → Type 0
 AreRight [] world = ⊤
 AreRight (change ∷ more) world = IsRight change world × AreRight more (made change world)
+
+-- these grants at places in a row, from this one on
+abbrev pub granted_from : ℕ → List Grant → List Change
+granted_from place grants = map (λ (p : ℕ × Grant). Granted p.0 p.1) (enumerate_from place grants)
+
+-- these archived rows at places in a row
+abbrev pub archived_from : ℕ → List Archived → List Change
+archived_from place rows = map (λ (p : ℕ × Archived). Archive p.0 p.1) (enumerate_from place rows)
 
 -- whatever world the tables stood for, they stand for it with the changes
 abbrev pub MakesWorlds : List Change → Database → Database → Type 0

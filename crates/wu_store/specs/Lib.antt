@@ -5,3 +5,4 @@ pub mod Changes
 pub mod Worlds
 pub mod Loading
 pub mod Changing
+pub mod Due

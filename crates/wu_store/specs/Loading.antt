@@ -1,5 +1,6 @@
--- What is loaded of a project: the present workunit of a number or a name with its instances, an import, the next number.
-use Rattle.std.specs.Prelude.{◌≡◌, ◌≢◌, ◌⊎◌, ℕ, ◌<◌, ◌^◌, List, [], Option, Some, None, Result, find, option_map, IfErr, IfSome, IsTrue, OnOk, MatchResult}
+-- What is loaded of a project: the present workunit of a number or a name, or the first one above a number, with its
+-- instances; an import; the next number.
+use Rattle.std.specs.Prelude.{◌≡◌, ◌≢◌, ◌⊎◌, ℕ, ◌<◌, ◌^◌, All, List, [], Option, Some, None, Result, find, option_map, IfErr, IfSome, IsTrue, OnOk, MatchResult}
 use Rattle.std.specs.Option.{option_map_or}
 use Rattle.sqlite.specs.Held.{Held, state}
 use Rattle.sqlite.specs.Order.{Row}
@@ -15,7 +16,7 @@ use Rattle.wu_schema.specs.Calls.{IsBack}
 use Rattle.wu_schema.specs.Faults.{IsFailure}
 use Rattle.wu_schema.specs.StandsFor.{StandsFor}
 use Rattle.wu_schema.specs.Stored.{workunit_row}
-use Rattle.wu_store.specs.Answers.{named, numbered}
+use Rattle.wu_store.specs.Answers.{first_above, named, numbered}
 use Rattle.wu_store.specs.Changes.{bare}
 use Rattle.wu_store.specs.Reading.{AreStoredInstances, AreVerdicts, IsNextNumber, IsStoredWorkunit}
 use Rattle.wu_store.specs.declared.rows.StoredImport.{StoredImport}
@@ -70,6 +71,10 @@ pub record IsStorable (w : Workunit) : Type 0 where
   pub row : IsStoredWorkunit (bare w)
   pub instances : AreStoredInstances w.instances
 
+-- each workunit that is present can be read
+abbrev pub AreStorable : World → Type 0
+AreStorable world = All IsStorable world.workunits
+
 -- if a workunit is found, it can be read
 abbrev pub IsLoadable : Option Workunit → Type 0
 IsLoadable found = IfSome found IsStorable
@@ -82,13 +87,25 @@ LoadsNumbered number world = (number < 2 ^ 63) × IsLoadable (numbered number wo
 abbrev pub LoadsNamed : List ℕ → World → Type 0
 LoadsNamed name world = IsLoadable (named name world)
 
+-- if there is a workunit above the number, which is one that a row may have, the first can be read
+abbrev pub LoadsAbove : ℕ → World → Type 0
+LoadsAbove number world = (number < 2 ^ 63) × IsLoadable (first_above number world)
+
+-- this workunit is found, or none; or a fault
+abbrev pub Finds : Option Workunit → Result (Option Workunit) Fault → Type 0
+Finds found result = MatchResult result (λ loaded. loaded ≡ found) IsStoreFault
+
 -- the present workunit of this number is found, with its instances, or none where there is none
 abbrev pub FindsNumbered : ℕ → Result (Option Workunit) Fault → World → Type 0
-FindsNumbered number result world = MatchResult result (λ loaded. loaded ≡ numbered number world) IsStoreFault
+FindsNumbered number result world = Finds (numbered number world) result
 
 -- that of this name
 abbrev pub FindsNamed : List ℕ → Result (Option Workunit) Fault → World → Type 0
-FindsNamed name result world = MatchResult result (λ loaded. loaded ≡ named name world) IsStoreFault
+FindsNamed name result world = Finds (named name world) result
+
+-- that of the least number above this one
+abbrev pub FindsAbove : ℕ → Result (Option Workunit) Fault → World → Type 0
+FindsAbove number result world = Finds (first_above number world) result
 
 -- the instances of the workunit of this number; none where it is not there
 abbrev pub instances_at : ℕ → World → List Instance
@@ -109,7 +126,7 @@ pub record IsRowOf (row : Option Row) (found : Option Workunit) (world : World) 
 
 -- the workunit of a row is found, with its instances
 abbrev pub FindsOfRow : Option Row → Result (Option Workunit) Fault → World → Type 0
-FindsOfRow row result world = (found : Option Workunit) → IsRowOf row found world → MatchResult result (λ loaded. loaded ≡ found) IsStoreFault
+FindsOfRow row result world = (found : Option Workunit) → IsRowOf row found world → Finds found result
 
 -- the row is that of a workunit that can be read
 abbrev pub IsLoadableRow : Option Row → World → Type 0

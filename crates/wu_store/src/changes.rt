@@ -6,20 +6,21 @@ ghost use Rattle.wu_store.specs.Changes.{with_placed, AddsInstances, Replaces};
 ghost use Rattle.wu_store.specs.Changing.{MakesWorlds};
 
 use crate::statements::{
-    delete_workunit, insert_import, insert_instance, insert_workunit, set_next_number,
+    delete_workunit, insert_archived, insert_grant, insert_import, insert_instance,
+    insert_workunit, set_next_number,
 };
 use crate::verdicts::Verdicts;
 use sqlite::{Alter, Error, Transaction};
 use std::alloc::Global;
-use wu_core::{Bytes, ImportKind, Name, Workunit};
+use wu_core::{Archived, Grant, ImportKind, Name, Workunit};
 
 /// What is kept for good of an import: its content, which is lent, and its first answer.
 #[derive(Debug, Drop)]
 pub struct Import<'a> {
     pub kind: ImportKind,
     pub name: &'a Name,
-    pub template: &'a Bytes,
-    pub content: &'a Bytes,
+    pub template: &'a [u8],
+    pub content: &'a [u8],
     /// The first number of a batch; 0 where no workunit was made.
     pub first_number: u64,
     pub verdicts: Verdicts,
@@ -32,6 +33,12 @@ pub enum Change<'a> {
     Add(Workunit),
     /// A workunit takes the place of the present one of its number, with its instances.
     Replace(Workunit),
+    /// The workunit of this number goes, with its instances.
+    Remove(u64),
+    /// A grant is kept at this place of the grants, and added to its host's sums.
+    Granted(u64, Grant),
+    /// What is kept for good of a workunit is kept at this place of the archived rows.
+    Archive(u64, Archived),
     /// The number of the next workunit is set.
     Next(u64),
     /// An import is kept.
@@ -77,6 +84,9 @@ fn make<S: Alter>(tx: &mut Transaction<'_, S>, change: &Change<'_>) -> Result<()
     match change {
         Change::Add(workunit) => add(tx, workunit),
         Change::Replace(workunit) => replace(tx, workunit),
+        Change::Remove(number) => delete_workunit(tx, *number),
+        Change::Granted(seq, grant) => insert_grant(tx, *seq, grant),
+        Change::Archive(seq, archived) => insert_archived(tx, *seq, archived),
         Change::Next(number) => set_next_number(tx, *number),
         Change::Keep(import) => insert_import(tx, import),
     }

@@ -1,12 +1,16 @@
 //! Laws: which world a database stands for, and what changes of it come to.
 
-ghost use Rattle.std.specs.Prelude.{◌≡◌};
+ghost use Rattle.std.specs.Prelude.{◌≡◌, ◌≢◌, ◌<◌, ℕ, All, List, [], ◌∷◌, ◌++◌, Some, None};
 ghost use Rattle.sqlite.specs.Effect.{Database};
+ghost use Rattle.wu_core.specs.declared.workunit.Archived.{Archived};
+ghost use Rattle.wu_core.specs.declared.workunit.Grant.{Grant};
 ghost use Rattle.wu_core.specs.declared.workunit.Instance.{Instance};
 ghost use Rattle.wu_core.specs.declared.workunit.Workunit.{Workunit};
 ghost use Rattle.wu_core.specs.World.{World};
 ghost use Rattle.wu_schema.specs.StandsFor.{StandsFor};
-ghost use Rattle.wu_store.specs.Changes.{HasNumber, LacksNumber, and_instance, with_instance, with_placed, with_replaced, without_workunit};
+ghost use Rattle.wu_store.specs.Answers.{all_above, first_above, numbered};
+ghost use Rattle.wu_store.specs.Changes.{HasNumber, IsNextPlace, LacksNumber, and_instance, with_instance, with_placed, with_replaced, without_workunit};
+ghost use Rattle.wu_store.specs.Changing.{archived_from, granted_from, made_all, AreRight};
 ghost use Rattle.wu_store.specs.Worlds.{SameWorld};
 
 /// One database stands for one world, but for the order of its imports.
@@ -24,4 +28,37 @@ pub fn instances_are_added_one_by_one()
 pub fn deleting_and_adding_is_replacing()
     ensures { (db : Database) (world : World) (w : Workunit) → StandsFor db world → HasNumber w.number world.workunits
         → with_placed w (without_workunit w.number world) ≡ with_replaced w world }
+{}
+
+/// To take the first workunit above the last one, again and again, goes through all above a number, in order.
+pub fn the_first_above_the_last_is_the_next()
+    ensures more { (db : Database) (world : World) (number : ℕ) (w : Workunit) → StandsFor db world
+        → first_above number world ≡ Some w → all_above number world ≡ w ∷ all_above w.number world }
+    ensures none { (db : Database) (world : World) (number : ℕ) → StandsFor db world
+        → first_above number world ≡ None → all_above number world ≡ [] }
+    ensures all { (world : World) (number : ℕ) → All (λ (w : Workunit). number < w.number) world.workunits
+        → all_above number world ≡ world.workunits }
+{}
+
+/// A workunit that was removed is not found, and each other one is as it was.
+pub fn a_removed_workunit_is_not_found()
+    ensures gone { (number : ℕ) (world : World) → numbered number (without_workunit number world) ≡ None }
+    ensures others { (number other : ℕ) (world : World) → number ≢ other
+        → numbered other (without_workunit number world) ≡ numbered other world }
+{}
+
+/// Grants at places in a row from the next one on are right, and come behind those that are there.
+pub fn grants_in_a_row_are_right()
+    ensures right { (place : ℕ) (grants : List Grant) (world : World) → IsNextPlace place world.grants
+        → AreRight (granted_from place grants) world }
+    ensures made { (place : ℕ) (grants : List Grant) (world : World)
+        → made_all (granted_from place grants) world ≡ record world { grants = world.grants ++ grants } }
+{}
+
+/// So do archived rows.
+pub fn archived_rows_in_a_row_are_right()
+    ensures right { (place : ℕ) (rows : List Archived) (world : World) → IsNextPlace place world.archived
+        → AreRight (archived_from place rows) world }
+    ensures made { (place : ℕ) (rows : List Archived) (world : World)
+        → made_all (archived_from place rows) world ≡ record world { archived = world.archived ++ rows } }
 {}

@@ -2,6 +2,7 @@
 #![tactic(auto)]
 
 mod changes;
+mod due;
 pub mod laws;
 mod loading;
 mod rows;
@@ -9,7 +10,8 @@ mod statements;
 mod verdicts;
 
 pub use changes::{Change, Import, apply};
-pub use loading::{import_of, load, load_named, next_number};
+pub use due::{Pass, load_due};
+pub use loading::{import_of, load, load_above, load_named, next_number};
 pub use rows::{StoredImport, import_from, instance_from, next_number_from, workunit_from};
 pub use statements::{
     delete_workunit, has_archived, has_workunit, import_rows, insert_archived, insert_grant,

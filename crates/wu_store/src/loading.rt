@@ -2,12 +2,13 @@
 
 ghost use Rattle.std.specs.Prelude.{◌≡◌, false, IfErr, IfOk};
 ghost use Rattle.sqlite.specs.Held.{state};
-ghost use Rattle.wu_store.specs.Loading.{FindsEarlier, FindsInstances, FindsNamed, FindsNumbered, FindsOfRow, LoadsNext, LoadsInstances, LoadsImport, IsLoadableRow, IsRead, IsStoreFault, KeepsTables, KnowsNext, LoadsNamed, LoadsNumbered, NotRefusedIn, OverWorlds, ServesUnlessFailed, StaysUnlessFailed, WasOpen};
+ghost use Rattle.wu_store.specs.Loading.{FindsAbove, FindsEarlier, FindsInstances, FindsNamed, FindsNumbered, FindsOfRow, LoadsNext, LoadsInstances, LoadsImport, IsLoadableRow, IsRead, IsStoreFault, KeepsTables, KnowsNext, LoadsAbove, LoadsNamed, LoadsNumbered, NotRefusedIn, OverWorlds, ServesUnlessFailed, StaysUnlessFailed, WasOpen};
 ghost use Rattle.wu_store.specs.Reading.{IsNextNumber};
 
 use crate::rows::{StoredImport, import_from, instances_from, next_number_from, workunit_from};
 use crate::statements::{
-    import_rows, instance_rows, next_number_row, workunit_row, workunit_row_named,
+    import_rows, instance_rows, next_number_row, workunit_row, workunit_row_above,
+    workunit_row_named,
 };
 use sqlite::{Alter, Connection, Row};
 use std::alloc::Global;
@@ -81,6 +82,29 @@ pub fn load<S: Alter>(
     ensures unrefused { NotRefusedIn S.Store conn.old conn.new result (LoadsNumbered number) }
 {
     match workunit_row(conn, number) {
+        Ok(row) => with_instances(conn, alloc, row),
+        Err(error) => Err(fault_of(&error)),
+    }
+}
+
+/// The present workunit of the least number above this one, with its instances, or none.
+///
+/// `NotAProject` where a row is no value, or the number is not below 2^63.
+pub fn load_above<S: Alter>(
+    conn: &mut Connection<S>,
+    alloc: Global,
+    number: u64,
+) -> Result<Option<Workunit>, Fault>
+    ensures mode { conn.old.in_transaction ≡ false → conn.new.in_transaction ≡ false }
+    ensures read { IsRead (state S.Store conn.old) (state S.Store conn.new) }
+    ensures same { KeepsTables S.Store conn.old conn.new result }
+    ensures open { WasOpen S.Store conn.old conn.new result }
+    ensures opens { StaysUnlessFailed S.Store conn.old conn.new result }
+    ensures fault { IfErr result IsStoreFault }
+    ensures found { OverWorlds S.Store conn.old conn.new (FindsAbove number result) }
+    ensures unrefused { NotRefusedIn S.Store conn.old conn.new result (LoadsAbove number) }
+{
+    match workunit_row_above(conn, number) {
         Ok(row) => with_instances(conn, alloc, row),
         Err(error) => Err(fault_of(&error)),
     }

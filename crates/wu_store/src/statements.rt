@@ -2,7 +2,7 @@
 
 ghost use Rattle.std.specs.Prelude.{◌≡◌, ◌<◌, ◌≤◌, ◌^◌, [], pos, option_map, IfOk, IfErr, OnOk};
 ghost use Rattle.wu_store.specs.Changing.{import_of_change};
-ghost use Rattle.wu_store.specs.Changes.{bare, with_placed, without_workunit, with_grant, with_archived, with_import, with_next, AddsInstance, Credits, PutsGrant, WasFree};
+ghost use Rattle.wu_store.specs.Changes.{bare, with_placed, without_workunit, with_import, with_next, AddsArchived, AddsGrant, AddsInstance, Credits, PutsGrant, WasFree};
 ghost use Rattle.wu_schema.specs.Calls.{Reads, Answers, AnswersRows, OnlyFails, ServesAfter, StaysAfter, Writes, Does, Changes};
 ghost use Rattle.wu_store.specs.Answers.{all_rows, has_name, instance_rows_of, kept_of, next_row, row_above, row_named, row_numbered, was_archived};
 
@@ -288,14 +288,19 @@ pub fn delete_workunit<S: Alter>(tx: &mut Transaction<'_, S>, number: u64) -> Re
     )
 }
 
-fn insert_grant_row<S: Alter>(tx: &mut Transaction<'_, S>, grant: &Grant) -> Result<(), Error>
+fn insert_grant_row<S: Alter>(
+    tx: &mut Transaction<'_, S>,
+    seq: u64,
+    grant: &Grant,
+) -> Result<(), Error>
     ensures writes { Writes S.Store tx.old tx.new result }
-    ensures puts { Does S.Store tx.old tx.new result (PutsGrant grant.now) }
+    ensures puts { Does S.Store tx.old tx.new result (PutsGrant seq grant.now) }
 {
     execute(
         tx,
-        "INSERT INTO credit_grant (workunit, n, host, credit) VALUES (?1, ?2, ?3, ?4)",
+        "INSERT INTO credit_grant (seq, workunit, n, host, credit) VALUES (?1, ?2, ?3, ?4, ?5)",
         params![
+            signed(seq)?,
             signed(grant.workunit)?,
             grant.n,
             grant.host.as_str(),
@@ -315,29 +320,36 @@ fn add_credit<S: Alter>(tx: &mut Transaction<'_, S>, grant: &Grant) -> Result<()
     )
 }
 
-/// Adds a grant behind those that are there, and its credit to its host. A total past 64 bits is refused.
-pub fn insert_grant<S: Alter>(tx: &mut Transaction<'_, S>, grant: &Grant) -> Result<(), Error>
+/// Adds a grant at the next place of those that are there, and its credit to its host. A total past 64 bits is refused.
+pub fn insert_grant<S: Alter>(
+    tx: &mut Transaction<'_, S>,
+    seq: u64,
+    grant: &Grant,
+) -> Result<(), Error>
     ensures writes { Writes S.Store tx.old tx.new result }
-    ensures grants { Changes S.Store tx.old tx.new result (with_grant grant.now) }
+    ensures grants { Does S.Store tx.old tx.new result (AddsGrant seq grant.now) }
 {
-    insert_grant_row(tx, grant)?;
+    insert_grant_row(tx, seq, grant)?;
     add_credit(tx, grant)
 }
 
-/// Adds the row of an archived workunit, behind those that are there.
+/// Adds the row of an archived workunit, at the next place of those that are there.
 pub fn insert_archived<S: Alter>(
     tx: &mut Transaction<'_, S>,
+    seq: u64,
     archived: &Archived,
 ) -> Result<(), Error>
     ensures writes { Writes S.Store tx.old tx.new result }
-    ensures puts { Changes S.Store tx.old tx.new result (with_archived archived.now) }
+    ensures puts { Does S.Store tx.old tx.new result (AddsArchived seq archived.now) }
 {
+    let seq = signed(seq)?;
     let number = signed(archived.number)?;
     let done_at = seconds(archived.done_at);
     execute(
         tx,
-        "INSERT INTO archived (number, name, error_mask, canonical, output, done_at) VALUES (?1, ?2, ?3, ?4, ?5, ?6)",
+        "INSERT INTO archived (seq, number, name, error_mask, canonical, output, done_at) VALUES (?1, ?2, ?3, ?4, ?5, ?6, ?7)",
         params![
+            seq,
             number,
             archived.name.as_str(),
             archived.error_mask.code(),
@@ -362,8 +374,8 @@ pub fn insert_import<S: Alter>(
         params![
             import.kind.code(),
             import.name.as_str(),
-            import.template.as_slice(),
-            import.content.as_slice(),
+            import.template,
+            import.content,
             signed(import.first_number)?,
             import.verdicts.digits()
         ],

@@ -1,5 +1,5 @@
-//! Tests of whole projects: the worked examples of a batch, what stands in a database that is adopted, what a stop of a
-//! file's calls leaves, lives of a batch each, what is flushed, and what is as long as it may be.
+//! Tests of whole projects: the worked examples of a batch, of files of sends and of reports and of a cancel, what stands in a
+//! database that is adopted, what a stop of a file's calls leaves, lives of a batch each, what is flushed, and what is as long as it may be.
 #![tactic(auto)]
 
 #[cfg(test)]
@@ -7,9 +7,13 @@ mod adoption;
 #[cfg(test)]
 mod batches;
 #[cfg(test)]
+mod cancels;
+#[cfg(test)]
 mod cuts;
 #[cfg(test)]
 mod disks;
+#[cfg(test)]
+mod files;
 #[cfg(test)]
 mod instances;
 #[cfg(test)]

@@ -1,11 +1,13 @@
 //! The limit on steps, and what is as long as it may be.
 
 use crate::setting::{
-    ONE_JOB, ONE_WORKUNIT, adopted, answers, fresh, imports, is_count, shows, shows_lines,
+    NOON, ONE_JOB, ONE_WORKUNIT, adopted, answers, fresh, import, imports, is_count, prints, shows,
+    shows_lines, transitions,
 };
 use sqlite::{Connection, Error, ErrorCode, MemStore};
 use std::process::Abort;
-use wu_core::{LONGEST_INPUT, LONGEST_NAME};
+use wu_core::{ImportKind, LONGEST_INPUT, LONGEST_NAME};
+use wu_drive::Project;
 use wu_store::workunit_rows;
 
 /// Two jobs, whose batch and whose view take more than one step.
@@ -107,4 +109,76 @@ fn the_longest_file_is_taken_and_a_longer_one_is_not(rt: HostRuntime) {
         "SELECT sum(length(input)) FROM workunit",
         523_898,
     );
+}
+
+/// A file of this header and a thousand rows, each on a workunit of its own.
+fn a_thousand(rt: &(impl Abort + AllocGlobal), header: &str, rest: &str) -> String {
+    let mut file = format!(in rt.alloc(); "{header}\n").expect(rt, "memory");
+    for number in 1..1001 {
+        let row = format!(in rt.alloc(); "job_{number}{rest}\n").expect(rt, "memory");
+        file.push_str(row.as_str()).expect(rt, "memory");
+    }
+    file
+}
+
+/// Imports a file of this header and a thousand rows, and sees what is printed for it, again when it comes again.
+fn takes_a_thousand(
+    rt: &(impl Abort + AllocGlobal),
+    project: &mut Project<MemStore>,
+    kind: ImportKind,
+    header: &str,
+    rest: &str,
+    text: &str,
+) {
+    let file = a_thousand(rt, header, rest);
+    for _ in 0..2 {
+        prints(
+            rt,
+            project,
+            import(rt, kind, "n1", file.as_str().as_bytes()),
+            text,
+        );
+    }
+}
+
+#[test]
+fn a_thousand_rows_of_each_kind_are_taken(rt: HostRuntime) {
+    let mut project = fresh(&rt);
+    takes_a_thousand(
+        &rt,
+        &mut project,
+        ImportKind::Batch,
+        "name,input",
+        ",00ff",
+        "batch n1: 1000 added, first 1\n",
+    );
+    let mut conn = project.release();
+    for number in 1..1001 {
+        transitions(&rt, &mut conn, number, NOON);
+    }
+    let mut project = adopted(&rt, conn);
+    takes_a_thousand(
+        &rt,
+        &mut project,
+        ImportKind::Sent,
+        "result,host,moment",
+        "_0,h1,2026-03-01T13:00:00Z",
+        "sent n1: 1000 applied, 0 skipped\n",
+    );
+    takes_a_thousand(
+        &rt,
+        &mut project,
+        ImportKind::Reported,
+        "result,host,moment,status,output",
+        "_0,h1,2026-03-01T14:00:00Z,success,aa",
+        "reported n1: 1000 applied, 0 skipped\n",
+    );
+    let mut conn = project.release();
+    answers(
+        &rt,
+        &mut conn,
+        "SELECT count(*) FROM result WHERE n = 0 AND server_state = 5 AND host = 'h1' AND output = x'aa'",
+        1000,
+    );
+    answers(&rt, &mut conn, "SELECT count(*) FROM result", 2000);
 }

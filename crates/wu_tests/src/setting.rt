@@ -3,8 +3,10 @@
 use sqlite::{Alter, Connection, FileStore, Files, MemStore, Options};
 use sqlite_disk::Disk;
 use std::process::Abort;
-use wu_core::{Bytes, Fault, Name};
-use wu_drive::{Batch, Command, Project, Run, View, drive, show};
+use wu_core::{Bytes, Fault, ImportKind, Moment, Name};
+use wu_drive::{Batch, Command, Project, RowsFile, Run, View, drive, show};
+use wu_rules::transition;
+use wu_store::{Change, apply, load};
 
 /// The jobs file of the worked examples.
 pub const ONE_JOB: &[u8] = b"name,input\njob_1,00ff\n";
@@ -90,13 +92,38 @@ pub fn bytes(rt: &(impl Abort + AllocGlobal), items: &[u8]) -> Bytes {
     Bytes::from_vec(Vec::from_slice(rt.alloc(), items).expect(rt, "memory"))
 }
 
+pub fn named(rt: &(impl Abort + AllocGlobal), text: &str) -> Name {
+    Name::read(rt.alloc(), text.as_bytes()).expect(rt, "a name")
+}
+
 /// A batch of this name, template and file.
 pub fn batch(rt: &(impl Abort + AllocGlobal), name: &str, template: &[u8], file: &[u8]) -> Command {
     Command::Batch(Batch {
-        name: Name::read(rt.alloc(), name.as_bytes()).expect(rt, "a name"),
+        name: named(rt, name),
         template: bytes(rt, template),
         file: bytes(rt, file),
     })
+}
+
+/// The import of a file, a batch with an empty template: its kind, its name, the file, and what is printed for it.
+pub type Step = (ImportKind, &'static str, &'static [u8], &'static str);
+
+/// The command of an import.
+pub fn import(
+    rt: &(impl Abort + AllocGlobal),
+    kind: ImportKind,
+    name: &str,
+    file: &[u8],
+) -> Command {
+    let rows = RowsFile {
+        name: named(rt, name),
+        file: bytes(rt, file),
+    };
+    match kind {
+        ImportKind::Batch => batch(rt, name, b"", file),
+        ImportKind::Sent => Command::Sent(rows),
+        ImportKind::Reported => Command::Reported(rows),
+    }
 }
 
 /// What the project prints for a command: the text of its answer, or the line of its fault.
@@ -113,6 +140,17 @@ fn printed<S: Alter>(
     }
 }
 
+/// Sees that the project prints this for a command.
+pub fn prints<S: Alter>(
+    rt: &(impl Abort + AllocGlobal),
+    project: &mut Project<S>,
+    command: Command,
+    text: &str,
+) {
+    let seen = printed(rt, project, command);
+    is_text(rt, seen.as_str(), text);
+}
+
 /// Sees that the project prints this for a batch.
 pub fn says<S: Alter>(
     rt: &(impl Abort + AllocGlobal),
@@ -122,8 +160,7 @@ pub fn says<S: Alter>(
     file: &[u8],
     text: &str,
 ) {
-    let seen = printed(rt, project, batch(rt, name, template, file));
-    is_text(rt, seen.as_str(), text);
+    prints(rt, project, batch(rt, name, template, file), text);
 }
 
 /// Sees that the project prints this for a batch with an empty template.
@@ -135,6 +172,12 @@ pub fn imports<S: Alter>(
     text: &str,
 ) {
     says(rt, project, name, b"", file, text);
+}
+
+/// Sees what the project prints for an import.
+pub fn does<S: Alter>(rt: &(impl Abort + AllocGlobal), project: &mut Project<S>, step: &Step) {
+    let (kind, name, file, text) = *step;
+    prints(rt, project, import(rt, kind, name, file), text);
 }
 
 /// The view of workunits.
@@ -159,6 +202,24 @@ pub fn shows_lines<S: Alter>(
     is_count(rt, seen.as_str().lines().count(), count);
 }
 
+/// A query, and the number that it answers at each stage.
+pub type Table = (&'static str, &'static [i64]);
+
+/// Whether each query answers its number of this stage.
+pub fn is_at<S: Alter>(
+    rt: &impl Abort,
+    conn: &mut Connection<S>,
+    tables: &[Table],
+    stage: usize,
+) -> bool {
+    for (sql, counts) in tables {
+        if counts.get(stage) != Some(&number(rt, conn, *sql)) {
+            return false;
+        }
+    }
+    true
+}
+
 /// Runs statements of a test's own.
 pub fn runs<S: Alter>(rt: &impl Abort, conn: &mut Connection<S>, sql: &str) {
     conn.execute_batch(sql).expect(rt, "a statement")
@@ -173,4 +234,39 @@ pub fn number<S: Alter>(rt: &impl Abort, conn: &mut Connection<S>, sql: &str) ->
 /// Sees that a query of a test answers this number.
 pub fn answers<S: Alter>(rt: &impl Abort, conn: &mut Connection<S>, sql: &str, expected: i64) {
     is_number(rt, number(rt, conn, sql), expected);
+}
+
+/// The moment at which instances are made: 2026-03-01T12:00:00Z.
+pub const NOON: u64 = 1_772_366_400;
+
+/// Transitions the workunit of this number at a moment, and puts it in the place of the present one.
+pub fn transitions<S: Alter>(
+    rt: &(impl Abort + AllocGlobal),
+    conn: &mut Connection<S>,
+    number: u64,
+    seconds: u64,
+) {
+    let found = load(conn, rt.alloc(), number).expect(rt, "an answer");
+    let mut workunit = found.expect(rt, "a workunit");
+    let now = Moment::new(seconds).expect(rt, "a moment");
+    transition(rt.alloc(), &mut workunit, now).expect(rt, "memory");
+    assert!(rt; conn.is_autocommit());
+    let mut tx = conn.transaction();
+    apply(&mut tx, &[Change::Replace(workunit)]).expect(rt, "a change");
+    tx.commit().expect(rt, "a commit");
+}
+
+/// The texts that a query answers, a line each.
+pub fn lines<S: Alter>(
+    rt: &(impl Abort + AllocGlobal),
+    conn: &mut Connection<S>,
+    sql: &str,
+) -> String {
+    let mut text = String::new(rt.alloc());
+    for row in conn.query_all(sql, &[]).expect(rt, "rows") {
+        let line: String = row.get(0).expect(rt, "a text");
+        text.push_str(line.as_str()).expect(rt, "memory");
+        text.push_str("\n").expect(rt, "memory");
+    }
+    text
 }

@@ -1,12 +1,15 @@
 //! Statements that no command runs yet, over the tables of a project.
 
-use crate::setting::{answers, bytes, fresh, imports, is_bytes, is_count, is_fault, is_text, runs};
+use crate::setting::{
+    answers, bytes, fresh, imports, is_bytes, is_count, is_fault, is_text, named, runs,
+};
 use sqlite::{Connection, MemStore};
 use std::process::Abort;
-use wu_core::{Archived, ErrorMask, Fault, Grant, ImportKind, Instance, Moment, Name, Workunit};
+use wu_core::{Archived, ErrorMask, Fault, Grant, ImportKind, Instance, Moment, Workunit};
 use wu_store::{
     Change, apply, delete_workunit, import_of, insert_archived, insert_grant, insert_instance,
-    instance_rows, load, load_named, next_number, workunit_row_above, workunit_row_named,
+    instance_rows, load, load_above, load_named, next_number, workunit_row_above,
+    workunit_row_named,
 };
 
 /// The jobs file of two workunits.
@@ -50,10 +53,6 @@ fn has_instances(rt: &impl Abort, conn: &mut Connection<MemStore>, workunit: u64
     is_count(rt, rows.len(), count);
 }
 
-fn named(rt: &(impl Abort + AllocGlobal), text: &str) -> Name {
-    Name::read(rt.alloc(), text.as_bytes()).expect(rt, "a name")
-}
-
 /// The number of the workunit of this name.
 fn number_named(
     rt: &(impl Abort + AllocGlobal),
@@ -67,7 +66,17 @@ fn number_named(
     }
 }
 
-/// Adds a grant for an instance of the first workunit; whether it was added.
+/// A grant for an instance of the first workunit.
+fn grant_for(rt: &(impl Abort + AllocGlobal), n: u32, host: &str, credit: u64) -> Grant {
+    Grant {
+        workunit: 1,
+        n,
+        host: named(rt, host),
+        credit,
+    }
+}
+
+/// Adds a grant for an instance of the first workunit, the first at place 1; whether it was added.
 fn granted(
     rt: &(impl Abort + AllocGlobal),
     conn: &mut Connection<MemStore>,
@@ -75,36 +84,37 @@ fn granted(
     host: &str,
     credit: u64,
 ) -> bool {
-    let grant = Grant {
-        workunit: 1,
-        n,
-        host: named(rt, host),
-        credit,
-    };
+    let grant = grant_for(rt, n, host, credit);
     assert!(rt; conn.is_autocommit());
     let mut tx = conn.transaction();
-    let added = insert_grant(&mut tx, &grant).is_ok();
+    let added = insert_grant(&mut tx, u64::from(n) + 1, &grant).is_ok();
     tx.commit().is_ok() && added
 }
 
-/// Adds an archived row.
-fn archives(
-    rt: &(impl Abort + AllocGlobal),
-    conn: &mut Connection<MemStore>,
-    number: u64,
-    name: &str,
-) {
-    let archived = Archived {
+/// What is kept for good of a workunit.
+fn archived_as(rt: &(impl Abort + AllocGlobal), number: u64, name: &str) -> Archived {
+    Archived {
         number,
         name: named(rt, name),
         error_mask: ErrorMask::from_code(16).expect(rt, "a mask"),
         canonical: None,
         output: bytes(rt, b""),
         done_at: Moment::new(5).expect(rt, "a moment"),
-    };
+    }
+}
+
+/// Adds an archived row, at this place.
+fn archives(
+    rt: &(impl Abort + AllocGlobal),
+    conn: &mut Connection<MemStore>,
+    seq: u64,
+    number: u64,
+    name: &str,
+) {
+    let archived = archived_as(rt, number, name);
     assert!(rt; conn.is_autocommit());
     let mut tx = conn.transaction();
-    insert_archived(&mut tx, &archived).expect(rt, "a row");
+    insert_archived(&mut tx, seq, &archived).expect(rt, "a row");
     tx.commit().expect(rt, "a commit");
 }
 
@@ -143,8 +153,8 @@ fn a_host_has_the_sums_of_its_grants(rt: HostRuntime) {
     answers(
         &rt,
         &mut conn,
-        "SELECT seq FROM credit_grant WHERE n = 2",
-        3,
+        "SELECT credit FROM credit_grant WHERE seq = 3",
+        5,
     );
 }
 
@@ -159,8 +169,8 @@ fn a_total_past_64_bits_is_refused(rt: HostRuntime) {
 #[test]
 fn archived_rows_stand_in_order_of_their_making(rt: HostRuntime) {
     let mut conn = two_jobs(&rt);
-    archives(&rt, &mut conn, 2, "job_2");
-    archives(&rt, &mut conn, 1, "job_1");
+    archives(&rt, &mut conn, 1, 2, "job_2");
+    archives(&rt, &mut conn, 2, 1, "job_1");
     answers(
         &rt,
         &mut conn,
@@ -242,6 +252,25 @@ fn a_workunit_is_loaded_with_its_instances(rt: HostRuntime) {
 }
 
 #[test]
+fn workunits_are_loaded_in_order_of_number(rt: HostRuntime) {
+    let mut conn = two_jobs(&rt);
+    let mut number = 0;
+    let mut instances = 0;
+    for _ in 0..2 {
+        let next = load_above(&mut conn, rt.alloc(), number)
+            .expect(&rt, "an answer")
+            .expect(&rt, "a workunit");
+        assert!(rt; number < next.number);
+        number = next.number;
+        instances = next.instances.len();
+    }
+    assert_eq!(rt; number, 2);
+    is_count(&rt, instances, 1);
+    let third = load_above(&mut conn, rt.alloc(), number).expect(&rt, "an answer");
+    assert!(rt; third.is_none());
+}
+
+#[test]
 fn an_absent_workunit_is_not_loaded(rt: HostRuntime) {
     let mut conn = two_jobs(&rt);
     let third = load(&mut conn, rt.alloc(), 3).expect(&rt, "an answer");
@@ -303,6 +332,50 @@ fn a_number_or_a_name_that_is_there_is_refused(rt: HostRuntime) {
     named.number = 3;
     assert!(rt; !changed(&rt, &mut conn, Change::Add(named)));
     answers(&rt, &mut conn, "SELECT count(*) FROM workunit", 2);
+}
+
+#[test]
+fn a_workunit_goes_and_what_is_kept_of_it_stays(rt: HostRuntime) {
+    let mut conn = two_jobs(&rt);
+    let changes = [
+        Change::Granted(1, grant_for(&rt, 0, "h1", 3)),
+        Change::Granted(2, grant_for(&rt, 1, "h1", 4)),
+        Change::Archive(1, archived_as(&rt, 1, "job_1")),
+        Change::Remove(1),
+    ];
+    assert!(rt; conn.is_autocommit());
+    let mut tx = conn.transaction();
+    apply(&mut tx, &changes).expect(&rt, "four changes");
+    tx.commit().expect(&rt, "a commit");
+    answers(&rt, &mut conn, "SELECT number FROM workunit", 2);
+    answers(&rt, &mut conn, "SELECT workunit FROM result", 2);
+    answers(
+        &rt,
+        &mut conn,
+        "SELECT credit * 10 + n FROM credit_grant WHERE seq = 2",
+        41,
+    );
+    answers(
+        &rt,
+        &mut conn,
+        "SELECT total * 10 + grants FROM host WHERE name = 'h1'",
+        72,
+    );
+    answers(
+        &rt,
+        &mut conn,
+        "SELECT number FROM archived WHERE seq = 1 AND name = 'job_1'",
+        1,
+    );
+}
+
+#[test]
+fn a_place_that_is_taken_is_refused(rt: HostRuntime) {
+    let mut conn = two_jobs(&rt);
+    assert!(rt; granted(&rt, &mut conn, 0, "h1", 3));
+    let again = Change::Granted(1, grant_for(&rt, 1, "h1", 3));
+    assert!(rt; !changed(&rt, &mut conn, again));
+    answers(&rt, &mut conn, "SELECT total FROM host", 3);
 }
 
 #[test]

@@ -1,15 +1,16 @@
 //! A project over two files in memory, where the calls on one of them stop, after each number of calls in turn.
 //!
-//! An open of what is left finds all of the adoption or of the batch, or nothing of it.
+//! An open of what is left finds all of the adoption or of the import, or nothing of it.
 
 use crate::disks::{MOST_CALLS, Side, copies, empty_files};
 use crate::setting::{
-    TWO_WORKUNITS, adopted, answers, batch, imports, is_fault, number, opened, says, shows,
+    NOON, Step, TWO_WORKUNITS, Table, adopted, does, import, is_at, is_fault, number, opened,
+    shows, transitions,
 };
 use sqlite::{Alter, Connection, FileStore, Files};
 use sqlite_disk::{Crash, Disk, Fuse, Memory};
 use std::process::Abort;
-use wu_core::Fault;
+use wu_core::{Fault, ImportKind};
 use wu_drive::Project;
 
 /// What is left of the files: all that was written, or only what was synced.
@@ -19,76 +20,128 @@ enum Loss {
     Unsynced,
 }
 
-/// What is asked of the files: to adopt an empty database, or to run the batch over a fresh project.
+/// What is asked of the files: to adopt an empty database, or an import over a project.
 #[derive(Clone, Copy, Drop)]
 enum Task {
     Adopt,
-    Batch,
+    Import(Import),
 }
 
-/// The jobs file of the batch.
-const TWO_JOBS: &[u8] = b"name,input\njob_1,00ff\njob_2,\n";
+/// An import, which leads the tables from a stage to another.
+#[derive(Clone, Copy, Drop)]
+struct Import {
+    step: Step,
+    before: usize,
+    after: usize,
+}
 
-/// What the batch prints.
-const TWO_ADDED: &str = "batch b: 2 added, first 1\n";
+/// A batch of two workunits over a fresh project.
+const BATCH: Import = Import {
+    step: (
+        ImportKind::Batch,
+        "b",
+        b"name,input\njob_1,00ff\njob_2,\n",
+        "batch b: 2 added, first 1\n",
+    ),
+    before: 0,
+    after: 1,
+};
 
-/// What each table holds: a query, its answer in a fresh project, and its answer after the batch.
-const TABLES: [(&str, i64, i64); 13] = [
+/// Sends of an instance of each workunit.
+const SENT: Import = Import {
+    step: (
+        ImportKind::Sent,
+        "s",
+        b"result,host,moment\njob_1_0,h1,2026-03-01T13:00:00Z\njob_1_1,h1,2026-03-01T13:00:00Z\njob_2_0,h1,2026-03-01T13:00:00Z\n",
+        "sent s: 2 applied, 1 skipped\n  row 3: same_host\n",
+    ),
+    before: 2,
+    after: 3,
+};
+
+/// Reports of both.
+const REPORTED: Import = Import {
+    step: (
+        ImportKind::Reported,
+        "r",
+        b"result,host,moment,status,output\njob_2_0,h1,2026-03-01T14:00:00Z,success,aa\njob_1_0,h1,2026-03-01T14:00:00Z,success,aa\njob_1_1,h1,2026-03-01T14:00:00Z,success,aa\n",
+        "reported r: 2 applied, 1 skipped\n  row 4: not_sent\n",
+    ),
+    before: 3,
+    after: 4,
+};
+
+/// What each table holds in a fresh project, after the batch, with two instances of each workunit, after the sends and
+/// after the reports.
+const TABLES: [Table; 17] = [
     (
         "SELECT count(*) FROM sqlite_schema WHERE type = 'table'",
-        7,
-        7,
+        &[7, 7, 7, 7, 7],
     ),
-    ("SELECT count(*) FROM project", 1, 1),
-    ("SELECT version FROM project", 1, 1),
-    ("SELECT next_number FROM project", 1, 3),
-    ("SELECT count(*) FROM workunit", 0, 2),
+    ("SELECT count(*) FROM project", &[1, 1, 1, 1, 1]),
+    ("SELECT version FROM project", &[1, 1, 1, 1, 1]),
+    ("SELECT next_number FROM project", &[1, 3, 3, 3, 3]),
+    ("SELECT count(*) FROM workunit", &[0, 2, 2, 2, 2]),
     (
         "SELECT count(*) FROM workunit WHERE number = 1 AND name = 'job_1' AND input = x'00ff' AND min_quorum = 2 AND target_nresults = 2 AND max_error_results = 3 AND max_total_results = 10 AND max_success_results = 6 AND delay_bound = 604800 AND credit = 1 AND error_mask = 0 AND canonical IS NULL AND assimilate = 0 AND file_delete = 0 AND done_at IS NULL",
-        0,
-        1,
+        &[0, 1, 1, 1, 1],
     ),
     (
         "SELECT count(*) FROM workunit WHERE number = 2 AND name = 'job_2' AND input = x'' AND min_quorum = 2 AND target_nresults = 2 AND max_error_results = 3 AND max_total_results = 10 AND max_success_results = 6 AND delay_bound = 604800 AND credit = 1 AND error_mask = 0 AND canonical IS NULL AND assimilate = 0 AND file_delete = 0 AND done_at IS NULL",
-        0,
-        1,
+        &[0, 1, 1, 1, 1],
     ),
-    ("SELECT count(*) FROM import", 0, 1),
+    ("SELECT count(*) FROM import", &[0, 1, 1, 2, 3]),
     (
         "SELECT count(*) FROM import WHERE kind = 1 AND name = 'b' AND template = x'' AND content = x'6e616d652c696e7075740a6a6f625f312c303066660a6a6f625f322c0a' AND first_number = 1 AND verdicts = '00'",
-        0,
-        1,
+        &[0, 1, 1, 1, 1],
     ),
-    ("SELECT count(*) FROM result", 0, 0),
-    ("SELECT count(*) FROM credit_grant", 0, 0),
-    ("SELECT count(*) FROM host", 0, 0),
-    ("SELECT count(*) FROM archived", 0, 0),
+    (
+        "SELECT count(*) FROM import WHERE kind = 2 AND name = 's' AND template = x'' AND content = x'726573756c742c686f73742c6d6f6d656e740a6a6f625f315f302c68312c323032362d30332d30315431333a30303a30305a0a6a6f625f315f312c68312c323032362d30332d30315431333a30303a30305a0a6a6f625f325f302c68312c323032362d30332d30315431333a30303a30305a0a' AND first_number = 0 AND verdicts = '030'",
+        &[0, 0, 0, 1, 1],
+    ),
+    (
+        "SELECT count(*) FROM import WHERE kind = 3 AND name = 'r' AND template = x'' AND content = x'726573756c742c686f73742c6d6f6d656e742c7374617475732c6f75747075740a6a6f625f325f302c68312c323032362d30332d30315431343a30303a30305a2c737563636573732c61610a6a6f625f315f302c68312c323032362d30332d30315431343a30303a30305a2c737563636573732c61610a6a6f625f315f312c68312c323032362d30332d30315431343a30303a30305a2c737563636573732c61610a' AND first_number = 0 AND verdicts = '002'",
+        &[0, 0, 0, 0, 1],
+    ),
+    (
+        "SELECT count(*) FROM result WHERE server_state = 2 AND outcome = 0 AND validate_state = 0 AND file_delete = 0 AND host IS NULL AND sent_at IS NULL AND deadline IS NULL AND received_at IS NULL AND output = x''",
+        &[0, 0, 4, 2, 2],
+    ),
+    (
+        "SELECT count(*) FROM result WHERE n = 0 AND server_state = 4 AND outcome = 0 AND validate_state = 0 AND file_delete = 0 AND host = 'h1' AND sent_at = 1772370000 AND deadline = 1772974800 AND received_at IS NULL AND output = x''",
+        &[0, 0, 0, 2, 0],
+    ),
+    (
+        "SELECT count(*) FROM result WHERE n = 0 AND server_state = 5 AND outcome = 1 AND validate_state = 0 AND file_delete = 0 AND host = 'h1' AND sent_at = 1772370000 AND deadline = 1772974800 AND received_at = 1772373600 AND output = x'aa'",
+        &[0, 0, 0, 0, 2],
+    ),
+    ("SELECT count(*) FROM credit_grant", &[0, 0, 0, 0, 0]),
+    ("SELECT count(*) FROM host", &[0, 0, 0, 0, 0]),
+    ("SELECT count(*) FROM archived", &[0, 0, 0, 0, 0]),
 ];
 
-/// Sees that each table is that of a fresh project, or else that of the project after the batch.
-fn has_tables<S: Alter>(rt: &impl Abort, conn: &mut Connection<S>, is_fresh: bool) {
-    for (sql, before, after) in &TABLES {
-        answers(rt, conn, sql, if is_fresh { *before } else { *after });
-    }
-}
-
-/// Whether the batch is answered with `Ok`. Else the fault is `Broken`, and the session has ended.
-fn runs_batch<S: Alter>(rt: &(impl Abort + AllocGlobal), project: &mut Project<S>) -> bool {
-    let command = batch(rt, "b", b"", TWO_JOBS);
+/// Whether the import is answered with `Ok`. Else the fault is `Broken`, and the session has ended.
+fn runs_import<S: Alter>(
+    rt: &(impl Abort + AllocGlobal),
+    project: &mut Project<S>,
+    step: Step,
+) -> bool {
+    let (kind, name, file, _) = step;
+    let command = import(rt, kind, name, file);
     let end = project.run(rt.alloc(), &command).err();
     assert!(rt; project.ended() == end.is_some());
     match end {
         None => true,
         Some(fault) => {
             is_fault(rt, fault, Fault::Broken);
-            says(rt, project, "b", b"", TWO_JOBS, "F16 Ended");
+            does(rt, project, &(kind, name, file, "F16 Ended"));
             false
         }
     }
 }
 
 /// Whether the task is answered with `Ok`. Else the fault is `Broken`.
-fn does<S: Alter>(
+fn performs<S: Alter>(
     rt: &(impl Abort + AllocGlobal),
     conn: Connection<S>,
     task: Task,
@@ -97,7 +150,7 @@ fn does<S: Alter>(
         Ok(mut project) => {
             let was_done = match task {
                 Task::Adopt => true,
-                Task::Batch => runs_batch(rt, &mut project),
+                Task::Import(import) => runs_import(rt, &mut project, import.step),
             };
             (project.release(), was_done)
         }
@@ -113,23 +166,33 @@ fn finds_fresh_or_nothing<S: Alter>(rt: &impl Abort, conn: &mut Connection<S>, w
     if number(rt, conn, "SELECT count(*) FROM sqlite_schema") == 0 {
         assert!(rt; !was_done);
     } else {
-        has_tables(rt, conn, true);
+        assert!(rt; is_at(rt, conn, &TABLES, 0));
     }
 }
 
-/// Sees that there is a fresh project, which an `Ok` of the batch excludes, or the project after the batch.
-fn finds_before_or_after<S: Alter>(rt: &impl Abort, conn: &mut Connection<S>, was_done: bool) {
-    let is_fresh = number(rt, conn, "SELECT count(*) FROM workunit") == 0;
-    assert!(rt; !was_done || !is_fresh);
-    has_tables(rt, conn, is_fresh);
+/// Sees that the tables are those before the import, which an `Ok` of it excludes, or those after it.
+fn finds_before_or_after<S: Alter>(
+    rt: &impl Abort,
+    conn: &mut Connection<S>,
+    import: Import,
+    was_done: bool,
+) {
+    if !is_at(rt, conn, &TABLES, import.after) {
+        assert!(rt; !was_done);
+        assert!(rt; is_at(rt, conn, &TABLES, import.before));
+    }
 }
 
-/// Sees that the batch gets its first answer, and that the tables are then those after it.
-fn imports_two<S: Alter + Drop>(rt: &(impl Abort + AllocGlobal), mut project: Project<S>) {
-    imports(rt, &mut project, "b", TWO_JOBS, TWO_ADDED);
+/// Sees that the import gets its first answer, and that the tables are then those after it.
+fn imports_again<S: Alter + Drop>(
+    rt: &(impl Abort + AllocGlobal),
+    mut project: Project<S>,
+    import: Import,
+) {
+    does(rt, &mut project, &import.step);
     shows(rt, &mut project, TWO_WORKUNITS);
     let mut conn = project.release();
-    has_tables(rt, &mut conn, false);
+    assert!(rt; is_at(rt, &mut conn, &TABLES, import.after));
 }
 
 /// Sees what an adoption left, and that the project is adopted, shows no workunit and takes the batch.
@@ -141,17 +204,18 @@ fn recovers_adoption<S: Alter + Drop>(
     finds_fresh_or_nothing(rt, &mut conn, was_done);
     let mut project = adopted(rt, conn);
     shows(rt, &mut project, "");
-    imports_two(rt, project);
+    imports_again(rt, project, BATCH);
 }
 
-/// Sees what a batch left, and that the project is adopted and answers the same batch as at first.
-fn recovers_batch<S: Alter + Drop>(
+/// Sees what an import left, and that the project is adopted and answers the same import as at first.
+fn recovers_import<S: Alter + Drop>(
     rt: &(impl Abort + AllocGlobal),
     mut conn: Connection<S>,
+    import: Import,
     was_done: bool,
 ) {
-    finds_before_or_after(rt, &mut conn, was_done);
-    imports_two(rt, adopted(rt, conn));
+    finds_before_or_after(rt, &mut conn, import, was_done);
+    imports_again(rt, adopted(rt, conn), import);
 }
 
 /// Sees that the task is done or not begun, and that the project goes on from there.
@@ -163,7 +227,7 @@ fn recovers<S: Alter + Drop>(
 ) {
     match task {
         Task::Adopt => recovers_adoption(rt, conn, was_done),
-        Task::Batch => recovers_batch(rt, conn, was_done),
+        Task::Import(import) => recovers_import(rt, conn, import, was_done),
     }
 }
 
@@ -228,7 +292,7 @@ fn does_over<D: Disk + Drop>(
 ) -> Left<D> {
     match opened(rt, files) {
         Ok(conn) => {
-            let (conn, was_done) = does(rt, conn, task);
+            let (conn, was_done) = performs(rt, conn, task);
             closed(conn, was_done)
         }
         Err(files) => Left {
@@ -294,11 +358,41 @@ fn stops_everywhere(rt: &(impl Abort + AllocGlobal), files: &Files<Fuse<Memory>>
     }
 }
 
-/// The files of a fresh project.
-fn fresh_files(rt: &(impl Abort + AllocGlobal)) -> Files<Fuse<Memory>> {
-    let left = does_over(rt, empty_files(rt), Task::Adopt);
+/// The files after a task that no stop cuts.
+fn files_after<D: Disk + Drop>(
+    rt: &(impl Abort + AllocGlobal),
+    files: Files<D>,
+    task: Task,
+) -> Files<D> {
+    let left = does_over(rt, files, task);
     assert!(rt; left.was_done && left.was_closed);
     left.files
+}
+
+/// The files after a transition of both workunits.
+fn files_made<D: Disk + Drop>(rt: &(impl Abort + AllocGlobal), files: Files<D>) -> Files<D> {
+    let mut conn = opened(rt, files).ok().expect(rt, "an open");
+    makes_instances(rt, &mut conn);
+    let left = closed(conn, true);
+    assert!(rt; left.was_closed);
+    left.files
+}
+
+/// Makes the instances of both workunits.
+fn makes_instances<S: Alter>(rt: &(impl Abort + AllocGlobal), conn: &mut Connection<S>) {
+    transitions(rt, conn, 1, NOON);
+    transitions(rt, conn, 2, NOON);
+}
+
+/// The files of a fresh project.
+fn fresh_files(rt: &(impl Abort + AllocGlobal)) -> Files<Fuse<Memory>> {
+    files_after(rt, empty_files(rt), Task::Adopt)
+}
+
+/// The files of a project with two instances of each workunit.
+fn made_files(rt: &(impl Abort + AllocGlobal)) -> Files<Fuse<Memory>> {
+    let files = files_after(rt, fresh_files(rt), Task::Import(BATCH));
+    files_made(rt, files)
 }
 
 #[test]
@@ -308,5 +402,16 @@ fn a_stopped_adoption_is_whole_or_absent(rt: HostRuntime) {
 
 #[test]
 fn a_stopped_batch_is_whole_or_absent(rt: HostRuntime) {
-    stops_everywhere(&rt, &fresh_files(&rt), Task::Batch);
+    stops_everywhere(&rt, &fresh_files(&rt), Task::Import(BATCH));
+}
+
+#[test]
+fn a_stopped_file_of_sends_is_whole_or_absent(rt: HostRuntime) {
+    stops_everywhere(&rt, &made_files(&rt), Task::Import(SENT));
+}
+
+#[test]
+fn a_stopped_file_of_reports_is_whole_or_absent(rt: HostRuntime) {
+    let files = files_after(&rt, made_files(&rt), Task::Import(SENT));
+    stops_everywhere(&rt, &files, Task::Import(REPORTED));
 }

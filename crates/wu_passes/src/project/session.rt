@@ -5,19 +5,22 @@ ghost use Rattle.sqlite.specs.State.{HasCleanDisk};
 ghost use Rattle.sqlite.specs.Held.{state};
 ghost use Rattle.wu_passes.specs.Machine.{present_version};
 ghost use Rattle.wu_passes.specs.Planning.{IsProject, NeverEnded, OpenOrFails, PlansFor, request_of};
-ghost use Rattle.wu_store.specs.Loading.{IsRead, IsStoreFault, KeepsTables, NotRefusedIn, OverWorlds, ServesUnlessFailed};
+ghost use Rattle.wu_store.specs.Loading.{IsRead, KeepsTables, NotRefusedIn, OverWorlds, ServesUnlessFailed};
 ghost use Rattle.wu_passes.specs.Standing.{FindsKnown, FindsWorld, GoesBackRefused, IsCutBy, KeepsDoubt, KeepsFound, KeepsWhole, LeavesFresh, MakesBeside, MakesFresh, MayEnd, RefusesOnly, RefusesWhole, TellsLater, TellsStored};
-ghost use Rattle.wu_passes.specs.Projects.{AdoptsBeside, AdoptsFresh, AdoptsKnown, AdoptsWhole, AdoptsWorld, AnswersEnded, CarriesOut, ComesBack, connection_of, DoubtsStill, GivesBack, GoesStill, has_ended, IsLater, IsOpen, IsOver, IsUnlimited, KeepsLimit, RefusesAdoption, RefusesStanding, RunsOn, ServesAgain, ServesOn, ShowsWorkunits, state_of, TellsStoredLater, TellsWhy, WasOpenBefore};
+ghost use Rattle.wu_passes.specs.Projects.{AdoptsBeside, AdoptsFresh, AdoptsKnown, AdoptsWhole, AdoptsWorld, AnswersEnded, CarriesOut, ComesBack, connection_of, DoubtsStill, GivesBack, GoesStill, has_ended, IsLater, IsOpen, IsOver, IsUnlimited, KeepsLimit, RefusesAdoption, RefusesStanding, RunsOn, ServesAgain, ServesOn, state_of, TellsStoredLater, TellsWhy};
 
-use crate::batch::{Plan, plan_batch};
+use crate::batch::plan_batch;
+use crate::cancel::plan_cancel;
 use crate::command::{Answer, Command};
 use crate::commit::change_all;
+use crate::files::{plan_reported, plan_sent};
+use crate::imports::Plan;
 use crate::project::Project;
-use sqlite::{Alter, Connection, Row};
+use sqlite::{Alter, Connection};
 use std::alloc::Global;
 use wu_core::Fault;
-use wu_schema::{PRESENT_VERSION, create, fault_of, version_of};
-use wu_store::{Change, workunit_rows};
+use wu_schema::{PRESENT_VERSION, create, version_of};
+use wu_store::Change;
 
 /// Whether the project is of a version that this program knows.
 fn check_version(version: u64) -> Result<(), Fault>
@@ -75,6 +78,9 @@ fn plan<'a, S: Alter>(
 {
     match command {
         Command::Batch(batch) => plan_batch(conn, alloc, batch),
+        Command::Sent(file) => plan_sent(conn, alloc, file),
+        Command::Reported(file) => plan_reported(conn, alloc, file),
+        Command::Cancel { workunit } => plan_cancel(conn, alloc, workunit),
     }
 }
 
@@ -189,27 +195,11 @@ impl<S: Alter> Project<S> {
         }
     }
 
-    /// The rows of all workunits, in order of number. A failure of the disk ends the session.
-    pub fn workunit_rows(&mut self) -> Result<Vec<Row>, Fault>
-        ensures ended { IsOver self.old → AnswersEnded self.old self.new result }
-        ensures ends { GoesStill self.old → IsOver self.new → result ≡ Err Fault.Broken }
-        ensures broken { result ≡ Err Fault.Broken → IsOver self.new }
-        ensures read { IsRead (state_of self.old) (state_of self.new) }
-        ensures open { WasOpenBefore self.old self.new result }
-        ensures opens { GoesStill self.old → ServesOn self.new result }
-        ensures rows { ShowsWorkunits self.old self.new result }
-        ensures fault { GoesStill self.old → IfErr result IsStoreFault }
+    /// Ends the session.
+    pub fn end_session(&mut self)
+        ensures over { IsOver self.new }
+        ensures same { connection_of self.new ≡ connection_of self.old }
     {
-        if self.has_ended {
-            return Err(Fault::Ended);
-        }
-        match workunit_rows(&mut self.conn) {
-            Ok(rows) => Ok(rows),
-            Err(error) => {
-                let fault = fault_of(&error);
-                self.has_ended = fault == Fault::Broken;
-                Err(fault)
-            }
-        }
+        self.has_ended = true;
     }
 }

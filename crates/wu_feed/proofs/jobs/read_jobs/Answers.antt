@@ -1,5 +1,5 @@
 use Rattle.wu_feed.proofs.FaultLemmas.{jobs_told}
-use Rattle.wu_feed.proofs.JobLemmas.{jobs_of_file-short}
+use Rattle.wu_feed.proofs.RangeLemmas.{jobs_read}
 use Rattle.wu_feed.proofs.jobs.read_jobs.Goals as goal
 
 pub returns : goal.returns
@@ -9,5 +9,5 @@ returns c =
       exact = gave;
       told = jobs_told c.args.file.now c.read_file.result gave;
       few = c.read_file.ensures.few;
-      short = jobs_of_file-short c.args.file.now c.read_file.result gave;
+      ranged = jobs_read c.args.file.now c.read_file.result gave;
     }

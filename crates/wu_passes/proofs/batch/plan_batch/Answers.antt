@@ -1,12 +1,15 @@
 use Rattle.std.proofs.Common.{inr}
 use Rattle.wu_core.specs.declared.import.ImportKind.TheVariants as kind
+use Rattle.wu_passes.specs.Planning.{batch_of, request_of_batch}
 use Rattle.wu_passes.proofs.AskLemmas.{found_in_range}
-use Rattle.wu_passes.proofs.BatchLemmas.{batch_repeated}
+use Rattle.wu_passes.proofs.BatchLemmas.{asked_of}
+use Rattle.wu_passes.proofs.ImportPlans.{repeated_planned}
 use Rattle.wu_passes.proofs.batch.plan_batch.Goals as goal
 
 pub returns-in-Ok-Some-clause-plan : goal.returns-in-Ok-Some-clause-plan
 returns-in-Ok-Some-clause-plan g c clean world stands project =
-    batch_repeated world project c.args.batch.now.name c.args.batch.now.template c.args.batch.now.file c.in-Ok-Some.earlier c.repeated.result (rw c.in-Ok-Some.field-0-is at (c.in-Ok-Some.ensures.found clean world stands)) c.repeated.ensures.plan c.repeated.ensures.fault
+    repeated_planned world (request_of_batch c.args.batch.now) (batch_of c.args.batch.now) (asked_of world project c.args.batch.now.name c.args.batch.now.template c.args.batch.now.file) c.in-Ok-Some.earlier c.repeated.result
+    (rw c.in-Ok-Some.field-0-is at (c.in-Ok-Some.ensures.found clean world stands)) (rw c.batch_source.ensures at c.repeated.ensures.plan) (rw c.batch_source.ensures at c.repeated.ensures.fault)
 
 pub returns-in-Err-clause-plan : goal.returns-in-Err-clause-plan
 returns-in-Err-clause-plan g c clean world stands project = inr (c.in-Err.ensures.found clean world stands)

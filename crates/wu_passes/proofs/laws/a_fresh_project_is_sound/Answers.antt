@@ -6,6 +6,7 @@ pub returns : goal.returns
 returns c = record {
   next_number = (omega arith, omega arith);
   formed = All-nil _;
+  storable = All-nil _;
   consistent = All-nil _;
   recorded = All-nil _;
   given = All-nil _;

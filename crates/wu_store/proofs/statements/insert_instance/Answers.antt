@@ -1,14 +1,14 @@
-use Rattle.wu_schema.proofs.Words.{Blob, Int, ap, bound_value, instance_cells, number, state, ◌∙◌, ◌≡◌}
+use Rattle.wu_schema.proofs.Words.{Blob, ap, bound_value, instance_cells, number, state, ◌∙◌, ◌≡◌}
 use Rattle.wu_store.proofs.InsertTexts.{instance_put}
 use Rattle.wu_schema.proofs.InsertEffect.{also, no_more}
 use Rattle.wu_schema.proofs.CallLemmas.{ran_as}
-use Rattle.wu_store.proofs.ChangeLemmas.{sent, bound_seconds, bound_text, puts_instance}
+use Rattle.wu_store.proofs.ChangeLemmas.{sent_number, bound_seconds, bound_text, puts_instance}
 use Rattle.wu_store.proofs.statements.insert_instance.Goals as goal
 
 pub returns-clause-puts : goal.returns-clause-puts
 returns-clause-puts g c clean =
     let i = c.args.instance.now in
-    let given : _ ≡ instance_cells c.args.workunit c.args.n i = also (ap bound_value c.params-to_sql.ensures ∙ ap (λ z. Int z) (sent _ c.args.workunit c.in_ok-workunit.ensures.value c.in_ok-workunit.ensures.within))
+    let given : _ ≡ instance_cells c.args.workunit c.args.n i = also (sent_number c.args.workunit c.params-to_sql.ensures c.in_ok-workunit.ensures.value c.in_ok-workunit.ensures.within)
     (also (ap bound_value c.params-to_sql-2.ensures)
     (also (ap bound_value c.params-to_sql-3.ensures ∙ ap number c.code.ensures)
     (also (ap bound_value c.params-to_sql-4.ensures ∙ ap number c.code-2.ensures)

@@ -1,15 +1,15 @@
-use Rattle.wu_schema.proofs.Words.{Blob, HasCleanDisk, Int, OnOk, StandsFor, Text, World, ap, bound_value, number, state, workunit_row, ◌∙◌, ◌≡◌}
+use Rattle.wu_schema.proofs.Words.{Blob, HasCleanDisk, OnOk, StandsFor, Text, World, ap, bound_value, number, state, workunit_row, ◌∙◌, ◌≡◌}
 use Rattle.wu_store.specs.Changes.{LacksNumber, bare, with_placed}
 use Rattle.wu_store.proofs.InsertTexts.{workunit_put}
 use Rattle.wu_schema.proofs.InsertEffect.{also, no_more}
 use Rattle.wu_schema.proofs.CallLemmas.{ok_on, ran_as}
-use Rattle.wu_store.proofs.ChangeLemmas.{sent, bound_number_or_null, bound_seconds, puts_workunit}
+use Rattle.wu_store.proofs.ChangeLemmas.{sent_number, bound_number_or_null, bound_seconds, puts_workunit}
 use Rattle.wu_store.proofs.statements.insert_workunit.Goals as goal
 
 pub returns : goal.returns
 returns g c =
     let w = c.args.workunit.now in
-    let given : _ ≡ workunit_row w = also (ap bound_value c.params-to_sql.ensures ∙ ap (λ z. Int z) (sent _ w.number c.in_ok-number.ensures.value c.in_ok-number.ensures.within))
+    let given : _ ≡ workunit_row w = also (sent_number w.number c.params-to_sql.ensures c.in_ok-number.ensures.value c.in_ok-number.ensures.within)
     (also (ap bound_value c.params-to_sql-2.ensures ∙ ap (λ t. Text t) c.as_str.ensures)
     (also (ap bound_value c.params-to_sql-3.ensures ∙ ap number c.min_quorum.ensures.value)
     (also (ap bound_value c.params-to_sql-4.ensures ∙ ap number c.target_nresults.ensures.value)

@@ -1,0 +1,81 @@
+-- What the plan that gives a workunit up makes of a world is what the machine makes of it.
+use Rattle.std.proofs.Common.{◌≡◌, ◌⊎◌, ℕ, Bool, true, false, List, [], ◌∷◌, bytes_eq, if◌then◌else◌, Option, Some, None, Result, Ok, Err, IfErr, IfOk, refl, sym, ap, subst, ◌∙◌, inl, inr, arith}
+use Rattle.std.proofs.lemmas.Bool.{cases_Bool}
+use Rattle.sqlite.specs.Effect.{Database}
+use Rattle.wu_core.specs.declared.fault.Fault.{Fault}
+use Rattle.wu_core.specs.declared.fault.Fault.TheVariants.{Memory, NotOpenToCancel, UnknownWorkunit}
+use Rattle.wu_core.specs.declared.workunit.Workunit.{Workunit}
+use Rattle.wu_core.specs.World.{World}
+use Rattle.wu_rules.specs.Cancelling.{cancelled}
+use Rattle.wu_rules.specs.Counts.{is_undecided}
+use Rattle.wu_schema.specs.StandsFor.{StandsFor}
+use Rattle.wu_store.specs.Changing.{AreRight, made_all}
+use Rattle.wu_store.specs.declared.changes.Change.TheVariants.{Replace}
+use Rattle.wu_store.proofs.WorldOnce.{once_named, once_number}
+use Rattle.wu_passes.specs.declared.imports.Plan.{Plan}
+use Rattle.wu_passes.specs.Imports.{Done}
+use Rattle.wu_passes.specs.Machine.{cancel_done, done}
+use Rattle.wu_passes.specs.Planning.{IsCancelled, IsPlan, IsProject, RefusesCancel, reply_of_answer}
+use Rattle.wu_passes.specs.Requests.{AskCancel, Cancelled, Reply}
+use Rattle.wu_passes.specs.Touched.{AreImages, as_left, touched_named, with_touched}
+use Rattle.wu_passes.specs.Worlds.{workunit_named, with_named}
+use Rattle.wu_passes.proofs.TouchedLemmas.{images_by_row, images_empty, images_loaded, left_by_row, loaded, loaded_found, name_found, replaced_all, touched_empty}
+
+module _ (db : Database) (world : World) (stands : StandsFor db world) (name : List ℕ) (w : Workunit) (present : workunit_named world name ≡ Some w) where
+  images : AreImages world (w ∷ [])
+  images = images_loaded world (once_named db world stands) [] (w ∷ []) name w present refl (λ q. refl) (images_empty world)
+
+  there : touched_named (w ∷ []) name ≡ Some w
+  there = loaded_found world (once_named db world stands) [] (w ∷ []) name w present refl (λ q. refl)
+
+  here : with_touched (w ∷ []) world ≡ world
+  here = loaded world (once_named db world stands) [] (w ∷ []) name w present refl (λ q. refl) ∙ touched_empty world
+
+  -- another of its name and number in its place
+  module _ (image : Workunit) (named : image.name ≡ w.name) (numbered : image.number ≡ w.number) where
+    found_by : (q : List ℕ) → touched_named (image ∷ []) q ≡ (if bytes_eq w.name q then Some image else touched_named (w ∷ []) q)
+    found_by q = ap (λ n. if bytes_eq n q then Some image else None) named ∙ elim (cases_Bool (bytes_eq w.name q)) [
+      | inl on ↦ rw on refl
+      | inr off ↦ rw off refl
+    ]
+
+    pub replaced_one : (change : Workunit → Workunit) → change w ≡ image
+        → (made_all (Replace image ∷ []) world ≡ with_named world name change) × AreRight (Replace image ∷ []) world
+    replaced_one change makes =
+        let all = images_by_row world (w ∷ []) (image ∷ []) name w image there images named numbered found_by in
+        let now = left_by_row world (w ∷ []) (image ∷ []) name w image there images named numbered found_by change makes in
+        let put = replaced_all (image ∷ []) world (once_named db world stands) (once_number db world stands) all (λ i j d low within. absurd (omega (arith, low, within))) in
+        (put.0 ∙ now ∙ ap (λ (v : World). with_named v name change) here, put.1)
+
+pub same_name : (v : Workunit) → (cancelled v).name ≡ v.name
+unfolding cancelled
+same_name v = refl
+
+same_number : (v : Workunit) → (cancelled v).number ≡ v.number
+unfolding cancelled
+same_number v = refl
+
+module _ (db : Database) (world : World) (stands : StandsFor db world) (project : IsProject world) (name : List ℕ) where
+  asked : done world (AskCancel name) ≡ cancel_done world name (workunit_named world name)
+  asked = rw project.present refl
+
+  pub cancel_unknown : workunit_named world name ≡ None → done world (AskCancel name) ≡ Err UnknownWorkunit
+  cancel_unknown none = asked ∙ ap (cancel_done world name) none
+
+  pub cancel_planned : (w : Workunit) → workunit_named world name ≡ Some w → (r : Result Plan Fault) → IfOk r (IsCancelled w) → IfErr r (RefusesCancel w) → IsPlan world (AskCancel name) r
+  cancel_planned w present (Ok plan) it err =
+      let one = replaced_one db world stands name w present (cancelled w) (same_name w) (same_number w) cancelled refl in
+      record {
+        done = asked ∙ ap (cancel_done world name) present ∙ rw it.undecided (ap (λ (d : Done). Ok d) (same one.0));
+        right = subst (λ changes. AreRight changes world) (sym it.changes) one.1;
+      }
+    where
+      same : made_all (Replace (cancelled w) ∷ []) world ≡ with_named world name cancelled
+          → ◌≡◌ {A = Done} (Cancelled name, with_named world name cancelled) (reply_of_answer plan.answer, made_all plan.changes.items world)
+      same made =
+          ap {B = Done} (λ (n : List ℕ). (Cancelled n, with_named world name cancelled)) (sym (name_found world.workunits name w present))
+          ∙ ap {B = Done} (λ (a : Reply). (a, with_named world name cancelled)) (sym (ap (λ a. reply_of_answer a) it.answer))
+          ∙ ap {B = Done} (λ (v : World). (reply_of_answer plan.answer, v)) (sym (ap (λ changes. made_all changes world) it.changes ∙ made))
+  cancel_planned w present (Err fault) it (inl memory) = inr (inl memory)
+  cancel_planned w present (Err fault) it (inr other) =
+      inl (asked ∙ ap (cancel_done world name) present ∙ rw other.1 (ap (λ (f : Fault). Err f) (sym other.0)))

@@ -1,0 +1,27 @@
+use Rattle.std.proofs.Common.{arith, ◌∙◌, sym, subst}
+use Rattle.sqlite.specs.Effect.{Database}
+use Rattle.sqlite.specs.Held.{state}
+use Rattle.sqlite.specs.State.{HasCleanDisk}
+use Rattle.wu_core.specs.declared.import.ImportKind.TheVariants as kind
+use Rattle.wu_schema.specs.StandsFor.{StandsFor}
+use Rattle.wu_passes.specs.Planning.{file_of}
+use Rattle.wu_passes.specs.Requests.{AskReported}
+use Rattle.wu_passes.proofs.AskLemmas.{found_in_range}
+use Rattle.wu_passes.proofs.ImportPlans.{asked_reported, repeated_planned}
+use Rattle.wu_passes.proofs.files.plan_reported.Goals as goal
+
+pub returns-in-Ok-Some-clause-plan : goal.returns-in-Ok-Some-clause-plan
+returns-in-Ok-Some-clause-plan g c clean world stands project =
+    let given = file_of kind.Reported c.args.file.now in
+    repeated_planned world (AskReported c.args.file.now.name c.args.file.now.file) given (asked_reported world project c.args.file.now.name c.args.file.now.file) c.in-Ok-Some.earlier c.repeated.result
+    (rw c.in-Ok-Some.field-0-is at (c.in-Ok-Some.ensures.found clean world stands)) (rw c.file_source-source.ensures at c.repeated.ensures.plan) (rw c.file_source-source.ensures at c.repeated.ensures.fault)
+
+pub returns-in-Err-clause-unrefused : goal.returns-in-Err-clause-unrefused
+returns-in-Err-clause-unrefused g c clean world stands project limit =
+    c.in-Err.ensures.unrefused clean world stands (found_in_range kind.Reported c.args.file.now.name world project.verdicts) limit
+
+pub returns-in-Ok-clause-unrefused : goal.returns-in-Ok-clause-unrefused
+returns-in-Ok-clause-unrefused g c clean world stands project limit =
+    let before : HasCleanDisk (state g.S.Store c.import_of.new.conn) = omega (arith, c.plan_rows.ensures.read.survives.clean) in
+    let still : StandsFor (state g.S.Store c.import_of.new.conn).now world = subst (λ (d : Database). StandsFor d world) (sym (c.in-Ok-None.ensures.same before)) stands in
+    c.plan_rows.ensures.unrefused clean world still project.storable (c.import_of.ensures.read.survives.limit ∙ limit)

@@ -1,0 +1,53 @@
+//! Giving a workunit up: what it answers and what it changes, before anything is changed.
+
+ghost use Rattle.std.specs.Prelude.{◌≡◌, false, IfErr, IfOk};
+ghost use Rattle.sqlite.specs.Held.{state};
+ghost use Rattle.wu_passes.specs.Planning.{IsCancelled, IsProject, NeverEnded, OpenOrFails, PlansFor, RefusesCancel};
+ghost use Rattle.wu_passes.specs.Requests.{AskCancel};
+ghost use Rattle.wu_store.specs.Loading.{IsRead, KeepsTables, NotRefusedIn, OverWorlds, ServesUnlessFailed};
+
+use crate::command::Answer;
+use crate::imports::Plan;
+use sqlite::{Alter, Connection};
+use std::alloc::Global;
+use wu_core::{Fault, Name, Workunit};
+use wu_rules::cancel;
+use wu_store::{Change, load_named};
+
+/// The plan that gives the workunit up, if it is undecided.
+fn give_up<'a>(alloc: Global, mut workunit: Workunit) -> Result<Plan<'a>, Fault>
+    ensures plan { IfOk result (IsCancelled workunit) }
+    ensures fault { IfErr result (RefusesCancel workunit) }
+{
+    cancel(&mut workunit)?;
+    let name = workunit.name.copy()?;
+    let mut changes = Vec::new(alloc);
+    changes.push(Change::Replace(workunit))?;
+    Ok(Plan {
+        answer: Answer::Cancelled { workunit: name },
+        changes,
+    })
+}
+
+/// What cancelling the workunit of this name answers and changes, or the refusal: none has the name, or it is not
+/// undecided.
+pub fn plan_cancel<'a, S: Alter>(
+    conn: &mut Connection<S>,
+    alloc: Global,
+    name: &Name,
+) -> Result<Plan<'a>, Fault>
+    ensures mode { conn.old.in_transaction ≡ false → conn.new.in_transaction ≡ false }
+    ensures read { IsRead (state S.Store conn.old) (state S.Store conn.new) }
+    ensures same { KeepsTables S.Store conn.old conn.new result }
+    ensures open { OpenOrFails S.Store conn.old conn.new result }
+    ensures opens { ServesUnlessFailed S.Store conn.new result }
+    ensures never { NeverEnded result }
+    ensures unrefused { NotRefusedIn S.Store conn.old conn.new result IsProject }
+    ensures plan { OverWorlds S.Store conn.old conn.new (PlansFor (AskCancel name.now) result) }
+{
+    match load_named(conn, alloc, name) {
+        Ok(Some(workunit)) => give_up(alloc, workunit),
+        Ok(None) => Err(Fault::UnknownWorkunit),
+        Err(fault) => Err(fault),
+    }
+}

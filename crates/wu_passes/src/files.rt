@@ -1,0 +1,193 @@
+//! A file of sends or of reports: what its rows leave, what it answers and what it changes, before anything is changed.
+
+ghost use Rattle.std.specs.Prelude.{◌≡◌, ◌≤◌, false, All, IfOk, IfErr};
+ghost use Rattle.sqlite.specs.Held.{state};
+ghost use Rattle.wu_core.specs.declared.fault.Fault.TheVariants.{Memory};
+ghost use Rattle.wu_core.specs.declared.import.ImportKind.TheVariants as kind;
+ghost use Rattle.wu_passes.specs.Planning.{given_of, IsNewFile, IsProject, LeavesRows, NeverEnded, OpenOrFails, PlansFor, PlansRows};
+ghost use Rattle.wu_passes.specs.Requests.{AskReported, AskSent};
+ghost use Rattle.wu_passes.specs.Touched.{LeavesRow, TouchesNamed};
+ghost use Rattle.wu_store.specs.Loading.{AreStorable, IsRead, IsStoreFault, KeepsTables, LoadsNamed, NotRefusedIn, OverWorlds, ServesUnlessFailed, StaysUnlessFailed};
+
+use crate::command::RowsFile;
+use crate::imports::{Plan, Source, file_source, imported, kept, repeated};
+use crate::touched::{FileRow, Touched};
+use sqlite::{Alter, Connection};
+use std::alloc::Global;
+use wu_core::{Bytes, Fault, ImportKind, Name};
+use wu_feed::{Rows, read_reports, read_sends};
+use wu_store::{Change, import_of, load_named};
+
+/// What the rows of a file left: the workunits that they spoke of, and the number of a verdict for each row.
+#[derive(Drop)]
+pub struct Left {
+    pub touched: Touched,
+    pub verdicts: Vec<u8>,
+}
+
+/// Sees that the workunit of this name is among the touched, if it is present. It is loaded once.
+fn touch<S: Alter>(
+    conn: &mut Connection<S>,
+    alloc: Global,
+    touched: &mut Touched,
+    name: &Name,
+) -> Result<(), Fault>
+    ensures mode { conn.old.in_transaction ≡ false → conn.new.in_transaction ≡ false }
+    ensures read { IsRead (state S.Store conn.old) (state S.Store conn.new) }
+    ensures same { KeepsTables S.Store conn.old conn.new result }
+    ensures opens { StaysUnlessFailed S.Store conn.old conn.new result }
+    ensures fault { IfErr result IsStoreFault }
+    ensures unrefused { NotRefusedIn S.Store conn.old conn.new result (LoadsNamed name.now) }
+    ensures touches { OverWorlds S.Store conn.old conn.new
+        (TouchesNamed name.now touched.old touched.new result) }
+{
+    if touched.has(name) {
+        return Ok(());
+    }
+    match load_named(conn, alloc, name) {
+        Ok(Some(workunit)) => touched.insert(alloc, workunit),
+        Ok(None) => Ok(()),
+        Err(fault) => Err(fault),
+    }
+}
+
+/// Applies a row to its workunit as the rows before left it, or skips it: the number of the verdict.
+fn apply_row<R: FileRow, S: Alter>(
+    conn: &mut Connection<S>,
+    alloc: Global,
+    touched: &mut Touched,
+    row: R,
+) -> Result<u8, Fault>
+    ensures mode { conn.old.in_transaction ≡ false → conn.new.in_transaction ≡ false }
+    ensures read { IsRead (state S.Store conn.old) (state S.Store conn.new) }
+    ensures same { KeepsTables S.Store conn.old conn.new result }
+    ensures opens { StaysUnlessFailed S.Store conn.old conn.new result }
+    ensures fault { IfErr result IsStoreFault }
+    ensures unrefused { NotRefusedIn S.Store conn.old conn.new result AreStorable }
+    ensures digit { IfOk result (λ verdict. verdict ≤ 9) }
+    ensures left { OverWorlds S.Store conn.old conn.new
+        (LeavesRow R.rule row touched.old touched.new result) }
+{
+    match touch(conn, alloc, touched, row.workunit()) {
+        Ok(()) => Ok(touched.apply(row)),
+        Err(fault) => Err(fault),
+    }
+}
+
+/// Applies the rows of a file in order, each on what the rows before left.
+fn apply_rows<R: FileRow, S: Alter>(
+    conn: &mut Connection<S>,
+    alloc: Global,
+    rows: Rows<R>,
+) -> Result<Left, Fault>
+    ensures mode { conn.old.in_transaction ≡ false → conn.new.in_transaction ≡ false }
+    ensures read { IsRead (state S.Store conn.old) (state S.Store conn.new) }
+    ensures same { KeepsTables S.Store conn.old conn.new result }
+    ensures opens { StaysUnlessFailed S.Store conn.old conn.new result }
+    ensures fault { IfErr result IsStoreFault }
+    ensures unrefused { NotRefusedIn S.Store conn.old conn.new result AreStorable }
+    ensures digits { IfOk result (λ left. All (λ verdict. verdict ≤ 9) left.verdicts.items) }
+    ensures left { OverWorlds S.Store conn.old conn.new (LeavesRows R.rule rows result) }
+{
+    let mut touched = Touched::new(alloc);
+    let mut verdicts = Vec::new(alloc);
+    for row in rows.into_vec() {
+        match apply_row(conn, alloc, &mut touched, row) {
+            Ok(verdict) => verdicts.push(verdict)?,
+            Err(fault) => return Err(fault),
+        }
+    }
+    Ok(Left { touched, verdicts })
+}
+
+/// The answer and the changes of a file whose rows left this.
+fn new_file<'a>(alloc: Global, source: &Source<'a>, left: Left) -> Result<Plan<'a>, Fault>
+    requires { All (λ verdict. verdict ≤ 9) left.verdicts.items }
+    ensures plan { IfOk result (IsNewFile (given_of source.now) left) }
+    ensures fault { IfErr result (λ fault. fault ≡ Memory) }
+{
+    let Left { touched, verdicts } = left;
+    let import = kept(alloc, source, 0, verdicts.as_slice())?;
+    let mut changes = touched.into_changes(alloc)?;
+    changes.push(Change::Keep(import))?;
+    Ok(Plan {
+        answer: imported(source, 0, Bytes::from_vec(verdicts))?,
+        changes,
+    })
+}
+
+/// The plan of a file of these rows, under a name that no file of its kind had.
+fn plan_rows<'a, R: FileRow, S: Alter>(
+    conn: &mut Connection<S>,
+    alloc: Global,
+    source: &Source<'a>,
+    rows: Rows<R>,
+) -> Result<Plan<'a>, Fault>
+    ensures mode { conn.old.in_transaction ≡ false → conn.new.in_transaction ≡ false }
+    ensures read { IsRead (state S.Store conn.old) (state S.Store conn.new) }
+    ensures same { KeepsTables S.Store conn.old conn.new result }
+    ensures opens { StaysUnlessFailed S.Store conn.old conn.new result }
+    ensures fault { IfErr result IsStoreFault }
+    ensures unrefused { NotRefusedIn S.Store conn.old conn.new result AreStorable }
+    ensures plan { OverWorlds S.Store conn.old conn.new
+        (PlansRows R.rule (given_of source.now) rows result) }
+{
+    match apply_rows(conn, alloc, rows) {
+        Ok(left) => new_file(alloc, source, left),
+        Err(fault) => Err(fault),
+    }
+}
+
+/// What a file of sends answers and changes, or the first refusal: the name was used with other content, the file.
+pub fn plan_sent<'a, S: Alter>(
+    conn: &mut Connection<S>,
+    alloc: Global,
+    file: &'a RowsFile,
+) -> Result<Plan<'a>, Fault>
+    ensures mode { conn.old.in_transaction ≡ false → conn.new.in_transaction ≡ false }
+    ensures read { IsRead (state S.Store conn.old) (state S.Store conn.new) }
+    ensures same { KeepsTables S.Store conn.old conn.new result }
+    ensures open { OpenOrFails S.Store conn.old conn.new result }
+    ensures opens { ServesUnlessFailed S.Store conn.new result }
+    ensures never { NeverEnded result }
+    ensures unrefused { NotRefusedIn S.Store conn.old conn.new result IsProject }
+    ensures plan { OverWorlds S.Store conn.old conn.new
+        (PlansFor (AskSent file.now.name file.now.file) result) }
+{
+    let source = file_source(ImportKind::Sent, file);
+    match import_of(conn, alloc, ImportKind::Sent, &file.name) {
+        Ok(Some(earlier)) => repeated(alloc, &source, earlier),
+        Ok(None) => match read_sends(alloc, file.file.as_slice()) {
+            Ok(rows) => plan_rows(conn, alloc, &source, rows),
+            Err(fault) => Err(fault),
+        },
+        Err(fault) => Err(fault),
+    }
+}
+
+/// What a file of reports answers and changes, or the first refusal: the name was used with other content, the file.
+pub fn plan_reported<'a, S: Alter>(
+    conn: &mut Connection<S>,
+    alloc: Global,
+    file: &'a RowsFile,
+) -> Result<Plan<'a>, Fault>
+    ensures mode { conn.old.in_transaction ≡ false → conn.new.in_transaction ≡ false }
+    ensures read { IsRead (state S.Store conn.old) (state S.Store conn.new) }
+    ensures same { KeepsTables S.Store conn.old conn.new result }
+    ensures open { OpenOrFails S.Store conn.old conn.new result }
+    ensures opens { ServesUnlessFailed S.Store conn.new result }
+    ensures never { NeverEnded result }
+    ensures unrefused { NotRefusedIn S.Store conn.old conn.new result IsProject }
+    ensures plan { OverWorlds S.Store conn.old conn.new
+        (PlansFor (AskReported file.now.name file.now.file) result) }
+{
+    let source = file_source(ImportKind::Reported, file);
+    match import_of(conn, alloc, ImportKind::Reported, &file.name) {
+        Ok(Some(earlier)) => repeated(alloc, &source, earlier),
+        Ok(None) => match read_reports(alloc, file.file.as_slice()) {
+            Ok(rows) => plan_rows(conn, alloc, &source, rows),
+            Err(fault) => Err(fault),
+        },
+        Err(fault) => Err(fault),
+    }
+}

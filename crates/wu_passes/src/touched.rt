@@ -1,0 +1,153 @@
+//! The workunits that the rows of a file speak of, each as the rows so far left it.
+
+ghost use Rattle.std.specs.Prelude.{◌≡◌, ◌≢◌, ◌≤◌, [], IfErr, IfOk, IfSome, OnOk, is_some, map};
+ghost use Rattle.std.specs.Option.{option_map_or};
+ghost use Rattle.wu_core.specs.declared.fault.Fault.TheVariants.{Memory};
+ghost use Rattle.wu_passes.specs.FileRows.{KeepsIdentity, left_by, unknown};
+ghost use Rattle.wu_store.specs.declared.changes.Change.TheVariants.{Replace};
+ghost use Rattle.wu_passes.specs.Touched.{AreDistinct, HasAlso, LeavesBy, touched_named};
+
+use std::alloc::Global;
+use std::collections::BTreeMap;
+use std::marker::Model;
+use wu_core::{Fault, Name, Workunit};
+use wu_feed::{ReportRow, SendRow};
+use wu_rules::{report, send};
+use wu_store::Change;
+
+/// The number of the verdict on a row whose workunit is not present.
+const UNKNOWN: u8 = 1;
+
+/// A row of a file that speaks of an instance of one workunit.
+pub trait FileRow: Drop {
+    ghost use Rattle.std.specs.Prelude.{◌≡◌, ◌≢◌, ◌≤◌};
+    ghost use Rattle.wu_passes.specs.FileRows.{KeepsIdentity, Rule};
+
+    /// The verdict on such a row, and what it makes of its workunit.
+    ghost rule: { Rule Self };
+
+    /// The name of its workunit.
+    fn workunit(&self) -> &Name
+        ensures { result.now ≡ rule.workunit self.now };
+
+    /// Applies the row to its workunit, or skips it: the number of the verdict, 0 where it was applied.
+    fn apply(self, workunit: &mut Workunit) -> u8
+        ensures verdict { result ≡ rule.verdict self workunit.old }
+        ensures digit { result ≤ 9 }
+        ensures applied { result ≡ 0 → workunit.new ≡ rule.image self workunit.old }
+        ensures skipped { result ≢ 0 → workunit.new ≡ workunit.old }
+        ensures keeps { KeepsIdentity workunit.old workunit.new };
+}
+
+impl FileRow for SendRow {
+    ghost use Rattle.wu_passes.specs.FileRows.{send_rule};
+
+    ghost rule = { send_rule };
+
+    fn workunit(&self) -> &Name {
+        &self.workunit
+    }
+
+    fn apply(self, workunit: &mut Workunit) -> u8 {
+        send(workunit, self.n, self.host, self.moment).code()
+    }
+}
+
+impl FileRow for ReportRow {
+    ghost use Rattle.wu_passes.specs.FileRows.{report_rule};
+
+    ghost rule = { report_rule };
+
+    fn workunit(&self) -> &Name {
+        &self.workunit
+    }
+
+    fn apply(self, workunit: &mut Workunit) -> u8 {
+        let ReportRow {
+            workunit: _,
+            n,
+            host,
+            moment,
+            status,
+            output,
+        } = self;
+        report(workunit, n, &host, moment, status, output).code()
+    }
+}
+
+/// The workunits that the rows so far spoke of, each as they left it. One is found by its name.
+#[derive(Drop)]
+pub struct Touched {
+    by_name: BTreeMap<String, Workunit>,
+}
+
+impl Model for Touched {
+    ghost use Rattle.std.specs.Prelude.{List};
+    ghost use Rattle.std.specs.List.{AllByRecursion};
+    ghost use Rattle.std.specs.BTreeMap.{values};
+    ghost use Rattle.wu_core.specs.declared.workunit.Workunit.{Workunit};
+    ghost use Rattle.wu_passes.specs.Touched.{IsUnderItsName};
+
+    ghost Value = { List Workunit };
+
+    ghost view = { λ touched. values touched.by_name };
+
+    ghost invariant = { λ touched. AllByRecursion IsUnderItsName touched.by_name.entries };
+}
+
+impl Touched {
+    /// None so far.
+    pub fn new(alloc: Global) -> Self
+        ensures { result ≡ [] }
+    {
+        Touched {
+            by_name: BTreeMap::new(alloc),
+        }
+    }
+
+    /// Whether the workunit of this name is among them.
+    pub fn has(&self, name: &Name) -> bool
+        ensures { result ≡ is_some (touched_named self.now name.now) }
+    {
+        self.by_name.contains_key(name.as_str())
+    }
+
+    /// Takes a workunit in.
+    pub fn insert(&mut self, alloc: Global, workunit: Workunit) -> Result<(), Fault>
+        ensures also { OnOk result (HasAlso workunit self.old self.new) }
+        ensures fault { IfErr result (λ fault. fault ≡ Memory) }
+    {
+        let name = String::from_str(alloc, workunit.name.as_str())?;
+        self.by_name.insert(name, workunit)?;
+        Ok(())
+    }
+
+    /// Applies a row to its workunit, or skips it: the number of the verdict. Where its workunit is not among these, it
+    /// is `unknown`.
+    pub fn apply<R: FileRow>(&mut self, row: R) -> u8
+        ensures verdict { result ≡ option_map_or (R.rule.verdict row)
+            (touched_named self.old (R.rule.workunit row)) unknown }
+        ensures digit { result ≤ 9 }
+        ensures left { LeavesBy R.rule row result self.old self.new }
+        ensures keeps { IfSome (touched_named self.old (R.rule.workunit row))
+            (λ w. KeepsIdentity w (left_by R.rule row result w)) }
+    {
+        let Some(workunit) = self.by_name.get_mut(row.workunit().as_str()) else {
+            return UNKNOWN;
+        };
+        row.apply(workunit)
+    }
+
+    /// The changes that put each in the place of the present workunit of its number.
+    pub fn into_changes<'a>(self, alloc: Global) -> Result<Vec<Change<'a>>, Fault>
+        ensures distinct { AreDistinct self }
+        ensures changes { IfOk result (λ changes. changes.items ≡ map Replace self) }
+        ensures fault { IfErr result (λ fault. fault ≡ Memory) }
+    {
+        let mut changes = Vec::new(alloc);
+        for (_, workunit) in self.by_name {
+            changes.push(Change::Replace(workunit))?;
+        }
+        Ok(changes)
+    }
+}
