@@ -3,25 +3,27 @@ use Rattle.std.proofs.Common.{◌≡◌, ◌⊎◌, inl, inr, ℕ, ◌+◌, ◌<
 use Rattle.std.proofs.lemmas.List.{map-append, take_more}
 use Rattle.std.proofs.lemmas.Option.{slice_get-get_or}
 use Rattle.std.specs.Prelude.{slice_get}
-use Rattle.sqlite.specs.State.{State}
+use Rattle.std.specs.Prelude.{IsTrue, MatchResult, Result}
+use Rattle.std.proofs.lemmas.Bool.{cases_Bool}
+use Rattle.sqlite.specs.State.{State, HasCleanDisk}
+use Rattle.sqlite.specs.Store.{Ghosts}
+use Rattle.wu_schema.specs.Faults.{IsFailure}
 use Rattle.wu_core.specs.declared.fault.Fault.{Fault}
-use Rattle.wu_core.specs.declared.fault.Fault.TheVariants.{Output}
+use Rattle.wu_core.specs.declared.fault.Fault.TheVariants.{BadLimit, Output}
 use Rattle.std.proofs.lemmas.List.Elements.{All-nil}
 use Rattle.wu_core.specs.World.{Import, World, empty_world}
 use Rattle.wu_store.specs.Reading.{AreVerdicts}
 use Rattle.wu_passes.specs.declared.command.Answer.{Answer}
 use Rattle.wu_passes.specs.declared.command.Command.{Command}
-use Rattle.wu_passes.specs.declared.command.Command.TheVariants as command
 use Rattle.wu_drive.specs.declared.runs.Run.{Run}
 use Rattle.wu_drive.specs.Driving.{AnswerAll, Drives, NotDone, world_after}
-use Rattle.wu_passes.specs.Machine.{fold_steps, reply, step}
+use Rattle.wu_passes.specs.Machine.{fold_steps, has_right_limits, reply, step}
 use Rattle.wu_passes.specs.Planning.{IsProject, request_of, reply_of_answer}
 use Rattle.wu_store.specs.Loading.{IsStorable, IsStoreFault}
+use Rattle.wu_passes.specs.Projects.{IsOpen, KeepsProjects, RefusesLimit, ServesRight, state_of}
+use Rattle.wu_passes.specs.declared.project.Project.{Project}
 use Rattle.wu_passes.specs.Requests.{Request}
 use Rattle.wu_passes.specs.Standing.{GoesOn, Runs, Stands, WhyNot}
-use Rattle.wu_passes.proofs.BatchLemmas.{keeps_project}
-use Rattle.wu_passes.proofs.PassKeeps.{keeps_project_cancel}
-use Rattle.wu_passes.proofs.StorableLemmas.{keeps_project_reported, keeps_project_sent}
 
 pub fold_more : (world : World) (requests : List Request) (one : Request) → fold_steps world (requests ++ one ∷ []) ≡ step (fold_steps world requests) one
 fold_more world [] one = refl
@@ -40,16 +42,6 @@ next_world world commands i command d low there =
     ap (λ cs. fold_steps world (map request_of cs)) (take_more commands i d low ∙ ap (λ c. take i commands ++ c ∷ []) there)
     ∙ ap (λ rs. fold_steps world rs) (map-append request_of (take i commands) (command ∷ [])) ∙ fold_more world (map request_of (take i commands)) (request_of command)
 
-keeps_by : (world : World) (command : Command) → IsProject world → IsProject (step world (request_of command))
-keeps_by world (command.Batch batch) project = keeps_project world project batch.name batch.template batch.file
-keeps_by world (command.Sent file) project = keeps_project_sent world project file.name file.file
-keeps_by world (command.Reported file) project = keeps_project_reported world project file.name file.file
-keeps_by world (command.Cancel name) project = keeps_project_cancel world project name
-
-pub keeps_all : (world : World) (commands : List Command) → IsProject world → IsProject (fold_steps world (map request_of commands))
-keeps_all world [] project = project
-keeps_all world (command ∷ more) project = keeps_all (step world (request_of command)) more (keeps_by world command project)
-
 -- a fresh project is one
 pub empty_project : IsProject empty_world
 empty_project = record {
@@ -66,6 +58,9 @@ one_fault a b same = cc
 
 there_is : {X : Type 0} (xs : List X) (i : ℕ) (x d : X) → i < length xs → get_or xs i d ≡ x → slice_get xs i ≡ Some x
 there_is xs i x d low there = slice_get-get_or xs i d low ∙ ap (λ y. Some y) there
+
+same_command : (one other : Command) → ◌≡◌ {A = Option Command} (Some one) (Some other) → one ≡ other
+same_command one other same = cc
 
 -- the command at this place was not done
 pub not_done : (world : World) (commands : List Command) (i : ℕ) (command d : Command) → i < length commands → get_or commands i d ≡ command → (run : Run) → run.acknowledged ≡ i → (fault other : Fault) (is : Bool)
@@ -85,7 +80,7 @@ pub driving_none : (world : World) (commands : List Command) (has_ended : Bool) 
 driving_none world commands has_ended s going project goes = record { going = going; answered = tt; goes = goes; project = project }
 
 module _ (world : World) (commands : List Command) (answers : List Answer) (i : ℕ) (was : Bool) (old : State) (driving : IsDriving world commands answers i was old)
-    (command d : Command) (low : i < length commands) (there : get_or commands i d ≡ command) where
+    (command d : Command) (low : i < length commands) (there : get_or commands i d ≡ command) (keeps : KeepsProjects (request_of command)) where
   pub driving_more : (answer : Answer) (is : Bool) (new : State) → Runs (world_after world commands i) (request_of command) is new (Ok answer) → IsDriving world commands (answers ++ answer ∷ []) (i + 1) is new
   driving_more answer is new (answered, going, goes) =
       let next = next_world world commands i command d low there in
@@ -94,7 +89,7 @@ module _ (world : World) (commands : List Command) (answers : List Answer) (i : 
         answered = subst (λ cs. AnswerAll world cs (answers ++ answer ∷ [])) (sym (take_more commands i d low ∙ ap (λ c. take i commands ++ c ∷ []) there))
             (answer_more world (take i commands) answers command answer driving.answered answered);
         goes = subst (λ w. GoesOn new w) (sym next) goes;
-        project = subst (λ w. IsProject w) (sym next) (keeps_by (world_after world commands i) command driving.project);
+        project = subst (λ w. IsProject w) (sym next) (keeps (world_after world commands i) driving.project);
       }
 
   pub drives_cut : (fault : Fault) (is : Bool) (new : State) (run : Run) → run.acknowledged ≡ i → run.end ≡ Some fault → Runs (world_after world commands i) (request_of command) is new (Err fault)
@@ -107,6 +102,8 @@ module _ (world : World) (commands : List Command) (answers : List Answer) (i : 
         inl (command, there_is commands i command d low there, subst (λ f. (reply (world_after world commands i) (request_of command) ≡ Err f) ⊎ IsStoreFault f) same told);
     goes = λ going. subst (λ b. Stands b new (world_after world commands i) (request_of command)) going stands;
     ended = λ ended. (command, there_is commands i command d low there, subst (λ b. Stands b new (world_after world commands i) (request_of command)) ended stands);
+    project = driving.project;
+    cut_project = λ ended cut cut_there. subst (λ c. IsProject (step (world_after world commands i) (request_of c))) (same_command command cut (sym (there_is commands i command d low there) ∙ cut_there)) (keeps (world_after world commands i) driving.project);
   })
 
 -- between two commands: the list has ended, or a text was not written
@@ -118,4 +115,23 @@ drives_so_far world commands answers i is s run within count end driving = subst
   end = λ fault told. inr (end fault told);
   goes = λ going. driving.goes;
   ended = λ ended. absurd (let no : false ≡ true = sym driving.going ∙ ended in cc);
+  project = driving.project;
+  cut_project = λ ended. absurd (let no : false ≡ true = sym driving.going ∙ ended in cc);
 })
+
+-- ---- whether the connection is open
+
+module _ {S : Type 0} {g : Ghosts S} (old new : Project S g) (command : Command) (result : Result Answer Fault) (serves : ServesRight new command result) (refuses : RefusesLimit old new command result) where
+  -- after a command that was done it is
+  pub serves_done : (answer : Answer) → result ≡ Ok answer → IsOpen new
+  serves_done answer is clean = elim (cases_Bool (has_right_limits (request_of command))) [
+    | inl right ↦ subst (λ r. MatchResult r (λ _. IsTrue (state_of new).is_open) (λ fault. IsFailure fault ⊎ IsTrue (state_of new).is_open)) is (serves right clean)
+    | inr wrong ↦ absurd (let no : ◌≡◌ {A = Result Answer Fault} (Ok answer) (Err BadLimit) = sym is ∙ (refuses wrong).0 in cc)
+  ]
+
+  -- after one that was refused it is where it was, but for want of memory or of the disk
+  pub serves_or_rests : (fault : Fault) → result ≡ Err fault → IsOpen old → HasCleanDisk (state_of new) → IsFailure fault ⊎ IsTrue (state_of new).is_open
+  serves_or_rests fault is was clean = elim (cases_Bool (has_right_limits (request_of command))) [
+    | inl right ↦ subst (λ r. MatchResult r (λ _. IsTrue (state_of new).is_open) (λ f. IsFailure f ⊎ IsTrue (state_of new).is_open)) is (serves right clean)
+    | inr wrong ↦ inr (subst (λ project. IsOpen project) (sym (refuses wrong).1) was clean)
+  ]

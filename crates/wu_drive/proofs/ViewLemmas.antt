@@ -5,7 +5,6 @@ use Rattle.std.proofs.lemmas.List.Concat.{flat_map-append}
 use Rattle.std.specs.Prelude.{IsTrue}
 use Rattle.std.specs.Io.KnownBytes.{Appends}
 use Rattle.std.specs.declared.vec.IntoIter.{IntoIter}
-use Rattle.sqlite.specs.Order.{Row}
 use Rattle.sqlite.specs.State.{HasCleanDisk}
 use Rattle.sqlite_trees.specs.declared.store.Store.{Ghosts}
 use Rattle.wu_passes.proofs.WalkLemmas.{reads_none, reads_then}
@@ -18,20 +17,20 @@ use Rattle.wu_drive.specs.Texts.{workunit_line}
 use Rattle.wu_drive.specs.Writing.{AppendsFront}
 
 -- the lines that were there are those that were written, and then those that the walk has left
-abbrev pub HasShown : {S A : Type 0} {g : Ghosts S} → WorkunitWalk S (IntoIter Row A) g → Option (List ℕ) → Option (List ℕ) → List WorkunitLine → Type 0
+abbrev pub HasShown : {S A : Type 0} {g : Ghosts S} → WorkunitWalk S (IntoIter WorkunitLine A) g → Option (List ℕ) → Option (List ℕ) → List WorkunitLine → Type 0
 HasShown walk a b lines =
     (done : List WorkunitLine) × (rest : List WorkunitLine) × (lines ≡ done ++ rest) × HasLeft walk rest × Appends a b (flat_map workunit_line done)
 
 module _ {S A W : Type 0} {g : Ghosts S} (contents : W → Option (List ℕ)) where
   -- a walk, and what was written of it
-  pub record IsUnderWay (old new : WorkunitWalk S (IntoIter Row A) g) (out_old out_new : W) : Type 0 where
+  pub record IsUnderWay (old new : WorkunitWalk S (IntoIter WorkunitLine A) g) (out_old out_new : W) : Type 0 where
     pub same_reference : new.project.ghost_name ≡ old.project.ghost_name
     pub reads : OnlyReads (walked old) (walked new)
     pub open_still : HasCleanDisk (state_of (walked new)) → IsTrue (state_of (walked old)).is_open → IsTrue (state_of (walked new)).is_open
     pub shown : HasCleanDisk (state_of (walked new)) → (lines : List WorkunitLine) → HasLeft old lines → HasShown new (contents out_old) (contents out_new) lines
 
   -- one step further
-  pub under_way : (old mid new : WorkunitWalk S (IntoIter Row A) g) (a b c : W) → IsUnderWay old mid a b → OnlyReads (walked mid) (walked new)
+  pub under_way : (old mid new : WorkunitWalk S (IntoIter WorkunitLine A) g) (a b c : W) → IsUnderWay old mid a b → OnlyReads (walked mid) (walked new)
       → new.project.ghost_name ≡ mid.project.ghost_name
       → (HasCleanDisk (state_of (walked new)) → IsTrue (state_of (walked mid)).is_open → IsTrue (state_of (walked new)).is_open)
       → (HasCleanDisk (state_of (walked new)) → (lines : List WorkunitLine) → HasLeft old lines → HasShown new (contents a) (contents c) lines)
@@ -44,7 +43,7 @@ module _ {S A W : Type 0} {g : Ghosts S} (contents : W → Option (List ℕ)) wh
         shown = shown;
       }
 
-module _ {S A : Type 0} {g : Ghosts S} (walk new : WorkunitWalk S (IntoIter Row A) g) where
+module _ {S A : Type 0} {g : Ghosts S} (walk new : WorkunitWalk S (IntoIter WorkunitLine A) g) where
   text_of : (lines done rest : List WorkunitLine) → lines ≡ done ++ rest → flat_map workunit_line lines ≡ flat_map workunit_line done ++ flat_map workunit_line rest
   text_of lines done rest is = ap (flat_map workunit_line) is ∙ flat_map-append workunit_line done rest
 

@@ -50,6 +50,9 @@ pub record Drives (world : World) (commands : List Command) (answers : List Answ
   pub end : EndsEarly world commands run
   pub goes : has_ended ≡ false → GoesOn new (world_after world commands run.acknowledged)
   pub ended : has_ended ≡ true → (cut : Command) × (slice_get commands run.acknowledged ≡ Some cut) × HasEnded new (world_after world commands run.acknowledged) (request_of cut)
+  -- further commands may run over either
+  pub project : IsProject (world_after world commands run.acknowledged)
+  pub cut_project : has_ended ≡ true → (cut : Command) → slice_get commands run.acknowledged ≡ Some cut → IsProject (step (world_after world commands run.acknowledged) (request_of cut))
 
 -- the session of a run: the commands that it acknowledged, and the one that was cut where the session ended
 abbrev pub session_of : List Command → Run → Bool → Session

@@ -9,4 +9,4 @@ mod views;
 
 pub use runs::{Run, demo, drive};
 pub use views::{View, show};
-pub use wu_passes::{Answer, Batch, Command, Project, RowsFile, laws};
+pub use wu_passes::{Answer, Batch, Command, Pass, Project, RowsFile, laws};

@@ -2,14 +2,14 @@
 
 ghost use Rattle.std.specs.Prelude.{◌≡◌, IsOkUnless};
 ghost use Rattle.wu_core.specs.declared.fault.Fault.TheVariants.{Output};
-ghost use Rattle.wu_drive.specs.Texts.{applied_count, batch_text, import_text, number_or_dash, reply_text, report_skip_word, send_skip_word};
-ghost use Rattle.wu_passes.specs.Requests.{Cancelled};
+ghost use Rattle.wu_drive.specs.Texts.{applied_count, batch_text, import_text, number_or_dash, pass_word, reply_text, report_skip_word, send_skip_word};
+ghost use Rattle.wu_passes.specs.Requests.{Cancelled, Passed, Upgraded};
 ghost use Rattle.wu_drive.specs.Writing.{answer_text, applied_text, file_word, piece_text, skip_word, skipped_line, skipped_lines, WritesTo};
 
 use crate::output::{Piece, flush, write_pieces};
 use std::io::Write;
 use wu_core::{Fault, ImportKind, Name};
-use wu_passes::Answer;
+use wu_passes::{Answer, Pass};
 
 /// An imported file whose rows are applied one by one, or skipped.
 #[derive(Clone, Copy, Debug)]
@@ -180,6 +180,52 @@ fn write_import<W: Write>(
     }
 }
 
+/// The word of a pass in its answer.
+fn pass_word(pass: Pass) -> &'static str
+    ensures { result.now ≡ pass_word pass }
+{
+    match pass {
+        Pass::Transition => "transition",
+        Pass::Validate => "validate",
+        Pass::Assimilate => "assimilate",
+        Pass::Delete => "delete",
+        Pass::Purge => "purge",
+    }
+}
+
+/// Writes how many workunits a pass changed.
+fn write_passed<W: Write>(out: &mut W, pass: Pass, handled: u32) -> Result<(), Fault>
+    ensures bytes { WritesTo W.contents out.old out.new (reply_text (Passed pass handled)) result }
+    ensures fault { IsOkUnless result Output }
+{
+    write_pieces(
+        out,
+        &[
+            Piece::Text(pass_word(pass)),
+            Piece::Text(": "),
+            Piece::Number(u64::from(handled)),
+            Piece::Text("\n"),
+        ],
+    )
+}
+
+/// Writes which version the schema had, and which it has.
+fn write_upgraded<W: Write>(out: &mut W, from: u64, to: u64) -> Result<(), Fault>
+    ensures bytes { WritesTo W.contents out.old out.new (reply_text (Upgraded from to)) result }
+    ensures fault { IsOkUnless result Output }
+{
+    write_pieces(
+        out,
+        &[
+            Piece::Text("upgrade: "),
+            Piece::Number(from),
+            Piece::Text(" to "),
+            Piece::Number(to),
+            Piece::Text("\n"),
+        ],
+    )
+}
+
 /// Writes that a workunit was given up.
 fn write_cancelled<W: Write>(out: &mut W, workunit: &Name) -> Result<(), Fault>
     ensures bytes { WritesTo W.contents out.old out.new (reply_text (Cancelled workunit.now)) result }
@@ -208,7 +254,9 @@ fn write_text<W: Write>(out: &mut W, answer: &Answer) -> Result<(), Fault>
             first,
             verdicts,
         } => write_import(out, *kind, name, *first, verdicts.as_slice()),
+        Answer::Passed { pass, handled } => write_passed(out, *pass, *handled),
         Answer::Cancelled { workunit } => write_cancelled(out, workunit),
+        Answer::Upgraded { from, to } => write_upgraded(out, *from, *to),
     }
 }
 

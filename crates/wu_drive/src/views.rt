@@ -4,7 +4,7 @@ ghost use Rattle.std.specs.Prelude.{◌≡◌, Err, IfErr, IsOkUnless};
 ghost use Rattle.wu_core.specs.declared.fault.Fault.TheVariants.{Output};
 ghost use Rattle.wu_drive.specs.Projects.{EndsAsBroken, KeepsWorld};
 ghost use Rattle.wu_drive.specs.Texts.{workunit_line};
-ghost use Rattle.wu_drive.specs.Views.{IsViewFault, RefusesEnded, Shows, WritesLeft};
+ghost use Rattle.wu_drive.specs.Views.{FailsToWrite, IsViewFault, RefusesEnded, Shows, ShowsUnrefused, WritesLeft};
 ghost use Rattle.wu_drive.specs.Writing.{WritesTo};
 ghost use Rattle.wu_store.specs.Loading.{IsRead};
 ghost use Rattle.wu_passes.specs.Projects.{GoesStill, IsOver, KeepsLimit, ServesOn, state_of};
@@ -75,6 +75,7 @@ fn write_lines<S: Alter, W: Write>(walk: &mut WorkunitWalk<'_, S>, out: &mut W) 
     ensures opens { StaysServing (walked walk.old) (walked walk.new) result }
     ensures text { WritesLeft W.contents walk.old walk.new out.old out.new result }
     ensures fault { IfErr result IsViewFault }
+    ensures unrefused { FailsToWrite walk.old walk.new result }
 {
     while let Some(line) = walk.next()? {
         write_workunit(out, &line)?;
@@ -94,6 +95,7 @@ fn walk_lines<S: Alter, W: Write>(
     ensures goes { KeepsWorld project.old project.new }
     ensures text { Shows W.contents project.old project.new out.old out.new View.Workunits result }
     ensures fault { GoesStill project.old → IfErr result IsViewFault }
+    ensures unrefused { ShowsUnrefused project.old project.new result }
 {
     let mut walk = project.walk_workunits(alloc)?;
     write_lines(&mut walk, out)
@@ -114,6 +116,7 @@ fn show_workunits<S: Alter, W: Write>(
     ensures ends { EndsAsBroken project.old project.new result }
     ensures broken { result ≡ Err Fault.Broken → IsOver project.new }
     ensures fault { GoesStill project.old → IfErr result IsViewFault }
+    ensures unrefused { ShowsUnrefused project.old project.new result }
     ensures opens { GoesStill project.old → ServesOn project.new result }
 {
     match walk_lines(alloc, project, out) {
@@ -145,6 +148,7 @@ pub fn show<S: Alter, W: Write>(
     ensures ends { EndsAsBroken project.old project.new result }
     ensures broken { result ≡ Err Fault.Broken → IsOver project.new }
     ensures fault { GoesStill project.old → IfErr result IsViewFault }
+    ensures unrefused { ShowsUnrefused project.old project.new result }
     ensures opens { GoesStill project.old → ServesOn project.new result }
 {
     match view {

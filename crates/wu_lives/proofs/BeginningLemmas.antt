@@ -4,6 +4,7 @@ use Rattle.std.specs.List.{AllZip}
 use Rattle.sqlite_disk.specs.declared.Disk.{Ghosts}
 use Rattle.sqlite_disk.specs.declared.Files.{Files}
 use Rattle.sqlite_wal.proofs.LogLemmas.{SeenMayStay}
+use Rattle.sqlite_wal.specs.Recovery.{Image}
 use Rattle.sqlite_trees.specs.Objects.{catalog_tree}
 use Rattle.sqlite_catalog.specs.Listing.{is_table_row, is_index_row, is_view_row, IsIndexRow, IsTableRow, IsViewRow, Lists}
 use Rattle.sqlite_store.specs.declared.store.FileStore.{FileStore}
@@ -11,7 +12,7 @@ use Rattle.sqlite.specs.Effect.{Database}
 use Rattle.sqlite.specs.Held.{Held}
 use Rattle.sqlite.specs.Order.{Row}
 use Rattle.sqlite.specs.Schema.{Schema}
-use Rattle.sqlite.specs.Files.{AreFound, Finds, IsEmpty, IsOpened, file_state}
+use Rattle.sqlite.specs.Files.{AreFoundIn, Finds, IsEmpty, IsOpened, file_state}
 use Rattle.sqlite.specs.Tree.{Trees}
 use Rattle.wu_core.specs.World.{World, empty_world}
 use Rattle.wu_passes.specs.Committing.{FoundAs}
@@ -40,22 +41,29 @@ free_of_none schema objects name none lists = record {
   view = rw (none_beside IsViewRow _ schema.views (ap (λ rs. filter is_view_row rs) none) lists.listed.views) refl;
 }
 
+-- an empty file holds no database
+pub no_database : (image : Image) (db : Trees) → image.db ≡ [] → AreFoundIn image db → IsEmpty db
+no_database image db blank (inl (size, pages, wanted, adopts, ours, reads)) = let low = adopts.found.present in absurd (omega (arith, low, ap (λ bytes. length bytes) blank))
+no_database image db blank (inr (nothing, empty)) = empty
+
 -- two files were opened
 module _ {D : Type 0} {g : Ghosts D} (files : Files D) (again : Held (FileStore D g)) (opened : IsOpened again) (found : Finds files again) where
-  no_database : IsBlank g files → AreFound g files (file_state again).committed.trees → IsEmpty (file_state again).committed.trees
-  no_database blank (inl (size, pages, wanted, adopts, ours, reads)) = let low = adopts.found.present in absurd (omega (arith, low, ap (λ bytes. length bytes) blank))
-  no_database blank (inr (nothing, empty)) = empty
-
-  pub blank_vacant : IsBlank g files → IsVacant (file_state again)
-  blank_vacant blank =
+  -- no tree, no project
+  pub empty_vacant : IsEmpty (file_state again).committed.trees → IsVacant (file_state again)
+  empty_vacant empty =
       let same : (file_state again).now ≡ (file_state again).committed = opened.0.clean in
-      let none : (file_state again).now.trees catalog_tree ≡ [] = ap (λ (d : Database). d.trees catalog_tree) same ∙ (no_database blank found.reads).1 in
+      let none : (file_state again).now.trees catalog_tree ≡ [] = ap (λ (d : Database). d.trees catalog_tree) same ∙ empty.1 in
       free_lacks _ (free_of_none _ _ (codes "project") none ((opened.1 opened.0.is_open).0.lists))
 
+  pub blank_vacant : IsBlank g files → IsVacant (file_state again)
+  blank_vacant blank = empty_vacant (no_database _ _ blank found.reads)
+
+  pub goes_from_trees : SeenMayStay g → (world : World) → FoundAs (file_state again).committed.trees world → GoesOn (file_state again) world
+  goes_from_trees stays world held =
+      goes_again (file_state again) world (committed_at again stays opened) (subst (λ (d : Database). FoundAs d.trees world) (sym opened.0.clean) held)
+
   pub goes_from : SeenMayStay g → (world : World) → HoldWorld g files world → GoesOn (file_state again) world
-  goes_from stays world held =
-      let same : (file_state again).now.trees ≡ held.trees = ap (λ (d : Database). d.trees) opened.0.clean ∙ found.holds held.trees held.holds in
-      goes_again (file_state again) world (committed_at again stays opened) (subst (λ (db : Trees). FoundAs db world) (sym same) held.found)
+  goes_from stays world held = goes_from_trees stays world (subst (λ (db : Trees). FoundAs db world) (sym (found.holds held.trees held.holds)) held.found)
 
 -- what a stop within an adoption left of a free database
 module _ (old mid again : State) (free : AwaitsProject old) (left : LeavesAlso old mid empty_world) (reopened : IsReopened mid again) where

@@ -1,2 +1,3 @@
 mod BeginningLemmas
 mod ReopeningLemmas
+mod LeftoverLemmas

@@ -39,9 +39,9 @@ use Rattle.wu_drive.specs.Driving.{session_of}
 use Rattle.wu_drive.specs.Writing.{WritesAnswers}
 use Rattle.wu_drive.proofs.LifeLemmas.{life_more}
 use Rattle.std.proofs.lemmas.Bool.{cases_eq}
-use Rattle.wu_drive.proofs.DrivingLemmas.{fold_more, keeps_all}
+use Rattle.wu_drive.proofs.DrivingLemmas.{fold_more}
 
-and_both : (a b c d : Bool) → (IsTrue c → IsTrue a) → (IsTrue d → IsTrue b) → IsTrue (c && d) → IsTrue (a && b)
+pub and_both : (a b c d : Bool) → (IsTrue c → IsTrue a) → (IsTrue d → IsTrue b) → IsTrue (c && d) → IsTrue (a && b)
 and_both a b true true f h is = rw (f refl, h refl) refl
 and_both a b true false f h is = absurd cc
 and_both a b false d f h is = absurd cc
@@ -102,29 +102,31 @@ next_world world commands i command there =
 
 -- after a run of commands
 module _ (world : World) (commands : List Command) (mid new : State) (again : IsReopened mid new) (project : IsProject world) where
-  holds_at : (run : Run) (count : ℕ) → run.acknowledged ≤ count → count ≤ run.acknowledged + 1 → (run.acknowledged < count → EndsBy run MayEnd) → count ≤ length commands → FoundAs new.now.trees (world_after world commands count)
-      → HoldsBeginning world commands run new
-  holds_at run count has most cut within found = record {
+  holds_at : (run : Run) (count : ℕ) → run.acknowledged ≤ count → count ≤ run.acknowledged + 1 → (run.acknowledged < count → EndsBy run MayEnd) → count ≤ length commands → IsProject (world_after world commands count)
+      → FoundAs new.now.trees (world_after world commands count) → HoldsBeginning world commands run new
+  holds_at run count has most cut within still found = record {
     count = count;
     kept = record { within = within; has_acknowledged = has; at_most_one_more = most; cut = cut };
     goes = goes_again new _ again.whole found;
-    project = keeps_all world (take count commands) project;
+    project = still;
   }
 
   pub holds_beginning : (answers : List Answer) (run : Run) (has_ended : Bool) → (has_ended ≡ true → EndsBy run MayEnd) → Drives world commands answers run has_ended mid → ∥ HoldsBeginning world commands run new ∥₁
-  holds_beginning answers run false ends drives = ∥∥₁_map again.found (λ may. holds_at run run.acknowledged (omega arith) (omega arith) (λ more. absurd (omega (arith, more))) drives.within ((drives.goes refl).left _ may))
+  holds_beginning answers run false ends drives = ∥∥₁_map again.found (λ may. holds_at run run.acknowledged (omega arith) (omega arith) (λ more. absurd (omega (arith, more))) drives.within drives.project ((drives.goes refl).left _ may))
   holds_beginning answers run true ends drives = ∥∥₁_map again.found (λ may.
       let (cut, there, ended) = drives.ended refl in
       let low = slice_get_within commands run.acknowledged cut there in
       elim (ended.left _ may) [
-        | inl before ↦ holds_at run run.acknowledged (omega arith) (omega arith) (λ more. absurd (omega (arith, more))) drives.within before
-        | inr after ↦ holds_at run (run.acknowledged + 1) (omega arith) (omega arith) (λ more. ends refl) (omega (arith, low))
-            (subst (λ w. FoundAs new.now.trees w) (sym (next_world world commands run.acknowledged cut there)) after)
+        | inl before ↦ holds_at run run.acknowledged (omega arith) (omega arith) (λ more. absurd (omega (arith, more))) drives.within drives.project before
+        | inr after ↦
+            let next = next_world world commands run.acknowledged cut there in
+            holds_at run (run.acknowledged + 1) (omega arith) (omega arith) (λ more. ends refl) (omega (arith, low))
+            (subst (λ w. IsProject w) (sym next) (drives.cut_project refl cut there)) (subst (λ w. FoundAs new.now.trees w) (sym next) after)
       ])
 
   -- over a session that had ended no command is done
   pub holds_none : (run : Run) → run.acknowledged ≡ 0 → GoesOn mid world → ∥ HoldsBeginning world commands run new ∥₁
-  holds_none run none goes = ∥∥₁_map again.found (λ may. holds_at run 0 (omega (arith, none)) (omega arith) (λ more. absurd (omega (arith, more))) (omega arith) (goes.left _ may))
+  holds_none run none goes = ∥∥₁_map again.found (λ may. holds_at run 0 (omega (arith, none)) (omega arith) (λ more. absurd (omega (arith, more))) (omega arith) project (goes.left _ may))
 
 pub answers_none : (world : World) (commands : List Command) (answers : List Answer) (run : Run) → run.acknowledged ≡ 0 → length answers ≡ run.acknowledged → AnswerAll world (take run.acknowledged commands) answers
 answers_none world commands [] run none count = subst (λ k. AnswerAll world (take k commands) []) (sym none) tt

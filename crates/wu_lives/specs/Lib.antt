@@ -1,3 +1,4 @@
 pub mod Beginning
 pub mod Reopening
 pub mod Lives
+pub mod Leftovers

@@ -1,13 +1,12 @@
 -- What the plan that gives a workunit up makes of a world is what the machine makes of it.
-use Rattle.std.proofs.Common.{◌≡◌, ◌⊎◌, ℕ, Bool, true, false, List, [], ◌∷◌, bytes_eq, if◌then◌else◌, Option, Some, None, Result, Ok, Err, IfErr, IfOk, refl, sym, ap, subst, ◌∙◌, inl, inr, arith}
+use Rattle.std.proofs.Common.{◌≡◌, ℕ, List, [], ◌∷◌, bytes_eq, if◌then◌else◌, Some, None, Result, Ok, Err, IfErr, IfOk, refl, sym, ap, subst, ◌∙◌, inl, inr, arith}
 use Rattle.std.proofs.lemmas.Bool.{cases_Bool}
 use Rattle.sqlite.specs.Effect.{Database}
 use Rattle.wu_core.specs.declared.fault.Fault.{Fault}
-use Rattle.wu_core.specs.declared.fault.Fault.TheVariants.{Memory, NotOpenToCancel, UnknownWorkunit}
+use Rattle.wu_core.specs.declared.fault.Fault.TheVariants.{UnknownWorkunit}
 use Rattle.wu_core.specs.declared.workunit.Workunit.{Workunit}
 use Rattle.wu_core.specs.World.{World}
 use Rattle.wu_rules.specs.Cancelling.{cancelled}
-use Rattle.wu_rules.specs.Counts.{is_undecided}
 use Rattle.wu_schema.specs.StandsFor.{StandsFor}
 use Rattle.wu_store.specs.Changing.{AreRight, made_all}
 use Rattle.wu_store.specs.declared.changes.Change.TheVariants.{Replace}
@@ -17,7 +16,7 @@ use Rattle.wu_passes.specs.Imports.{Done}
 use Rattle.wu_passes.specs.Machine.{cancel_done, done}
 use Rattle.wu_passes.specs.Planning.{IsCancelled, IsPlan, IsProject, RefusesCancel, reply_of_answer}
 use Rattle.wu_passes.specs.Requests.{AskCancel, Cancelled, Reply}
-use Rattle.wu_passes.specs.Touched.{AreImages, as_left, touched_named, with_touched}
+use Rattle.wu_passes.specs.Touched.{AreImages, touched_named, with_touched}
 use Rattle.wu_passes.specs.Worlds.{workunit_named, with_named}
 use Rattle.wu_passes.proofs.TouchedLemmas.{images_by_row, images_empty, images_loaded, left_by_row, loaded, loaded_found, name_found, replaced_all, touched_empty}
 

@@ -1,5 +1,6 @@
 mod ImportLemmas
 mod PlanLemmas
+mod PassPlanLemmas
 pub mod BatchLemmas
 mod ApartLemmas
 pub mod StorableLemmas

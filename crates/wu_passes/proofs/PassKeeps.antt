@@ -1,5 +1,5 @@
 -- A cancel and each pass keep a project one: what they make of a workunit can be read.
-use Rattle.std.proofs.Common.{◌≡◌, ◌≢◌, ◌⊎◌, ℕ, ◌<◌, ◌≤◌, Bool, true, false, List, [], ◌∷◌, ◌++◌, length, Option, Some, None, is_some, refl, sym, subst, ◌∙◌, ap, inl, inr, arith}
+use Rattle.std.proofs.Common.{◌≡◌, ◌≢◌, ◌⊎◌, ℕ, ◌<◌, ◌≤◌, Bool, true, false, List, [], ◌∷◌, ◌++◌, length, Option, Some, None, Ok, is_some, refl, sym, subst, ◌∙◌, ap, inl, inr, arith}
 use Rattle.std.proofs.lemmas.List.Elements.{All-from_recursion, recursion_from_All}
 use Rattle.std.specs.List.{AllByRecursion}
 use Rattle.std.specs.Prelude.{⊤, ◌^◌, flat_map, if◌then◌else◌}
@@ -20,15 +20,17 @@ use Rattle.wu_store.specs.Loading.{IsStorable}
 use Rattle.wu_store.specs.Reading.{IsMoment, IsName, IsPlace, IsStoredInstance}
 use Rattle.wu_store.specs.declared.due.Pass.{Pass}
 use Rattle.wu_store.specs.declared.due.Pass.TheVariants.{Transition, Validate, Assimilate, Delete, Purge}
+use Rattle.wu_passes.specs.declared.command.Command.{Command}
+use Rattle.wu_passes.specs.declared.command.Command.TheVariants as command
 use Rattle.wu_passes.specs.FileRows.{Rule, after_row}
-use Rattle.wu_passes.specs.Machine.{cancel_done, done, is_limit_right, pass_done, step}
+use Rattle.wu_passes.specs.Machine.{cancel_done, done, HasMoment, is_limit_right, pass_done, present_version, step}
 use Rattle.wu_passes.specs.Passes.{images, is_among, passed}
-use Rattle.wu_passes.specs.Planning.{IsProject}
-use Rattle.wu_passes.specs.Requests.{AskCancel, AskPass}
+use Rattle.wu_passes.specs.Planning.{IsProject, request_of}
+use Rattle.wu_passes.specs.Requests.{AskCancel, AskPass, AskUpgrade, Upgraded}
 use Rattle.wu_passes.specs.Worlds.{workunit_named}
 use Rattle.wu_passes.proofs.ApartLemmas.{Apart, apart_pairs, pairs_apart}
-use Rattle.wu_passes.proofs.BatchLemmas.{KeepsProject, keeps_if}
-use Rattle.wu_passes.proofs.StorableLemmas.{IsKeeping, row_keeps}
+use Rattle.wu_passes.proofs.BatchLemmas.{KeepsProject, keeps_if, keeps_project}
+use Rattle.wu_passes.proofs.StorableLemmas.{IsKeeping, keeps_project_reported, keeps_project_sent, row_keeps}
 
 -- ---- a workunit that can be read, as a rule leaves it
 
@@ -220,3 +222,31 @@ module _ (world : World) (project : IsProject world) where
       let asked : done world (AskPass pass now limit min_age) ≡ pass_done world pass now limit min_age = rw project.present refl in
       subst (λ r. KeepsProject world r) (sym asked)
       (keeps_if (is_limit_right pass limit min_age) world _ _ (passed_keeps pass now limit min_age low) project)
+
+-- ---- a command
+
+-- an upgrade finds the present version
+keeps_project_upgrade : (world : World) → IsProject world → IsProject (step world AskUpgrade)
+keeps_project_upgrade world project =
+    let asked : done world AskUpgrade ≡ Ok (Upgraded world.version present_version, record world { version = present_version }) = rw project.present refl in
+    subst (λ r. KeepsProject world r) (sym asked) (record {
+      present = refl;
+      above = project.above;
+      next = project.next;
+      verdicts = project.verdicts;
+      storable = project.storable;
+      names = project.names;
+    })
+
+-- whatever becomes of a command, what it leaves of a project is one
+pub keeps_by : (command : Command) → HasMoment (request_of command) → (world : World) → IsProject world → IsProject (step world (request_of command))
+keeps_by (command.Batch batch) moment world project = keeps_project world project batch.name batch.template batch.file
+keeps_by (command.Sent file) moment world project = keeps_project_sent world project file.name file.file
+keeps_by (command.Reported file) moment world project = keeps_project_reported world project file.name file.file
+keeps_by (command.Transition now limit) moment world project = keeps_project_pass world project Transition now limit 0 moment
+keeps_by (command.Validate limit) moment world project = keeps_project_pass world project Validate 0 limit 0 moment
+keeps_by (command.Assimilate now limit) moment world project = keeps_project_pass world project Assimilate now limit 0 moment
+keeps_by (command.Delete limit) moment world project = keeps_project_pass world project Delete 0 limit 0 moment
+keeps_by (command.Purge now limit min_age) moment world project = keeps_project_pass world project Purge now limit min_age moment
+keeps_by (command.Cancel name) moment world project = keeps_project_cancel world project name
+keeps_by command.Upgrade moment world project = keeps_project_upgrade world project

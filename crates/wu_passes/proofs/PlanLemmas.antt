@@ -22,7 +22,7 @@ use Rattle.wu_store.specs.declared.changes.Change.TheVariants.{Add, Next, Keep}
 abbrev pub added : Parameters → ℕ × Job → Change
 added params p = Add (new_workunit params p.0 p.1)
 
-enumerate_more : {X : Type 0} (n : ℕ) (xs : List X) (x : X) → enumerate_from n (xs ++ x ∷ []) ≡ enumerate_from n xs ++ (n + length xs, x) ∷ []
+pub enumerate_more : {X : Type 0} (n : ℕ) (xs : List X) (x : X) → enumerate_from n (xs ++ x ∷ []) ≡ enumerate_from n xs ++ (n + length xs, x) ∷ []
 enumerate_more n [] x = let e : n ≡ n + 0 = omega arith in ap (λ k. (k, x) ∷ []) e
 enumerate_more n (y ∷ xs) x = let e : (n + 1) + length xs ≡ n + length (y ∷ xs) = omega arith in ap (λ rest. (n, y) ∷ rest) (enumerate_more (n + 1) xs x ∙ ap (λ k. enumerate_from (n + 1) xs ++ (k, x) ∷ []) e)
 

@@ -1,5 +1,5 @@
 -- What stands of a session after each exit of a command.
-use Rattle.std.proofs.Common.{◌≡◌, ◌≢◌, ◌⊎◌, Bool, true, false, ◌<◌, ◌≤◌, ℕ, List, Option, None, Some, Result, Ok, Err, IfErr, OnOk, IsTrue, sym, ap, subst, ◌∙◌, inl, inr, arith}
+use Rattle.std.proofs.Common.{refl, ◌≡◌, ◌≢◌, ◌⊎◌, Bool, true, false, ◌<◌, ◌≤◌, ℕ, List, Option, None, Some, Result, Ok, Err, IfErr, OnOk, IsTrue, sym, ap, subst, ◌∙◌, inl, inr, arith}
 use Rattle.sqlite.specs.Effect.{Database}
 use Rattle.sqlite.specs.State.{State, HasCleanDisk, IsUnchanged, Survives}
 use Rattle.wu_core.specs.declared.fault.Fault.{Fault}
@@ -16,7 +16,7 @@ use Rattle.wu_passes.specs.Machine.{done, present_version, reply, reply_of, step
 use Rattle.wu_passes.specs.Planning.{FailsToRead, IsPlan, Plans, reply_of_answer}
 use Rattle.wu_store.specs.Loading.{IsRead, IsStoreFault}
 use Rattle.wu_passes.specs.Requests.{Request}
-use Rattle.wu_passes.specs.Standing.{GoesOn, HasEnded, IsAnswered, IsCutBy, IsRefusal, KeepsAll, KeepsShown, LeavesAlso, StoresLater, TellsLater, WhyNot}
+use Rattle.wu_passes.specs.Standing.{GoesOn, HasEnded, IsAnswered, IsCutBy, IsRefusal, KeepsAll, KeepsShown, LeavesAlso, Stands, StoresLater, TellsLater, WhyNot}
 use Rattle.wu_passes.specs.declared.imports.Plan.{Plan}
 use Rattle.wu_passes.specs.declared.command.Answer.{Answer}
 use Rattle.wu_store.specs.declared.changes.Change.{Change}
@@ -74,7 +74,7 @@ refused_is world request fault (inl is) = inl (ap reply_of is)
 refused_is world request fault (inr store) = inr store
 
 -- what a plan's fault says of a session over this world
-error_is : (f g : Fault) → ◌≡◌ {A = Result Plan Fault} (Err f) (Err g) → f ≡ g
+pub error_is : (f g : Fault) → ◌≡◌ {A = Result Plan Fault} (Err f) (Err g) → f ≡ g
 error_is f g is = cc
 
 pub plan_refused : (old : State) (world : World) (request : Request) (result : Result Plan Fault) (fault : Fault) → result ≡ Err fault → GoesOn old world
@@ -95,6 +95,16 @@ refused_why world request fault whole served (inl told) = inl told
 refused_why world request fault whole served (inr (inl memory)) = inr (inl memory)
 refused_why world request fault whole served (inr (inr (inl broken))) = absurd (whole broken)
 refused_why world request fault whole served (inr (inr (inr refused))) = absurd (served refused)
+
+pub unplanned_why : (ended : Bool) (world : World) (request : Request) (fault : Fault) → (ended ≡ true → fault ≡ Broken) → (fault ≡ Broken → ended ≡ true) → fault ≢ NotAProject
+    → (reply world request ≡ Err fault) ⊎ IsStoreFault fault → WhyNot ended world request fault
+unplanned_why true world request fault ends broken served told = inl (ends refl)
+unplanned_why false world request fault ends broken served told = refused_why world request fault (λ is. let no = broken is in cc) served told
+
+-- before a transaction all stands as it did, whether the session ends or not
+pub stands_read : (ended : Bool) (s : State) (world : World) (request : Request) → GoesOn s world → Stands ended s world request
+stands_read true s world request goes = record { stands = λ is_open. (goes.stands is_open).0; left = λ db may. inl (goes.left db may) }
+stands_read false s world request goes = goes
 
 -- a read that is refused leaves the connection open
 pub refused_open : (s : State) (fault : Fault) → fault ≡ NotAProject → IsFailure fault ⊎ IsTrue s.is_open → IsTrue s.is_open

@@ -1,5 +1,9 @@
--- Workunits of the same row have the same line.
-use Rattle.std.proofs.Common.{◌≡◌, ◌∙◌, ℕ, List, [], ◌∷◌, map, Option, Some, None, ap, refl, sym}
+-- Workunits of the same row have the same line, and rows are read as the lines of theirs.
+use Rattle.std.proofs.Common.{◌≡◌, ◌≢◌, ◌∙◌, ℕ, ◌+◌, ◌<◌, List, [], ◌∷◌, ◌++◌, length, map, Option, Some, None, Result, Ok, Err, IfErr, Vec, ap, arith, inl, inr, refl, subst, sym}
+use Rattle.std.proofs.Common.{take}
+use Rattle.std.proofs.lemmas.List.{get_or-map, length-map, map-append, take_more}
+use Rattle.std.specs.Prelude.{All, get_or}
+use Rattle.std.specs.declared.alloc.Global.{Global}
 use Rattle.sqlite.specs.Order.{Row}
 use Rattle.sqlite.specs.State.{State, HasCleanDisk}
 use Rattle.sqlite.specs.Store.{Ghosts}
@@ -7,6 +11,8 @@ use Rattle.wu_core.specs.declared.states.Assimilate.{Assimilate}
 use Rattle.wu_core.specs.declared.states.Assimilate.TheVariants as assimilate
 use Rattle.wu_core.specs.declared.states.FileDelete.{FileDelete}
 use Rattle.wu_core.specs.declared.states.FileDelete.TheVariants as file_delete
+use Rattle.wu_core.specs.declared.fault.Fault.{Fault}
+use Rattle.wu_core.specs.declared.fault.Fault.TheVariants.{NotAProject}
 use Rattle.wu_core.specs.declared.workunit.Workunit.{Workunit}
 use Rattle.wu_core.specs.declared.mask.ErrorMask.{ErrorMask}
 use Rattle.wu_core.proofs.MaskLemmas.{flags_of-error_mask_code}
@@ -14,12 +20,17 @@ use Rattle.wu_core.specs.Codes.{assimilate_code, file_delete_code}
 use Rattle.wu_core.specs.Mask.{error_mask_code}
 use Rattle.wu_core.specs.World.{World}
 use Rattle.wu_schema.specs.Stored.{number_or_null, workunit_row}
-use Rattle.wu_store.specs.Loading.{IsRead}
+use Rattle.wu_schema.specs.Restoring.{Restores}
+use Rattle.wu_store.proofs.LoadLemmas.{never_unread}
+use Rattle.wu_store.specs.Answers.{all_rows}
+use Rattle.wu_store.specs.Changes.{bare}
+use Rattle.wu_store.specs.Loading.{AreStorable, IsRead}
+use Rattle.wu_store.specs.Reading.{IsStoredWorkunit}
 use Rattle.wu_passes.specs.declared.lines.WorkunitLine.{WorkunitLine}
 use Rattle.wu_passes.specs.declared.project.Project.{Project}
 use Rattle.wu_passes.proofs.AskLemmas.{read_none, read_then}
 use Rattle.wu_passes.proofs.StandingLemmas.{goes_read}
-use Rattle.wu_passes.specs.Lines.{line_of}
+use Rattle.wu_passes.specs.Lines.{FindsLines, line_of, ReadsLine, ReadsLines}
 use Rattle.wu_passes.specs.Projects.{state_of}
 use Rattle.wu_passes.specs.Standing.{GoesOn}
 use Rattle.wu_passes.specs.Walks.{OnlyReads}
@@ -82,14 +93,51 @@ same_line v w is =
     let done = same_number v.done_at w.done_at cc in
     rw (number, name, quorum, target, errors, total, successes, delay, credit, input, mask, canonical, assimilated, deleted, done) refl
 
--- the line of the first row is the first of the lines, and the other rows have the others
-pub hands_first : (row : Row) (rows : List Row) (line : WorkunitLine) (lines : List WorkunitLine) (workunits : List Workunit)
-    → row ∷ rows ≡ map workunit_row workunits → lines ≡ map line_of workunits → ((w : Workunit) → row ≡ workunit_row w → line ≡ line_of w)
-    → (rest : List WorkunitLine) × (lines ≡ line ∷ rest) × ((others : List Workunit) × (rows ≡ map workunit_row others) × (rest ≡ map line_of others))
-hands_first row rows line lines [] are is reads = absurd cc
-hands_first row rows line lines (w ∷ others) are is reads =
-    let same : line ≡ line_of w = reads w cc in
-    (map line_of others, is ∙ ap (λ first. first ∷ map line_of others) (sym same), (others, cc, refl))
+-- nor do lines
+pub same_lines : (vs ws : List Workunit) → map workunit_row vs ≡ map workunit_row ws → map line_of vs ≡ map line_of ws
+same_lines [] [] is = refl
+same_lines [] (w ∷ ws) is = absurd cc
+same_lines (v ∷ vs) [] is = absurd cc
+same_lines (v ∷ vs) (w ∷ ws) is =
+    let row : workunit_row v ≡ workunit_row w = cc in
+    let rows : map workunit_row vs ≡ map workunit_row ws = cc in
+    rw (same_line v w row, same_lines vs ws rows) refl
+
+-- ---- the lines of rows
+
+-- a row that can't be read is that of no workunit that can be
+pub line_unread : (row : Row) (f : Fault) → Restores workunit_row IsStoredWorkunit row (Err f) → ReadsLine row (Err f)
+line_unread row f reads = record {
+  value = tt;
+  found = λ w can is. never_unread workunit_row IsStoredWorkunit row (Err f) (bare w) reads can is;
+  refused = elim reads.refused [ inl memory ↦ inl memory | inr other ↦ inr (inr other) ];
+}
+
+-- one more row is one more workunit
+pub rows_more : (ws : List Workunit) (rows : List Row) (i : ℕ) (w : Workunit) (d : Row) → map workunit_row ws ≡ take i rows → i < length rows → get_or rows i d ≡ workunit_row w → map workunit_row (ws ++ w ∷ []) ≡ take (i + 1) rows
+rows_more ws rows i w d so_far low at =
+    map-append workunit_row ws (w ∷ []) ∙ ap (λ rs. rs ++ workunit_row w ∷ []) so_far ∙ ap (λ r. take i rows ++ r ∷ []) (sym at) ∙ sym (take_more rows i d low)
+
+module _ (rows : List Row) (i : ℕ) (d row : Row) (f : Fault) (low : i < length rows) (at : get_or rows i d ≡ row) (unread : ReadsLine row (Err f)) where
+  -- rows with one that can't be read are those of no workunits that can all be
+  pub lines_unread : ReadsLines {A = Global} rows (Err f)
+  lines_unread = record { value = tt; found = found; refused = unread.refused }
+    where
+      found : (ws : List Workunit) → All (λ w. IsStoredWorkunit (bare w)) ws → rows ≡ map workunit_row ws → f ≢ NotAProject
+      found [] all same = absurd (let none : length rows ≡ 0 = ap (λ rs. length rs) same in omega (arith, none, low))
+      found (w ∷ ws) all same =
+          let within : i < length (w ∷ ws) = subst (λ n. i < n) (ap (λ rs. length rs) same ∙ length-map (w ∷ ws) workunit_row) low in
+          unread.found (get_or (w ∷ ws) i w) (all i w within) (sym at ∙ ap (λ rs. get_or rs i d) same ∙ get_or-map workunit_row (w ∷ ws) i w d within)
+
+module _ (world : World) (rows : List Row) (are : rows ≡ all_rows world) where
+  -- the lines that rows of a world are read as are that world's
+  pub lines_found : (r : Result (Vec WorkunitLine Global) Fault) → ReadsLines rows r → FindsLines r world
+  lines_found (Ok lines) reads = reads.value.2 ∙ same_lines reads.value.0 world.workunits (sym reads.value.1 ∙ are)
+  lines_found (Err f) reads = tt
+
+  -- and they can be read where its workunits can
+  pub lines_read : (r : Result (Vec WorkunitLine Global) Fault) → ReadsLines rows r → AreStorable world → IfErr r (λ fault. fault ≢ NotAProject)
+  lines_read r reads storable = reads.found world.workunits (λ i d low. (storable i d low).row) are
 
 -- ---- one walk after another
 

@@ -16,3 +16,4 @@ pub mod Standing
 pub mod Projects
 pub mod Lines
 pub mod Walks
+pub mod PassPlans

@@ -1,10 +1,10 @@
 -- The machine: what each request answers and makes of a world, at schema version 1. It knows no tables, no transaction
 -- and no fault of the disk or of memory.
-use Rattle.std.specs.Prelude.{ℕ, nat_le, nat_lt, Bool, true, not, ◌&&◌, if◌then◌else◌, List, [], ◌∷◌, Option, Some, None, Result, Ok, Err}
+use Rattle.std.specs.Prelude.{ℕ, ⊤, ◌≤◌, nat_le, nat_lt, Bool, true, not, ◌&&◌, if◌then◌else◌, List, [], ◌∷◌, Option, Some, None, Result, Ok, Err}
 use Rattle.wu_core.specs.declared.fault.Fault.{Fault}
 use Rattle.wu_core.specs.declared.fault.Fault.TheVariants.{BadLimit, UnknownWorkunit, NotOpenToCancel, OldSchema}
 use Rattle.wu_core.specs.declared.workunit.Workunit.{Workunit}
-use Rattle.wu_core.specs.Limits.{longest_age}
+use Rattle.wu_core.specs.Limits.{last_moment, longest_age}
 use Rattle.wu_core.specs.World.{World}
 use Rattle.wu_rules.specs.Counts.{is_undecided}
 use Rattle.wu_rules.specs.Cancelling.{cancelled}
@@ -31,6 +31,16 @@ highest_limit = 1000
 -- a pass has a limit of 1 to 1000
 abbrev pub is_limit_right : Pass → ℕ → ℕ → Bool
 is_limit_right pass limit min_age = nat_le 1 limit && nat_le limit highest_limit && is_age_right pass min_age
+
+-- so has what is asked; what is no pass has no limit
+abbrev pub has_right_limits : Request → Bool
+has_right_limits (AskPass pass now limit min_age) = is_limit_right pass limit min_age
+has_right_limits _ = true
+
+-- the moment of a pass is not after the last one
+abbrev pub HasMoment : Request → Type 0
+HasMoment (AskPass pass now limit min_age) = now ≤ last_moment
+HasMoment _ = ⊤
 
 abbrev pub pass_done : World → Pass → ℕ → ℕ → ℕ → Result Done Fault
 pass_done world pass now limit min_age =

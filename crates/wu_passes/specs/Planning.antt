@@ -19,6 +19,7 @@ use Rattle.wu_feed.specs.Templates.{template_of}
 use Rattle.wu_store.specs.Reading.{AreVerdicts}
 use Rattle.wu_store.specs.Changes.{IsAbove, with_import}
 use Rattle.wu_store.specs.Loading.{AreStorable, IsStoreFault, LoadsNext}
+use Rattle.wu_store.specs.declared.due.Pass.TheVariants as pass
 use Rattle.wu_store.specs.declared.rows.StoredImport.{StoredImport}
 use Rattle.wu_schema.specs.StandsFor.{StandsFor}
 use Rattle.wu_passes.specs.declared.imports.Plan.{Plan}
@@ -39,7 +40,7 @@ use Rattle.wu_passes.specs.Machine.{done, present_version}
 use Rattle.wu_passes.specs.Touched.{AreDistinct, IsLeft}
 use Rattle.wu_passes.specs.declared.command.Answer.{Answer}
 use Rattle.wu_passes.specs.declared.command.Answer.TheVariants as answer
-use Rattle.wu_passes.specs.Requests.{Request, AskBatch, AskCancel, AskReported, AskSent, Reply, Cancelled, Imported}
+use Rattle.wu_passes.specs.Requests.{Request, AskBatch, AskCancel, AskPass, AskReported, AskSent, AskUpgrade, Reply, Cancelled, Imported, Passed, Upgraded}
 
 -- what a batch is imported as, and what it asks of the machine
 abbrev pub batch_of : Batch → Given
@@ -56,17 +57,25 @@ file_of kind file = record { kind = kind; name = file.name; template = []; conte
 abbrev pub given_of : Source → Given
 given_of source = record { kind = source.kind; name = source.name.now; template = source.template.now; content = source.content.now }
 
--- what a command asks of the machine
+-- what a command asks of the machine; a pass that needs no moment is asked at the first one
 abbrev pub request_of : Command → Request
 request_of (command.Batch batch) = request_of_batch batch
 request_of (command.Sent file) = AskSent file.name file.file
 request_of (command.Reported file) = AskReported file.name file.file
+request_of (command.Transition now limit) = AskPass pass.Transition now limit 0
+request_of (command.Validate limit) = AskPass pass.Validate 0 limit 0
+request_of (command.Assimilate now limit) = AskPass pass.Assimilate now limit 0
+request_of (command.Delete limit) = AskPass pass.Delete 0 limit 0
+request_of (command.Purge now limit min_age) = AskPass pass.Purge now limit min_age
 request_of (command.Cancel workunit) = AskCancel workunit
+request_of command.Upgrade = AskUpgrade
 
 -- the reply that an answer stands for
 abbrev pub reply_of_answer : Answer → Reply
 reply_of_answer (answer.Imported kind name first verdicts) = Imported kind name first verdicts
+reply_of_answer (answer.Passed pass handled) = Passed pass handled
 reply_of_answer (answer.Cancelled workunit) = Cancelled workunit
+reply_of_answer (answer.Upgraded from to) = Upgraded from to
 
 -- the verdicts of each import are numbers of verdicts on such a file
 abbrev pub HasVerdicts : World → Type 0

@@ -4,7 +4,7 @@ use Rattle.sqlite.specs.Held.{Held, state}
 use Rattle.sqlite.specs.State.{State, HasCleanDisk}
 use Rattle.sqlite.specs.Store.{Ghosts}
 use Rattle.wu_core.specs.declared.fault.Fault.{Fault}
-use Rattle.wu_core.specs.declared.fault.Fault.TheVariants.{Ended, NewSchema, NotAProject}
+use Rattle.wu_core.specs.declared.fault.Fault.TheVariants.{BadLimit, Ended, NewSchema, NotAProject}
 use Rattle.wu_core.specs.World.{World, empty_world}
 use Rattle.wu_schema.specs.Calls.{IsBack}
 use Rattle.wu_schema.specs.Faults.{IsFailure}
@@ -15,9 +15,10 @@ use Rattle.wu_store.specs.declared.changes.Change.{Change}
 use Rattle.wu_passes.specs.declared.command.Answer.{Answer}
 use Rattle.wu_passes.specs.declared.command.Command.{Command}
 use Rattle.wu_passes.specs.declared.project.Project.{Project}
-use Rattle.wu_passes.specs.Machine.{present_version}
-use Rattle.wu_passes.specs.Planning.{IsProject, Plans, request_of}
-use Rattle.wu_store.specs.Loading.{ServesUnlessFailed}
+use Rattle.wu_passes.specs.Machine.{has_right_limits, present_version, step}
+use Rattle.wu_passes.specs.declared.imports.Plan.{Plan}
+use Rattle.wu_passes.specs.Planning.{IsProject, OpenOrFails, Plans, PlansFor, request_of}
+use Rattle.wu_store.specs.Loading.{KeepsTables, NotRefusedIn, OverWorlds, ServesUnlessFailed}
 use Rattle.wu_passes.specs.Requests.{Request}
 use Rattle.wu_passes.specs.Standing.{GoesOn, IsVacant, IsRefusal, KeepsAll, KeepsDoubt, RefusesVersion, Runs, StoresLater, WhyNot}
 
@@ -124,6 +125,26 @@ abbrev pub RunsOn : {S : Type 0} {g : Ghosts S} → Project S g → Project S g 
 RunsOn old new command result =
     HasCleanDisk (state_of new) → (world : World) → IsProject world → GoesOn (state_of old) world → Runs world (request_of command) (has_ended new) (state_of new) result
 
+-- what the machine makes of a world that a command runs over is such a world
+abbrev pub KeepsProjects : Request → Type 0
+KeepsProjects request = (world : World) → IsProject world → IsProject (step world request)
+
+-- with Ok the tables are as they were, before anything is changed
+abbrev pub StaysUnchanged : {S T : Type 0} {g : Ghosts S} → Project S g → Project S g → Result T Fault → Type 0
+StaysUnchanged {S} {T} {g} old new result = KeepsTables g (connection_of old) (connection_of new) result
+
+-- the connection was open, or what was computed needed it and failed
+abbrev pub NeedsOpen : {S T : Type 0} {g : Ghosts S} → Project S g → Project S g → Result T Fault → Type 0
+NeedsOpen {S} {T} {g} old new result = OpenOrFails g (connection_of old) (connection_of new) result
+
+-- over an adopted project no read is refused
+abbrev pub ReadsUnrefused : {S T : Type 0} {g : Ghosts S} → Project S g → Project S g → Result T Fault → Type 0
+ReadsUnrefused {S} {T} {g} old new result = NotRefusedIn g (connection_of old) (connection_of new) result IsProject
+
+-- the plan of the command is made, or the machine refuses it
+abbrev pub PlansOn : {S : Type 0} {g : Ghosts S} → Project S g → Project S g → Command → Result Plan Fault → Type 0
+PlansOn {S} {g} old new command result = OverWorlds g (connection_of old) (connection_of new) (PlansFor (request_of command) result)
+
 -- the changes of a plan are made, and its answer given
 abbrev pub CarriesOut : {S : Type 0} {g : Ghosts S} → Project S g → Project S g → Answer → List Change → Result Answer Fault → Type 0
 CarriesOut old new answer changes result =
@@ -137,6 +158,14 @@ KeepsLimit old new = (state_of new).step_limit ≡ (state_of old).step_limit
 -- after Ok, and after each fault but want of memory or of the disk, the connection is open
 abbrev pub ServesOn : {S T : Type 0} {g : Ghosts S} → Project S g → Result T Fault → Type 0
 ServesOn {S} {T} {g} new result = ServesUnlessFailed g (connection_of new) result
+
+-- so it is where the limits of a pass are right
+abbrev pub ServesRight : {S T : Type 0} {g : Ghosts S} → Project S g → Command → Result T Fault → Type 0
+ServesRight new command result = has_right_limits (request_of command) ≡ true → ServesOn new result
+
+-- a pass whose limits are wrong is refused, and nothing is touched
+abbrev pub RefusesLimit : {S T : Type 0} {g : Ghosts S} → Project S g → Project S g → Command → Result T Fault → Type 0
+RefusesLimit old new command result = has_right_limits (request_of command) ≡ false → (result ≡ Err BadLimit) × (new ≡ old)
 
 -- over an adopted project it is told why a command was not done
 abbrev pub TellsWhy : {S T : Type 0} {g : Ghosts S} → Project S g → Project S g → Command → Result T Fault → Type 0

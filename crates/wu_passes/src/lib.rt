@@ -10,9 +10,12 @@ mod files;
 mod imports;
 pub mod laws;
 mod lines;
+mod passes;
 mod project;
 mod touched;
+mod upgrade;
 
 pub use command::{Answer, Batch, Command, RowsFile};
 pub use lines::WorkunitLine;
 pub use project::{Project, WorkunitWalk};
+pub use wu_store::Pass;

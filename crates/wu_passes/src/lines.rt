@@ -1,6 +1,7 @@
 //! The values that a line of a view shows.
 
 ghost use Rattle.std.specs.Prelude.{◌≡◌};
+ghost use Rattle.wu_passes.specs.Lines.{ReadsLines};
 
 use sqlite::Row;
 use std::alloc::Global;
@@ -57,10 +58,21 @@ impl WorkunitLine {
     }
 
     /// The line of the workunit that a row stands for. A row that stands for none is `NotAProject`.
-    pub(crate) fn read(alloc: Global, row: &Row) -> Result<Self, Fault>
+    fn read(alloc: Global, row: &Row) -> Result<Self, Fault>
         ensures { ReadsLine row.now result }
     {
         let workunit = workunit_from(alloc, row)?;
         Ok(WorkunitLine::of(workunit))
     }
+}
+
+/// The lines of the workunits that rows stand for, in their order. `NotAProject` where one stands for none.
+pub(crate) fn lines_from(alloc: Global, rows: &[Row]) -> Result<Vec<WorkunitLine>, Fault>
+    ensures { ReadsLines rows.now result }
+{
+    let mut lines = Vec::new(alloc);
+    for row in rows {
+        lines.push(WorkunitLine::read(alloc, row)?)?;
+    }
+    Ok(lines)
 }

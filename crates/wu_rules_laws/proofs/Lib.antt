@@ -1,8 +1,8 @@
-mod Awake
+pub mod Awake
 mod Changed
 mod Granting
-mod Judged
+pub mod Judged
 mod Kept
 mod Planned
 mod Settled
-mod Spent
+pub mod Spent

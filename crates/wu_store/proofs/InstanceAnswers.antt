@@ -1,5 +1,5 @@
 -- What the SELECT of a workunit's instances answers.
-use Rattle.wu_schema.proofs.Words.{AllByRecursion, Binary, Bool, Instance, Int, IsAscending, IsPermutation, IsPermutation-filter, IsPermutation-map, IsTable, Less, List, None, Option, Output, Row, Shown, Some, StandsFor, State, Workunit, World, [], ap, append-nil, arith, column, drop, enumerate_from, equal, filter, find, flat_map, instance_cells, instance_row, instances_of, lit, map, map-map, negsuc, number, option_to_list, refl, subst, sym, ℕ, ◌+◌, ◌<◌, ◌==◌, ◌∙◌, ◌∷◌, ◌≡◌}
+use Rattle.wu_schema.proofs.Words.{AllByRecursion, Binary, Bool, Instance, Int, IsAscending, IsPermutation, IsPermutation-filter, IsPermutation-map, IsTable, Less, List, None, Option, Output, Row, Shown, Some, StandsFor, State, Workunit, World, [], ap, append-nil, arith, column, drop, enumerate_from, equal, false, filter, find, flat_map, instance_cells, instance_row, instances_of, lit, map, map-map, negsuc, number, option_to_list, refl, subst, sym, ℕ, ◌+◌, ◌<◌, ◌==◌, ◌∙◌, ◌∷◌, ◌≡◌}
 use Rattle.wu_store.specs.Answers.{instance_rows_of}
 use Rattle.std.specs.Option.{option_map_or}
 use Rattle.wu_schema.proofs.RowLemmas.{filter_same, one_test}
@@ -48,10 +48,10 @@ found_shown (Some w) = shown_from w.number 0 w.instances
 
 module _ (tree n : ℕ) where
   abbrev row_pair : Row → Output
-  row_pair = pair tree instances_tests instances_shows 2 (lit (Int (negsuc 0))) (number n ∷ [])
+  row_pair = pair tree instances_tests instances_shows 2 false (lit (Int (negsuc 0))) (number n ∷ [])
 
   abbrev row_passes : Row → Bool
-  row_passes = passing tree instances_tests instances_shows 2 (lit (Int (negsuc 0))) (number n ∷ [])
+  row_passes = passing tree instances_tests instances_shows 2 false (lit (Int (negsuc 0))) (number n ∷ [])
 
   pair_is : (r : Row) → row_pair r ≡ cell_pair (drop 1 r)
   pair_is [] = refl
@@ -74,4 +74,4 @@ module _ (old new : State) (world : World) (s : StandsFor old.now world) (n : �
       let cells = IsPermutation-map cell_pair _ _ (IsPermutation-filter (fits n (λ b. b)) (flat_map instances_of ws) (map (drop 1) stored) s.rows.instances.same) in
       let same : IsPermutation (map cell_pair (found_cells of_n)) (map (row_pair tree n) (filter (row_passes tree n) stored)) =
       subst (IsPermutation (map cell_pair (found_cells of_n))) (sym (pairs_are tree n stored)) (subst (λ cs. IsPermutation (map cell_pair cs) (map cell_pair (filter (fits n (λ b. b)) (map (drop 1) stored)))) one cells) in
-      sure_sorted tree instances_tests instances_shows 2 (lit (Int (negsuc 0))) (number n ∷ []) old.now rows (map cell_pair (found_cells of_n)) s.tables.result.1.low (found_rise of_n) same read.answer ∙ found_shown of_n
+      sure_sorted tree instances_tests instances_shows 2 false (lit (Int (negsuc 0))) (number n ∷ []) old.now rows (map cell_pair (found_cells of_n)) s.tables.result.1.low (found_rise of_n) same read.answer ∙ found_shown of_n

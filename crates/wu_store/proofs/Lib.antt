@@ -7,6 +7,7 @@ pub mod WorldOnce
 pub mod ReadAnswers
 pub mod AskLemmas
 pub mod OrderAnswers
+pub mod LastLemmas
 pub mod PlacedLemmas
 pub mod ListedLemmas
 pub mod SumLemmas

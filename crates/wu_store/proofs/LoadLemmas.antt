@@ -1,5 +1,5 @@
 -- What is loaded of a project is what the world has, step by step.
-use Rattle.wu_schema.proofs.Words.{Bool, Database, Err, Error, Fault, Ghosts, Gives, HasCleanDisk, Held, IfErr, Import, ImportKind, Instance, IsFailure, List, None, NotAProject, Ok, Option, Reads, Result, Row, Some, StandsFor, State, Workunit, World, [], ap, arith, cases_Bool, filter, find, if◌then◌else◌, inl, inr, instance_row, is_import, length, length-map, map, map-append, number, option_map, refl, slice_get, state, subst, sym, take, verdict_digits, workunit_row, ℕ, ◌++◌, ◌+◌, ◌<◌, ◌==◌, ◌∙◌, ◌∷◌, ◌≡◌, ◌≢◌, ◌≤◌}
+use Rattle.wu_schema.proofs.Words.{Bool, Database, Err, Error, Fault, Ghosts, Gives, HasCleanDisk, Held, IfErr, Import, ImportKind, Instance, IsFailure, List, None, NotAProject, Ok, Option, Reads, Result, Row, Some, StandsFor, State, Workunit, World, [], ap, arith, cases_Bool, filter, find, if◌then◌else◌, inl, inr, instance_row, is_import, length, length-map, map, map-append, number, option_map, refl, slice_get, state, subst, sym, take, verdict_digits, workunit_row, ℕ, ◌++◌, ◌+◌, ◌-◌, ◌<◌, ◌==◌, ◌∙◌, ◌∷◌, ◌≡◌, ◌≢◌, ◌≤◌}
 use Rattle.std.specs.Prelude.{All, IfSome, MatchResult, get_or}
 use Rattle.std.specs.Option.{option_map_or}
 use Rattle.sqlite.proofs.StateLemmas.{survives_then}
@@ -11,10 +11,10 @@ use Rattle.wu_core.specs.Limits.{most_instances}
 use Rattle.wu_schema.specs.Calls.{Answers, IsBack}
 use Rattle.wu_schema.specs.Restoring.{Restores}
 use Rattle.wu_schema.specs.Stored.{kept_cells}
-use Rattle.wu_store.specs.Answers.{instance_rows_of, kept_of, numbered}
+use Rattle.wu_store.specs.Answers.{instance_rows_of, kept_of, last_of, last_place, numbered}
 use Rattle.wu_store.specs.Changes.{bare}
 use Rattle.wu_store.specs.Loading.{Finds, FindsInstances, FindsOfRow, LoadsInstances, LoadsImport, IsEarlier, IsLoadable, IsLoadableRow, IsRead, IsRowOf, IsStoreFault, NotRefusedIn, OverWorlds, instances_at}
-use Rattle.wu_store.specs.Reading.{AreStoredInstances, IsNextNumber, IsStoredImport, IsStoredInstance, IsStoredWorkunit, stored_import_row}
+use Rattle.wu_store.specs.Reading.{AreStoredInstances, IsNextNumber, IsStoredImport, IsStoredInstance, IsStoredWorkunit, row_before, stored_import_row}
 use Rattle.wu_store.specs.declared.rows.StoredImport.{StoredImport}
 use Rattle.wu_store.proofs.ReadingLemmas.{not_ok, same_verdicts}
 use Rattle.wu_store.proofs.PlacedLemmas.{Rises, world_rises}
@@ -61,6 +61,14 @@ never_unread stored_as IsValue stored (Err f) value reads is same = elim (reads.
 pub next_is : (n : ℕ) (row : Row) (r : Result ℕ Fault) → row ≡ number n ∷ [] → Restores (λ next. number next ∷ []) IsNextNumber row r → MatchResult r (λ next. next ≡ n) IsStoreFault
 next_is n row (Ok next) is reads = let same : number n ∷ [] ≡ number next ∷ [] = sym is ∙ reads.value.0 in cc
 next_is n row (Err fault) is reads = elim reads.refused [ inl memory ↦ inl memory | inr other ↦ inr (inr other) ]
+
+-- ---- the next places
+
+-- the row of a list's last place is read
+pub place_read : {X : Type 0} (xs : List X) (last : Option Row) (r : Result ℕ Fault) → last ≡ last_place xs → Restores row_before (λ place. 1 ≤ place) last r → IfErr r (λ fault. fault ≢ NotAProject)
+place_read xs last r is reads =
+    let e : length xs ≡ length xs + 1 - 1 = omega arith in
+    never_unread row_before (λ place. 1 ≤ place) last r (length xs + 1) reads (omega arith) (is ∙ ap last_of e)
 
 -- ---- the first of what passes a test
 

@@ -1,6 +1,8 @@
 -- What a SELECT in the order of the key answers.
 use Rattle.wu_schema.proofs.Words.{Binary, Bool, Database, Int, IsAnswerAs, IsAscending, IsPermutation, IsPermutation-refl, IsPermutation-trans, IsSorted, IsTable, Less, List, Null, Ordering, Output, Query, Row, Shown, Some, StandsFor, State, Term, Workunit, World, [], all_from, all_has, ap, col, column, cond, eval_all, false, filter, find, flat_map, has_filtered, has_mapped, holds, if◌then◌else◌, list_all, lit, map, map-map, nat_le, nat_lt, negsuc, number, on_total, option_map, option_to_list, output, overlay, pos, refl, rowid, stored_workunit, subst, sym, take, true, value_cmp, value_cmp_total, workunit_row, ℕ, ◌++◌, ◌^◌, ◌∙◌, ◌∷◌, ◌≡◌}
 use Rattle.std.specs.Ordering.{on}
+use Rattle.sqlite_value.specs.Keys.{directed}
+use Rattle.sqlite_value.proofs.KeyLemmas.{directed_total}
 use Rattle.sqlite_value.proofs.OrderLemmas.{then-Equal}
 use Rattle.sqlite.specs.Query.{IsSureAnswer, output_cmp, page}
 use Rattle.wu_store.specs.Answers.{first_above}
@@ -12,12 +14,16 @@ use Rattle.wu_store.proofs.ReadAnswers.{asked_answers}
 use Rattle.wu_schema.proofs.RowLemmas.{no_test, one_test}
 use Rattle.wu_store.proofs.OneOrder.{one_order}
 
-abbrev pub by_key : Output → Output → Ordering
-by_key = on (λ (o : Output). column o.0 0) value_cmp
+-- the order in which a column rises, or falls
+abbrev pub in_order : Bool → Output → Output → Ordering
+in_order falls = on (λ (o : Output). column o.0 0) (directed falls value_cmp)
 
-module _ (tree : ℕ) (test shows : List Term) (place : ℕ) (limit : Term) (params : Row) where
+abbrev pub by_key : Output → Output → Ordering
+by_key = in_order false
+
+module _ (tree : ℕ) (test shows : List Term) (place : ℕ) (falls : Bool) (limit : Term) (params : Row) where
   abbrev pub sorted : Query
-  sorted = record (plain_query tree test shows) { order = (col 1 place, record { collation = Binary; descending = false }) ∷ []; limit = limit }
+  sorted = record (plain_query tree test shows) { order = (col 1 place, record { collation = Binary; descending = falls }) ∷ []; limit = limit }
 
   abbrev shown : Row → Row
   shown r = eval_all shows (params ∷ r ∷ [])
@@ -37,18 +43,18 @@ module _ (tree : ℕ) (test shows : List Term) (place : ℕ) (limit : Term) (par
         | false ↦ found_pairs rows
       ]
 
-  same_cmp : output_cmp sorted ≡ by_key
-  same_cmp = λ i a b. then-Equal (by_key a b) i
+  same_cmp : output_cmp sorted ≡ in_order falls
+  same_cmp = λ i a b. then-Equal (in_order falls a b) i
 
-  -- what is shown of the rows that pass, in the order in which their columns rise, as far as the limit goes
-  pub sure_sorted : (db : Database) (rows : List Row) (os : List Output) → nat_le (2 ^ 31) tree ≡ false → IsAscending (λ a b. by_key a b ≡ Less) os → IsPermutation os (map pair (filter passing (db.trees tree)))
+  -- what is shown of the rows that pass, in the order in which their columns rise or fall, as far as the limit goes
+  pub sure_sorted : (db : Database) (rows : List Row) (os : List Output) → nat_le (2 ^ 31) tree ≡ false → IsAscending (λ a b. in_order falls a b ≡ Less) os → IsPermutation os (map pair (filter passing (db.trees tree)))
       → IsSureAnswer sorted (overlay db.trees []) params rows → rows ≡ page sorted params (map (λ (o : Output). o.1) os)
   sure_sorted db rows os low up same h =
       let a : IsAnswerAs Null sorted (overlay db.trees []) params rows = h Null in
       let base : overlay db.trees [] tree ≡ db.trees tree = rw low in
       let kept : a.kept ≡ map pair (filter passing (db.trees tree)) = a.distinct ∙ ap (map (output sorted)) a.grouped ∙ found_pairs (overlay db.trees [] tree) ∙ ap (λ rs. map pair (filter passing rs)) base in
       let ordered : a.ordered ≡ os =
-      one_order by_key (on_total (λ (o : Output). column o.0 0) value_cmp_total) os a.ordered up (subst (λ c. IsSorted c a.ordered) same_cmp a.sorted)
+      one_order (in_order falls) (on_total (λ (o : Output). column o.0 0) (directed_total falls value_cmp_total)) os a.ordered up (subst (λ c. IsSorted c a.ordered) same_cmp a.sorted)
       (IsPermutation-trans _ _ _ same (subst (λ k. IsPermutation k a.ordered) kept a.same)) in
       a.shown ∙ ap (λ os. page sorted params (map (λ (o : Output). o.1) os)) ordered
 
@@ -56,7 +62,7 @@ module _ (tree : ℕ) (test shows : List Term) (place : ℕ) (limit : Term) (par
 
 module _ (tree : ℕ) (test shows : List Term) (limit : Term) (params : Row) where
   abbrev keyed : Row → Output
-  keyed = pair tree test shows 0 limit params
+  keyed = pair tree test shows 0 false limit params
 
   kept_rise : (p : Row → Bool) (rows : List Row) → IsTable rows → IsAscending (λ a b. by_key a b ≡ Less) (map keyed (filter p rows))
   kept_rise p [] up = tt
@@ -71,14 +77,14 @@ module _ (tree : ℕ) (test shows : List Term) (limit : Term) (params : Row) whe
   ]
 
   abbrev kept_in : List Row → List Row
-  kept_in = filter (passing tree test shows 0 limit params)
+  kept_in = filter (passing tree test shows 0 false limit params)
 
   -- what is shown of the rows that pass, in the order of their keys, as far as the limit goes
-  pub sure_in_order : (db : Database) (rows : List Row) → nat_le (2 ^ 31) tree ≡ false → IsTable (db.trees tree) → IsSureAnswer (sorted tree test shows 0 limit params) (overlay db.trees []) params rows
-      → rows ≡ page (sorted tree test shows 0 limit params) params (map (shown tree test shows 0 limit params) (kept_in (db.trees tree)))
+  pub sure_in_order : (db : Database) (rows : List Row) → nat_le (2 ^ 31) tree ≡ false → IsTable (db.trees tree) → IsSureAnswer (sorted tree test shows 0 false limit params) (overlay db.trees []) params rows
+      → rows ≡ page (sorted tree test shows 0 false limit params) params (map (shown tree test shows 0 false limit params) (kept_in (db.trees tree)))
   sure_in_order db rows low up h =
-      sure_sorted tree test shows 0 limit params db rows (map keyed (kept_in (db.trees tree))) low (kept_rise (passing tree test shows 0 limit params) (db.trees tree) up) (IsPermutation-refl _) h
-      ∙ ap (page (sorted tree test shows 0 limit params) params) (map-map (λ (o : Output). o.1) keyed (kept_in (db.trees tree)))
+      sure_sorted tree test shows 0 false limit params db rows (map keyed (kept_in (db.trees tree))) low (kept_rise (passing tree test shows 0 false limit params) (db.trees tree) up) (IsPermutation-refl _) h
+      ∙ ap (page (sorted tree test shows 0 false limit params) params) (map-map (λ (o : Output). o.1) keyed (kept_in (db.trees tree)))
 
 -- ---- all workunits
 

@@ -1,5 +1,5 @@
 -- What the reads ask of a world.
-use Rattle.std.specs.Prelude.{ℕ, ◌==◌, nat_lt, List, [], ◌∷◌, map, filter, find, bytes_eq, Bool, Option, option_map}
+use Rattle.std.specs.Prelude.{ℕ, zero, suc, ◌==◌, nat_lt, List, [], ◌∷◌, length, map, filter, find, bytes_eq, Bool, Option, None, Some, option_map}
 use Rattle.std.specs.List.{list_any}
 use Rattle.std.specs.Option.{option_map_or}
 use Rattle.sqlite.specs.Order.{Row}
@@ -58,3 +58,20 @@ row_above number world = option_map workunit_row (first_above number world)
 -- the rows of the instances of the workunit of this number, in order of theirs; none where it is not there
 abbrev pub instance_rows_of : ℕ → World → List Row
 instance_rows_of number world = option_map_or (λ (w : Workunit). map instance_row w.instances) (numbered number world) []
+
+-- the row of the last of so many places, which are counted from 1; none where there are none
+abbrev pub last_of : ℕ → Option Row
+last_of zero = None
+last_of (suc n) = Some (number (suc n) ∷ [])
+
+-- that of a list's places
+abbrev pub last_place : {X : Type 0} → List X → Option Row
+last_place xs = last_of (length xs)
+
+-- the row of the place of the last grant, if there is one
+abbrev pub last_grant : World → Option Row
+last_grant world = last_place world.grants
+
+-- and that of the last archived row
+abbrev pub last_archived : World → Option Row
+last_archived world = last_place world.archived

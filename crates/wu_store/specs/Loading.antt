@@ -1,5 +1,5 @@
 -- What is loaded of a project: the present workunit of a number or a name, or the first one above a number, with its
--- instances; an import; the next number.
+-- instances; an import; the next number, and the next place of a grant or of an archived row.
 use Rattle.std.specs.Prelude.{◌≡◌, ◌≢◌, ◌⊎◌, ℕ, ◌<◌, ◌^◌, All, List, [], Option, Some, None, Result, find, option_map, IfErr, IfSome, IsTrue, OnOk, MatchResult}
 use Rattle.std.specs.Option.{option_map_or}
 use Rattle.sqlite.specs.Held.{Held, state}
@@ -17,7 +17,7 @@ use Rattle.wu_schema.specs.Faults.{IsFailure}
 use Rattle.wu_schema.specs.StandsFor.{StandsFor}
 use Rattle.wu_schema.specs.Stored.{workunit_row}
 use Rattle.wu_store.specs.Answers.{first_above, named, numbered}
-use Rattle.wu_store.specs.Changes.{bare}
+use Rattle.wu_store.specs.Changes.{bare, IsNextPlace}
 use Rattle.wu_store.specs.Reading.{AreStoredInstances, AreVerdicts, IsNextNumber, IsStoredWorkunit}
 use Rattle.wu_store.specs.declared.rows.StoredImport.{StoredImport}
 
@@ -132,7 +132,7 @@ FindsOfRow row result world = (found : Option Workunit) → IsRowOf row found wo
 abbrev pub IsLoadableRow : Option Row → World → Type 0
 IsLoadableRow row world = (found : Option Workunit) × IsRowOf row found world × IsLoadable found
 
--- ---- an import, and the next number
+-- ---- an import, the next number, and the next places
 
 -- the import of this kind and name, if there was one, as it was stored
 abbrev pub IsEarlier : Option Import → Option StoredImport → Type 0
@@ -154,3 +154,11 @@ KnowsNext result world = MatchResult result (λ next. next ≡ world.next_number
 -- it is one that the next workunit may get
 abbrev pub LoadsNext : World → Type 0
 LoadsNext world = IsNextNumber world.next_number
+
+-- the place behind the world's grants is found
+abbrev pub KnowsGrantPlace : Result ℕ Fault → World → Type 0
+KnowsGrantPlace result world = MatchResult result (λ place. IsNextPlace place world.grants) IsStoreFault
+
+-- that behind its archived rows
+abbrev pub KnowsArchivedPlace : Result ℕ Fault → World → Type 0
+KnowsArchivedPlace result world = MatchResult result (λ place. IsNextPlace place world.archived) IsStoreFault

@@ -1,5 +1,5 @@
 -- How stored columns and rows read as values: exactly as those that they stand for, want of memory aside.
-use Rattle.std.specs.Prelude.{◌≡◌, ℕ, ◌+◌, ◌<◌, ◌≤◌, ◌^◌, true, List, [], ◌∷◌, length, map, All, Option, is_some, IfSome}
+use Rattle.std.specs.Prelude.{◌≡◌, ℕ, ◌+◌, ◌-◌, ◌<◌, ◌≤◌, ◌^◌, true, List, [], ◌∷◌, length, map, All, Option, is_some, IfSome}
 use Rattle.std.specs.List.{range_with_len}
 use Rattle.sqlite.specs.Order.{Row, column}
 use Rattle.wu_core.specs.declared.import.ImportKind.{ImportKind}
@@ -20,6 +20,7 @@ use Rattle.wu_core.specs.Names.{is_name}
 use Rattle.wu_core.specs.Parameters.{IsParameters}
 use Rattle.wu_core.specs.World.{last_skip}
 use Rattle.wu_schema.specs.Stored.{number, number_or_null, verdict_digits}
+use Rattle.wu_store.specs.Answers.{last_of}
 use Rattle.wu_store.specs.declared.rows.Progress.{Progress}
 use Rattle.wu_store.specs.declared.rows.Moments.{Moments}
 use Rattle.wu_store.specs.declared.rows.States.{States}
@@ -144,3 +145,11 @@ IsStoredImport kind import = AreVerdicts kind import.verdicts
 -- one more than there may be workunits ever is the number of none
 abbrev pub IsNextNumber : ℕ → Type 0
 IsNextNumber next = (1 ≤ next) × (next ≤ most_workunits + 1)
+
+-- a place that one behind all may get: places are counted from 1, and a key is at most 2^63 - 1
+abbrev pub IsPlaceToGive : ℕ → Type 0
+IsPlaceToGive place = (1 ≤ place) × (place ≤ 2 ^ 63)
+
+-- the row of the last place before this one, or none where this one is the first
+abbrev pub row_before : ℕ → Option Row
+row_before place = last_of (place - 1)

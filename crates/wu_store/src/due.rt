@@ -5,7 +5,7 @@ ghost use Rattle.sqlite.specs.Held.{state};
 ghost use Rattle.wu_core.specs.declared.fault.Fault.TheVariants.{Memory};
 ghost use Rattle.wu_core.specs.Limits.{longest_age};
 ghost use Rattle.wu_store.specs.Due.{changes, numbers_left, FindsDue, FindsFirst};
-ghost use Rattle.wu_store.specs.Loading.{AreStorable, FindsAbove, IsRead, IsStoreFault, KeepsTables, LoadsAbove, NotRefusedIn, OverWorlds, StaysUnlessFailed, WasOpen};
+ghost use Rattle.wu_store.specs.Loading.{AreStorable, FindsAbove, IsRead, IsStoreFault, KeepsTables, LoadsAbove, NotRefusedIn, OverWorlds, ServesUnlessFailed, StaysUnlessFailed, WasOpen};
 
 use crate::loading::{load, load_above};
 use sqlite::{Alter, Connection};
@@ -53,7 +53,7 @@ fn first<S: Alter>(conn: &mut Connection<S>, alloc: Global) -> Result<Option<Wor
     ensures read { IsRead (state S.Store conn.old) (state S.Store conn.new) }
     ensures same { KeepsTables S.Store conn.old conn.new result }
     ensures open { WasOpen S.Store conn.old conn.new result }
-    ensures opens { StaysUnlessFailed S.Store conn.old conn.new result }
+    ensures opens { ServesUnlessFailed S.Store conn.new result }
     ensures fault { IfErr result IsStoreFault }
     ensures found { OverWorlds S.Store conn.old conn.new (FindsFirst result) }
     ensures unrefused { NotRefusedIn S.Store conn.old conn.new result AreStorable }
@@ -102,7 +102,8 @@ fn add_if_changed(
     workunit: Workunit,
 ) -> Result<(), Fault>
     requires { min_age ≤ longest_age }
-    ensures added { IfOk result (λ _. due.new.items ≡ due.old.items ++ filter (changes pass now min_age) (workunit ∷ [])) }
+    ensures added { IfOk result (λ _.
+        due.new.items ≡ due.old.items ++ filter (changes pass now min_age) (workunit ∷ [])) }
     ensures fault { IfErr result (λ fault. fault ≡ Memory) }
 {
     if changes(pass, now, min_age, &workunit) {
@@ -128,7 +129,7 @@ pub fn load_due<S: Alter>(
     ensures read { IsRead (state S.Store conn.old) (state S.Store conn.new) }
     ensures same { KeepsTables S.Store conn.old conn.new result }
     ensures open { WasOpen S.Store conn.old conn.new result }
-    ensures opens { StaysUnlessFailed S.Store conn.old conn.new result }
+    ensures opens { ServesUnlessFailed S.Store conn.new result }
     ensures fault { IfErr result IsStoreFault }
     ensures due { OverWorlds S.Store conn.old conn.new (FindsDue pass now min_age limit result) }
     ensures few { IfOk result (λ due. length due.items ≤ limit) }

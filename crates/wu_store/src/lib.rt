@@ -11,11 +11,14 @@ mod verdicts;
 
 pub use changes::{Change, Import, apply};
 pub use due::{Pass, load_due};
-pub use loading::{import_of, load, load_above, load_named, next_number};
+pub use loading::{
+    import_of, load, load_above, load_named, next_archived_place, next_grant_place, next_number,
+};
 pub use rows::{StoredImport, import_from, instance_from, next_number_from, workunit_from};
 pub use statements::{
     delete_workunit, has_archived, has_workunit, import_rows, insert_archived, insert_grant,
-    insert_import, insert_instance, insert_workunit, instance_rows, next_number_row,
-    set_next_number, workunit_row, workunit_row_above, workunit_row_named, workunit_rows,
+    insert_import, insert_instance, insert_workunit, instance_rows, last_archived_row,
+    last_grant_row, next_number_row, set_next_number, workunit_row, workunit_row_above,
+    workunit_row_named, workunit_rows,
 };
 pub use verdicts::Verdicts;

@@ -1,14 +1,16 @@
-//! What is loaded of a project: a workunit with its instances, an import, the next number.
+//! What is loaded of a project: a workunit with its instances, an import, the next number, and the next places.
 
-ghost use Rattle.std.specs.Prelude.{◌≡◌, false, IfErr, IfOk};
+ghost use Rattle.std.specs.Prelude.{◌≡◌, ◌<◌, ◌^◌, ⊤, false, IfErr, IfOk};
 ghost use Rattle.sqlite.specs.Held.{state};
-ghost use Rattle.wu_store.specs.Loading.{FindsAbove, FindsEarlier, FindsInstances, FindsNamed, FindsNumbered, FindsOfRow, LoadsNext, LoadsInstances, LoadsImport, IsLoadableRow, IsRead, IsStoreFault, KeepsTables, KnowsNext, LoadsAbove, LoadsNamed, LoadsNumbered, NotRefusedIn, OverWorlds, ServesUnlessFailed, StaysUnlessFailed, WasOpen};
-ghost use Rattle.wu_store.specs.Reading.{IsNextNumber};
+ghost use Rattle.wu_store.specs.Loading.{FindsAbove, FindsEarlier, FindsInstances, FindsNamed, FindsNumbered, FindsOfRow, LoadsNext, LoadsInstances, LoadsImport, IsLoadableRow, IsRead, IsStoreFault, KeepsTables, KnowsArchivedPlace, KnowsGrantPlace, KnowsNext, LoadsAbove, LoadsNamed, LoadsNumbered, NotRefusedIn, OverWorlds, ServesUnlessFailed, StaysUnlessFailed, WasOpen};
+ghost use Rattle.wu_store.specs.Reading.{IsNextNumber, IsPlaceToGive};
 
-use crate::rows::{StoredImport, import_from, instances_from, next_number_from, workunit_from};
+use crate::rows::{
+    StoredImport, import_from, instances_from, next_number_from, place_behind, workunit_from,
+};
 use crate::statements::{
-    import_rows, instance_rows, next_number_row, workunit_row, workunit_row_above,
-    workunit_row_named,
+    import_rows, instance_rows, last_archived_row, last_grant_row, next_number_row, workunit_row,
+    workunit_row_above, workunit_row_named,
 };
 use sqlite::{Alter, Connection, Row};
 use std::alloc::Global;
@@ -77,6 +79,7 @@ pub fn load<S: Alter>(
     ensures same { KeepsTables S.Store conn.old conn.new result }
     ensures open { WasOpen S.Store conn.old conn.new result }
     ensures opens { StaysUnlessFailed S.Store conn.old conn.new result }
+    ensures serves { number < 2 ^ 63 → ServesUnlessFailed S.Store conn.new result }
     ensures fault { IfErr result IsStoreFault }
     ensures found { OverWorlds S.Store conn.old conn.new (FindsNumbered number result) }
     ensures unrefused { NotRefusedIn S.Store conn.old conn.new result (LoadsNumbered number) }
@@ -100,6 +103,7 @@ pub fn load_above<S: Alter>(
     ensures same { KeepsTables S.Store conn.old conn.new result }
     ensures open { WasOpen S.Store conn.old conn.new result }
     ensures opens { StaysUnlessFailed S.Store conn.old conn.new result }
+    ensures serves { number < 2 ^ 63 → ServesUnlessFailed S.Store conn.new result }
     ensures fault { IfErr result IsStoreFault }
     ensures found { OverWorlds S.Store conn.old conn.new (FindsAbove number result) }
     ensures unrefused { NotRefusedIn S.Store conn.old conn.new result (LoadsAbove number) }
@@ -174,6 +178,42 @@ pub fn next_number<S: Alter>(conn: &mut Connection<S>) -> Result<u64, Fault>
 {
     match next_number_row(conn) {
         Ok(row) => next_number_from(&row),
+        Err(error) => Err(fault_of(&error)),
+    }
+}
+
+/// The place that the next grant gets, from 1. `NotAProject` where the last row's is no place.
+pub fn next_grant_place<S: Alter>(conn: &mut Connection<S>) -> Result<u64, Fault>
+    ensures within { IfOk result IsPlaceToGive }
+    ensures mode { conn.old.in_transaction ≡ false → conn.new.in_transaction ≡ false }
+    ensures read { IsRead (state S.Store conn.old) (state S.Store conn.new) }
+    ensures same { KeepsTables S.Store conn.old conn.new result }
+    ensures open { WasOpen S.Store conn.old conn.new result }
+    ensures opens { ServesUnlessFailed S.Store conn.new result }
+    ensures fault { IfErr result IsStoreFault }
+    ensures place { OverWorlds S.Store conn.old conn.new (KnowsGrantPlace result) }
+    ensures unrefused { NotRefusedIn S.Store conn.old conn.new result (λ _. ⊤) }
+{
+    match last_grant_row(conn) {
+        Ok(row) => place_behind(row),
+        Err(error) => Err(fault_of(&error)),
+    }
+}
+
+/// The place that the next archived workunit gets, from 1. `NotAProject` where the last row's is no place.
+pub fn next_archived_place<S: Alter>(conn: &mut Connection<S>) -> Result<u64, Fault>
+    ensures within { IfOk result IsPlaceToGive }
+    ensures mode { conn.old.in_transaction ≡ false → conn.new.in_transaction ≡ false }
+    ensures read { IsRead (state S.Store conn.old) (state S.Store conn.new) }
+    ensures same { KeepsTables S.Store conn.old conn.new result }
+    ensures open { WasOpen S.Store conn.old conn.new result }
+    ensures opens { ServesUnlessFailed S.Store conn.new result }
+    ensures fault { IfErr result IsStoreFault }
+    ensures place { OverWorlds S.Store conn.old conn.new (KnowsArchivedPlace result) }
+    ensures unrefused { NotRefusedIn S.Store conn.old conn.new result (λ _. ⊤) }
+{
+    match last_archived_row(conn) {
+        Ok(row) => place_behind(row),
         Err(error) => Err(fault_of(&error)),
     }
 }

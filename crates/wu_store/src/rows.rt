@@ -10,7 +10,7 @@ ghost use Rattle.wu_core.specs.Parameters.{IsParameters};
 ghost use Rattle.wu_core.specs.World.{last_skip};
 ghost use Rattle.wu_schema.specs.Stored.{instance_row, number, number_or_null, text_or_null, parameter_cells, verdict_digits, workunit_row};
 ghost use Rattle.wu_schema.specs.Restoring.{Restores};
-ghost use Rattle.wu_store.specs.Reading.{assimilate_cell, file_delete_cell, mask_cell, outcome_cell, server_state_cell, validate_state_cell, verdicts_cell, IsOutput, columns, progress_cells, IsInput, IsMoment, IsName, IsPlace, IsProgress, IsStoredWorkunit, AreVerdicts, IsNextNumber, IsStoredImport, stored_import_row, AreMoments, AreStoredInstances, IsDeadline, IsHost, IsStoredInstance, MayBeInstance, moment_cells, state_cells};
+ghost use Rattle.wu_store.specs.Reading.{assimilate_cell, file_delete_cell, mask_cell, outcome_cell, server_state_cell, validate_state_cell, verdicts_cell, IsOutput, columns, progress_cells, IsInput, IsMoment, IsName, IsPlace, IsProgress, IsStoredWorkunit, AreVerdicts, IsNextNumber, IsStoredImport, stored_import_row, AreMoments, AreStoredInstances, IsDeadline, IsHost, IsPlaceToGive, IsStoredInstance, MayBeInstance, moment_cells, row_before, state_cells};
 
 use sqlite::Row;
 use sqlite::types::ValueRef;
@@ -425,4 +425,23 @@ pub fn next_number_from(row: &Row) -> Result<u64, Fault>
     } else {
         Err(Fault::NotAProject)
     }
+}
+
+/// The place behind the last one, whose row this is; where there is none, the first, which is 1.
+/// `NotAProject` where the row has no place.
+pub fn place_behind(last: Option<Row>) -> Result<u64, Fault>
+    ensures reads { Restores row_before (λ place. 1 ≤ place) last result }
+    ensures within { IfOk result IsPlaceToGive }
+{
+    let Some(row) = last else {
+        return Ok(1);
+    };
+    if row.column_count() != 1 {
+        return Err(Fault::NotAProject);
+    }
+    let place: i64 = read_column(&row, 0)?;
+    if place < 1 {
+        return Err(Fault::NotAProject);
+    }
+    Ok(place as u64 + 1)
 }

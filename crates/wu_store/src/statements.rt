@@ -4,7 +4,7 @@ ghost use Rattle.std.specs.Prelude.{◌≡◌, ◌<◌, ◌≤◌, ◌^◌, [], 
 ghost use Rattle.wu_store.specs.Changing.{import_of_change};
 ghost use Rattle.wu_store.specs.Changes.{bare, with_placed, without_workunit, with_import, with_next, AddsArchived, AddsGrant, AddsInstance, Credits, PutsGrant, WasFree};
 ghost use Rattle.wu_schema.specs.Calls.{Reads, Answers, AnswersRows, OnlyFails, ServesAfter, StaysAfter, Writes, Does, Changes};
-ghost use Rattle.wu_store.specs.Answers.{all_rows, has_name, instance_rows_of, kept_of, next_row, row_above, row_named, row_numbered, was_archived};
+ghost use Rattle.wu_store.specs.Answers.{all_rows, has_name, instance_rows_of, kept_of, last_archived, last_grant, next_row, row_above, row_named, row_numbered, was_archived};
 
 use crate::changes::Import;
 use sqlite::{Alter, Connection, Error, Row, Transaction, params};
@@ -132,6 +132,7 @@ pub fn workunit_row<S: Alter>(conn: &mut Connection<S>, number: u64) -> Result<O
     ensures answers { Answers S.Store conn.old conn.new result (row_numbered number) }
     ensures told { number < 2 ^ 63 → OnlyFails S.Store conn.old conn.new result }
     ensures serves { StaysAfter S.Store conn.old conn.new result }
+    ensures asked { number < 2 ^ 63 → ServesAfter S.Store conn.old conn.new result }
 {
     let number = match signed(number) {
         Ok(number) => number,
@@ -173,6 +174,7 @@ pub fn workunit_row_above<S: Alter>(
     ensures answers { Answers S.Store conn.old conn.new result (row_above number) }
     ensures told { number < 2 ^ 63 → OnlyFails S.Store conn.old conn.new result }
     ensures serves { StaysAfter S.Store conn.old conn.new result }
+    ensures asked { number < 2 ^ 63 → ServesAfter S.Store conn.old conn.new result }
 {
     let number = match signed(number) {
         Ok(number) => number,
@@ -204,6 +206,31 @@ pub fn instance_rows<S: Alter>(conn: &mut Connection<S>, workunit: u64) -> Resul
         "SELECT server_state, outcome, validate_state, file_delete, host, sent_at, deadline, received_at, output FROM result WHERE workunit = ?1 ORDER BY n",
         params![workunit],
     )
+}
+
+/// The row of the last grant's place, or none.
+pub fn last_grant_row<S: Alter>(conn: &mut Connection<S>) -> Result<Option<Row>, Error>
+    ensures reads { Reads S.Store conn.old conn.new result }
+    ensures answers { Answers S.Store conn.old conn.new result last_grant }
+    ensures told { OnlyFails S.Store conn.old conn.new result }
+    ensures serves { ServesAfter S.Store conn.old conn.new result }
+{
+    let mut found = conn.query_all(
+        "SELECT seq FROM credit_grant ORDER BY seq DESC LIMIT 1",
+        &[],
+    )?;
+    Ok(found.pop())
+}
+
+/// The row of the last archived workunit's place, or none.
+pub fn last_archived_row<S: Alter>(conn: &mut Connection<S>) -> Result<Option<Row>, Error>
+    ensures reads { Reads S.Store conn.old conn.new result }
+    ensures answers { Answers S.Store conn.old conn.new result last_archived }
+    ensures told { OnlyFails S.Store conn.old conn.new result }
+    ensures serves { ServesAfter S.Store conn.old conn.new result }
+{
+    let mut found = conn.query_all("SELECT seq FROM archived ORDER BY seq DESC LIMIT 1", &[])?;
+    Ok(found.pop())
 }
 
 /// Adds the row of a workunit at its place in order of number, without its instances. The table's key refuses a number

@@ -1,7 +1,7 @@
 //! Lists and batches over two files in memory, where the calls on one of them stop, after each number of calls in turn.
 //!
 //! What is found after a list is a beginning of it, with every acknowledged command; a connection that such a fault
-//! leaves open is adopted again, over the tables from before.
+//! leaves open is adopted again, over the tables from before; what is left of an opening is opened again, over them too.
 
 use crate::disks::{MOST_CALLS, Side, copies, empty_files, files_of};
 use crate::lives::{FIRST_ADDED, SECOND_JOB, begun, resumed};
@@ -14,7 +14,7 @@ use sqlite_disk::{Crash, Disk, Fuse, Memory};
 use std::process::Abort;
 use wu_core::{Fault, ImportKind};
 use wu_drive::{Command, Project, Run, drive};
-use wu_lives::{drive_stop_and_open, open_and_adopt};
+use wu_lives::{drive_stop_and_open, open_and_adopt, stop_and_open_left};
 
 /// A list of three imports, and what stands after so many of them.
 #[derive(Clone, Copy, Drop)]
@@ -285,4 +285,64 @@ fn a_connection_is_adopted_again_after_a_fault_within_a_transaction(rt: HostRunt
     let mut project = begun(&rt, empty_files(&rt));
     imports(&rt, &mut project, "b1", ONE_JOB, FIRST_ADDED);
     assert!(rt; is_ever_kept(&rt, &files_of(&rt, project)));
+}
+
+/// Sees that the project shows these workunits, and takes the first batch, again where it has it.
+fn takes_batch<S: Alter + Drop>(
+    rt: &(impl Abort + AllocGlobal),
+    mut project: Project<S>,
+    shown: &str,
+) {
+    shows(rt, &mut project, shown);
+    imports(rt, &mut project, "b1", ONE_JOB, FIRST_ADDED);
+    shows(rt, &mut project, ONE_WORKUNIT);
+}
+
+/// Opens files until their calls stop, and what is left of them after a stop; whether the calls stopped.
+fn cuts_an_opening<D: Crash + Drop>(
+    rt: &(impl Abort + AllocGlobal),
+    files: Files<D>,
+    shown: &str,
+) -> bool {
+    assert!(rt; files.may_be_used());
+    match Connection::open_files(rt.alloc(), files, Options::new(1)) {
+        Ok(_) => false,
+        Err((_, left)) => {
+            let again = stop_and_open_left(rt.alloc(), left, Options::new(2));
+            takes_batch(rt, again.expect(rt, "a project"), shown);
+            true
+        }
+    }
+}
+
+/// Cuts the opening after each number of calls on this file, up to one that it does not reach.
+fn cuts_each_opening(
+    rt: &(impl Abort + AllocGlobal),
+    files: &Files<Fuse<Memory>>,
+    side: Side,
+    shown: &str,
+) {
+    for calls in 0..MOST_CALLS {
+        if !cuts_an_opening(rt, copies(rt, files, side, calls), shown) {
+            assert!(rt; calls > 0);
+            return;
+        }
+    }
+    panic!(rt; "the calls go on")
+}
+
+/// Cuts the opening on either file.
+fn cuts_openings(rt: &(impl Abort + AllocGlobal), files: &Files<Fuse<Memory>>, shown: &str) {
+    cuts_each_opening(rt, files, Side::Log, shown);
+    cuts_each_opening(rt, files, Side::Database, shown);
+}
+
+#[test]
+fn what_an_opening_leaves_is_opened_again(rt: HostRuntime) {
+    cuts_openings(&rt, &empty_files(&rt), "");
+    let mut project = begun(&rt, empty_files(&rt));
+    imports(&rt, &mut project, "b1", ONE_JOB, FIRST_ADDED);
+    let with_log = project.release().into_store().close();
+    cuts_openings(&rt, &with_log, ONE_WORKUNIT);
+    cuts_openings(&rt, &one_made(&rt, empty_files(&rt)), ONE_WORKUNIT);
 }

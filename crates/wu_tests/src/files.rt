@@ -19,7 +19,7 @@ const TABLES: [&str; 7] = [
     "SELECT kind || ' ' || name || ' ' || hex(template) || ' ' || hex(content) || ' ' || first_number || ' ' || verdicts FROM import ORDER BY kind, name",
     "SELECT seq || ' ' || workunit || ' ' || n || ' ' || host || ' ' || credit FROM credit_grant ORDER BY seq",
     "SELECT name || ' ' || total || ' ' || grants FROM host ORDER BY name",
-    "SELECT seq || ' ' || number || ' ' || name FROM archived ORDER BY seq",
+    "SELECT seq || ' ' || number || ' ' || name || ' ' || error_mask || ' ' || coalesce(canonical, '-') || ' ' || hex(output) || ' ' || done_at FROM archived ORDER BY seq",
 ];
 
 /// Two workunits.
@@ -68,7 +68,7 @@ fn has(rt: &(impl Abort + AllocGlobal), conn: &mut Connection<MemStore>, instanc
 }
 
 /// All that stands in the tables.
-fn tables(rt: &(impl Abort + AllocGlobal), conn: &mut Connection<MemStore>) -> String {
+pub fn tables(rt: &(impl Abort + AllocGlobal), conn: &mut Connection<MemStore>) -> String {
     let mut text = String::new(rt.alloc());
     for sql in &TABLES {
         let rows = lines(rt, conn, *sql);

@@ -1,5 +1,5 @@
-//! Tests of whole projects: the worked examples of a batch, of files of sends and of reports and of a cancel, what stands in a
-//! database that is adopted, what a stop of a file's calls leaves, lives of a batch each, what is flushed, and what is as long as it may be.
+//! Tests of whole projects: the worked examples of files, of passes and of a cancel; what stands in a database that is
+//! adopted; what a stop of a command's calls leaves; lives; what is flushed; and what is as long as it may be.
 #![tactic(auto)]
 
 #[cfg(test)]
@@ -7,7 +7,11 @@ mod adoption;
 #[cfg(test)]
 mod batches;
 #[cfg(test)]
+mod bounds;
+#[cfg(test)]
 mod cancels;
+#[cfg(test)]
+mod cut_passes;
 #[cfg(test)]
 mod cuts;
 #[cfg(test)]
@@ -20,6 +24,12 @@ mod instances;
 mod limits;
 #[cfg(test)]
 mod lives;
+#[cfg(test)]
+mod passes;
+#[cfg(test)]
+mod purges;
+#[cfg(test)]
+mod scripts;
 #[cfg(test)]
 mod setting;
 #[cfg(test)]

@@ -8,8 +8,8 @@ use std::process::Abort;
 use wu_core::{Archived, ErrorMask, Fault, Grant, ImportKind, Instance, Moment, Workunit};
 use wu_store::{
     Change, apply, delete_workunit, import_of, insert_archived, insert_grant, insert_instance,
-    instance_rows, load, load_above, load_named, next_number, workunit_row_above,
-    workunit_row_named,
+    instance_rows, load, load_above, load_named, next_archived_place, next_grant_place,
+    next_number, workunit_row_above, workunit_row_named,
 };
 
 /// The jobs file of two workunits.
@@ -393,4 +393,22 @@ fn an_import_and_the_next_number_are_found(rt: HostRuntime) {
     );
     assert!(rt; other.is_none());
     assert_eq!(rt; next_number(&mut conn).expect(&rt, "a number"), 3);
+}
+
+#[test]
+fn the_next_grant_is_behind_those_that_are_there(rt: HostRuntime) {
+    let mut conn = two_jobs(&rt);
+    assert_eq!(rt; next_grant_place(&mut conn).expect(&rt, "a place"), 1);
+    assert!(rt; granted(&rt, &mut conn, 0, "h1", 3));
+    assert!(rt; granted(&rt, &mut conn, 1, "h2", 3));
+    assert_eq!(rt; next_grant_place(&mut conn).expect(&rt, "a place"), 3);
+}
+
+#[test]
+fn the_next_archived_workunit_is_behind_those_that_are_there(rt: HostRuntime) {
+    let mut conn = two_jobs(&rt);
+    assert_eq!(rt; next_archived_place(&mut conn).expect(&rt, "a place"), 1);
+    archives(&rt, &mut conn, 1, 1, "job_1");
+    archives(&rt, &mut conn, 2, 2, "job_2");
+    assert_eq!(rt; next_archived_place(&mut conn).expect(&rt, "a place"), 3);
 }

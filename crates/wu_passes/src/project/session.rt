@@ -3,11 +3,11 @@
 ghost use Rattle.std.specs.Prelude.{◌≡◌, ◌<◌, ◌≤◌, ℕ, true, false, Err, IfErr, IfOk, IsErrAnd, IsTrue, OnOk};
 ghost use Rattle.sqlite.specs.State.{HasCleanDisk};
 ghost use Rattle.sqlite.specs.Held.{state};
-ghost use Rattle.wu_passes.specs.Machine.{present_version};
+ghost use Rattle.wu_passes.specs.Machine.{has_right_limits, HasMoment, present_version};
 ghost use Rattle.wu_passes.specs.Planning.{IsProject, NeverEnded, OpenOrFails, PlansFor, request_of};
 ghost use Rattle.wu_store.specs.Loading.{IsRead, KeepsTables, NotRefusedIn, OverWorlds, ServesUnlessFailed};
-ghost use Rattle.wu_passes.specs.Standing.{FindsKnown, FindsWorld, GoesBackRefused, IsCutBy, KeepsDoubt, KeepsFound, KeepsWhole, LeavesFresh, MakesBeside, MakesFresh, MayEnd, RefusesOnly, RefusesWhole, TellsLater, TellsStored};
-ghost use Rattle.wu_passes.specs.Projects.{AdoptsBeside, AdoptsFresh, AdoptsKnown, AdoptsWhole, AdoptsWorld, AnswersEnded, CarriesOut, ComesBack, connection_of, DoubtsStill, GivesBack, GoesStill, has_ended, IsLater, IsOpen, IsOver, IsUnlimited, KeepsLimit, RefusesAdoption, RefusesStanding, RunsOn, ServesAgain, ServesOn, state_of, TellsStoredLater, TellsWhy};
+ghost use Rattle.wu_passes.specs.Standing.{FindsKnown, FindsWorld, GoesBackRefused, IsCutBy, KeepsDoubt, KeepsFound, KeepsWhole, LeavesFresh, MakesBeside, MakesFresh, MayEnd, RefusesOnly, RefusesWhole, TellsStored};
+ghost use Rattle.wu_passes.specs.Projects.{AdoptsBeside, AdoptsFresh, AdoptsKnown, AdoptsWhole, AdoptsWorld, AnswersEnded, CarriesOut, ComesBack, connection_of, DoubtsStill, GivesBack, GoesStill, has_ended, IsLater, IsOpen, IsOver, IsUnlimited, KeepsLimit, KeepsProjects, NeedsOpen, PlansOn, ReadsUnrefused, RefusesAdoption, RefusesLimit, RefusesStanding, RunsOn, ServesAgain, ServesOn, ServesRight, state_of, StaysUnchanged, TellsStoredLater, TellsWhy};
 
 use crate::batch::plan_batch;
 use crate::cancel::plan_cancel;
@@ -15,24 +15,14 @@ use crate::command::{Answer, Command};
 use crate::commit::change_all;
 use crate::files::{plan_reported, plan_sent};
 use crate::imports::Plan;
+use crate::passes::{Ask, plan_pass};
 use crate::project::Project;
+use crate::upgrade::{check_version, plan_upgrade};
 use sqlite::{Alter, Connection};
 use std::alloc::Global;
 use wu_core::Fault;
-use wu_schema::{PRESENT_VERSION, create, version_of};
+use wu_schema::{create, version_of};
 use wu_store::Change;
-
-/// Whether the project is of a version that this program knows.
-fn check_version(version: u64) -> Result<(), Fault>
-    ensures known { OnOk result (version ≤ present_version) }
-    ensures later { IfErr result (TellsLater version) }
-{
-    if version > PRESENT_VERSION {
-        Err(Fault::NewSchema(version))
-    } else {
-        Ok(())
-    }
-}
 
 /// Finds the project of the database, or makes a fresh one where none of its tables is there.
 fn find_or_create<S: Alter>(conn: &mut Connection<S>) -> Result<(), Fault>
@@ -61,12 +51,32 @@ fn find_or_create<S: Alter>(conn: &mut Connection<S>) -> Result<(), Fault>
     }
 }
 
+/// Whether the limit and the least age of a pass are in range. Any other command has none.
+fn has_right_limits(command: &Command) -> bool
+    ensures right { result ≡ has_right_limits (request_of command.now) }
+    ensures moment { HasMoment (request_of command.now) }
+{
+    match command {
+        Command::Transition { now, limit } => Ask::transition(*now, *limit).is_right(),
+        Command::Validate { limit } => Ask::validate(*limit).is_right(),
+        Command::Assimilate { now, limit } => Ask::assimilate(*now, *limit).is_right(),
+        Command::Delete { limit } => Ask::delete(*limit).is_right(),
+        Command::Purge {
+            now,
+            limit,
+            min_age,
+        } => Ask::purge(*now, *limit, *min_age).is_right(),
+        _ => true,
+    }
+}
+
 /// What a command will answer and what it changes, or its first refusal.
 fn plan<'a, S: Alter>(
     conn: &mut Connection<S>,
     alloc: Global,
     command: &'a Command,
 ) -> Result<Plan<'a>, Fault>
+    requires { has_right_limits (request_of command.now) ≡ true }
     ensures mode { conn.old.in_transaction ≡ false → conn.new.in_transaction ≡ false }
     ensures read { IsRead (state S.Store conn.old) (state S.Store conn.new) }
     ensures same { KeepsTables S.Store conn.old conn.new result }
@@ -80,7 +90,25 @@ fn plan<'a, S: Alter>(
         Command::Batch(batch) => plan_batch(conn, alloc, batch),
         Command::Sent(file) => plan_sent(conn, alloc, file),
         Command::Reported(file) => plan_reported(conn, alloc, file),
+        Command::Transition { now, limit } => plan_pass(
+            conn,
+            alloc,
+            &Ask::transition(*now, *limit),
+        ),
+        Command::Validate { limit } => plan_pass(conn, alloc, &Ask::validate(*limit)),
+        Command::Assimilate { now, limit } => plan_pass(
+            conn,
+            alloc,
+            &Ask::assimilate(*now, *limit),
+        ),
+        Command::Delete { limit } => plan_pass(conn, alloc, &Ask::delete(*limit)),
+        Command::Purge {
+            now,
+            limit,
+            min_age,
+        } => plan_pass(conn, alloc, &Ask::purge(*now, *limit, *min_age)),
         Command::Cancel { workunit } => plan_cancel(conn, alloc, workunit),
+        Command::Upgrade => plan_upgrade(conn, alloc),
     }
 }
 
@@ -141,7 +169,8 @@ impl<S: Alter> Project<S> {
 
     /// Runs a command: its changes in one transaction, then its answer.
     ///
-    /// All is computed before the transaction begins. A fault before it changes nothing; only `Broken` ends the session
+    /// A pass whose limit or least age is out of range is `BadLimit`, before anything is read. All is computed before the
+    /// transaction begins. A fault before it changes nothing; only `Broken` ends the session
     /// there. A statement that is refused within it is `NotAProject`, and is rolled back. `Memory` and `Broken` from
     /// within end the session. After every other fault the connection is open.
     pub fn run(&mut self, alloc: Global, command: &Command) -> Result<Answer, Fault>
@@ -149,8 +178,10 @@ impl<S: Alter> Project<S> {
         ensures clean { KeepsDoubt (state_of self.old) (state_of self.new) }
         ensures ends { GoesStill self.old → IsOver self.new → IsErrAnd result MayEnd }
         ensures broken { GoesStill self.old → result ≡ Err Fault.Broken → IsOver self.new }
-        ensures opens { GoesStill self.old → ServesOn self.new result }
+        ensures opens { GoesStill self.old → ServesRight self.new command.now result }
+        ensures refused { GoesStill self.old → RefusesLimit self.old self.new command.now result }
         ensures limit { KeepsLimit self.old self.new }
+        ensures keeps { GoesStill self.old → KeepsProjects (request_of command.now) }
         ensures never { GoesStill self.old → NeverEnded result }
         ensures runs { GoesStill self.old → RunsOn self.old self.new command.now result }
         ensures why { GoesStill self.old → TellsWhy self.old self.new command.now result }
@@ -158,8 +189,34 @@ impl<S: Alter> Project<S> {
         if self.has_ended {
             return Err(Fault::Ended);
         }
-        match plan(&mut self.conn, alloc, command) {
+        if !has_right_limits(command) {
+            return Err(Fault::BadLimit);
+        }
+        match self.prepare(alloc, command) {
             Ok(Plan { answer, changes }) => self.carry_out(answer, changes.as_slice()),
+            Err(refusal) => Err(refusal),
+        }
+    }
+
+    /// What a command will answer and what it changes: all of it that comes before its transaction.
+    ///
+    /// A failure of the disk ends the session here, and nothing else does: not want of memory, whatever the command.
+    fn prepare<'a>(&mut self, alloc: Global, command: &'a Command) -> Result<Plan<'a>, Fault>
+        requires still { GoesStill self.old }
+        requires right { has_right_limits (request_of command.now) ≡ true }
+        ensures ends { IsOver self.new → result ≡ Err Fault.Broken }
+        ensures broken { result ≡ Err Fault.Broken → IsOver self.new }
+        ensures read { IsRead (state_of self.old) (state_of self.new) }
+        ensures limit { KeepsLimit self.old self.new }
+        ensures same { StaysUnchanged self.old self.new result }
+        ensures open { NeedsOpen self.old self.new result }
+        ensures opens { ServesOn self.new result }
+        ensures never { NeverEnded result }
+        ensures unrefused { ReadsUnrefused self.old self.new result }
+        ensures plan { PlansOn self.old self.new command.now result }
+    {
+        match plan(&mut self.conn, alloc, command) {
+            Ok(plan) => Ok(plan),
             Err(fault) => {
                 if fault != Fault::Broken {
                     return Err(fault);
@@ -187,8 +244,12 @@ impl<S: Alter> Project<S> {
         }
         match change_all(&mut self.conn, changes) {
             Ok(()) => Ok(answer),
-            Err(Fault::NotAProject) => Err(Fault::NotAProject),
+            Err(Fault::NotAProject) => {
+                drop(answer);
+                Err(Fault::NotAProject)
+            }
             Err(fault) => {
+                drop(answer);
                 self.has_ended = true;
                 Err(fault)
             }

@@ -6,7 +6,7 @@ use Rattle.std.proofs.lemmas.Bool.{cases_Bool}
 use Rattle.wu_core.specs.declared.fault.Fault.{Fault}
 use Rattle.wu_core.specs.declared.fault.Fault.TheVariants.{Broken, Output}
 use Rattle.wu_drive.proofs.AnswerLemmas.{all_written, answers_text-more, last_cut}
-use Rattle.wu_drive.proofs.DrivingLemmas.{driving_more, driving_none, drives_cut, drives_so_far, not_done, one_fault}
+use Rattle.wu_drive.proofs.DrivingLemmas.{driving_more, driving_none, drives_cut, drives_so_far, not_done, one_fault, serves_done, serves_or_rests}
 use Rattle.wu_drive.proofs.LifeLemmas.{lengthens}
 use Rattle.wu_passes.specs.Sessions.{world_of_life}
 use Rattle.wu_passes.specs.Projects.{has_ended, state_of}
@@ -21,7 +21,7 @@ returns-in-Err-clause-answers g c =
       λ going clean world project goes.
           let before : HasCleanDisk (state_of c.loop-command.project) = omega (arith, c.run.ensures.clean) in
           let so_far = driving going before world project goes in
-          drives_cut world c.args.commands.now answers c.loop-command.command-index _ _ so_far c.command-item.result c.command-item.result c.loop-command-test.true (sym c.command-item.is) c.in-Err.fault _ _ _ index refl
+          drives_cut world c.args.commands.now answers c.loop-command.command-index _ _ so_far c.command-item.result c.command-item.result c.loop-command-test.true (sym c.command-item.is) (c.run.ensures.keeps so_far.going) c.in-Err.fault _ _ _ index refl
           (c.in-Err.ensures.runs so_far.going clean _ so_far.project so_far.goes),
     )
 
@@ -36,7 +36,7 @@ returns-in-Err-write_answer-clause-answers g c =
           let so_far = driving going before world project goes in
           drives_so_far world c.args.commands.now (answers ++ answer ∷ []) (c.loop-command.command-index + 1) _ _ _ (omega (arith, c.loop-command-test.true)) (ap (λ k. k + 1) index)
           (λ fault told. (one_fault fault Output (sym told ∙ ap Some c.in-Err-write_answer.ensures.fault), omega arith))
-          (driving_more world c.args.commands.now answers c.loop-command.command-index _ _ so_far c.command-item.result c.command-item.result c.loop-command-test.true (sym c.command-item.is) answer _ _
+          (driving_more world c.args.commands.now answers c.loop-command.command-index _ _ so_far c.command-item.result c.command-item.result c.loop-command-test.true (sym c.command-item.is) (c.run.ensures.keeps so_far.going) answer _ _
           (c.in-Ok.ensures.runs so_far.going clean _ so_far.project so_far.goes)),
     )
 
@@ -56,7 +56,7 @@ loop-command-preserved g c =
       λ going. elim (cases_Bool (has_ended c.run.new.self)) [ inl over ↦ absurd (c.in-Ok.ensures.ends (goes_still going) over) | inr still ↦ still ],
       c.run.ensures.limit ∙ limited,
       omega (arith, kept_clean, c.run.ensures.clean),
-      λ going was clean. c.in-Ok.ensures.opens (goes_still going) clean,
+      λ going was clean. serves_done c.loop-command.project c.run.new.self c.command-item.result c.run.result (c.run.ensures.opens (goes_still going)) (c.run.ensures.refused (goes_still going)) answer c.in-Ok.is clean,
       (
         answers ++ answer ∷ [],
         longer,
@@ -64,7 +64,7 @@ loop-command-preserved g c =
         λ going clean world project goes.
             let before : HasCleanDisk (state_of c.loop-command.project) = omega (arith, c.run.ensures.clean) in
             let so_far = driving going before world project goes in
-            driving_more world c.args.commands.now answers c.loop-command.command-index _ _ so_far c.command-item.result c.command-item.result c.loop-command-test.true (sym c.command-item.is) answer _ _
+            driving_more world c.args.commands.now answers c.loop-command.command-index _ _ so_far c.command-item.result c.command-item.result c.loop-command-test.true (sym c.command-item.is) (c.run.ensures.keeps so_far.going) answer _ _
             (c.in-Ok.ensures.runs so_far.going clean _ so_far.project so_far.goes),
       ),
     )
@@ -139,12 +139,15 @@ returns-clause-why g c going clean unlimited world project goes fault told = abs
 pub returns-in-Err-clause-opens : goal.returns-in-Err-clause-opens
 returns-in-Err-clause-opens g c going was clean =
     let (index, was_ended, goes_still, limited, kept_clean, opened, (answers, counted, whole, driving)) = c.loop-command.invariant in
-    elim (c.in-Err.ensures.opens (goes_still going) clean) [ inl failed ↦ inl (c.in-Err.fault, refl, failed) | inr still ↦ inr still ]
+    elim (serves_or_rests c.loop-command.project c.run.new.self c.command-item.result c.run.result (c.run.ensures.opens (goes_still going)) (c.run.ensures.refused (goes_still going)) c.in-Err.fault c.in-Err.is (opened going was) clean) [
+      | inl failed ↦ inl (c.in-Err.fault, refl, failed)
+      | inr still ↦ inr still
+    ]
 
 pub returns-in-Err-write_answer-clause-opens : goal.returns-in-Err-write_answer-clause-opens
 returns-in-Err-write_answer-clause-opens g c going was clean =
     let (index, was_ended, goes_still, limited, kept_clean, opened, (answers, counted, whole, driving)) = c.loop-command.invariant in
-    inr (c.in-Ok.ensures.opens (goes_still going) clean)
+    inr (serves_done c.loop-command.project c.run.new.self c.command-item.result c.run.result (c.run.ensures.opens (goes_still going)) (c.run.ensures.refused (goes_still going)) c.in-Ok.answer c.in-Ok.is clean)
 
 pub returns-clause-opens : goal.returns-clause-opens
 returns-clause-opens g c going was clean =

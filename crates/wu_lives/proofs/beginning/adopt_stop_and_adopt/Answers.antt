@@ -1,10 +1,10 @@
-use Rattle.std.proofs.Common.{rules, ◌≡◌, sym, subst, arith, ◌∙◌, inl, inr}
-use Rattle.std.proofs.Math.Logic.{∥∥₁_elim, ∥∥₁_map}
+use Rattle.std.proofs.Common.{sym, subst, arith, ◌∙◌, inl, inr}
+use Rattle.std.proofs.Math.Logic.{∥∥₁_map}
 use Rattle.sqlite.specs.Files.{file_state, over_files}
 use Rattle.sqlite.specs.State.{HasCleanDisk}
-use Rattle.wu_core.specs.World.{World, empty_world}
+use Rattle.wu_core.specs.World.{empty_world}
 use Rattle.wu_drive.proofs.DrivingLemmas.{empty_project}
-use Rattle.wu_passes.specs.Standing.{GoesOn, KeepsDoubt, LeavesAlso, LeavesFresh}
+use Rattle.wu_passes.specs.Standing.{GoesOn, KeepsDoubt, LeavesFresh}
 use Rattle.wu_lives.proofs.BeginningLemmas.{found_standing, vacant_or_fresh}
 use Rattle.wu_lives.proofs.beginning.adopt_stop_and_adopt.Goals.{in-Ok, in-Err}
 use Rattle.wu_lives.proofs.beginning.adopt_stop_and_adopt.Goals as goal

@@ -1,4 +1,4 @@
-use Rattle.std.proofs.Common.{◌≡◌, ◌∙◌, inl, inr, Some, None, sym}
+use Rattle.std.proofs.Common.{◌≡◌, ◌∙◌, inl, inr, Some, sym}
 use Rattle.sqlite.specs.Held.{state}
 use Rattle.wu_passes.specs.Worlds.{workunit_named}
 use Rattle.wu_passes.proofs.CancelLemmas.{cancel_planned, cancel_unknown}

@@ -2,7 +2,7 @@ use Rattle.wu_schema.proofs.Words.{Text, [], ap, bound_value, import_kind_code, 
 use Rattle.wu_store.specs.Answers.{kept_of}
 use Rattle.wu_schema.proofs.Parts.{Imports}
 use Rattle.wu_store.proofs.SelectTexts.{import_asked, import_fits}
-use Rattle.wu_store.proofs.AskLemmas.{asked_all}
+use Rattle.wu_store.proofs.AskLemmas.{question, asked_all}
 use Rattle.wu_schema.proofs.InsertEffect.{also, no_more}
 use Rattle.wu_store.proofs.ReadAnswers.{import_found}
 use Rattle.wu_store.proofs.statements.import_rows.Goals as goal
@@ -13,6 +13,6 @@ returns g c =
     let new = c.query_all.new.self in
     let q = c.query_all.ensures in
     let given = also (ap bound_value c.params-to_sql.ensures ∙ ap number c.code.ensures) (also (ap bound_value c.params-to_sql-2.ensures ∙ ap (λ t. Text t) c.as_str.ensures) no_more) in
-    let it = asked_all g.S.Store Imports (λ _. tt) import_asked import_fits old new _ (number (import_kind_code c.args.kind) ∷ Text c.args.name.now ∷ []) given refl (λ _. refl) q.mode q.survives
+    let it = asked_all g.S.Store (question Imports (λ _. tt) import_asked import_fits (number (import_kind_code c.args.kind) ∷ Text c.args.name.now ∷ []) refl (λ _. refl)) old new _ given q.mode q.survives
     (λ rows world. rows ≡ kept_of c.args.kind c.args.name.now world) (λ rows h world s. import_found (state g.S.Store old) (state g.S.Store new) world s c.args.kind c.args.name.now rows h) c.query_all.result q.ok q.err in
     record { reads = it.reads; answers = it.answers; told = it.told; serves = it.serves }

@@ -2,7 +2,7 @@ use Rattle.wu_schema.proofs.Words.{[], refl, state, ◌≡◌}
 use Rattle.wu_store.specs.Answers.{all_rows}
 use Rattle.wu_schema.proofs.Parts.{Workunits}
 use Rattle.wu_store.proofs.SelectTexts.{all_asked, all_fits}
-use Rattle.wu_store.proofs.AskLemmas.{asked_all}
+use Rattle.wu_store.proofs.AskLemmas.{question, asked_all}
 use Rattle.wu_store.proofs.OrderAnswers.{workunits_found}
 use Rattle.wu_store.proofs.statements.workunit_rows.Goals as goal
 
@@ -11,6 +11,6 @@ returns g c =
     let old = c.args.conn.now in
     let new = c.query_all.new.self in
     let q = c.query_all.ensures in
-    let it = asked_all g.S.Store Workunits (λ _. tt) all_asked all_fits old new [] [] refl refl (λ _. refl) q.mode q.survives (λ rows world. rows ≡ all_rows world)
+    let it = asked_all g.S.Store (question Workunits (λ _. tt) all_asked all_fits [] refl (λ _. refl)) old new [] refl q.mode q.survives (λ rows world. rows ≡ all_rows world)
     (λ rows h world s. workunits_found (state g.S.Store old) (state g.S.Store new) world s rows h) c.query_all.result q.ok q.err in
     record { reads = it.reads; answers = it.answers; told = it.told; serves = it.serves }

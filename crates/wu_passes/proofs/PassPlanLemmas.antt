@@ -1,0 +1,95 @@
+-- The plan of a pass: places in a row, and the changes of the workunits that it takes.
+use Rattle.std.proofs.Common.{◌≡◌, ℕ, ◌+◌, true, List, [], ◌∷◌, ◌++◌, length, map, Ok, refl, sym, ap, subst, ◌∙◌, append_assoc}
+use Rattle.std.proofs.lemmas.List.{map-append}
+use Rattle.std.specs.List.{enumerate_from, flat_map}
+use Rattle.sqlite.specs.Effect.{Database}
+use Rattle.wu_core.specs.declared.workunit.Archived.{Archived}
+use Rattle.wu_core.specs.declared.workunit.Grant.{Grant}
+use Rattle.wu_core.specs.declared.workunit.Workunit.{Workunit}
+use Rattle.wu_core.specs.World.{World}
+use Rattle.wu_rules.specs.Assimilation.{assimilated, emptied}
+use Rattle.wu_rules.specs.Transition.{transitioned}
+use Rattle.wu_rules.specs.Validation as validation
+use Rattle.wu_schema.specs.StandsFor.{StandsFor}
+use Rattle.wu_store.specs.Changes.{IsNextPlace}
+use Rattle.wu_store.specs.Changing.{archived_from, AreRight, granted_from, made_all}
+use Rattle.wu_store.specs.Due.{chosen}
+use Rattle.wu_store.specs.declared.changes.Change.{Change}
+use Rattle.wu_store.specs.declared.changes.Change.TheVariants.{Archive, Granted}
+use Rattle.wu_store.specs.declared.due.Pass.{Pass}
+use Rattle.wu_store.specs.declared.due.Pass.TheVariants.{Transition, Validate, Assimilate, Delete, Purge}
+use Rattle.wu_passes.specs.declared.command.Answer.TheVariants as answer
+use Rattle.wu_passes.specs.declared.passes.Ask.{Ask}
+use Rattle.wu_passes.specs.declared.passes.Handled.{Handled}
+use Rattle.wu_passes.specs.Machine.{is_limit_right}
+use Rattle.wu_passes.specs.Passes.{archives, granted, handled, passed}
+use Rattle.wu_passes.specs.PassPlans.{asked, change_by, HandlesAll, HasGiven}
+use Rattle.wu_passes.specs.Planning.{IsProject, Plans}
+use Rattle.wu_passes.specs.Requests.{Passed}
+use Rattle.wu_passes.proofs.PassLemmas.{and_given, assimilated_of, emptied_of, pass_asked, pass_makes, pass_makes_right, purge_makes, purge_makes_right, transitioned_of, validated_of}
+use Rattle.wu_passes.proofs.PlanLemmas.{enumerate_more}
+
+-- ---- one more at the next place
+
+module _ {X : Type 0} (change : ℕ × X → Change) where
+  placed_more : (place : ℕ) (xs : List X) (x : X) → map change (enumerate_from place (xs ++ x ∷ [])) ≡ map change (enumerate_from place xs) ++ change (place + length xs, x) ∷ []
+  placed_more place xs x = ap (map change) (enumerate_more place xs x) ∙ map-append change (enumerate_from place xs) ((place + length xs, x) ∷ [])
+
+pub grant_placed : (place seq : ℕ) (grants : List Grant) (g : Grant) (first changes new : List Change) → seq ≡ place + length grants
+    → changes ≡ first ++ granted_from place grants → new ≡ changes ++ Granted seq g ∷ [] → new ≡ first ++ granted_from place (grants ++ g ∷ [])
+grant_placed place seq grants g first changes new at are is =
+    is ∙ ap (λ k. changes ++ Granted k g ∷ []) at ∙ ap (λ cs. cs ++ Granted (place + length grants) g ∷ []) are
+    ∙ append_assoc first (granted_from place grants) (Granted (place + length grants) g ∷ [])
+    ∙ ap (λ l. first ++ l) (sym (placed_more (λ p. Granted p.0 p.1) place grants g))
+
+pub row_placed : (place seq : ℕ) (rows : List Archived) (a : Archived) (first changes new : List Change) → seq ≡ place + length rows
+    → changes ≡ first ++ archived_from place rows → new ≡ changes ++ Archive seq a ∷ [] → new ≡ first ++ archived_from place (rows ++ a ∷ [])
+row_placed place seq rows a first changes new at are is =
+    is ∙ ap (λ k. changes ++ Archive k a ∷ []) at ∙ ap (λ cs. cs ++ Archive (place + length rows) a ∷ []) are
+    ∙ append_assoc first (archived_from place rows) (Archive (place + length rows) a ∷ [])
+    ∙ ap (λ l. first ++ l) (sym (placed_more (λ p. Archive p.0 p.1) place rows a))
+
+-- ---- what the changes make
+
+module _ (db : Database) (world : World) (stands : StandsFor db world) (now min_age limit place row_place : ℕ) where
+  -- the changes of the workunits that a pass chooses, and then what it grants and archives
+  abbrev all_changes : Pass → List Change
+  all_changes pass = and_given pass now min_age limit world place row_place (map (change_by pass now) (chosen pass now min_age limit world))
+
+  pub pass_all_makes : (pass : Pass) → made_all (all_changes pass) world ≡ passed pass now min_age limit world
+  pass_all_makes Transition = pass_makes db world stands Transition now min_age limit place row_place (λ w. transitioned w now) (λ w. (transitioned_of now w).0) (λ w. refl)
+  pass_all_makes Validate = pass_makes db world stands Validate now min_age limit place row_place validation.validated (λ w. (validated_of w).0) (λ w. refl)
+  pass_all_makes Assimilate = pass_makes db world stands Assimilate now min_age limit place row_place (λ w. assimilated w now) (λ w. (assimilated_of now w).0) (λ w. refl)
+  pass_all_makes Delete = pass_makes db world stands Delete now min_age limit place row_place emptied (λ w. (emptied_of w).0) (λ w. refl)
+  pass_all_makes Purge = purge_makes db world stands now min_age limit place row_place
+
+  module _ (next : IsNextPlace place world.grants) (row_next : IsNextPlace row_place world.archived) where
+    pub pass_all_right : (pass : Pass) → AreRight (all_changes pass) world
+    pass_all_right Transition = pass_makes_right db world stands Transition now min_age limit place row_place (λ w. transitioned w now) (λ w. (transitioned_of now w).0) (λ w. refl) next row_next
+    pass_all_right Validate = pass_makes_right db world stands Validate now min_age limit place row_place validation.validated (λ w. (validated_of w).0) (λ w. refl) next row_next
+    pass_all_right Assimilate = pass_makes_right db world stands Assimilate now min_age limit place row_place (λ w. assimilated w now) (λ w. (assimilated_of now w).0) (λ w. refl) next row_next
+    pass_all_right Delete = pass_makes_right db world stands Delete now min_age limit place row_place emptied (λ w. (emptied_of w).0) (λ w. refl) next row_next
+    pass_all_right Purge = purge_makes_right db world stands now min_age limit place row_place next row_next
+
+-- the changes of what was handled of the workunits that are chosen, with their places
+module _ (db : Database) (world : World) (stands : StandsFor db world) (project : IsProject world) (ask : Ask) (right : is_limit_right ask.pass ask.limit ask.min_age ≡ true)
+    (taken : List Workunit) (are : taken ≡ chosen ask.pass ask.moment ask.min_age ask.limit world)
+    (done_with : Handled) (all : HandlesAll ask.pass ask.moment taken done_with) (changes : List Change) (given : HasGiven world done_with changes) where
+  changes_are : changes ≡ all_changes db world stands ask.moment ask.min_age ask.limit given.place given.row_place ask.pass
+  changes_are =
+      given.changes_are
+      ∙ (λ i. all.changes i ++ granted_from given.place (all.grants i) ++ archived_from given.row_place (all.archived i))
+      ∙ ap (λ ts. map (change_by ask.pass ask.moment) ts ++ granted_from given.place (flat_map (granted ask.pass) ts) ++ archived_from given.row_place (flat_map (archives ask.pass ask.moment) ts)) are
+
+  pub pass_planned : (count : ℕ) → count ≡ length taken → Plans world (asked ask) (answer.Passed ask.pass count) changes
+  pass_planned count counted =
+      let made : made_all changes world ≡ passed ask.pass ask.moment ask.min_age ask.limit world =
+      ap (λ cs. made_all cs world) changes_are ∙ pass_all_makes db world stands ask.moment ask.min_age ask.limit given.place given.row_place ask.pass in
+      let number : handled ask.pass ask.moment ask.min_age ask.limit world ≡ count = sym (counted ∙ ap (λ ts. length ts) are) in
+      record {
+        done =
+            pass_asked world project ask.pass ask.moment ask.limit ask.min_age right
+            ∙ (λ i. Ok (Passed ask.pass (number i), sym made i));
+        right = subst (λ cs. AreRight cs world) (sym changes_are)
+            (pass_all_right db world stands ask.moment ask.min_age ask.limit given.place given.row_place given.next given.row_next ask.pass);
+      }

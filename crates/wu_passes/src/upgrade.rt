@@ -1,0 +1,60 @@
+//! The version of a project's schema: whether this program knows it, and what bringing it to the present one answers.
+
+ghost use Rattle.std.specs.Prelude.{◌≡◌, ◌≤◌, false, IfErr, OnOk};
+ghost use Rattle.sqlite.specs.Held.{state};
+ghost use Rattle.wu_passes.specs.Machine.{present_version};
+ghost use Rattle.wu_passes.specs.Planning.{IsProject, NeverEnded, OpenOrFails, PlansFor};
+ghost use Rattle.wu_passes.specs.Requests.{AskUpgrade};
+ghost use Rattle.wu_passes.specs.Standing.{TellsLater};
+ghost use Rattle.wu_store.specs.Loading.{IsRead, KeepsTables, NotRefusedIn, OverWorlds, ServesUnlessFailed};
+
+use crate::command::Answer;
+use crate::imports::Plan;
+use sqlite::{Alter, Connection};
+use std::alloc::Global;
+use wu_core::Fault;
+use wu_schema::{PRESENT_VERSION, version_of};
+
+/// Whether the project is of a version that this program knows.
+pub fn check_version(version: u64) -> Result<(), Fault>
+    ensures known { OnOk result (version ≤ present_version) }
+    ensures later { IfErr result (TellsLater version) }
+{
+    if version > PRESENT_VERSION {
+        Err(Fault::NewSchema(version))
+    } else {
+        Ok(())
+    }
+}
+
+/// What an upgrade answers: the version that was found, and the present one. The first version is the present one, so
+/// nothing is changed.
+///
+/// A later version is `NewSchema`. `NotAProject` where no project is there any more.
+pub fn plan_upgrade<'a, S: Alter>(
+    conn: &mut Connection<S>,
+    alloc: Global,
+) -> Result<Plan<'a>, Fault>
+    ensures mode { conn.old.in_transaction ≡ false → conn.new.in_transaction ≡ false }
+    ensures read { IsRead (state S.Store conn.old) (state S.Store conn.new) }
+    ensures same { KeepsTables S.Store conn.old conn.new result }
+    ensures open { OpenOrFails S.Store conn.old conn.new result }
+    ensures opens { ServesUnlessFailed S.Store conn.new result }
+    ensures never { NeverEnded result }
+    ensures unrefused { NotRefusedIn S.Store conn.old conn.new result IsProject }
+    ensures plan { OverWorlds S.Store conn.old conn.new (PlansFor AskUpgrade result) }
+{
+    let version = match version_of(conn) {
+        Ok(Some(version)) => version,
+        Ok(None) => return Err(Fault::NotAProject),
+        Err(fault) => return Err(fault),
+    };
+    check_version(version)?;
+    Ok(Plan {
+        answer: Answer::Upgraded {
+            from: version,
+            to: PRESENT_VERSION,
+        },
+        changes: Vec::new(alloc),
+    })
+}

@@ -1,0 +1,4 @@
+//! Laws of passes over the workunits of a world.
+#![tactic(auto)]
+
+pub mod laws;

@@ -1,0 +1,20 @@
+use Rattle.wu_schema.proofs.Words.{[], arith, refl, state}
+use Rattle.wu_store.specs.Answers.{last_archived}
+use Rattle.wu_schema.proofs.Parts.{Archive}
+use Rattle.wu_store.proofs.AskLemmas.{asked_first, any_err}
+use Rattle.wu_store.proofs.LastLemmas.{archived_text, archived_fits, archived_found, last_question}
+use Rattle.wu_store.proofs.statements.last_archived_row.Goals as goal
+
+pub returns-in_err-found : goal.returns-in_err-found
+returns-in_err-found g c =
+    let q = c.in_err-found.ensures in
+    let it = any_err g.S.Store (last_question Archive (λ _. tt) archived_text archived_fits) c.args.conn.now c.query_all.new.self [] refl q.mode q.survives last_archived c.in_err-found.field-0.0 q.err c.from_residual.result c.from_residual.ensures.1 in
+    record { reads = it.reads; answers = it.answers; told = it.told; serves = it.serves }
+
+pub returns : goal.returns
+returns g c =
+    let q = c.in_ok-found.ensures in
+    let found = c.in_ok-found.found in
+    let it = asked_first g.S.Store (last_question Archive (λ _. tt) archived_text archived_fits) c.args.conn.now c.query_all.new.self [] refl q.mode q.survives last_archived
+    (λ rows h world s. archived_found (state g.S.Store c.args.conn.now) (state g.S.Store c.query_all.new.self) world s rows h) found q.ok c.pop.new.self.items c.pop.result c.pop.ensures.items (λ some. c.pop.ensures.variant.1 (omega (arith, some, found.ok.0))) in
+    record { reads = it.reads; answers = it.answers; told = it.told; serves = it.serves }
