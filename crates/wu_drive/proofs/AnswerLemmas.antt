@@ -8,7 +8,8 @@ use Rattle.wu_core.specs.declared.fault.Fault.TheVariants.{Output}
 use Rattle.wu_passes.specs.declared.command.Answer.{Answer}
 use Rattle.wu_drive.specs.declared.runs.Run.{Run}
 use Rattle.wu_drive.specs.Texts.{reply_text}
-use Rattle.wu_drive.specs.Writing.{AppendsFront, WritesAnswers, answers_text}
+use Rattle.wu_drive.specs.Writing.{WritesAnswers, answers_text}
+use Rattle.wu_report.specs.Writing.{AppendsFront}
 use Rattle.wu_passes.specs.Planning.{reply_of_answer}
 
 abbrev text : Answer → List ℕ

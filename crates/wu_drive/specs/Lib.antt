@@ -1,6 +1,4 @@
-pub mod Examples
+pub mod Cycles
 pub mod Texts
 pub mod Writing
 pub mod Driving
-pub mod Views
-pub mod Projects

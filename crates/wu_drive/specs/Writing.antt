@@ -1,35 +1,13 @@
--- What a call leaves in a writer, where what it holds is known.
-use Rattle.std.specs.Prelude.{◌≡◌, ◌≢◌, ℕ, ◌-◌, ◌≤◌, List, codes, length, take, flat_map, Option, Some, Result, MatchResult}
-use Rattle.std.specs.Fmt.{decimal}
+-- The texts of answers, and what a run leaves of them in a writer.
+use Rattle.std.specs.Prelude.{◌≡◌, ◌≢◌, ℕ, ◌-◌, ◌≤◌, List, codes, length, take, flat_map, Option, Some}
 use Rattle.std.specs.Io.KnownBytes.{Appends}
-use Rattle.wu_drive.specs.declared.output.Piece.{Piece}
-use Rattle.wu_drive.specs.declared.output.Piece.TheVariants.{Text, Number, Place, When}
 use Rattle.wu_passes.specs.declared.command.Answer.{Answer}
 use Rattle.wu_passes.specs.Planning.{reply_of_answer}
 use Rattle.wu_drive.specs.declared.replies.AppliedFile.{AppliedFile}
 use Rattle.wu_drive.specs.declared.replies.AppliedFile.TheVariants.{Sends, Reports}
 use Rattle.wu_core.specs.declared.fault.Fault.TheVariants.{Output}
 use Rattle.wu_drive.specs.declared.runs.Run.{Run}
-use Rattle.wu_drive.specs.Texts.{or_dash, moment_text, reply_text, rows_text, send_skip_word, report_skip_word, skip_line, skip_lines}
-
--- some beginning of the bytes was appended
-abbrev pub AppendsFront : Option (List ℕ) → Option (List ℕ) → List ℕ → Type 0
-AppendsFront old new bytes = (count : ℕ) × Appends old new (take count bytes)
-
--- with success exactly these bytes were appended, and else some beginning of them
-abbrev pub Writes : {T E : Type 0} → Option (List ℕ) → Option (List ℕ) → List ℕ → Result T E → Type 0
-Writes old new bytes result = MatchResult result (λ _. Appends old new bytes) (λ _. AppendsFront old new bytes)
-
--- so it is with the contents of a writer before a call and after it
-abbrev pub WritesTo : {W T E : Type 0} → (W → Option (List ℕ)) → W → W → List ℕ → Result T E → Type 0
-WritesTo contents old new text result = Writes (contents old) (contents new) text result
-
--- the text of a piece
-abbrev pub piece_text : Piece → List ℕ
-piece_text (Text text) = text.now
-piece_text (Number number) = decimal number
-piece_text (Place place) = or_dash decimal place
-piece_text (When moment) = or_dash moment_text moment
+use Rattle.wu_drive.specs.Texts.{reply_text, rows_text, send_skip_word, report_skip_word, skip_line, skip_lines}
 
 -- the word of an applied file in its answer
 abbrev pub file_word : AppliedFile → List ℕ

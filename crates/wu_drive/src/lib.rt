@@ -1,12 +1,12 @@
-//! A project's texts: its views, lists of commands with their answers, and the demonstration.
+//! Lists of commands over a project with the texts of their answers, and the demonstration.
 #![tactic(auto)]
 
+mod cycles;
 pub mod examples;
-mod output;
 mod replies;
 mod runs;
-mod views;
 
+pub use cycles::cycle;
 pub use runs::{Run, demo, drive};
-pub use views::{View, show};
 pub use wu_passes::{Answer, Batch, Command, Pass, Project, RowsFile, laws};
+pub use wu_report::{View, show};

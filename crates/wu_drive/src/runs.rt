@@ -8,12 +8,13 @@ ghost use Rattle.wu_passes.specs.Projects.{GoesStill, IsOver, KeepsLimit, state_
 ghost use Rattle.wu_passes.specs.Standing.{KeepsDoubt, MayEnd};
 
 use crate::replies::write_answer;
-use crate::views::{View, show};
 use sqlite::{Alter, Connection};
 use std::alloc::Global;
 use std::io::Write;
 use wu_core::{Bytes, Fault, Name};
+use wu_passes::laws::commands_keep_projects;
 use wu_passes::{Batch, Command, Project};
+use wu_report::{View, show};
 
 /// How far a list of commands went.
 #[derive(Clone, Copy, Debug, PartialEq, Eq)]
@@ -53,6 +54,7 @@ pub fn drive<S: Alter, W: Write>(
 {
     let mut acknowledged = 0;
     for command in commands {
+        commands_keep_projects(command);
         let answer = match project.run(alloc, command) {
             Ok(answer) => answer,
             Err(fault) => {

@@ -241,17 +241,3 @@ module _ {D : Type 0} {g : Ghosts D} (rest : Leftover D g) (log db log_after db_
           let empty : (db : Trees) → recovers now db → IsEmpty db = λ db may. no_database (image_of g files) db (stay (image_of g files) (stays files.log, stays files.db)) (told clean db may).0 in
           let sound : AreDatabases (recovers now) = λ db may. (_, empty_is_sound db (empty db may).1) in
           ∥∥₁_map (next_run now numbered sound after may (file_state again) (record { holds = found.holds; reads = found.reads })) (λ may. empty _ may)
-
--- ---- an opening, a stop, and an opening
-
--- files that hold a world hold it
-pub held_world : {D : Type 0} {g : Ghosts D} (files : Files D) (world : World) → 1 ≤ world.version → HoldsPlainly (image_of g files) world → HoldWorld g files world
-held_world files world first held = record { trees = held.trees; holds = (held.size, held.valid, held.holds); found = held.found; first = first }
-
-pub on_some : {A : Type 0} {P Q : A → Type 0} (o : Option A) → ((x : A) → P x → Q x) → IfSome o P → IfSome o Q
-on_some None holds p = tt
-on_some (Some x) holds p = holds x p
-
-pub on_both : {A : Type 0} {P Q R : A → Type 0} (o : Option A) → ((x : A) → P x → Q x → R x) → IfSome o P → IfSome o Q → IfSome o R
-on_both None holds p q = tt
-on_both (Some x) holds p q = holds x p q

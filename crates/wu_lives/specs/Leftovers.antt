@@ -68,17 +68,3 @@ module _ {D : Type 0} {g : Ghosts D} where
 
   abbrev pub GoesAfter : Leftover D g → Project (FileStore D g) over_files → Type 0
   GoesAfter left new = (files : Files D) → IsLeftOf g files left → IsNumberedLeft left → GoesOver files new
-
--- An opening of the two files gave a connection, and this holds; or it left something, and this holds unless that is a
--- store without its numbers.
-abbrev pub AfterOpening : {D : Type 0} (g : Ghosts D) → Files D → Type 0 → Type 0
-AfterOpening {D} g files Holds = (left : Option (Leftover D g)) × IfSome left (IsLeftOf g files) × (IfSome left IsNumberedLeft → Holds)
-
-module _ {D : Type 0} {g : Ghosts D} (files : Files D) (new : Project (FileStore D g) over_files) where
-  -- over files that stay blank a session begins from the empty world, through a stop at any moment
-  abbrev pub BeginsThrough : Type 0
-  BeginsThrough = AfterOpening g files (BeginsOver files new)
-
-  -- and over files that hold a world it goes on from that world
-  abbrev pub GoesThrough : Type 0
-  GoesThrough = AfterOpening g files (GoesOver files new)

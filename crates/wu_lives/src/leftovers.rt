@@ -2,11 +2,10 @@
 //!
 //! A disk may fail at any call and from then on, so a stop amid an opening is one of these stops.
 
-ghost use Rattle.std.specs.Prelude.{IfSome, IsTrue};
+ghost use Rattle.std.specs.Prelude.{IfSome};
 ghost use Rattle.wu_passes.specs.Projects.{GoesStill, IsOpen, IsUnlimited};
-ghost use Rattle.wu_lives.specs.Leftovers.{BeginsAfter, BeginsThrough, GoesAfter, GoesThrough};
+ghost use Rattle.wu_lives.specs.Leftovers.{BeginsAfter, GoesAfter};
 
-use crate::beginning::adopt_stop_and_adopt;
 use sqlite::{Connection, FileStore, Files, Leftover, Options};
 use sqlite_disk::Crash;
 use std::alloc::Global;
@@ -38,26 +37,5 @@ pub fn stop_and_open_left<D: Crash + Drop>(
             Err(_) => None,
         },
         Err(_) => None,
-    }
-}
-
-/// Opens two files and adopts the project in them; then the machine stops, and both are done again.
-///
-/// A stop may come at any moment: within the first opening, within the first adoption, or after both. What is found is as
-/// of `stop_and_open_left`. `None` where the second opening or the second adoption fails.
-pub fn open_stop_and_adopt<D: Crash + Drop>(
-    alloc: Global,
-    files: Files<D>,
-    options: Options,
-) -> Option<Project<FileStore<D>>>
-    requires log { IsTrue (D.Disk.is_usable files.log) }
-    requires db { IsTrue (D.Disk.is_usable files.db) }
-    ensures begins { IfSome result GoesStill }
-    ensures blank { IfSome result (BeginsThrough files) }
-    ensures found { IfSome result (GoesThrough files) }
-{
-    match Connection::open_files(alloc, files, options) {
-        Ok(conn) => adopt_stop_and_adopt(alloc, conn, options),
-        Err((_, left)) => stop_and_open_left(alloc, left, options),
     }
 }

@@ -6,5 +6,5 @@ mod leftovers;
 mod reopening;
 
 pub use beginning::{adopt_stop_and_adopt, open_and_adopt};
-pub use leftovers::{open_stop_and_adopt, stop_and_open_left};
+pub use leftovers::stop_and_open_left;
 pub use reopening::{drive_stop_and_open, live, live_all, stop_and_open};

@@ -14,6 +14,5 @@ pub mod Committing
 pub mod Planning
 pub mod Standing
 pub mod Projects
-pub mod Lines
 pub mod Walks
 pub mod PassPlans

@@ -19,6 +19,9 @@ use Rattle.wu_passes.specs.Machine.{has_right_limits, present_version, step}
 use Rattle.wu_passes.specs.declared.imports.Plan.{Plan}
 use Rattle.wu_passes.specs.Planning.{IsProject, OpenOrFails, Plans, PlansFor, request_of}
 use Rattle.wu_store.specs.Loading.{KeepsTables, NotRefusedIn, OverWorlds, ServesUnlessFailed}
+use Rattle.wu_store.specs.Lines.{summary_of}
+use Rattle.wu_store.specs.Summaries.{FindsAt, IsCountable}
+use Rattle.wu_store.specs.declared.lines.Summary.{Summary}
 use Rattle.wu_passes.specs.Requests.{Request}
 use Rattle.wu_passes.specs.Standing.{GoesOn, IsVacant, IsRefusal, KeepsAll, KeepsDoubt, RefusesVersion, Runs, StoresLater, WhyNot}
 
@@ -177,3 +180,11 @@ TellsWhy old new command result =
 
 abbrev pub WasOpenBefore : {S T E : Type 0} {g : Ghosts S} → Project S g → Project S g → Result T E → Type 0
 WasOpenBefore old new result = HasCleanDisk (state_of new) → OnOk result (IsTrue (state_of old).is_open)
+
+-- it is the summary of each world that the tables stand for
+abbrev pub Summarizes : {S : Type 0} {g : Ghosts S} → Project S g → Project S g → Result Summary Fault → Type 0
+Summarizes {S} {g} old new result = OverWorlds g (connection_of old) (connection_of new) (FindsAt summary_of result)
+
+-- over a world whose numbers can be read none is refused
+abbrev pub SummarizesUnrefused : {S T : Type 0} {g : Ghosts S} → Project S g → Project S g → Result T Fault → Type 0
+SummarizesUnrefused {S} {T} {g} old new result = NotRefusedIn g (connection_of old) (connection_of new) result IsCountable

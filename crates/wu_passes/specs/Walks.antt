@@ -1,4 +1,4 @@
--- A walk over the workunits of a project: what it borrows, and what it has left to hand out.
+-- A walk over lines of a project: what it borrows, and what it has left to hand out.
 use Rattle.std.specs.Prelude.{◌≡◌, ℕ, List, [], ◌∷◌, Option, Result, IfOk, IsOk, MatchOption}
 use Rattle.std.specs.Borrow.{Fml, MutBor, RattleType, RestsIfErr}
 use Rattle.std.specs.Vec.Iter.{into_iter_items, into_iter_len}
@@ -8,24 +8,22 @@ use Rattle.sqlite.specs.Store.{Ghosts}
 use Rattle.wu_core.specs.declared.fault.Fault.{Fault}
 use Rattle.wu_core.specs.World.{World}
 use Rattle.wu_schema.specs.StandsFor.{StandsFor}
-use Rattle.wu_store.specs.Loading.{AreStorable, IsRead, NotRefusedIn, StaysUnlessFailed}
+use Rattle.wu_store.specs.Loading.{IsRead, NotRefusedIn, StaysUnlessFailed}
 use Rattle.wu_passes.specs.contracts.project.Project as project
-use Rattle.wu_passes.specs.declared.lines.WorkunitLine.{WorkunitLine}
 use Rattle.wu_passes.specs.declared.project.Project.{Project}
-use Rattle.wu_passes.specs.declared.project.walk.WorkunitWalk.{WorkunitWalk}
-use Rattle.wu_passes.specs.Lines.{workunit_lines}
+use Rattle.wu_passes.specs.declared.project.walk.LineWalk.{LineWalk}
 use Rattle.wu_passes.specs.Projects.{connection_of, GoesStill, has_ended, IsOver, KeepsLimit, ServesOn, state_of}
 
 -- the project that it borrows, as it stands
-abbrev pub walked : {S R : Type 0} {g : Ghosts S} → WorkunitWalk S R g → Project S g
+abbrev pub walked : {S L : Type 0} {g : Ghosts S} → LineWalk S L g → Project S g
 walked walk = walk.project.now
 
 -- how many items it has left
-abbrev pub left : {S A : Type 0} {g : Ghosts S} → WorkunitWalk S (IntoIter WorkunitLine A) g → ℕ
+abbrev pub left : {S T A : Type 0} {g : Ghosts S} → LineWalk S (IntoIter T A) g → ℕ
 left walk = into_iter_len walk.lines
 
 -- these lines are what it has left
-abbrev pub HasLeft : {S A : Type 0} {g : Ghosts S} → WorkunitWalk S (IntoIter WorkunitLine A) g → List WorkunitLine → Type 0
+abbrev pub HasLeft : {S T A : Type 0} {g : Ghosts S} → LineWalk S (IntoIter T A) g → List T → Type 0
 HasLeft walk lines = into_iter_items walk.lines ≡ lines
 
 -- ---- a walk begins
@@ -37,35 +35,35 @@ pub record OnlyReads {S : Type 0} {g : Ghosts S} (old new : Project S g) : Type 
   pub limit : KeepsLimit old new
 
 -- so does one that is refused; where the session had ended, nothing is touched
-pub record RefusesWalk {S T : Type 0} {g : Ghosts S} (old : Project S g) (result : Result T Fault) (new : Project S g) : Type 0 where
+pub record RefusesWalk {S T : Type 0} {g : Ghosts S} (IsReadable : World → Type 0) (old : Project S g) (result : Result T Fault) (new : Project S g) : Type 0 where
   pub reads : OnlyReads old new
   pub untouched : IsOver old → new ≡ old
   pub serves : GoesStill old → ServesOn new result
-  -- over a world whose workunits can be read it is for want of memory or of the disk
-  pub unrefused : NotRefusedIn g (connection_of old) (connection_of new) result AreStorable
+  -- over a world whose values can be read it is for want of memory or of the disk
+  pub unrefused : NotRefusedIn g (connection_of old) (connection_of new) result IsReadable
 
 -- where no walk begins, that is what the project is afterwards
-module _ (S : RattleType) (g : Ghosts S.Denot) {R : Type 0} where
-  abbrev pub RestsIfRefused : MutBor (Project S.Denot g) → Result (WorkunitWalk S.Denot R g) Fault → Fml
-  RestsIfRefused old result = RestsIfErr (project.the_row S g) old (λ walk. walk.project.ghost_name) result (RefusesWalk old.now result)
+module _ (S : RattleType) (g : Ghosts S.Denot) {L : Type 0} (IsReadable : World → Type 0) where
+  abbrev pub RestsIfRefused : MutBor (Project S.Denot g) → Result (LineWalk S.Denot L g) Fault → Fml
+  RestsIfRefused old result = RestsIfErr (project.the_row S g) old (λ walk. walk.project.ghost_name) result (RefusesWalk IsReadable old.now result)
 
--- it has left the lines of each world that the tables stand for
-abbrev pub WalksOver : {S A : Type 0} {g : Ghosts S} → Project S g → WorkunitWalk S (IntoIter WorkunitLine A) g → Type 0
-WalksOver old walk = HasCleanDisk (state_of (walked walk)) → (world : World) → StandsFor (state_of old).now world → HasLeft walk (workunit_lines world)
+-- it has left these lines of each world that the tables stand for
+abbrev pub WalksOver : {S T A : Type 0} {g : Ghosts S} → (World → List T) → Project S g → LineWalk S (IntoIter T A) g → Type 0
+WalksOver lines_of old walk = HasCleanDisk (state_of (walked walk)) → (world : World) → StandsFor (state_of old).now world → HasLeft walk (lines_of world)
 
 -- ---- its next item
 
 -- the first of the lines that it had left is handed out, and the others are left; none where there was none
-abbrev pub HandsFirst : {S A : Type 0} {g : Ghosts S} → List WorkunitLine → Option WorkunitLine → WorkunitWalk S (IntoIter WorkunitLine A) g → Type 0
-HandsFirst lines item new = MatchOption item (lines ≡ []) (λ line. (rest : List WorkunitLine) × (lines ≡ line ∷ rest) × HasLeft new rest)
+abbrev pub HandsFirst : {S T A : Type 0} {g : Ghosts S} → List T → Option T → LineWalk S (IntoIter T A) g → Type 0
+HandsFirst {S} {T} lines item new = MatchOption item (lines ≡ []) (λ line. (rest : List T) × (lines ≡ line ∷ rest) × HasLeft new rest)
 
-abbrev pub HandsOut : {S A : Type 0} {g : Ghosts S} → WorkunitWalk S (IntoIter WorkunitLine A) g → WorkunitWalk S (IntoIter WorkunitLine A) g → Result (Option WorkunitLine) Fault → Type 0
-HandsOut old new result =
-    HasCleanDisk (state_of (walked new)) → (lines : List WorkunitLine) → HasLeft old lines → IfOk result (λ item. HandsFirst lines item new)
+abbrev pub HandsOut : {S T A : Type 0} {g : Ghosts S} → LineWalk S (IntoIter T A) g → LineWalk S (IntoIter T A) g → Result (Option T) Fault → Type 0
+HandsOut {S} {T} old new result =
+    HasCleanDisk (state_of (walked new)) → (lines : List T) → HasLeft old lines → IfOk result (λ item. HandsFirst lines item new)
 
 -- over what it has left it is never refused
-abbrev pub HandsUnrefused : {S A T : Type 0} {g : Ghosts S} → WorkunitWalk S (IntoIter WorkunitLine A) g → Result T Fault → Type 0
-HandsUnrefused old result = (lines : List WorkunitLine) → HasLeft old lines → IsOk result
+abbrev pub HandsUnrefused : {S T A U : Type 0} {g : Ghosts S} → LineWalk S (IntoIter T A) g → Result U Fault → Type 0
+HandsUnrefused {S} {T} old result = (lines : List T) → HasLeft old lines → IsOk result
 
 -- a connection that was open is open after Ok, and after each fault but want of memory or of the disk
 abbrev pub StaysServing : {S T : Type 0} {g : Ghosts S} → Project S g → Project S g → Result T Fault → Type 0

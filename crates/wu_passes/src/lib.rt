@@ -9,13 +9,11 @@ pub mod examples;
 mod files;
 mod imports;
 pub mod laws;
-mod lines;
 mod passes;
 mod project;
 mod touched;
 mod upgrade;
 
 pub use command::{Answer, Batch, Command, RowsFile};
-pub use lines::WorkunitLine;
-pub use project::{Project, WorkunitWalk};
-pub use wu_store::Pass;
+pub use project::{ArchiveWalk, HostWalk, LineWalk, Project, ResultWalk, Walk, WorkunitWalk};
+pub use wu_store::{HostLine, Pass, ResultLine, Summary, WorkunitLine};

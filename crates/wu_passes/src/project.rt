@@ -3,10 +3,11 @@
 ghost use Rattle.std.specs.Prelude.{◌≡◌, false};
 
 mod session;
+mod summary;
 mod walk;
 
 use sqlite::{Alter, Connection};
-pub use walk::WorkunitWalk;
+pub use walk::{ArchiveWalk, HostWalk, LineWalk, ResultWalk, Walk, WorkunitWalk};
 
 /// A session over the database of a project, from its adoption to its release.
 ///

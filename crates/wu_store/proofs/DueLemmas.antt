@@ -71,11 +71,11 @@ pub record IsSoFar (pass : Pass) (now min_age : ℕ) (world : World) (taken : Li
   pub next_is : next ≡ slice_get rest 0
   pub taken_is : taken ≡ filter (changes pass now min_age) seen
 
-headed : (ws : List Workunit) (w : Workunit) → Some w ≡ slice_get ws 0 → (more : List Workunit) × (ws ≡ w ∷ more)
+pub headed : (ws : List Workunit) (w : Workunit) → Some w ≡ slice_get ws 0 → (more : List Workunit) × (ws ≡ w ∷ more)
 headed [] w is = absurd cc
 headed (v ∷ vs) w is = (vs, cc)
 
-empty : (ws : List Workunit) → None ≡ slice_get ws 0 → ws ≡ []
+pub empty : (ws : List Workunit) → None ≡ slice_get ws 0 → ws ≡ []
 empty [] is = refl
 empty (v ∷ vs) is = absurd cc
 

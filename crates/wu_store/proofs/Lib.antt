@@ -35,3 +35,7 @@ pub mod AboveLemmas
 pub mod ChangingLemmas
 pub mod DueLemmas
 mod VerdictLemmas
+mod LineLemmas
+mod ListingLemmas
+mod ViewAnswers
+mod CountLemmas

@@ -1,18 +1,22 @@
 -- How columns and rows read as values, step by step.
 use Rattle.wu_schema.proofs.Words.{Blob, Err, Fault, Gives, IfErr, IfOk, ImportKind, Instance, Int, List, None, NotAProject, Null, Ok, Option, Result, Row, Some, Text, Value, Workunit, [], add-one, ap, arith, column, drop, get_or, inl, inr, instance_row, last_skip, length, length-map, map, map-append, number, number_or_null, pos, refl, subst, suc, sym, take, text_or_null, verdict_digits, workunit_row, zero, ℕ, ⊤, ◌++◌, ◌+◌, ◌-◌, ◌<◌, ◌^◌, ◌∙◌, ◌∷◌, ◌≡◌, ◌≢◌, ◌≤◌, ◌⊎◌}
 use Rattle.wu_store.specs.Reading.{AreVerdicts}
+use Rattle.wu_core.specs.declared.mask.ErrorMask.{ErrorMask}
+use Rattle.wu_core.specs.declared.workunit.Archived.{Archived}
+use Rattle.wu_store.specs.declared.lines.HostLine.{HostLine}
+use Rattle.wu_schema.specs.Stored.{archived_cells}
 use Rattle.std.specs.Prelude.{MatchOption}
 use Rattle.std.proofs.lemmas.List.{take_more, get_or-map}
 use Rattle.std.specs.List.{range_with_len}
 use Rattle.wu_core.specs.declared.fault.Fault.TheVariants.{Memory}
 use Rattle.wu_core.specs.Parameters.{Parameters, IsParameters}
-use Rattle.wu_core.specs.Limits.{longest_output}
+use Rattle.wu_core.specs.Limits.{last_moment, longest_output}
 use Rattle.wu_store.specs.declared.rows.Moments.{Moments}
 use Rattle.wu_store.specs.declared.rows.Progress.{Progress}
 use Rattle.wu_store.specs.declared.rows.States.{States}
 use Rattle.wu_schema.specs.Stored.{parameter_cells}
 use Rattle.wu_schema.specs.Restoring.{Restores}
-use Rattle.wu_store.specs.Reading.{AreMoments, IsHost, MayBeInstance, moment_cells, state_cells, columns, progress_cells, IsInput, IsName, IsPlace, IsProgress, IsStoredWorkunit}
+use Rattle.wu_store.specs.Reading.{AreMoments, IsHost, MayBeInstance, moment_cells, state_cells, columns, progress_cells, IsInput, IsName, IsPlace, IsProgress, IsStoredWorkunit, host_row, IsOutput, IsStoredArchived, IsStoredHost, mask_cell}
 
 -- a value that can't be read is none that is stored so
 pub unread : {T C : Type 0} (stored_as : T → C) (IsValue : T → Type 0) (stored : C) (fault : Fault)
@@ -205,3 +209,61 @@ module _ (row : Row) (states : States) (host : Option (List ℕ)) (moments : Mom
           let d = ok_is moments (moments_of i) (moments_are.found (moments_of i) is.moments (ap (λ r. columns r 5 3) same)) in
           let e = ok_is output i.output (output_is.found i.output is.output (ap (λ r. column r 8) same)) in
           rw (a, b, d, e) refl
+
+-- ---- a host, and an archived workunit
+
+module _ (row : Row) (name : List ℕ) (total grants : ℕ) where
+  abbrev read_host : HostLine
+  read_host = record { name = name; total = total; grants = grants }
+
+  -- a row whose columns read as these is that of this host alone
+  pub host_read : length row ≡ 3 → Restores Text IsName (column row 0) (Ok name) → Restores number (λ _. ⊤) (column row 1) (Ok total) → Restores number (λ _. ⊤) (column row 2) (Ok grants) → Restores host_row IsStoredHost row (Ok read_host)
+  host_read long name_is total_is grants_are = record {
+    value = (stored, name_is.value.1);
+    found = λ h is same. inl (ap (λ h. Ok h) (only h is same));
+    refused = tt;
+  }
+    where
+      whole : column row 0 ∷ column row 1 ∷ column row 2 ∷ [] ≡ row
+      whole = subst (λ k. map (column row) (range_with_len 0 k) ≡ row) long (as_columns row)
+
+      stored : row ≡ host_row read_host
+      stored = sym whole ∙ (λ i. name_is.value.0 i ∷ total_is.value.0 i ∷ grants_are.value.0 i ∷ [])
+
+      only : (h : HostLine) → IsStoredHost h → row ≡ host_row h → read_host ≡ h
+      only h is same =
+          let a = ok_is name h.name (name_is.found h.name is (ap (λ r. column r 0) same)) in
+          let b = ok_is total h.total (total_is.found h.total tt (ap (λ r. column r 1) same)) in
+          let d = ok_is grants h.grants (grants_are.found h.grants tt (ap (λ r. column r 2) same)) in
+          rw (a, b, d) refl
+
+module _ (row : Row) (n : ℕ) (name : List ℕ) (mask : ErrorMask) (canonical : Option ℕ) (output : List ℕ) (done_at : ℕ) where
+  abbrev read_archived : Archived
+  read_archived = record { number = n; name = name; error_mask = mask; canonical = canonical; output = output; done_at = done_at }
+
+  -- a row whose columns read as these is that of this archived workunit alone
+  pub archived_read : length row ≡ 6 → Restores number (λ _. ⊤) (column row 0) (Ok n) → Restores Text IsName (column row 1) (Ok name)
+      → Restores mask_cell (λ _. ⊤) (column row 2) (Ok mask) → Restores number_or_null IsPlace (column row 3) (Ok canonical)
+      → Restores Blob IsOutput (column row 4) (Ok output) → Restores number (λ seconds. seconds ≤ last_moment) (column row 5) (Ok done_at)
+      → Restores archived_cells IsStoredArchived row (Ok read_archived)
+  archived_read long number_is name_is mask_is canonical_is output_is done_is = record {
+    value = (stored, record { name = name_is.value.1; canonical = canonical_is.value.1; output = output_is.value.1; done_at = done_is.value.1 });
+    found = λ a is same. inl (ap (λ a. Ok a) (only a is same));
+    refused = tt;
+  }
+    where
+      whole : column row 0 ∷ column row 1 ∷ column row 2 ∷ column row 3 ∷ column row 4 ∷ column row 5 ∷ [] ≡ row
+      whole = subst (λ k. map (column row) (range_with_len 0 k) ≡ row) long (as_columns row)
+
+      stored : row ≡ archived_cells read_archived
+      stored = sym whole ∙ (λ i. number_is.value.0 i ∷ name_is.value.0 i ∷ mask_is.value.0 i ∷ canonical_is.value.0 i ∷ output_is.value.0 i ∷ done_is.value.0 i ∷ [])
+
+      only : (a : Archived) → IsStoredArchived a → row ≡ archived_cells a → read_archived ≡ a
+      only a is same =
+          let b = ok_is n a.number (number_is.found a.number tt (ap (λ r. column r 0) same)) in
+          let d = ok_is name a.name (name_is.found a.name is.name (ap (λ r. column r 1) same)) in
+          let e = ok_is mask a.error_mask (mask_is.found a.error_mask tt (ap (λ r. column r 2) same)) in
+          let g = ok_is canonical a.canonical (canonical_is.found a.canonical is.canonical (ap (λ r. column r 3) same)) in
+          let h = ok_is output a.output (output_is.found a.output is.output (ap (λ r. column r 4) same)) in
+          let k = ok_is done_at a.done_at (done_is.found a.done_at is.done_at (ap (λ r. column r 5) same)) in
+          rw (b, d, e, g, h, k) refl

@@ -25,19 +25,19 @@ use Rattle.wu_store.proofs.PlacedLemmas.{Rises, world_rises}
 
 -- ---- what was stored is read back
 
-abbrev read_number : Value → ℕ
+abbrev pub read_number : Value → ℕ
 read_number (Int (pos n)) = n
 read_number _ = 0
 
-abbrev read_text : Value → List ℕ
+abbrev pub read_text : Value → List ℕ
 read_text (Text t) = t
 read_text _ = []
 
-abbrev read_blob : Value → List ℕ
+abbrev pub read_blob : Value → List ℕ
 read_blob (Blob b) = b
 read_blob _ = []
 
-abbrev read_maybe : Value → Option ℕ
+abbrev pub read_maybe : Value → Option ℕ
 read_maybe (Int (pos n)) = Some n
 read_maybe _ = None
 
@@ -45,7 +45,7 @@ abbrev read_host : Value → Option (List ℕ)
 read_host (Text t) = Some t
 read_host _ = None
 
-maybe_again : (o : Option ℕ) → read_maybe (number_or_null o) ≡ o
+pub maybe_again : (o : Option ℕ) → read_maybe (number_or_null o) ≡ o
 maybe_again None = refl
 maybe_again (Some n) = refl
 
@@ -99,7 +99,7 @@ kind_again : (s : ImportKind) → kind_of (import_kind_code s) ≡ s
 kind_again kind.Batch = refl
 kind_again _ = refl
 
-mask_again : (m : ErrorMask) → flags_of (error_mask_code m) ≡ m
+pub mask_again : (m : ErrorMask) → flags_of (error_mask_code m) ≡ m
 mask_again m = flags_of-error_mask_code m (error_mask_code m) refl
 
 digits_again : (vs : List ℕ) → map (λ d. d - 48) (verdict_digits vs) ≡ vs
@@ -133,7 +133,7 @@ workunit_again w = λ i. record w { error_mask = mask_again w.error_mask i; cano
 
 -- ---- lists of rows that are one
 
-restored : {X C : Type 0} (stored : X → C) (read : C → X) → ((x : X) → read (stored x) ≡ x) → (xs : List X) → map read (map stored xs) ≡ xs
+pub restored : {X C : Type 0} (stored : X → C) (read : C → X) → ((x : X) → read (stored x) ≡ x) → (xs : List X) → map read (map stored xs) ≡ xs
 restored stored read again [] = refl
 restored stored read again (x ∷ xs) = λ i. again x i ∷ restored stored read again xs i
 

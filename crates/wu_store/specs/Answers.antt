@@ -1,13 +1,23 @@
 -- What the reads ask of a world.
-use Rattle.std.specs.Prelude.{ℕ, zero, suc, ◌==◌, nat_lt, List, [], ◌∷◌, length, map, filter, find, bytes_eq, Bool, Option, None, Some, option_map}
-use Rattle.std.specs.List.{list_any}
+use Rattle.std.specs.Prelude.{◌≡◌, ℕ, zero, suc, ◌==◌, nat_lt, List, [], ◌∷◌, length, map, filter, find, count_by, bytes_eq, Bool, Option, None, Some, option_map, Result, Vec}
+use Rattle.std.specs.List.{flat_map, list_any}
 use Rattle.std.specs.Option.{option_map_or}
+use Rattle.sqlite.specs.Held.{Held}
 use Rattle.sqlite.specs.Order.{Row}
+use Rattle.sqlite.specs.Store.{Ghosts}
+use Rattle.sqlite.specs.declared.error.Error.{Error}
 use Rattle.wu_core.specs.declared.workunit.Workunit.{Workunit}
 use Rattle.wu_core.specs.declared.workunit.Archived.{Archived}
+use Rattle.wu_core.specs.declared.workunit.Grant.{Grant}
+use Rattle.wu_core.specs.declared.workunit.Instance.{Instance}
 use Rattle.wu_core.specs.declared.import.ImportKind.{ImportKind}
+use Rattle.wu_core.specs.declared.states.ServerState.{ServerState}
+use Rattle.wu_core.specs.Codes.{server_state_code}
+use Rattle.wu_core.specs.Hosts.{hosts_of}
 use Rattle.wu_core.specs.World.{World, is_import}
-use Rattle.wu_schema.specs.Stored.{number, kept_cells, instance_row, workunit_row}
+use Rattle.wu_schema.specs.Calls.{Tells}
+use Rattle.wu_schema.specs.StandsFor.{host_of}
+use Rattle.wu_schema.specs.Stored.{archived_cells, number, kept_cells, instance_row, workunit_row}
 
 -- a workunit of this name is present
 abbrev pub has_name : List ℕ → World → Bool
@@ -75,3 +85,40 @@ last_grant world = last_place world.grants
 -- and that of the last archived row
 abbrev pub last_archived : World → Option Row
 last_archived world = last_place world.archived
+
+-- the rows of all hosts, in order of their names' bytes
+abbrev pub all_hosts : World → List Row
+all_hosts world = map (host_of world.grants) (hosts_of world.grants)
+
+-- those of all archived workunits, in order of their archiving
+abbrev pub all_archived : World → List Row
+all_archived world = map archived_cells world.archived
+
+-- the credit of grants
+abbrev pub credits_of : List Grant → List Row
+credits_of grants = map (λ (grant : Grant). number grant.credit ∷ []) grants
+
+-- that of all, in order of their making
+abbrev pub all_credit : World → List Row
+all_credit world = credits_of world.grants
+
+-- the instances of all workunits
+abbrev pub all_instances : World → List Instance
+all_instances world = flat_map (λ (w : Workunit). w.instances) world.workunits
+
+-- how many of them are in this state
+abbrev pub count_in : ServerState → World → ℕ
+count_in state world = count_by (λ (i : Instance). server_state_code i.server_state == server_state_code state) (all_instances world)
+
+abbrev pub workunit_count : World → ℕ
+workunit_count world = length world.workunits
+
+abbrev pub result_count : World → ℕ
+result_count world = length (all_instances world)
+
+abbrev pub import_count : World → ℕ
+import_count world = length world.imports
+
+-- the answer has as many rows as such a world has of these
+abbrev pub AnswersSoMany : {S A : Type 0} → Ghosts S → Held S → Held S → Result (Vec Row A) Error → (World → ℕ) → Type 0
+AnswersSoMany g old new result count = Tells g old new result (λ rows world. length rows.items ≡ count world)

@@ -6,3 +6,5 @@ pub mod Worlds
 pub mod Loading
 pub mod Changing
 pub mod Due
+pub mod Lines
+pub mod Summaries

@@ -10,6 +10,7 @@ use Rattle.wu_core.specs.declared.states.Outcome.{Outcome}
 use Rattle.wu_core.specs.declared.states.ServerState.{ServerState}
 use Rattle.wu_core.specs.declared.states.ValidateState.{ValidateState}
 use Rattle.wu_core.specs.declared.states.Assimilate.TheVariants as assimilate
+use Rattle.wu_core.specs.declared.workunit.Archived.{Archived}
 use Rattle.wu_core.specs.declared.workunit.Workunit.{Workunit}
 use Rattle.wu_core.specs.declared.workunit.Instance.{Instance}
 use Rattle.wu_core.specs.Codes.{assimilate_code, file_delete_code, outcome_code, server_state_code, validate_state_code}
@@ -19,8 +20,9 @@ use Rattle.wu_core.specs.Mask.{error_mask_code}
 use Rattle.wu_core.specs.Names.{is_name}
 use Rattle.wu_core.specs.Parameters.{IsParameters}
 use Rattle.wu_core.specs.World.{last_skip}
-use Rattle.wu_schema.specs.Stored.{number, number_or_null, verdict_digits}
+use Rattle.wu_schema.specs.Stored.{host_cells, number, number_or_null, verdict_digits}
 use Rattle.wu_store.specs.Answers.{last_of}
+use Rattle.wu_store.specs.declared.lines.HostLine.{HostLine}
 use Rattle.wu_store.specs.declared.rows.Progress.{Progress}
 use Rattle.wu_store.specs.declared.rows.Moments.{Moments}
 use Rattle.wu_store.specs.declared.rows.States.{States}
@@ -153,3 +155,17 @@ IsPlaceToGive place = (1 ≤ place) × (place ≤ 2 ^ 63)
 -- the row of the last place before this one, or none where this one is the first
 abbrev pub row_before : ℕ → Option Row
 row_before place = last_of (place - 1)
+
+-- a row of the table of hosts
+abbrev pub host_row : HostLine → Row
+host_row host = host_cells host.name host.total host.grants
+
+abbrev pub IsStoredHost : HostLine → Type 0
+IsStoredHost host = IsName host.name
+
+-- what a row of the table of archived workunits stands for, but for its place
+pub record IsStoredArchived (a : Archived) : Type 0 where
+  pub name : IsName a.name
+  pub canonical : IsPlace a.canonical
+  pub output : IsOutput a.output
+  pub done_at : a.done_at ≤ last_moment

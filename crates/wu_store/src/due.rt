@@ -48,7 +48,10 @@ fn changes(pass: Pass, now: Moment, min_age: u64, workunit: &Workunit) -> bool
 }
 
 /// The present workunit of the least number, with its instances, or none: that of 0, or the first above it.
-fn first<S: Alter>(conn: &mut Connection<S>, alloc: Global) -> Result<Option<Workunit>, Fault>
+pub(crate) fn first<S: Alter>(
+    conn: &mut Connection<S>,
+    alloc: Global,
+) -> Result<Option<Workunit>, Fault>
     ensures mode { conn.old.in_transaction ≡ false → conn.new.in_transaction ≡ false }
     ensures read { IsRead (state S.Store conn.old) (state S.Store conn.new) }
     ensures same { KeepsTables S.Store conn.old conn.new result }
@@ -68,7 +71,7 @@ fn first<S: Alter>(conn: &mut Connection<S>, alloc: Global) -> Result<Option<Wor
 /// The present workunit of the least number above this one, with its instances, or none.
 ///
 /// `NotAProject` where a row is no value, or where its number is not above this one.
-fn next_after<S: Alter>(
+pub(crate) fn next_after<S: Alter>(
     conn: &mut Connection<S>,
     alloc: Global,
     number: u64,

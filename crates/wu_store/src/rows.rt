@@ -6,23 +6,24 @@ ghost use Rattle.sqlite.specs.Order.{column};
 ghost use Rattle.sqlite.specs.declared.types.Value.TheVariants.{Int, Text, Blob};
 ghost use Rattle.wu_core.specs.declared.fault.Fault.TheVariants.{Memory, NotAProject};
 ghost use Rattle.wu_core.specs.Formed.{IsInstance};
+ghost use Rattle.wu_core.specs.Limits.{last_moment};
 ghost use Rattle.wu_core.specs.Parameters.{IsParameters};
 ghost use Rattle.wu_core.specs.World.{last_skip};
-ghost use Rattle.wu_schema.specs.Stored.{instance_row, number, number_or_null, text_or_null, parameter_cells, verdict_digits, workunit_row};
+ghost use Rattle.wu_schema.specs.Stored.{archived_cells, instance_row, number, number_or_null, text_or_null, parameter_cells, verdict_digits, workunit_row};
 ghost use Rattle.wu_schema.specs.Restoring.{Restores};
-ghost use Rattle.wu_store.specs.Reading.{assimilate_cell, file_delete_cell, mask_cell, outcome_cell, server_state_cell, validate_state_cell, verdicts_cell, IsOutput, columns, progress_cells, IsInput, IsMoment, IsName, IsPlace, IsProgress, IsStoredWorkunit, AreVerdicts, IsNextNumber, IsStoredImport, stored_import_row, AreMoments, AreStoredInstances, IsDeadline, IsHost, IsPlaceToGive, IsStoredInstance, MayBeInstance, moment_cells, row_before, state_cells};
+ghost use Rattle.wu_store.specs.Reading.{assimilate_cell, file_delete_cell, mask_cell, outcome_cell, server_state_cell, validate_state_cell, verdicts_cell, IsOutput, columns, progress_cells, IsInput, IsMoment, IsName, IsPlace, IsProgress, IsStoredWorkunit, AreVerdicts, IsNextNumber, IsStoredImport, stored_import_row, AreMoments, AreStoredInstances, IsDeadline, IsHost, IsPlaceToGive, IsStoredArchived, IsStoredInstance, MayBeInstance, moment_cells, row_before, state_cells};
 
 use sqlite::Row;
 use sqlite::types::ValueRef;
 use std::alloc::Global;
 use wu_core::{
-    Assimilate, Bytes, Deadline, ErrorMask, Fault, FileDelete, ImportKind, Instance, Instances,
-    LONGEST_INPUT, LONGEST_OUTPUT, MOST_INSTANCES, MOST_WORKUNITS, Moment, Name, Outcome, Params,
-    ServerState, ValidateState, Workunit,
+    Archived, Assimilate, Bytes, Deadline, ErrorMask, Fault, FileDelete, ImportKind, Instance,
+    Instances, LONGEST_INPUT, LONGEST_OUTPUT, MOST_INSTANCES, MOST_WORKUNITS, Moment, Name,
+    Outcome, Params, ServerState, ValidateState, Workunit,
 };
 use wu_schema::{number_at, read_column};
 
-fn name_at(alloc: Global, row: &Row, at: usize) -> Result<Name, Fault>
+pub(crate) fn name_at(alloc: Global, row: &Row, at: usize) -> Result<Name, Fault>
     ensures { Restores Text IsName (column row.now at) result }
 {
     let Ok(ValueRef::Text(text)) = row.get_ref(at) else {
@@ -329,6 +330,36 @@ pub(crate) fn instances_from(alloc: Global, rows: &[Row]) -> Result<Instances, F
         instances.push(instance_from(alloc, row)?)?;
     }
     Ok(Instances::from_vec(instances))
+}
+
+fn stamp_at(row: &Row, at: usize) -> Result<Moment, Fault>
+    ensures { Restores number (λ seconds. seconds ≤ last_moment) (column row.now at) result }
+{
+    let seconds = number_at(row, at)?;
+    Moment::new(seconds).ok_or(Fault::NotAProject)
+}
+
+/// The archived workunit of a row of the table `archived` with its columns from the second on, in their order.
+pub(crate) fn archived_from(alloc: Global, row: &Row) -> Result<Archived, Fault>
+    ensures { Restores archived_cells IsStoredArchived row.now result }
+{
+    if row.column_count() != 6 {
+        return Err(Fault::NotAProject);
+    }
+    let number = number_at(row, 0)?;
+    let error_mask = mask_at(row, 2)?;
+    let canonical = place_at(row, 3)?;
+    let done_at = stamp_at(row, 5)?;
+    let output = output_at(row, 4)?;
+    let name = name_at(alloc, row, 1)?;
+    Ok(Archived {
+        number,
+        name,
+        error_mask,
+        canonical,
+        output,
+        done_at,
+    })
 }
 
 fn bytes_at(row: &Row, at: usize) -> Result<Bytes, Fault>

@@ -4,11 +4,13 @@ ghost use Rattle.std.specs.Prelude.{◌≡◌, ◌<◌, ◌≤◌, ◌^◌, [], 
 ghost use Rattle.wu_store.specs.Changing.{import_of_change};
 ghost use Rattle.wu_store.specs.Changes.{bare, with_placed, without_workunit, with_import, with_next, AddsArchived, AddsGrant, AddsInstance, Credits, PutsGrant, WasFree};
 ghost use Rattle.wu_schema.specs.Calls.{Reads, Answers, AnswersRows, OnlyFails, ServesAfter, StaysAfter, Writes, Does, Changes};
-ghost use Rattle.wu_store.specs.Answers.{all_rows, has_name, instance_rows_of, kept_of, last_archived, last_grant, next_row, row_above, row_named, row_numbered, was_archived};
+ghost use Rattle.wu_store.specs.Answers.{all_archived, all_credit, all_hosts, all_rows, AnswersSoMany, count_in, has_name, import_count, instance_rows_of, kept_of, last_archived, last_grant, next_row, result_count, row_above, row_named, row_numbered, was_archived, workunit_count};
 
 use crate::changes::Import;
 use sqlite::{Alter, Connection, Error, Row, Transaction, params};
-use wu_core::{Archived, Deadline, Grant, ImportKind, Instance, Moment, Name, Workunit};
+use wu_core::{
+    Archived, Deadline, Grant, ImportKind, Instance, Moment, Name, ServerState, Workunit,
+};
 use wu_schema::execute;
 
 /// A number of the schema, none of which is above a signed 64-bit number's range.
@@ -231,6 +233,85 @@ pub fn last_archived_row<S: Alter>(conn: &mut Connection<S>) -> Result<Option<Ro
 {
     let mut found = conn.query_all("SELECT seq FROM archived ORDER BY seq DESC LIMIT 1", &[])?;
     Ok(found.pop())
+}
+
+/// The rows of all hosts, in order of their names' bytes.
+pub fn host_rows<S: Alter>(conn: &mut Connection<S>) -> Result<Vec<Row>, Error>
+    ensures reads { Reads S.Store conn.old conn.new result }
+    ensures answers { AnswersRows S.Store conn.old conn.new result all_hosts }
+    ensures told { OnlyFails S.Store conn.old conn.new result }
+    ensures serves { ServesAfter S.Store conn.old conn.new result }
+{
+    conn.query_all("SELECT name, total, grants FROM host ORDER BY name", &[])
+}
+
+/// The rows of all archived workunits, in order of their archiving, from the third column on.
+pub fn archived_rows<S: Alter>(conn: &mut Connection<S>) -> Result<Vec<Row>, Error>
+    ensures reads { Reads S.Store conn.old conn.new result }
+    ensures answers { AnswersRows S.Store conn.old conn.new result all_archived }
+    ensures told { OnlyFails S.Store conn.old conn.new result }
+    ensures serves { ServesAfter S.Store conn.old conn.new result }
+{
+    conn.query_all(
+        "SELECT number, name, error_mask, canonical, output, done_at FROM archived ORDER BY seq",
+        &[],
+    )
+}
+
+/// The rows of the credit of all grants, in order of their making.
+pub fn credit_rows<S: Alter>(conn: &mut Connection<S>) -> Result<Vec<Row>, Error>
+    ensures reads { Reads S.Store conn.old conn.new result }
+    ensures answers { AnswersRows S.Store conn.old conn.new result all_credit }
+    ensures told { OnlyFails S.Store conn.old conn.new result }
+    ensures serves { ServesAfter S.Store conn.old conn.new result }
+{
+    conn.query_all("SELECT credit FROM credit_grant ORDER BY seq", &[])
+}
+
+/// A row for each workunit, in some order.
+pub fn workunit_number_rows<S: Alter>(conn: &mut Connection<S>) -> Result<Vec<Row>, Error>
+    ensures reads { Reads S.Store conn.old conn.new result }
+    ensures answers { AnswersSoMany S.Store conn.old conn.new result workunit_count }
+    ensures told { OnlyFails S.Store conn.old conn.new result }
+    ensures serves { ServesAfter S.Store conn.old conn.new result }
+{
+    conn.query_all("SELECT number FROM workunit", &[])
+}
+
+/// A row for each instance, in some order.
+pub fn result_number_rows<S: Alter>(conn: &mut Connection<S>) -> Result<Vec<Row>, Error>
+    ensures reads { Reads S.Store conn.old conn.new result }
+    ensures answers { AnswersSoMany S.Store conn.old conn.new result result_count }
+    ensures told { OnlyFails S.Store conn.old conn.new result }
+    ensures serves { ServesAfter S.Store conn.old conn.new result }
+{
+    conn.query_all("SELECT n FROM result", &[])
+}
+
+/// A row for each instance in this state, in some order.
+pub fn result_number_rows_in<S: Alter>(
+    conn: &mut Connection<S>,
+    state: ServerState,
+) -> Result<Vec<Row>, Error>
+    ensures reads { Reads S.Store conn.old conn.new result }
+    ensures answers { AnswersSoMany S.Store conn.old conn.new result (count_in state) }
+    ensures told { OnlyFails S.Store conn.old conn.new result }
+    ensures serves { ServesAfter S.Store conn.old conn.new result }
+{
+    conn.query_all(
+        "SELECT n FROM result WHERE server_state = ?1",
+        params![state.code()],
+    )
+}
+
+/// A row for each import, in some order.
+pub fn import_kind_rows<S: Alter>(conn: &mut Connection<S>) -> Result<Vec<Row>, Error>
+    ensures reads { Reads S.Store conn.old conn.new result }
+    ensures answers { AnswersSoMany S.Store conn.old conn.new result import_count }
+    ensures told { OnlyFails S.Store conn.old conn.new result }
+    ensures serves { ServesAfter S.Store conn.old conn.new result }
+{
+    conn.query_all("SELECT kind FROM import", &[])
 }
 
 /// Adds the row of a workunit at its place in order of number, without its instances. The table's key refuses a number

@@ -1,5 +1,6 @@
 //! Tests of whole projects: the worked examples of files, of passes and of a cancel; what stands in a database that is
-//! adopted; what a stop of a command's calls leaves; lives; what is flushed; and what is as long as it may be.
+//! adopted; what a stop of a command's calls leaves; lives; lines of the command line; what is flushed; and what is as
+//! long as it may be.
 #![tactic(auto)]
 
 #[cfg(test)]
@@ -36,5 +37,9 @@ mod setting;
 mod statements;
 #[cfg(test)]
 mod stops;
+#[cfg(test)]
+mod views;
+#[cfg(test)]
+mod words;
 #[cfg(test)]
 mod writers;

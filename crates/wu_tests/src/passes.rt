@@ -1,10 +1,11 @@
 //! The passes: what a transition, a validation and an assimilation make of a workunit, and how far they go.
 
 use crate::scripts::Ask::{Assimilate, Batch, Reported, Sent, Transition, Validate};
-use crate::scripts::Line::{Holds, Prints, Shows};
-use crate::scripts::{ARCHIVE, GRANTS, HOSTS, Line, MOMENTS, RESULTS, plays};
+use crate::scripts::Line::{Holds, Prints, Shows, Views};
+use crate::scripts::{GRANTS, Line, MOMENTS, plays};
 use crate::setting::{NOON, ONE_JOB, ONE_WORKUNIT, fresh};
 use std::process::Abort;
+use wu_drive::View::{Archive, Hosts, Results};
 
 /// What the first batch prints.
 const ONE_ADDED: &str = "batch b1: 1 added, first 1\n";
@@ -22,9 +23,9 @@ const NEXT_DAY: u64 = 1_772_409_600;
 const MADE: [Line; 6] = [
     Prints(Batch("b1", b"", ONE_JOB), ONE_ADDED),
     Prints(Transition(NOON, 10), "transition: 1\n"),
-    Holds(
-        RESULTS,
-        "1_0 UNSENT INIT INIT INIT host=- output=\n1_1 UNSENT INIT INIT INIT host=- output=\n",
+    Views(
+        Results,
+        "job_1_0 UNSENT INIT INIT INIT host=- sent=- deadline=- received=- output=0\njob_1_1 UNSENT INIT INIT INIT host=- sent=- deadline=- received=- output=0\n",
     ),
     Holds(
         MOMENTS,
@@ -59,9 +60,9 @@ const TIMED_OUT: [Line; 6] = [
     ),
     Prints(Transition(DEADLINE, 10), "transition: 0\n"),
     Prints(Transition(DEADLINE + 1, 10), "transition: 1\n"),
-    Holds(
-        RESULTS,
-        "1_0 OVER NO_REPLY INIT INIT host=h1 output=\n1_1 UNSENT INIT INIT INIT host=- output=\n1_2 UNSENT INIT INIT INIT host=- output=\n",
+    Views(
+        Results,
+        "job_1_0 OVER NO_REPLY INIT INIT host=h1 sent=2026-03-01T13:00:00Z deadline=2026-03-08T13:00:00Z received=- output=0\njob_1_1 UNSENT INIT INIT INIT host=- sent=- deadline=- received=- output=0\njob_1_2 UNSENT INIT INIT INIT host=- sent=- deadline=- received=- output=0\n",
     ),
     Holds(
         MOMENTS,
@@ -85,9 +86,9 @@ const THIRD_DECIDES: [Line; 13] = [
         "reported r1: 2 applied, 0 skipped\n",
     ),
     Prints(Validate(10), "validate: 1\n"),
-    Holds(
-        RESULTS,
-        "1_0 OVER SUCCESS INCONCLUSIVE INIT host=h1 output=AA\n1_1 OVER SUCCESS INCONCLUSIVE INIT host=h2 output=AB\n",
+    Views(
+        Results,
+        "job_1_0 OVER SUCCESS INCONCLUSIVE INIT host=h1 sent=2026-03-01T13:00:00Z deadline=2026-03-08T13:00:00Z received=2026-03-01T14:00:00Z output=1\njob_1_1 OVER SUCCESS INCONCLUSIVE INIT host=h2 sent=2026-03-01T13:00:00Z deadline=2026-03-08T13:00:00Z received=2026-03-01T14:00:00Z output=1\n",
     ),
     Shows(
         "1 job_1 input=2 quorum=2 target=3 max_error=3 max_total=10 max_success=6 delay=604800 credit=1 mask=0 canonical=- assimilate=INIT delete=INIT done=-\n",
@@ -109,15 +110,15 @@ const THIRD_DECIDES: [Line; 13] = [
         "reported r2: 1 applied, 0 skipped\n",
     ),
     Prints(Validate(10), "validate: 1\n"),
-    Holds(
-        RESULTS,
-        "1_0 OVER SUCCESS INVALID INIT host=h1 output=AA\n1_1 OVER SUCCESS VALID INIT host=h2 output=AB\n1_2 OVER SUCCESS VALID INIT host=h3 output=AB\n",
+    Views(
+        Results,
+        "job_1_0 OVER SUCCESS INVALID INIT host=h1 sent=2026-03-01T13:00:00Z deadline=2026-03-08T13:00:00Z received=2026-03-01T14:00:00Z output=1\njob_1_1 OVER SUCCESS VALID INIT host=h2 sent=2026-03-01T13:00:00Z deadline=2026-03-08T13:00:00Z received=2026-03-01T14:00:00Z output=1\njob_1_2 OVER SUCCESS VALID INIT host=h3 sent=2026-03-01T15:00:00Z deadline=2026-03-08T15:00:00Z received=2026-03-01T16:00:00Z output=1\n",
     ),
     Shows(
         "1 job_1 input=2 quorum=2 target=3 max_error=3 max_total=10 max_success=6 delay=604800 credit=1 mask=0 canonical=1 assimilate=READY delete=INIT done=-\n",
     ),
     Holds(GRANTS, "1 1_1 h2 1\n2 1_2 h3 1\n"),
-    Holds(HOSTS, "h2 total=1 grants=1\nh3 total=1 grants=1\n"),
+    Views(Hosts, "h2 total=1 grants=1\nh3 total=1 grants=1\n"),
 ];
 
 #[test]
@@ -148,15 +149,15 @@ const TWO_OF_THREE: [Line; 9] = [
         "reported r1: 3 applied, 0 skipped\n",
     ),
     Prints(Validate(10), "validate: 1\n"),
-    Holds(
-        RESULTS,
-        "1_0 OVER SUCCESS VALID INIT host=h1 output=AA\n1_1 OVER SUCCESS INVALID INIT host=h2 output=BB\n1_2 OVER SUCCESS VALID INIT host=h3 output=AA\n",
+    Views(
+        Results,
+        "job_1_0 OVER SUCCESS VALID INIT host=h1 sent=2026-03-01T13:00:00Z deadline=2026-03-08T13:00:00Z received=2026-03-01T14:00:00Z output=1\njob_1_1 OVER SUCCESS INVALID INIT host=h2 sent=2026-03-01T13:00:00Z deadline=2026-03-08T13:00:00Z received=2026-03-01T14:00:00Z output=1\njob_1_2 OVER SUCCESS VALID INIT host=h3 sent=2026-03-01T13:00:00Z deadline=2026-03-08T13:00:00Z received=2026-03-01T14:00:00Z output=1\n",
     ),
     Shows(
         "1 job_1 input=2 quorum=3 target=3 max_error=3 max_total=10 max_success=6 delay=604800 credit=1 mask=0 canonical=0 assimilate=READY delete=INIT done=-\n",
     ),
     Holds(GRANTS, "1 1_0 h1 1\n2 1_2 h3 1\n"),
-    Holds(HOSTS, "h1 total=1 grants=1\nh3 total=1 grants=1\n"),
+    Views(Hosts, "h1 total=1 grants=1\nh3 total=1 grants=1\n"),
 ];
 
 #[test]
@@ -185,17 +186,17 @@ const TOO_MANY_ERRORS: [Line; 13] = [
     Prints(Validate(10), "validate: 0\n"),
     Prints(Assimilate(NEXT_DAY, 10), "assimilate: 0\n"),
     Prints(Transition(TWO_O_CLOCK, 10), "transition: 1\n"),
-    Holds(
-        RESULTS,
-        "1_0 OVER SUCCESS NO_CHECK INIT host=h1 output=AA\n1_1 OVER CLIENT_ERROR INIT INIT host=h2 output=\n1_2 OVER CLIENT_ERROR INIT INIT host=h3 output=\n1_3 OVER CLIENT_ERROR INIT INIT host=h4 output=\n1_4 OVER CLIENT_ERROR INIT INIT host=h5 output=\n",
+    Views(
+        Results,
+        "job_1_0 OVER SUCCESS NO_CHECK INIT host=h1 sent=2026-03-01T13:00:00Z deadline=2026-03-08T13:00:00Z received=2026-03-01T14:00:00Z output=1\njob_1_1 OVER CLIENT_ERROR INIT INIT host=h2 sent=2026-03-01T13:00:00Z deadline=2026-03-08T13:00:00Z received=2026-03-01T14:00:00Z output=0\njob_1_2 OVER CLIENT_ERROR INIT INIT host=h3 sent=2026-03-01T13:00:00Z deadline=2026-03-08T13:00:00Z received=2026-03-01T14:00:00Z output=0\njob_1_3 OVER CLIENT_ERROR INIT INIT host=h4 sent=2026-03-01T13:00:00Z deadline=2026-03-08T13:00:00Z received=2026-03-01T14:00:00Z output=0\njob_1_4 OVER CLIENT_ERROR INIT INIT host=h5 sent=2026-03-01T13:00:00Z deadline=2026-03-08T13:00:00Z received=2026-03-01T14:00:00Z output=0\n",
     ),
     Shows(
         "1 job_1 input=2 quorum=2 target=5 max_error=3 max_total=10 max_success=6 delay=604800 credit=1 mask=2 canonical=- assimilate=READY delete=INIT done=-\n",
     ),
     Prints(Assimilate(NEXT_DAY, 10), "assimilate: 1\n"),
-    Holds(
-        ARCHIVE,
-        "1 1 job_1 mask=2 canonical=- done=1772409600 output=\n",
+    Views(
+        Archive,
+        "1 job_1 mask=2 canonical=- done=2026-03-02T00:00:00Z output=-\n",
     ),
     Shows(
         "1 job_1 input=2 quorum=2 target=5 max_error=3 max_total=10 max_success=6 delay=604800 credit=1 mask=2 canonical=- assimilate=DONE delete=INIT done=2026-03-02T00:00:00Z\n",
@@ -222,9 +223,9 @@ const TOO_MANY_RESULTS: [Line; 8] = [
     ),
     Prints(Transition(DEADLINE, 10), "transition: 0\n"),
     Prints(Transition(DEADLINE + 1, 10), "transition: 1\n"),
-    Holds(
-        RESULTS,
-        "1_0 OVER CLIENT_ERROR INIT INIT host=h1 output=\n1_1 OVER NO_REPLY INIT INIT host=h2 output=\n",
+    Views(
+        Results,
+        "job_1_0 OVER CLIENT_ERROR INIT INIT host=h1 sent=2026-03-01T13:00:00Z deadline=2026-03-08T13:00:00Z received=2026-03-01T14:00:00Z output=0\njob_1_1 OVER NO_REPLY INIT INIT host=h2 sent=2026-03-01T13:00:00Z deadline=2026-03-08T13:00:00Z received=- output=0\n",
     ),
     Shows(
         "1 job_1 input=2 quorum=2 target=2 max_error=3 max_total=2 max_success=6 delay=604800 credit=1 mask=8 canonical=- assimilate=READY delete=INIT done=-\n",
@@ -255,23 +256,23 @@ const TOO_MANY_SUCCESSES: [Line; 12] = [
         "reported r1: 7 applied, 0 skipped\n",
     ),
     Prints(Validate(10), "validate: 1\n"),
-    Holds(
-        RESULTS,
-        "1_0 OVER SUCCESS INCONCLUSIVE INIT host=h1 output=00\n1_1 OVER SUCCESS INCONCLUSIVE INIT host=h2 output=01\n1_2 OVER SUCCESS INCONCLUSIVE INIT host=h3 output=02\n1_3 OVER SUCCESS INCONCLUSIVE INIT host=h4 output=03\n1_4 OVER SUCCESS INCONCLUSIVE INIT host=h5 output=04\n1_5 OVER SUCCESS INCONCLUSIVE INIT host=h6 output=05\n1_6 OVER SUCCESS INCONCLUSIVE INIT host=h7 output=06\n1_7 OVER DIDNT_NEED INIT INIT host=- output=\n",
+    Views(
+        Results,
+        "job_1_0 OVER SUCCESS INCONCLUSIVE INIT host=h1 sent=2026-03-01T13:00:00Z deadline=2026-03-08T13:00:00Z received=2026-03-01T14:00:00Z output=1\njob_1_1 OVER SUCCESS INCONCLUSIVE INIT host=h2 sent=2026-03-01T13:00:00Z deadline=2026-03-08T13:00:00Z received=2026-03-01T14:00:00Z output=1\njob_1_2 OVER SUCCESS INCONCLUSIVE INIT host=h3 sent=2026-03-01T13:00:00Z deadline=2026-03-08T13:00:00Z received=2026-03-01T14:00:00Z output=1\njob_1_3 OVER SUCCESS INCONCLUSIVE INIT host=h4 sent=2026-03-01T13:00:00Z deadline=2026-03-08T13:00:00Z received=2026-03-01T14:00:00Z output=1\njob_1_4 OVER SUCCESS INCONCLUSIVE INIT host=h5 sent=2026-03-01T13:00:00Z deadline=2026-03-08T13:00:00Z received=2026-03-01T14:00:00Z output=1\njob_1_5 OVER SUCCESS INCONCLUSIVE INIT host=h6 sent=2026-03-01T13:00:00Z deadline=2026-03-08T13:00:00Z received=2026-03-01T14:00:00Z output=1\njob_1_6 OVER SUCCESS INCONCLUSIVE INIT host=h7 sent=2026-03-01T13:00:00Z deadline=2026-03-08T13:00:00Z received=2026-03-01T14:00:00Z output=1\njob_1_7 OVER DIDNT_NEED INIT INIT host=- sent=- deadline=- received=- output=0\n",
     ),
     Shows(
         "1 job_1 input=2 quorum=2 target=8 max_error=3 max_total=10 max_success=6 delay=604800 credit=1 mask=4 canonical=- assimilate=INIT delete=INIT done=-\n",
     ),
     Prints(Validate(10), "validate: 0\n"),
     Prints(Transition(TWO_O_CLOCK, 10), "transition: 1\n"),
-    Holds(
-        RESULTS,
-        "1_0 OVER SUCCESS NO_CHECK INIT host=h1 output=00\n1_1 OVER SUCCESS NO_CHECK INIT host=h2 output=01\n1_2 OVER SUCCESS NO_CHECK INIT host=h3 output=02\n1_3 OVER SUCCESS NO_CHECK INIT host=h4 output=03\n1_4 OVER SUCCESS NO_CHECK INIT host=h5 output=04\n1_5 OVER SUCCESS NO_CHECK INIT host=h6 output=05\n1_6 OVER SUCCESS NO_CHECK INIT host=h7 output=06\n1_7 OVER DIDNT_NEED INIT INIT host=- output=\n",
+    Views(
+        Results,
+        "job_1_0 OVER SUCCESS NO_CHECK INIT host=h1 sent=2026-03-01T13:00:00Z deadline=2026-03-08T13:00:00Z received=2026-03-01T14:00:00Z output=1\njob_1_1 OVER SUCCESS NO_CHECK INIT host=h2 sent=2026-03-01T13:00:00Z deadline=2026-03-08T13:00:00Z received=2026-03-01T14:00:00Z output=1\njob_1_2 OVER SUCCESS NO_CHECK INIT host=h3 sent=2026-03-01T13:00:00Z deadline=2026-03-08T13:00:00Z received=2026-03-01T14:00:00Z output=1\njob_1_3 OVER SUCCESS NO_CHECK INIT host=h4 sent=2026-03-01T13:00:00Z deadline=2026-03-08T13:00:00Z received=2026-03-01T14:00:00Z output=1\njob_1_4 OVER SUCCESS NO_CHECK INIT host=h5 sent=2026-03-01T13:00:00Z deadline=2026-03-08T13:00:00Z received=2026-03-01T14:00:00Z output=1\njob_1_5 OVER SUCCESS NO_CHECK INIT host=h6 sent=2026-03-01T13:00:00Z deadline=2026-03-08T13:00:00Z received=2026-03-01T14:00:00Z output=1\njob_1_6 OVER SUCCESS NO_CHECK INIT host=h7 sent=2026-03-01T13:00:00Z deadline=2026-03-08T13:00:00Z received=2026-03-01T14:00:00Z output=1\njob_1_7 OVER DIDNT_NEED INIT INIT host=- sent=- deadline=- received=- output=0\n",
     ),
     Shows(
         "1 job_1 input=2 quorum=2 target=8 max_error=3 max_total=10 max_success=6 delay=604800 credit=1 mask=4 canonical=- assimilate=READY delete=INIT done=-\n",
     ),
-    Holds(HOSTS, ""),
+    Views(Hosts, ""),
 ];
 
 #[test]

@@ -3,10 +3,11 @@
 use crate::scripts::Ask::{
     Assimilate, Batch, Cancel, Delete, Purge, Reported, Sent, Transition, Validate,
 };
-use crate::scripts::Line::{Holds, Prints, Shows};
-use crate::scripts::{ARCHIVE, GRANTS, HOSTS, Line, RESULTS, plays};
+use crate::scripts::Line::{Holds, Prints, Shows, Views};
+use crate::scripts::{GRANTS, Line, plays};
 use crate::setting::{NOON, ONE_JOB, fresh};
 use std::process::Abort;
+use wu_drive::View::{Archive, Hosts, Results};
 
 /// What the first batch prints.
 const ONE_ADDED: &str = "batch b1: 1 added, first 1\n";
@@ -39,9 +40,9 @@ const TWO_AGREE: [Line; 12] = [
         "reported r1: 2 applied, 0 skipped\n",
     ),
     Prints(Validate(10), "validate: 1\n"),
-    Holds(
-        RESULTS,
-        "1_0 OVER SUCCESS VALID INIT host=h1 output=AA\n1_1 OVER SUCCESS VALID INIT host=h2 output=AA\n1_2 IN_PROGRESS INIT INIT INIT host=h3 output=\n",
+    Views(
+        Results,
+        "job_1_0 OVER SUCCESS VALID INIT host=h1 sent=2026-03-01T13:00:00Z deadline=2026-03-08T13:00:00Z received=2026-03-01T14:00:00Z output=1\njob_1_1 OVER SUCCESS VALID INIT host=h2 sent=2026-03-01T13:00:00Z deadline=2026-03-08T13:00:00Z received=2026-03-01T14:00:00Z output=1\njob_1_2 IN_PROGRESS INIT INIT INIT host=h3 sent=2026-03-01T13:00:00Z deadline=2026-03-08T13:00:00Z received=- output=0\n",
     ),
     Shows(
         "1 job_1 input=2 quorum=2 target=3 max_error=3 max_total=10 max_success=6 delay=604800 credit=1 mask=0 canonical=0 assimilate=READY delete=INIT done=-\n",
@@ -49,9 +50,9 @@ const TWO_AGREE: [Line; 12] = [
     Holds(GRANTS, "1 1_0 h1 1\n2 1_1 h2 1\n"),
     Prints(Assimilate(NEXT_DAY, 10), "assimilate: 1\n"),
     Prints(Assimilate(NEXT_DAY, 10), "assimilate: 0\n"),
-    Holds(
-        ARCHIVE,
-        "1 1 job_1 mask=0 canonical=0 done=1772409600 output=AA\n",
+    Views(
+        Archive,
+        "1 job_1 mask=0 canonical=0 done=2026-03-02T00:00:00Z output=aa\n",
     ),
     Shows(
         "1 job_1 input=2 quorum=2 target=3 max_error=3 max_total=10 max_success=6 delay=604800 credit=1 mask=0 canonical=0 assimilate=DONE delete=INIT done=2026-03-02T00:00:00Z\n",
@@ -62,29 +63,29 @@ const TWO_AGREE: [Line; 12] = [
 const TWO_DELETIONS: [Line; 13] = [
     Prints(Delete(10), "delete: 0\n"),
     Prints(Transition(NEXT_DAY, 10), "transition: 1\n"),
-    Holds(
-        RESULTS,
-        "1_0 OVER SUCCESS VALID INIT host=h1 output=AA\n1_1 OVER SUCCESS VALID READY host=h2 output=AA\n1_2 IN_PROGRESS INIT INIT INIT host=h3 output=\n",
+    Views(
+        Results,
+        "job_1_0 OVER SUCCESS VALID INIT host=h1 sent=2026-03-01T13:00:00Z deadline=2026-03-08T13:00:00Z received=2026-03-01T14:00:00Z output=1\njob_1_1 OVER SUCCESS VALID READY host=h2 sent=2026-03-01T13:00:00Z deadline=2026-03-08T13:00:00Z received=2026-03-01T14:00:00Z output=1\njob_1_2 IN_PROGRESS INIT INIT INIT host=h3 sent=2026-03-01T13:00:00Z deadline=2026-03-08T13:00:00Z received=- output=0\n",
     ),
     Prints(Delete(10), "delete: 1\n"),
-    Holds(
-        RESULTS,
-        "1_0 OVER SUCCESS VALID INIT host=h1 output=AA\n1_1 OVER SUCCESS VALID DONE host=h2 output=\n1_2 IN_PROGRESS INIT INIT INIT host=h3 output=\n",
+    Views(
+        Results,
+        "job_1_0 OVER SUCCESS VALID INIT host=h1 sent=2026-03-01T13:00:00Z deadline=2026-03-08T13:00:00Z received=2026-03-01T14:00:00Z output=1\njob_1_1 OVER SUCCESS VALID DONE host=h2 sent=2026-03-01T13:00:00Z deadline=2026-03-08T13:00:00Z received=2026-03-01T14:00:00Z output=0\njob_1_2 IN_PROGRESS INIT INIT INIT host=h3 sent=2026-03-01T13:00:00Z deadline=2026-03-08T13:00:00Z received=- output=0\n",
     ),
     Prints(Delete(10), "delete: 0\n"),
     Prints(Transition(DEADLINE, 10), "transition: 0\n"),
     Prints(Transition(DEADLINE + 1, 10), "transition: 1\n"),
-    Holds(
-        RESULTS,
-        "1_0 OVER SUCCESS VALID READY host=h1 output=AA\n1_1 OVER SUCCESS VALID DONE host=h2 output=\n1_2 OVER NO_REPLY INIT READY host=h3 output=\n",
+    Views(
+        Results,
+        "job_1_0 OVER SUCCESS VALID READY host=h1 sent=2026-03-01T13:00:00Z deadline=2026-03-08T13:00:00Z received=2026-03-01T14:00:00Z output=1\njob_1_1 OVER SUCCESS VALID DONE host=h2 sent=2026-03-01T13:00:00Z deadline=2026-03-08T13:00:00Z received=2026-03-01T14:00:00Z output=0\njob_1_2 OVER NO_REPLY INIT READY host=h3 sent=2026-03-01T13:00:00Z deadline=2026-03-08T13:00:00Z received=- output=0\n",
     ),
     Shows(
         "1 job_1 input=2 quorum=2 target=3 max_error=3 max_total=10 max_success=6 delay=604800 credit=1 mask=0 canonical=0 assimilate=DONE delete=READY done=2026-03-02T00:00:00Z\n",
     ),
     Prints(Delete(10), "delete: 1\n"),
-    Holds(
-        RESULTS,
-        "1_0 OVER SUCCESS VALID DONE host=h1 output=\n1_1 OVER SUCCESS VALID DONE host=h2 output=\n1_2 OVER NO_REPLY INIT DONE host=h3 output=\n",
+    Views(
+        Results,
+        "job_1_0 OVER SUCCESS VALID DONE host=h1 sent=2026-03-01T13:00:00Z deadline=2026-03-08T13:00:00Z received=2026-03-01T14:00:00Z output=0\njob_1_1 OVER SUCCESS VALID DONE host=h2 sent=2026-03-01T13:00:00Z deadline=2026-03-08T13:00:00Z received=2026-03-01T14:00:00Z output=0\njob_1_2 OVER NO_REPLY INIT DONE host=h3 sent=2026-03-01T13:00:00Z deadline=2026-03-08T13:00:00Z received=- output=0\n",
     ),
     Shows(
         "1 job_1 input=0 quorum=2 target=3 max_error=3 max_total=10 max_success=6 delay=604800 credit=1 mask=0 canonical=0 assimilate=DONE delete=DONE done=2026-03-02T00:00:00Z\n",
@@ -102,21 +103,21 @@ const LATE_REPORT: [Line; 13] = [
     ),
     Prints(Purge(NINTH_DAY, 10, 0), "purge: 0\n"),
     Prints(Validate(10), "validate: 1\n"),
-    Holds(
-        RESULTS,
-        "1_0 OVER SUCCESS VALID DONE host=h1 output=\n1_1 OVER SUCCESS VALID DONE host=h2 output=\n1_2 OVER SUCCESS TOO_LATE INIT host=h3 output=AA\n",
+    Views(
+        Results,
+        "job_1_0 OVER SUCCESS VALID DONE host=h1 sent=2026-03-01T13:00:00Z deadline=2026-03-08T13:00:00Z received=2026-03-01T14:00:00Z output=0\njob_1_1 OVER SUCCESS VALID DONE host=h2 sent=2026-03-01T13:00:00Z deadline=2026-03-08T13:00:00Z received=2026-03-01T14:00:00Z output=0\njob_1_2 OVER SUCCESS TOO_LATE INIT host=h3 sent=2026-03-01T13:00:00Z deadline=2026-03-08T13:00:00Z received=2026-03-09T00:00:00Z output=1\n",
     ),
     Prints(Purge(NINTH_DAY, 10, 0), "purge: 0\n"),
     Prints(Transition(NINTH_DAY, 10), "transition: 1\n"),
     Prints(Delete(10), "delete: 1\n"),
     Prints(Purge(NINTH_DAY, 10, 0), "purge: 1\n"),
-    Holds(RESULTS, ""),
+    Views(Results, ""),
     Shows(""),
     Holds(GRANTS, "1 1_0 h1 1\n2 1_1 h2 1\n"),
-    Holds(HOSTS, "h1 total=1 grants=1\nh2 total=1 grants=1\n"),
-    Holds(
-        ARCHIVE,
-        "1 1 job_1 mask=0 canonical=0 done=1772409600 output=AA\n",
+    Views(Hosts, "h1 total=1 grants=1\nh2 total=1 grants=1\n"),
+    Views(
+        Archive,
+        "1 job_1 mask=0 canonical=0 done=2026-03-02T00:00:00Z output=aa\n",
     ),
 ];
 
@@ -141,14 +142,14 @@ const GIVEN_UP: [Line; 15] = [
     Shows(
         "1 job_1 input=0 quorum=2 target=2 max_error=3 max_total=10 max_success=6 delay=604800 credit=1 mask=16 canonical=- assimilate=DONE delete=DONE done=2026-03-02T00:00:00Z\n",
     ),
-    Holds(RESULTS, ""),
+    Views(Results, ""),
     Prints(Purge(NEXT_DAY + 3599, 10, 3600), "purge: 0\n"),
     Prints(Purge(NEXT_DAY + 3600, 10, 3600), "purge: 1\n"),
     Prints(Purge(NEXT_DAY + 3600, 10, 3600), "purge: 0\n"),
     Shows(""),
-    Holds(
-        ARCHIVE,
-        "1 1 job_1 mask=16 canonical=- done=1772409600 output=\n",
+    Views(
+        Archive,
+        "1 job_1 mask=16 canonical=- done=2026-03-02T00:00:00Z output=-\n",
     ),
 ];
 
@@ -178,17 +179,17 @@ const BY_NUMBER: [Line; 17] = [
     Prints(Cancel("a3"), "cancel a3: done\n"),
     Prints(Cancel("a2"), "cancel a2: done\n"),
     Prints(Transition(NOON, 1), "transition: 1\n"),
-    Holds(
-        RESULTS,
-        "1_0 UNSENT INIT INIT INIT host=- output=\n1_1 UNSENT INIT INIT INIT host=- output=\n",
+    Views(
+        Results,
+        "a1_0 UNSENT INIT INIT INIT host=- sent=- deadline=- received=- output=0\na1_1 UNSENT INIT INIT INIT host=- sent=- deadline=- received=- output=0\n",
     ),
     Prints(Cancel("a1"), "cancel a1: done\n"),
     Prints(Transition(NOON, 1000), "transition: 3\n"),
     Prints(Assimilate(NEXT_DAY, 2), "assimilate: 2\n"),
     Prints(Assimilate(NEXT_DAY + 1, 2), "assimilate: 1\n"),
-    Holds(
-        ARCHIVE,
-        "1 1 a1 mask=16 canonical=- done=1772409600 output=\n2 2 a2 mask=16 canonical=- done=1772409600 output=\n3 3 a3 mask=16 canonical=- done=1772409601 output=\n",
+    Views(
+        Archive,
+        "1 a1 mask=16 canonical=- done=2026-03-02T00:00:00Z output=-\n2 a2 mask=16 canonical=- done=2026-03-02T00:00:00Z output=-\n3 a3 mask=16 canonical=- done=2026-03-02T00:00:01Z output=-\n",
     ),
     Prints(Transition(NEXT_DAY, 1000), "transition: 3\n"),
     Prints(Delete(2), "delete: 2\n"),

@@ -1,10 +1,10 @@
 //! Scripts: commands in a row, what is printed for each, and what then stands in the tables.
 
-use crate::setting::{adopted, batch, import, is_text, lines, named, prints, shows};
+use crate::setting::{adopted, batch, import, is_text, lines, named, prints, shows, views};
 use sqlite::Alter;
 use std::process::Abort;
 use wu_core::{ImportKind, Moment};
-use wu_drive::{Command, Project};
+use wu_drive::{Command, Project, View};
 
 /// What a script asks of a project. Moments are in seconds.
 #[derive(Clone, Copy, Drop)]
@@ -40,6 +40,8 @@ pub enum Line {
     Holds(&'static str, &'static str),
     /// This is the view of workunits.
     Shows(&'static str),
+    /// This is that view.
+    Views(View, &'static str),
 }
 
 /// The instances, a line each: the states of each in words, its host and its output.
@@ -130,6 +132,10 @@ fn plays_line<S: Alter>(
         Line::Holds(sql, text) => holds(rt, project, sql, text),
         Line::Shows(text) => {
             shows(rt, &mut project, text);
+            project
+        }
+        Line::Views(view, text) => {
+            views(rt, &mut project, view, text);
             project
         }
     }

@@ -180,11 +180,26 @@ pub fn does<S: Alter>(rt: &(impl Abort + AllocGlobal), project: &mut Project<S>,
     prints(rt, project, import(rt, kind, name, file), text);
 }
 
+/// A view of the project.
+fn view<S: Alter>(rt: &(impl Abort + AllocGlobal), project: &mut Project<S>, view: View) -> String {
+    let mut out = Vec::new(rt.alloc());
+    show(rt.alloc(), project, view, &mut out).expect(rt, "a view");
+    String::from_utf8(out).expect(rt, "a text")
+}
+
+/// Sees that this is that view.
+pub fn views<S: Alter>(
+    rt: &(impl Abort + AllocGlobal),
+    project: &mut Project<S>,
+    which: View,
+    text: &str,
+) {
+    is_text(rt, view(rt, project, which).as_str(), text);
+}
+
 /// The view of workunits.
 pub fn workunits<S: Alter>(rt: &(impl Abort + AllocGlobal), project: &mut Project<S>) -> String {
-    let mut out = Vec::new(rt.alloc());
-    show(rt.alloc(), project, View::Workunits, &mut out).expect(rt, "a view");
-    String::from_utf8(out).expect(rt, "a text")
+    view(rt, project, View::Workunits)
 }
 
 /// Sees that this is the view of workunits.

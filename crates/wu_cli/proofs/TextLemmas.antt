@@ -1,0 +1,22 @@
+-- What is written of a text, and a flush after it.
+use Rattle.std.proofs.Common.{◌≡◌, ℕ, ◌∷◌, List, length, take, sym, subst, arith}
+use Rattle.std.specs.Prelude.{Option, Result, Ok, Err}
+use Rattle.std.specs.Io.KnownBytes.{Appends, Keeps}
+use Rattle.std.proofs.KnownBytes.{Appends-kept}
+use Rattle.std.proofs.lemmas.List.{take_all}
+use Rattle.wu_core.specs.declared.fault.Fault.{Fault}
+use Rattle.wu_report.specs.Writing.{Writes}
+use Rattle.wu_cli.specs.Endings.{fault_line, usage_text}
+use Rattle.wu_cli.specs.declared.usage.Usage.{Usage}
+
+-- all was written, and the flush wrote nothing
+pub flushed : {T E : Type 0} (a b c : Option (List ℕ)) (text : List ℕ) (r : Result T E) → Appends a b text → Keeps b c → Writes a c text r
+flushed a b c text (Ok x) whole kept = Appends-kept a b c text whole kept
+flushed a b c text (Err e) whole kept = (length text, subst (Appends a c) (sym (take_all (length text) text (omega arith))) (Appends-kept a b c text whole kept))
+
+-- what is written for a fault is written for the same fault by another name; so for a refusal of words
+pub told_as : {T E : Type 0} (a b : Option (List ℕ)) (r : Result T E) (fault other : Fault) → fault ≡ other → Writes a b (fault_line other) r → Writes a b (fault_line fault) r
+told_as a b r fault other is wrote = subst (λ (it : Fault). Writes a b (fault_line it) r) (sym is) wrote
+
+pub usage_told_as : {T E : Type 0} (a b : Option (List ℕ)) (r : Result T E) (usage other : Usage) → usage ≡ other → Writes a b (usage_text other) r → Writes a b (usage_text usage) r
+usage_told_as a b r usage other is wrote = subst (λ (it : Usage). Writes a b (usage_text it) r) (sym is) wrote

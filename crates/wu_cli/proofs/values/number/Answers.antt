@@ -1,0 +1,11 @@
+use Rattle.std.proofs.Common.{◌≡◌}
+use Rattle.std.specs.Prelude.{Option, Some, None, ℕ}
+use Rattle.clap.specs.Words.{found_of}
+use Rattle.wu_cli.proofs.NumberLemmas.{number_read}
+use Rattle.wu_cli.proofs.values.number.Goals as goal
+
+pub returns-in-Some-clause-value : goal.returns-in-Some-clause-value
+returns-in-Some-clause-value c =
+    number_read (found_of c.args.found.now) c.name.result.now c.args.option c.in-Some.number c.name.ensures
+    (λ none. let clash : Some c.in-Some.number ≡ None = c.in-Some.ensures.none none in cc)
+    (λ t some. (c.in-Some.ensures.value t some).0.1)

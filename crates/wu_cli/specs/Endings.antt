@@ -1,0 +1,45 @@
+-- How the program ends: the line on its standard error, and its status.
+use Rattle.std.specs.Prelude.{ℕ, Bool, true, false, List, ◌++◌, codes, Option, Some, None}
+use Rattle.std.specs.Io.KnownBytes.{Appends}
+use Rattle.wu_core.specs.declared.fault.Fault.{Fault}
+use Rattle.wu_core.specs.declared.fault.Fault.TheVariants as fault
+use Rattle.wu_drive.specs.Texts.{fault_text}
+use Rattle.wu_report.specs.Texts.{line_end}
+use Rattle.wu_report.specs.Writing.{AppendsFront}
+use Rattle.wu_cli.specs.declared.usage.Usage.{Usage}
+use Rattle.wu_cli.specs.declared.usage.Usage.TheVariants as usage
+
+abbrev pub fault_line : Fault → List ℕ
+fault_line fault = fault_text fault ++ line_end
+
+abbrev pub usage_text : Usage → List ℕ
+usage_text (usage.Refused text) = text
+usage_text usage.UnknownView = codes "unknown view" ++ line_end
+usage_text usage.Incomplete = codes "a value is missing" ++ line_end
+usage_text usage.Memory = fault_line fault.Memory
+
+abbrev pub unopened_line : List ℕ
+unopened_line = codes "cannot open the database" ++ line_end
+
+-- with true exactly this text went out, and else some beginning of it
+abbrev pub WritesAll : Option (List ℕ) → Option (List ℕ) → List ℕ → Bool → Type 0
+WritesAll old new text true = Appends old new text
+WritesAll old new text false = AppendsFront old new text
+
+-- 1: refused; 3: the database failed, or its session had ended; 4: no memory; 5: the output failed
+abbrev pub fault_status : Fault → ℕ
+fault_status fault.Memory = 4
+fault_status fault.Broken = 3
+fault_status fault.Ended = 3
+fault_status fault.Output = 5
+fault_status _ = 1
+
+-- 0: done
+abbrev pub status_of : Option Fault → ℕ
+status_of None = 0
+status_of (Some fault) = fault_status fault
+
+-- 2: the words are no line
+abbrev pub usage_status : Usage → ℕ
+usage_status usage.Memory = fault_status fault.Memory
+usage_status _ = 2

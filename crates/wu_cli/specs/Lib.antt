@@ -1,0 +1,6 @@
+pub mod Actions
+pub mod CommandLine
+pub mod Endings
+pub mod Lines
+pub mod Performing
+pub mod Refusals

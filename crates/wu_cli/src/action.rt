@@ -1,0 +1,191 @@
+//! What a line asks of a project, with the contents of its files.
+
+ghost use Rattle.std.specs.Prelude.{◌≡◌, ◌<◌, length};
+ghost use Rattle.wu_core.specs.Reads.{Gives};
+ghost use Rattle.wu_core.specs.Names.{name_of};
+ghost use Rattle.wu_feed.specs.Moments.{moment_of};
+ghost use Rattle.wu_cli.specs.Actions.{all_of_cycle, batch, bytes_of, content_bytes, content_of, files_of, one, prepared, read_bytes, rows_file};
+
+use crate::line::Line;
+use crate::word::Word;
+use std::alloc::{AllocError, Global};
+use std::marker::Model;
+use wu_core::{Bytes, Fault, FileCause, Moment, Name};
+use wu_drive::{Batch, Command, RowsFile, View, cycle};
+use wu_feed::read_moment;
+
+/// Commands in the order in which they run.
+#[derive(Debug, Drop)]
+pub struct Commands {
+    items: Vec<Command>,
+}
+
+impl Model for Commands {
+    ghost use Rattle.std.specs.Prelude.{List};
+    ghost use Rattle.wu_passes.specs.declared.command.Command.{Command};
+
+    ghost Value = { List Command };
+
+    ghost view = { λ commands. commands.items.items };
+}
+
+impl Commands {
+    pub fn from_vec(items: Vec<Command>) -> Self
+        ensures { result ≡ items.items }
+    {
+        Commands { items }
+    }
+
+    pub fn into_vec(self) -> Vec<Command>
+        ensures { result.items ≡ self }
+    {
+        self.items
+    }
+
+    pub fn as_slice(&self) -> &[Command]
+        ensures { result.now ≡ self.now }
+    {
+        self.items.as_slice()
+    }
+}
+
+/// What a line asks of a project.
+#[derive(Debug, Drop)]
+pub enum Action {
+    /// Commands are run.
+    Commands(Commands),
+    /// A view is looked at.
+    Look(View),
+}
+
+/// An action of one command.
+fn one(alloc: Global, command: Command) -> Result<Action, Fault>
+    ensures { Gives result (one command) }
+{
+    let commands = Vec::from_array(alloc, [command])?;
+    Ok(Action::Commands(Commands::from_vec(commands)))
+}
+
+/// The bytes of a file, copied. One that could not be read is refused as a whole.
+fn bytes(alloc: Global, content: &Option<Vec<u8>>) -> Result<Bytes, Fault>
+    ensures { Gives result (read_bytes (content_bytes content.now)) }
+{
+    match content {
+        Some(content) => Ok(Bytes::from_vec(Vec::from_slice(alloc, content.as_slice())?)),
+        None => Err(Fault::BadFile {
+            row: 0,
+            cause: FileCause::Unreadable,
+        }),
+    }
+}
+
+/// The bytes of a line's file, by its place.
+fn content(alloc: Global, contents: &[Option<Vec<u8>>], place: usize) -> Result<Bytes, Fault>
+    requires { place < length contents.now }
+    ensures { Gives result (content_of (bytes_of contents.now) place) }
+{
+    bytes(alloc, &contents[place])
+}
+
+fn moment(text: &Word) -> Result<Moment, Fault>
+    ensures { result ≡ moment_of text.now }
+{
+    read_moment(text.as_str().as_bytes())
+}
+
+fn name(alloc: Global, text: &Word) -> Result<Name, Fault>
+    ensures { Gives result (name_of text.now) }
+{
+    Name::read(alloc, text.as_str().as_bytes())
+}
+
+/// The action of a batch.
+fn batch(alloc: Global, text: &Word, contents: &[Option<Vec<u8>>]) -> Result<Action, Fault>
+    requires { length contents.now ≡ 2 }
+    ensures { Gives result (batch text.now (bytes_of contents.now)) }
+{
+    let name = name(alloc, text)?;
+    let file = content(alloc, contents, 0)?;
+    let template = content(alloc, contents, 1)?;
+    one(
+        alloc,
+        Command::Batch(Batch {
+            name,
+            template,
+            file,
+        }),
+    )
+}
+
+/// A file of rows under its name.
+fn rows_file(alloc: Global, text: &Word, contents: &[Option<Vec<u8>>]) -> Result<RowsFile, Fault>
+    requires { length contents.now ≡ 1 }
+    ensures { Gives result (rows_file text.now (bytes_of contents.now)) }
+{
+    let name = name(alloc, text)?;
+    let file = content(alloc, contents, 0)?;
+    Ok(RowsFile { name, file })
+}
+
+/// The action of a cycle.
+fn all_of_cycle(alloc: Global, now: &Word, limit: u64, min_age: u64) -> Result<Action, Fault>
+    ensures { Gives result (all_of_cycle now.now limit min_age) }
+{
+    let commands = cycle(alloc, moment(now)?, limit, min_age)?;
+    Ok(Action::Commands(Commands::from_vec(commands)))
+}
+
+/// What a line asks of a project, with the contents of its files in the order of its usage line: None for one that could
+/// not be read, no bytes for a template that the line leaves out. It answers the first fault among the options from left
+/// to right: `BadName`, `BadMoment`, or for a file `BadFile` with row 0 and `Unreadable`. Limits and ages are not looked
+/// at.
+pub fn prepare(alloc: Global, line: &Line, contents: &[Option<Vec<u8>>]) -> Result<Action, Fault>
+    requires { length contents.now ≡ length (files_of line.now) }
+    ensures { Gives result (prepared line.now (bytes_of contents.now)) }
+{
+    match line {
+        Line::Batch { name, .. } => batch(alloc, name, contents),
+        Line::Sent { name, .. } => one(alloc, Command::Sent(rows_file(alloc, name, contents)?)),
+        Line::Reported { name, .. } => {
+            one(alloc, Command::Reported(rows_file(alloc, name, contents)?))
+        }
+        Line::Transition { now, limit, .. } => {
+            let now = moment(now)?;
+            one(alloc, Command::Transition { now, limit: *limit })
+        }
+        Line::Validate { limit, .. } => one(alloc, Command::Validate { limit: *limit }),
+        Line::Assimilate { now, limit, .. } => {
+            let now = moment(now)?;
+            one(alloc, Command::Assimilate { now, limit: *limit })
+        }
+        Line::Delete { limit, .. } => one(alloc, Command::Delete { limit: *limit }),
+        Line::Purge {
+            now,
+            limit,
+            min_age,
+            ..
+        } => {
+            let now = moment(now)?;
+            one(
+                alloc,
+                Command::Purge {
+                    now,
+                    limit: *limit,
+                    min_age: *min_age,
+                },
+            )
+        }
+        Line::Cancel { workunit, .. } => {
+            let workunit = name(alloc, workunit)?;
+            one(alloc, Command::Cancel { workunit })
+        }
+        Line::Cycle {
+            now,
+            limit,
+            min_age,
+            ..
+        } => all_of_cycle(alloc, now, *limit, *min_age),
+        Line::Show { view, .. } => Ok(Action::Look(*view)),
+        Line::Upgrade { .. } => one(alloc, Command::Upgrade),
+    }
+}

@@ -1,0 +1,133 @@
+//! The lines that the program writes on its standard error.
+
+ghost use Rattle.std.specs.Prelude.{◌++◌, codes, flat_map};
+ghost use Rattle.std.specs.Fmt.{decimal};
+ghost use Rattle.wu_report.specs.Texts.{line_end};
+ghost use Rattle.wu_report.specs.Writing.{piece_text, WritesTo};
+ghost use Rattle.wu_cli.specs.Endings.{fault_line, unopened_line, usage_text, WritesAll};
+
+use crate::usage::Usage;
+use std::io::Write;
+use wu_core::Fault;
+use wu_report::{Piece, flush, write_pieces};
+
+/// Writes the pieces in turn, and flushes.
+fn write_flushed<W: Write>(out: &mut W, pieces: &[Piece<'_>]) -> Result<(), Fault>
+    ensures { WritesTo W.contents out.old out.new (flat_map piece_text pieces.now) result }
+{
+    write_pieces(out, pieces)?;
+    flush(out)
+}
+
+/// Writes a line.
+fn plain<W: Write>(out: &mut W, text: &str) -> Result<(), Fault>
+    ensures { WritesTo W.contents out.old out.new (text.now ++ line_end) result }
+{
+    write_flushed(out, &[Piece::Text(text), Piece::Text("\n")])
+}
+
+/// Writes a line that ends in a word.
+fn worded<'a, W: Write>(out: &mut W, text: &'a str, word: &'a str) -> Result<(), Fault>
+    ensures { WritesTo W.contents out.old out.new (text.now ++ word.now ++ line_end) result }
+{
+    write_flushed(
+        out,
+        &[Piece::Text(text), Piece::Text(word), Piece::Text("\n")],
+    )
+}
+
+/// Writes a line that ends in a number.
+fn numbered<W: Write>(out: &mut W, text: &str, number: u64) -> Result<(), Fault>
+    ensures { WritesTo W.contents out.old out.new (text.now ++ decimal number ++ line_end) result }
+{
+    write_flushed(
+        out,
+        &[Piece::Text(text), Piece::Number(number), Piece::Text("\n")],
+    )
+}
+
+/// Writes a line that ends in a number and a word.
+fn placed<'a, W: Write>(out: &mut W, text: &'a str, row: u64, cause: &'a str) -> Result<(), Fault>
+    ensures { WritesTo W.contents out.old out.new
+        (text.now ++ decimal row ++ codes " " ++ cause.now ++ line_end) result }
+{
+    write_flushed(
+        out,
+        &[
+            Piece::Text(text),
+            Piece::Number(row),
+            Piece::Text(" "),
+            Piece::Text(cause),
+            Piece::Text("\n"),
+        ],
+    )
+}
+
+/// Writes the line of a fault.
+fn line_of_fault<W: Write>(out: &mut W, fault: Fault) -> Result<(), Fault>
+    ensures { WritesTo W.contents out.old out.new (fault_line fault) result }
+{
+    match fault {
+        Fault::BadName => plain(out, "F1 BadName"),
+        Fault::BadTemplate(key) => worded(out, "F2 BadTemplate ", key.word()),
+        Fault::BadFile { row, cause } => {
+            placed(out, "F3 BadFile ", u64::from(row), cause.word())
+        }
+        Fault::NameUsed => plain(out, "F4 NameUsed"),
+        Fault::WorkunitUsed(row) => numbered(out, "F5 WorkunitUsed ", u64::from(row)),
+        Fault::TooMany => plain(out, "F6 TooMany"),
+        Fault::BadMoment => plain(out, "F7 BadMoment"),
+        Fault::BadLimit => plain(out, "F8 BadLimit"),
+        Fault::UnknownWorkunit => plain(out, "F9 UnknownWorkunit"),
+        Fault::NotOpenToCancel => plain(out, "F10 NotOpenToCancel"),
+        Fault::OldSchema(version) => numbered(out, "F11 OldSchema ", version),
+        Fault::NewSchema(version) => numbered(out, "F12 NewSchema ", version),
+        Fault::NotAProject => plain(out, "F13 NotAProject"),
+        Fault::Memory => plain(out, "F14 Memory"),
+        Fault::Broken => plain(out, "F15 Broken"),
+        Fault::Ended => plain(out, "F16 Ended"),
+        Fault::Output => plain(out, "F17 Output"),
+    }
+}
+
+/// Writes the text of why words are no line.
+fn text_of_usage<W: Write>(out: &mut W, usage: &Usage) -> Result<(), Fault>
+    ensures { WritesTo W.contents out.old out.new (usage_text usage.now) result }
+{
+    match usage {
+        Usage::Refused(text) => write_flushed(out, &[Piece::Text(text.as_str())]),
+        Usage::UnknownView => plain(out, "unknown view"),
+        Usage::Incomplete => plain(out, "a value is missing"),
+        Usage::Memory => line_of_fault(out, Fault::Memory),
+    }
+}
+
+/// Writes the line of a fault and flushes, without taking memory. It answers whether all of it went out.
+pub fn write_fault<W: Write>(fault: &Fault, out: &mut W) -> bool
+    ensures { WritesAll (W.contents out.old) (W.contents out.new) (fault_line fault.now) result }
+{
+    match line_of_fault(out, *fault) {
+        Ok(()) => true,
+        Err(_) => false,
+    }
+}
+
+/// Writes why words are no line and flushes, without taking memory. It answers whether all of it went out.
+pub fn write_usage<W: Write>(usage: &Usage, out: &mut W) -> bool
+    ensures { WritesAll (W.contents out.old) (W.contents out.new) (usage_text usage.now) result }
+{
+    match text_of_usage(out, usage) {
+        Ok(()) => true,
+        Err(_) => false,
+    }
+}
+
+/// Writes that the database could not be opened and flushes. It answers whether all of it went out.
+pub fn write_unopened<W: Write>(out: &mut W) -> bool
+    ensures { WritesAll (W.contents out.old) (W.contents out.new) unopened_line result }
+{
+    match plain(out, "cannot open the database") {
+        Ok(()) => true,
+        Err(_) => false,
+    }
+}

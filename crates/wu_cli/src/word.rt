@@ -1,0 +1,43 @@
+//! A text of the command line.
+
+ghost use Rattle.std.specs.Prelude.{◌≡◌, string_bytes, IfOk};
+
+use std::alloc::{AllocError, Global};
+use std::marker::Model;
+
+/// A text that contracts see as the list of its bytes.
+#[derive(Debug, Drop)]
+pub struct Word {
+    text: String,
+}
+
+impl Model for Word {
+    ghost use Rattle.std.specs.Prelude.{ℕ, List, string_bytes};
+
+    ghost Value = { List ℕ };
+
+    ghost view = { λ word. string_bytes word.text };
+}
+
+impl Word {
+    /// The text, copied.
+    pub fn from_text(alloc: Global, text: &str) -> Result<Self, AllocError>
+        ensures { IfOk result (λ word. word ≡ text.now) }
+    {
+        Ok(Word {
+            text: String::from_str(alloc, text)?,
+        })
+    }
+
+    pub fn from_string(text: String) -> Self
+        ensures { result ≡ string_bytes text }
+    {
+        Word { text }
+    }
+
+    pub fn as_str(&self) -> &str
+        ensures { result.now ≡ self.now }
+    {
+        self.text.as_str()
+    }
+}

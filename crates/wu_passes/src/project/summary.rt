@@ -1,0 +1,45 @@
+//! The summary of a project, within its session.
+
+ghost use Rattle.std.specs.Prelude.{◌≡◌, Err, IfErr};
+ghost use Rattle.wu_store.specs.Loading.{IsRead, IsStoreFault};
+
+use crate::project::Project;
+use sqlite::Alter;
+use wu_core::Fault;
+use wu_store::{Summary, summary};
+
+impl<S: Alter> Project<S> {
+    ghost use Rattle.wu_passes.specs.Projects.{AnswersEnded, GoesStill, IsOver, KeepsLimit, ServesOn, state_of, StaysUnchanged, Summarizes, SummarizesUnrefused, WasOpenBefore};
+    ghost use Rattle.wu_passes.specs.Standing.{KeepsDoubt};
+
+    /// How much the project holds. It changes no table; a failure of the disk ends the session.
+    ///
+    /// `NotAProject` where a row is no value, or where the credit of all grants is not below 2^64.
+    pub fn summary(&mut self) -> Result<Summary, Fault>
+        ensures ended { IsOver self.old → AnswersEnded self.old self.new result }
+        ensures reads { IsRead (state_of self.old) (state_of self.new) }
+        ensures clean { KeepsDoubt (state_of self.old) (state_of self.new) }
+        ensures limit { KeepsLimit self.old self.new }
+        ensures same { StaysUnchanged self.old self.new result }
+        ensures open { WasOpenBefore self.old self.new result }
+        ensures opens { GoesStill self.old → ServesOn self.new result }
+        ensures fault { GoesStill self.old → IfErr result IsStoreFault }
+        ensures ends { GoesStill self.old → IsOver self.new → result ≡ Err Fault.Broken }
+        ensures broken { result ≡ Err Fault.Broken → IsOver self.new }
+        ensures unrefused { GoesStill self.old → SummarizesUnrefused self.old self.new result }
+        ensures summary { Summarizes self.old self.new result }
+    {
+        if self.has_ended {
+            return Err(Fault::Ended);
+        }
+        match summary(&mut self.conn) {
+            Ok(summary) => Ok(summary),
+            Err(fault) => {
+                if fault == Fault::Broken {
+                    self.has_ended = true;
+                }
+                Err(fault)
+            }
+        }
+    }
+}

@@ -1,0 +1,5 @@
+mod DayLemmas
+mod HexLemmas
+mod LineLemmas
+mod ViewLemmas
+pub mod WritingLemmas

@@ -1,0 +1,74 @@
+-- One write after another.
+use Rattle.std.proofs.Common.{◌≡◌, ℕ, zero, ◌+◌, ◌-◌, ◌<◌, List, [], ◌∷◌, ◌++◌, length, take, drop, get_or, flat_map, Option, Result, Ok, Err, refl, sym, ap, arith, subst, ◌∙◌, append_assoc, append-nil, take-append-drop}
+use Rattle.std.proofs.Math.Seq.{take-append_seam}
+use Rattle.std.proofs.lemmas.List.{take_rest, take_all, take_more, drop_more}
+use Rattle.std.proofs.lemmas.List.Concat.{flat_map-append}
+use Rattle.std.proofs.KnownBytes.{Appends-nil, Appends-trans, Appends-kept}
+use Rattle.std.specs.Io.KnownBytes.{Appends, Keeps}
+use Rattle.std.specs.Result.{IsErr}
+use Rattle.wu_report.specs.Writing.{AppendsFront, Writes}
+
+-- a front of the first part is a front of the whole
+pub AppendsFront-longer : (a b : Option (List ℕ)) (xs ys : List ℕ) → AppendsFront a b xs → AppendsFront a b (xs ++ ys)
+AppendsFront-longer a b xs ys (count, h) =
+    (length (take count xs), subst (Appends a b) (sym (front xs ys count)) h)
+  where
+    front : (xs ys : List ℕ) (count : ℕ) → take (length (take count xs)) (xs ++ ys) ≡ take count xs
+    front xs ys count =
+        ap (λ l. take (length (take count xs)) (l ++ ys)) (sym (take-append-drop count xs))
+        ∙ ap (take (length (take count xs))) (append_assoc (take count xs) (drop count xs) ys)
+        ∙ take-append_seam (take count xs) (drop count xs ++ ys)
+
+-- the whole first part, and then a front of the second
+pub AppendsFront-after : (a b c : Option (List ℕ)) (xs ys : List ℕ) → Appends a b xs → AppendsFront b c ys → AppendsFront a c (xs ++ ys)
+AppendsFront-after a b c xs ys whole (count, h) =
+    (length (xs ++ take count ys), subst (Appends a c) (sym (front xs ys count)) (Appends-trans a b c xs (take count ys) whole h))
+  where
+    front : (xs ys : List ℕ) (count : ℕ) → take (length (xs ++ take count ys)) (xs ++ ys) ≡ xs ++ take count ys
+    front xs ys count =
+        ap (λ l. take (length (xs ++ take count ys)) (xs ++ l)) (sym (take-append-drop count ys))
+        ∙ ap (take (length (xs ++ take count ys))) (sym (append_assoc xs (take count ys) (drop count ys)))
+        ∙ take-append_seam (xs ++ take count ys) (drop count ys)
+
+-- one write, and then another
+pub Writes-after : {T E : Type 0} (a b c : Option (List ℕ)) (xs ys : List ℕ) (r : Result T E) → Appends a b xs → Writes b c ys r → Writes a c (xs ++ ys) r
+Writes-after a b c xs ys (Ok x) whole h = Appends-trans a b c xs ys whole h
+Writes-after a b c xs ys (Err e) whole h = AppendsFront-after a b c xs ys whole h
+
+-- what a writer holds after a part is a front of the whole
+pub AppendsFront-part : (a b : Option (List ℕ)) (xs ys : List ℕ) → Appends a b xs → AppendsFront a b (xs ++ ys)
+AppendsFront-part a b xs ys h = (length xs, subst (Appends a b) (sym (take-append_seam xs ys)) h)
+
+-- nothing was written
+pub AppendsFront-kept : (a b : Option (List ℕ)) (xs : List ℕ) → Keeps a b → AppendsFront a b xs
+AppendsFront-kept a b xs h = (zero, Appends-kept a a b [] (Appends-nil a) h)
+
+-- a call that failed after a front
+pub Writes-failed : {T E : Type 0} (a b : Option (List ℕ)) (bytes : List ℕ) (r : Result T E) → IsErr r → AppendsFront a b bytes → Writes a b bytes r
+Writes-failed a b bytes (Ok x) failed h = cc
+Writes-failed a b bytes (Err fault) failed h = h
+
+-- all was written, and a call that writes nothing came after it
+pub Writes-kept : {T E : Type 0} (a b c : Option (List ℕ)) (xs : List ℕ) (r : Result T E) → Appends a b xs → Keeps b c → Writes a c xs r
+Writes-kept a b c xs (Ok x) whole kept = Appends-kept a b c xs whole kept
+Writes-kept a b c xs (Err e) whole kept = (length xs, subst (Appends a c) (sym (take_all (length xs) xs (omega arith))) (Appends-kept a b c xs whole kept))
+
+-- a part is gone from the front of the rest
+pub moves_front : (all done rest : List ℕ) (n : ℕ) → all ≡ done ++ rest → all ≡ (done ++ take n rest) ++ take (length rest - n) (drop n rest)
+moves_front all done rest n e =
+    e ∙ ap (λ l. done ++ l) (sym (take-append-drop n rest)) ∙ sym (append_assoc done (take n rest) (drop n rest)) ∙ ap (λ l. (done ++ take n rest) ++ l) (sym (take_rest rest n))
+
+-- the text of a list is that of what is before a place, that of the place and that of what is after it
+pub flat_map_at : {X A : Type 0} (f : X → List A) (xs : List X) (i : ℕ) (x : X) → i < length xs → x ≡ get_or xs i x
+    → flat_map f xs ≡ (flat_map f (take i xs) ++ f x) ++ flat_map f (drop (i + 1) xs)
+flat_map_at f xs i x within e =
+    ap (flat_map f) (sym (take-append-drop i xs)) ∙ flat_map-append f (take i xs) (drop i xs)
+    ∙ ap (λ l. flat_map f (take i xs) ++ flat_map f l) (drop_more xs i x within ∙ ap (λ y. y ∷ drop (i + 1) xs) (sym e))
+    ∙ sym (append_assoc (flat_map f (take i xs)) (f x) (flat_map f (drop (i + 1) xs)))
+
+-- and up to a place and with it
+pub flat_map_next : {X A : Type 0} (f : X → List A) (xs : List X) (i : ℕ) (x : X) → i < length xs → x ≡ get_or xs i x
+    → flat_map f (take (i + 1) xs) ≡ flat_map f (take i xs) ++ f x
+flat_map_next f xs i x within e =
+    ap (flat_map f) (take_more xs i x within ∙ ap (λ y. take i xs ++ y ∷ []) (sym e)) ∙ flat_map-append f (take i xs) (x ∷ [])
+    ∙ ap (λ l. flat_map f (take i xs) ++ l) (append-nil (f x))

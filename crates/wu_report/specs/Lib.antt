@@ -1,0 +1,5 @@
+pub mod Texts
+pub mod Writing
+pub mod Projects
+pub mod Views
+pub mod Examples

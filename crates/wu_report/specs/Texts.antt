@@ -1,0 +1,125 @@
+-- The texts of views, as functions of values. Each line ends with a line feed.
+use Rattle.std.specs.Prelude.{ℕ, ◌+◌, ◌-◌, ◌/◌, ◌%◌, pos, int_le, List, [], ◌∷◌, ◌++◌, flat_map, count_by, codes, unsigned_abs, Option, Some, None}
+use Rattle.std.specs.Fmt.{decimal}
+use Rattle.std.specs.List.{range_with_len}
+use Rattle.hex.specs.Hex.{encode_lower}
+use Rattle.jiff_core.specs.Calendar.{days_from_civil}
+use Rattle.wu_core.specs.declared.workunit.Archived.{Archived}
+use Rattle.wu_core.specs.Mask.{error_mask_code}
+use Rattle.wu_core.specs.Words.{server_state_word, outcome_word, validate_state_word, assimilate_word, file_delete_word}
+use Rattle.wu_core.specs.World.{World}
+use Rattle.wu_store.specs.declared.lines.HostLine.{HostLine}
+use Rattle.wu_store.specs.declared.lines.ResultLine.{ResultLine}
+use Rattle.wu_store.specs.declared.lines.Summary.{Summary}
+use Rattle.wu_store.specs.declared.lines.WorkunitLine.{WorkunitLine}
+use Rattle.wu_store.specs.Lines.{archived_lines, host_lines, result_lines, summary_of, workunit_lines}
+use Rattle.wu_report.specs.declared.views.View.{View}
+use Rattle.wu_report.specs.declared.views.View.TheVariants as view
+
+abbrev pub line_end : List ℕ
+line_end = 10 ∷ []
+
+-- the text of what is there, or '-'
+abbrev pub or_dash : {T : Type 0} → (T → List ℕ) → Option T → List ℕ
+or_dash text (Some it) = text it
+or_dash text None = codes "-"
+
+-- at least two digits, and at least four
+abbrev pub two_digits : ℕ → List ℕ
+two_digits n = (48 + n / 10) ∷ (48 + n % 10) ∷ []
+
+abbrev pub four_digits : ℕ → List ℕ
+four_digits n = two_digits (n / 100) ++ two_digits (n % 100)
+
+-- the year of a day that is counted from the start of 1970: the last one that has begun
+unfoldable pub year_of_day : ℕ → ℕ
+year_of_day day = 1969 + count_by (λ year. int_le (days_from_civil (pos year) 1 1) (pos day)) (range_with_len 1970 131)
+
+-- its month: the last one of the year that has begun
+unfoldable pub month_of_day : ℕ → ℕ → ℕ
+month_of_day year day = count_by (λ month. int_le (days_from_civil (pos year) month 1) (pos day)) (range_with_len 1 12)
+
+-- its day of the month
+abbrev pub day_of_month : ℕ → ℕ → ℕ → ℕ
+day_of_month year month day = 1 + (day - unsigned_abs (days_from_civil (pos year) month 1))
+
+abbrev pub date_in_year : ℕ → ℕ → List ℕ
+date_in_year year day =
+    let month = month_of_day year day in
+    four_digits year ++ codes "-" ++ two_digits month ++ codes "-" ++ two_digits (day_of_month year month day)
+
+abbrev pub date_text : ℕ → List ℕ
+date_text day = date_in_year (year_of_day day) day
+
+abbrev pub clock_text : ℕ → List ℕ
+clock_text second = two_digits (second / 3600) ++ codes ":" ++ two_digits (second / 60 % 60) ++ codes ":" ++ two_digits (second % 60)
+
+-- a moment or a deadline, as YYYY-MM-DDTHH:MM:SSZ
+unfoldable pub moment_text : ℕ → List ℕ
+moment_text seconds = date_text (seconds / 86400) ++ codes "T" ++ clock_text (seconds % 86400) ++ codes "Z"
+
+abbrev pub parameters_text : WorkunitLine → List ℕ
+parameters_text w =
+    codes " quorum=" ++ decimal w.params.min_quorum ++ codes " target=" ++ decimal w.params.target_nresults
+    ++ codes " max_error=" ++ decimal w.params.max_error_results ++ codes " max_total=" ++ decimal w.params.max_total_results
+    ++ codes " max_success=" ++ decimal w.params.max_success_results ++ codes " delay=" ++ decimal w.params.delay_bound
+    ++ codes " credit=" ++ decimal w.params.credit
+
+-- the line of a workunit, by its values
+abbrev pub workunit_line : WorkunitLine → List ℕ
+workunit_line w =
+    decimal w.number ++ codes " " ++ w.name ++ codes " input=" ++ decimal w.input ++ parameters_text w
+    ++ codes " mask=" ++ decimal (error_mask_code w.error_mask) ++ codes " canonical=" ++ or_dash decimal w.canonical
+    ++ codes " assimilate=" ++ assimilate_word w.assimilate ++ codes " delete=" ++ file_delete_word w.file_delete
+    ++ codes " done=" ++ or_dash moment_text w.done_at ++ line_end
+
+-- the line of an instance
+abbrev pub result_line : ResultLine → List ℕ
+result_line r =
+    r.workunit ++ codes "_" ++ decimal r.n ++ codes " " ++ server_state_word r.server_state ++ codes " " ++ outcome_word r.outcome
+    ++ codes " " ++ validate_state_word r.validate_state ++ codes " " ++ file_delete_word r.file_delete
+    ++ codes " host=" ++ or_dash (λ host. host) r.host ++ codes " sent=" ++ or_dash moment_text r.sent_at
+    ++ codes " deadline=" ++ or_dash moment_text r.deadline ++ codes " received=" ++ or_dash moment_text r.received_at
+    ++ codes " output=" ++ decimal r.output ++ line_end
+
+-- the line of a host
+abbrev pub host_line : HostLine → List ℕ
+host_line host = host.name ++ codes " total=" ++ decimal host.total ++ codes " grants=" ++ decimal host.grants ++ line_end
+
+-- hex, or '-' where there are no bytes
+abbrev pub bytes_text : List ℕ → List ℕ
+bytes_text [] = codes "-"
+bytes_text (byte ∷ bytes) = encode_lower (byte ∷ bytes)
+
+-- the line of an archived row
+abbrev pub archived_line : Archived → List ℕ
+archived_line row =
+    decimal row.number ++ codes " " ++ row.name ++ codes " mask=" ++ decimal (error_mask_code row.error_mask)
+    ++ codes " canonical=" ++ or_dash decimal row.canonical ++ codes " done=" ++ moment_text row.done_at
+    ++ codes " output=" ++ bytes_text row.output ++ line_end
+
+abbrev pub counted : List ℕ → ℕ → List ℕ
+counted word n = word ++ codes " " ++ decimal n ++ line_end
+
+-- the eleven lines of a summary
+abbrev pub summary_lines : Summary → List ℕ
+summary_lines s =
+    counted (codes "version") s.version
+    ++ counted (codes "next") s.next_number
+    ++ counted (codes "workunits") s.workunits
+    ++ counted (codes "results") s.results
+    ++ counted (codes "unsent") s.unsent
+    ++ counted (codes "in_progress") s.in_progress
+    ++ counted (codes "over") s.over
+    ++ counted (codes "archived") s.archived
+    ++ counted (codes "grants") s.grants
+    ++ counted (codes "credit") s.credit
+    ++ counted (codes "imports") s.imports
+
+-- the text of a view
+abbrev pub view_text : World → View → List ℕ
+view_text world view.Workunits = flat_map workunit_line (workunit_lines world)
+view_text world view.Results = flat_map result_line (result_lines world)
+view_text world view.Hosts = flat_map host_line (host_lines world)
+view_text world view.Archive = flat_map archived_line (archived_lines world)
+view_text world view.Summary = summary_lines (summary_of world)

@@ -1,0 +1,63 @@
+-- What is shown of a project.
+use Rattle.std.specs.Prelude.{◌≡◌, ◌≢◌, ◌⊎◌, ℕ, List, flat_map, Option, Result, Err, IfErr, IsOkUnless}
+use Rattle.std.specs.declared.vec.IntoIter.{IntoIter}
+use Rattle.sqlite.specs.State.{HasCleanDisk}
+use Rattle.sqlite_trees.specs.declared.store.Store.{Ghosts}
+use Rattle.wu_core.specs.declared.fault.Fault.{Fault}
+use Rattle.wu_core.specs.declared.fault.Fault.TheVariants.{Ended, NotAProject, Output}
+use Rattle.wu_core.specs.World.{World}
+use Rattle.wu_store.specs.Lines.{AreHostsNamed, IsArchiveStorable}
+use Rattle.wu_store.specs.Loading.{AreStorable, IsStoreFault}
+use Rattle.wu_store.specs.Summaries.{IsCountable}
+use Rattle.wu_passes.specs.Standing.{GoesOn}
+use Rattle.wu_passes.specs.declared.project.Project.{Project}
+use Rattle.wu_passes.specs.declared.project.walk.LineWalk.{LineWalk}
+use Rattle.wu_passes.specs.Projects.{GoesStill, IsOver, IsUnlimited, state_of}
+use Rattle.wu_passes.specs.Walks.{HasLeft, walked}
+use Rattle.wu_report.specs.declared.views.View.{View}
+use Rattle.wu_report.specs.declared.views.View.TheVariants as view
+use Rattle.wu_report.specs.Texts.{view_text}
+use Rattle.wu_report.specs.Writing.{WritesTo}
+
+-- the text can't be written, or the store can't be read
+abbrev pub IsViewFault : Fault → Type 0
+IsViewFault fault = (fault ≡ Output) ⊎ IsStoreFault fault
+
+-- ---- the lines of a walk
+
+-- those that it had left are written, each by its text
+abbrev pub WritesLeft : {S A T W R : Type 0} {store : Ghosts S} → (T → List ℕ) → (W → Option (List ℕ)) → LineWalk S (IntoIter T A) store → LineWalk S (IntoIter T A) store → W → W → Result R Fault → Type 0
+WritesLeft {S} {A} {T} text contents old new out_old out_new result =
+    HasCleanDisk (state_of (walked new)) → (lines : List T) → HasLeft old lines
+    → WritesTo contents out_old out_new (flat_map text lines) result
+
+-- of these only the writing may fail
+abbrev pub FailsToWrite : {S A T R : Type 0} {store : Ghosts S} → LineWalk S (IntoIter T A) store → LineWalk S (IntoIter T A) store → Result R Fault → Type 0
+FailsToWrite {S} {A} {T} old new result = HasCleanDisk (state_of (walked new)) → (lines : List T) → HasLeft old lines → IsOkUnless result Output
+
+-- ---- a view
+
+-- where a session goes on over a world and the disk does not fail, a view's text of that world is written
+abbrev pub Shows : {S W T : Type 0} {store : Ghosts S} → (W → Option (List ℕ)) → Project S store → Project S store → W → W → View → Result T Fault → Type 0
+Shows contents old new out_old out_new view result =
+    GoesStill old → HasCleanDisk (state_of new) → (world : World) → GoesOn (state_of old) world
+    → WritesTo contents out_old out_new (view_text world view) result
+
+-- the values of a world that a view reads can be read
+abbrev pub CanBeShown : World → View → Type 0
+CanBeShown world view.Workunits = AreStorable world
+CanBeShown world view.Results = AreStorable world
+CanBeShown world view.Hosts = AreHostsNamed world
+CanBeShown world view.Archive = IsArchiveStorable world
+CanBeShown world view.Summary = IsCountable world
+
+-- where they can, and steps have no limit, the view is not refused
+abbrev pub ShowsUnrefused : {S T : Type 0} {store : Ghosts S} → Project S store → Project S store → View → Result T Fault → Type 0
+ShowsUnrefused old new view result =
+    GoesStill old → HasCleanDisk (state_of new) → IsUnlimited old → (world : World) → CanBeShown world view → GoesOn (state_of old) world
+    → IfErr result (λ fault. fault ≢ NotAProject)
+
+-- where a session had ended, that is the answer, and neither the project nor the writer is touched
+abbrev pub RefusesEnded : {S W T : Type 0} {store : Ghosts S} → (W → Option (List ℕ)) → Project S store → Project S store → W → W → Result T Fault → Type 0
+RefusesEnded contents old new out_old out_new result =
+    IsOver old → (result ≡ Err Ended) × (new ≡ old) × (contents out_new ≡ contents out_old)

@@ -1,0 +1,29 @@
+-- What a call leaves in a writer, where what it holds is known.
+use Rattle.std.specs.Prelude.{ℕ, List, take, Option, Result, MatchResult}
+use Rattle.std.specs.Fmt.{decimal}
+use Rattle.std.specs.Io.KnownBytes.{Appends}
+use Rattle.hex.specs.Hex.{encode_lower}
+use Rattle.wu_report.specs.declared.output.Piece.{Piece}
+use Rattle.wu_report.specs.declared.output.Piece.TheVariants.{Text, Number, Place, When, Due, Hex}
+use Rattle.wu_report.specs.Texts.{or_dash, moment_text}
+
+-- some beginning of the bytes was appended
+abbrev pub AppendsFront : Option (List ℕ) → Option (List ℕ) → List ℕ → Type 0
+AppendsFront old new bytes = (count : ℕ) × Appends old new (take count bytes)
+
+-- with success exactly these bytes were appended, and else some beginning of them
+abbrev pub Writes : {T E : Type 0} → Option (List ℕ) → Option (List ℕ) → List ℕ → Result T E → Type 0
+Writes old new bytes result = MatchResult result (λ _. Appends old new bytes) (λ _. AppendsFront old new bytes)
+
+-- so it is with the contents of a writer before a call and after it
+abbrev pub WritesTo : {W T E : Type 0} → (W → Option (List ℕ)) → W → W → List ℕ → Result T E → Type 0
+WritesTo contents old new text result = Writes (contents old) (contents new) text result
+
+-- the text of a piece
+abbrev pub piece_text : Piece → List ℕ
+piece_text (Text text) = text.now
+piece_text (Number number) = decimal number
+piece_text (Place place) = or_dash decimal place
+piece_text (When moment) = or_dash moment_text moment
+piece_text (Due deadline) = or_dash moment_text deadline
+piece_text (Hex bytes) = encode_lower bytes.now

@@ -1,0 +1,74 @@
+//! Worked examples, computed on the definitions: each function's contract is a text that is printed.
+
+ghost use Rattle.std.specs.Prelude.{◌≡◌, ◌∷◌, ◌++◌, [], codes};
+ghost use Rattle.wu_core.specs.declared.states.ValidateState.TheVariants.{Invalid};
+ghost use Rattle.wu_core.specs.World.{empty_world};
+ghost use Rattle.wu_core.specs.Workunit.{fresh};
+ghost use Rattle.wu_rules.specs.Examples.{h1, out, success};
+ghost use Rattle.wu_report.specs.declared.views.View.TheVariants.{Archive, Hosts, Results, Summary, Workunits};
+ghost use Rattle.wu_report.specs.Examples.{after_a_batch, decided, given_up, holding, job_of, keeping, new_job, three_grants};
+ghost use Rattle.wu_report.specs.Texts.{moment_text, view_text};
+
+/// The first and the last moment, noon of a day, a leap day and the last deadline, as text.
+pub fn prints_moments()
+    ensures first { moment_text 0 ≡ codes "1970-01-01T00:00:00Z" }
+    ensures noon { moment_text 1772366400 ≡ codes "2026-03-01T12:00:00Z" }
+    ensures leap_day { moment_text 1835395200 ≡ codes "2028-02-29T00:00:00Z" }
+    ensures last { moment_text 4102444799 ≡ codes "2099-12-31T23:59:59Z" }
+    ensures last_deadline { moment_text 4133980799 ≡ codes "2100-12-31T23:59:59Z" }
+{}
+
+/// The line of a new workunit.
+pub fn prints_a_workunit()
+    ensures { view_text (holding new_job) Workunits
+        ≡ codes "1 job_1 input=2 quorum=2 target=2 max_error=3 max_total=10 max_success=6"
+        ++ codes " delay=604800 credit=1 mask=0 canonical=- assimilate=INIT delete=INIT done=-\n" }
+{}
+
+/// The lines of two instances, before they are sent; of one that is out; and of one that was found invalid.
+pub fn prints_instances()
+    ensures unsent { view_text (holding (job_of (fresh ∷ fresh ∷ []))) Results
+        ≡ codes "job_1_0 UNSENT INIT INIT INIT host=- sent=- deadline=- received=- output=0\n"
+        ++ codes "job_1_1 UNSENT INIT INIT INIT host=- sent=- deadline=- received=- output=0\n" }
+    ensures sent { view_text (holding (job_of (out h1 ∷ []))) Results
+        ≡ codes "job_1_0 IN_PROGRESS INIT INIT INIT host=h1 sent=2026-03-01T13:00:00Z"
+        ++ codes " deadline=2026-03-08T13:00:00Z received=- output=0\n" }
+    ensures invalid { view_text (holding (job_of (success h1 (0 ∷ []) Invalid ∷ []))) Results
+        ≡ codes "job_1_0 OVER SUCCESS INVALID INIT host=h1 sent=2026-03-01T13:00:00Z"
+        ++ codes " deadline=2026-03-08T13:00:00Z received=2026-03-01T14:00:00Z output=1\n" }
+{}
+
+/// The lines of the hosts, in order of their names.
+pub fn prints_hosts()
+    ensures { view_text three_grants Hosts
+        ≡ codes "h1 total=1 grants=1\n"
+        ++ codes "h2 total=2 grants=2\n" }
+{}
+
+/// The line of an archived workunit that was given up, and of one whose output has two bytes.
+pub fn prints_the_archive()
+    ensures without { view_text (keeping given_up) Archive
+        ≡ codes "1 job_1 mask=2 canonical=- done=2026-03-02T00:00:00Z output=-\n" }
+    ensures output { view_text (keeping decided) Archive
+        ≡ codes "1 job_1 mask=0 canonical=0 done=2026-03-02T00:00:00Z output=00ff\n" }
+{}
+
+/// The summary of a world in which nothing is, and of one after a batch of one job and a transition.
+pub fn prints_summaries()
+    ensures empty { view_text empty_world Summary
+        ≡ codes "version 1\nnext 1\n"
+        ++ codes "workunits 0\nresults 0\nunsent 0\nin_progress 0\nover 0\n"
+        ++ codes "archived 0\ngrants 0\ncredit 0\nimports 0\n" }
+    ensures batch { view_text after_a_batch Summary
+        ≡ codes "version 1\nnext 2\n"
+        ++ codes "workunits 1\nresults 2\nunsent 2\nin_progress 0\nover 0\n"
+        ++ codes "archived 0\ngrants 0\ncredit 0\nimports 1\n" }
+{}
+
+/// No view but the summary writes of an empty world.
+pub fn prints_nothing_of_nothing()
+    ensures workunits { view_text empty_world Workunits ≡ [] }
+    ensures results { view_text empty_world Results ≡ [] }
+    ensures hosts { view_text empty_world Hosts ≡ [] }
+    ensures archive { view_text empty_world Archive ≡ [] }
+{}

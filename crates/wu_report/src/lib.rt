@@ -1,0 +1,10 @@
+//! The views of a project, as exact bytes: what each line is made of, and how text reaches a writer.
+#![tactic(auto)]
+
+pub mod examples;
+mod lines;
+mod output;
+mod views;
+
+pub use output::{Piece, flush, write_pieces};
+pub use views::{View, show};

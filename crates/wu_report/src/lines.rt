@@ -1,0 +1,209 @@
+//! The lines of views, each written from the values that it shows.
+
+ghost use Rattle.std.specs.Prelude.{◌≡◌, IsOkUnless};
+ghost use Rattle.wu_core.specs.declared.fault.Fault.TheVariants.{Output};
+ghost use Rattle.wu_report.specs.Texts.{bytes_text, or_dash, summary_lines};
+ghost use Rattle.wu_report.specs.Writing.{piece_text, WritesTo};
+
+use crate::output::{Piece, write_pieces};
+use std::io::Write;
+use wu_core::{Archived, Bytes, Fault, Name};
+use wu_store::{HostLine, ResultLine, Summary, WorkunitLine};
+
+/// What a view shows on a line of its own.
+pub trait Line: Drop {
+    ghost use Rattle.std.specs.Prelude.{ℕ, List, IsOkUnless};
+    ghost use Rattle.wu_core.specs.declared.fault.Fault.TheVariants.{Output};
+    ghost use Rattle.wu_report.specs.Writing.{WritesTo};
+
+    /// The line, with its end.
+    ghost text: { Self → List ℕ };
+
+    /// Writes the line.
+    fn write<W: Write>(&self, out: &mut W) -> Result<(), Fault>
+        ensures bytes { WritesTo W.contents out.old out.new (text self.now) result }
+        ensures fault { IsOkUnless result Output };
+}
+
+impl Line for WorkunitLine {
+    ghost use Rattle.wu_report.specs.Texts.{workunit_line};
+
+    ghost text = { workunit_line };
+
+    fn write<W: Write>(&self, out: &mut W) -> Result<(), Fault> {
+        let params = self.params;
+        write_pieces(
+            out,
+            &[
+                Piece::Number(self.number),
+                Piece::Text(" "),
+                Piece::Text(self.name.as_str()),
+                Piece::Text(" input="),
+                Piece::Number(self.input),
+                Piece::Text(" quorum="),
+                Piece::Number(u64::from(params.min_quorum())),
+                Piece::Text(" target="),
+                Piece::Number(u64::from(params.target_nresults())),
+                Piece::Text(" max_error="),
+                Piece::Number(u64::from(params.max_error_results())),
+                Piece::Text(" max_total="),
+                Piece::Number(u64::from(params.max_total_results())),
+                Piece::Text(" max_success="),
+                Piece::Number(u64::from(params.max_success_results())),
+                Piece::Text(" delay="),
+                Piece::Number(u64::from(params.delay_bound())),
+                Piece::Text(" credit="),
+                Piece::Number(u64::from(params.credit())),
+                Piece::Text(" mask="),
+                Piece::Number(u64::from(self.error_mask.code())),
+                Piece::Text(" canonical="),
+                Piece::Place(self.canonical),
+                Piece::Text(" assimilate="),
+                Piece::Text(self.assimilate.word()),
+                Piece::Text(" delete="),
+                Piece::Text(self.file_delete.word()),
+                Piece::Text(" done="),
+                Piece::When(self.done_at),
+                Piece::Text("\n"),
+            ],
+        )
+    }
+}
+
+/// The name, or `-`.
+fn name_or_dash(name: &Option<Name>) -> Piece<'_>
+    ensures { piece_text result ≡ or_dash (λ text. text) name.now }
+{
+    match name {
+        Some(name) => Piece::Text(name.as_str()),
+        None => Piece::Text("-"),
+    }
+}
+
+impl Line for ResultLine {
+    ghost use Rattle.wu_report.specs.Texts.{result_line};
+
+    ghost text = { result_line };
+
+    fn write<W: Write>(&self, out: &mut W) -> Result<(), Fault> {
+        write_pieces(
+            out,
+            &[
+                Piece::Text(self.workunit.as_str()),
+                Piece::Text("_"),
+                Piece::Number(u64::from(self.n)),
+                Piece::Text(" "),
+                Piece::Text(self.server_state.word()),
+                Piece::Text(" "),
+                Piece::Text(self.outcome.word()),
+                Piece::Text(" "),
+                Piece::Text(self.validate_state.word()),
+                Piece::Text(" "),
+                Piece::Text(self.file_delete.word()),
+                Piece::Text(" host="),
+                name_or_dash(&self.host),
+                Piece::Text(" sent="),
+                Piece::When(self.sent_at),
+                Piece::Text(" deadline="),
+                Piece::Due(self.deadline),
+                Piece::Text(" received="),
+                Piece::When(self.received_at),
+                Piece::Text(" output="),
+                Piece::Number(self.output),
+                Piece::Text("\n"),
+            ],
+        )
+    }
+}
+
+impl Line for HostLine {
+    ghost use Rattle.wu_report.specs.Texts.{host_line};
+
+    ghost text = { host_line };
+
+    fn write<W: Write>(&self, out: &mut W) -> Result<(), Fault> {
+        write_pieces(
+            out,
+            &[
+                Piece::Text(self.name.as_str()),
+                Piece::Text(" total="),
+                Piece::Number(self.total),
+                Piece::Text(" grants="),
+                Piece::Number(self.grants),
+                Piece::Text("\n"),
+            ],
+        )
+    }
+}
+
+/// The bytes in hex, or `-` where there are none.
+fn hex_or_dash(bytes: &Bytes) -> Piece<'_>
+    ensures { piece_text result ≡ bytes_text bytes.now }
+{
+    if bytes.is_empty() {
+        Piece::Text("-")
+    } else {
+        Piece::Hex(bytes.as_slice())
+    }
+}
+
+impl Line for Archived {
+    ghost use Rattle.wu_report.specs.Texts.{archived_line};
+
+    ghost text = { archived_line };
+
+    fn write<W: Write>(&self, out: &mut W) -> Result<(), Fault> {
+        write_pieces(
+            out,
+            &[
+                Piece::Number(self.number),
+                Piece::Text(" "),
+                Piece::Text(self.name.as_str()),
+                Piece::Text(" mask="),
+                Piece::Number(u64::from(self.error_mask.code())),
+                Piece::Text(" canonical="),
+                Piece::Place(self.canonical),
+                Piece::Text(" done="),
+                Piece::When(Some(self.done_at)),
+                Piece::Text(" output="),
+                hex_or_dash(&self.output),
+                Piece::Text("\n"),
+            ],
+        )
+    }
+}
+
+/// Writes the eleven lines of a summary.
+pub fn write_summary<W: Write>(out: &mut W, summary: &Summary) -> Result<(), Fault>
+    ensures bytes { WritesTo W.contents out.old out.new (summary_lines summary.now) result }
+    ensures fault { IsOkUnless result Output }
+{
+    write_pieces(
+        out,
+        &[
+            Piece::Text("version "),
+            Piece::Number(summary.version),
+            Piece::Text("\nnext "),
+            Piece::Number(summary.next_number),
+            Piece::Text("\nworkunits "),
+            Piece::Number(summary.workunits),
+            Piece::Text("\nresults "),
+            Piece::Number(summary.results),
+            Piece::Text("\nunsent "),
+            Piece::Number(summary.unsent),
+            Piece::Text("\nin_progress "),
+            Piece::Number(summary.in_progress),
+            Piece::Text("\nover "),
+            Piece::Number(summary.over),
+            Piece::Text("\narchived "),
+            Piece::Number(summary.archived),
+            Piece::Text("\ngrants "),
+            Piece::Number(summary.grants),
+            Piece::Text("\ncredit "),
+            Piece::Number(summary.credit),
+            Piece::Text("\nimports "),
+            Piece::Number(summary.imports),
+            Piece::Text("\n"),
+        ],
+    )
+}

@@ -1,0 +1,131 @@
+//! Text on its way to a writer, in pieces that take no memory.
+
+ghost use Rattle.std.specs.Prelude.{◌≤◌, [], ◌∷◌, flat_map, IsOkUnless};
+ghost use Rattle.std.specs.Fmt.{decimal};
+ghost use Rattle.std.specs.Io.KnownBytes.{Keeps};
+ghost use Rattle.hex.specs.Hex.{encode_lower};
+ghost use Rattle.wu_core.specs.Limits.{last_deadline};
+ghost use Rattle.wu_core.specs.declared.fault.Fault.TheVariants.{Output};
+ghost use Rattle.wu_report.specs.Texts.{moment_text};
+ghost use Rattle.wu_report.specs.Writing.{piece_text, WritesTo};
+
+use hex::encode_to_slice;
+use itoa::Buffer;
+use jiff::Timestamp;
+use jiff::fmt::temporal::DateTimePrinter;
+use std::io::Write;
+use wu_core::{Deadline, Fault, Moment};
+
+/// A piece of a line.
+#[derive(Debug, Drop)]
+pub enum Piece<'a> {
+    Text(&'a str),
+    /// In decimal, without leading zeros.
+    Number(u64),
+    /// The number, or `-`.
+    Place(Option<u32>),
+    /// As `YYYY-MM-DDTHH:MM:SSZ`, or `-`.
+    When(Option<Moment>),
+    /// As a moment is.
+    Due(Option<Deadline>),
+    /// In hex, two lower-case digits a byte.
+    Hex(&'a [u8]),
+}
+
+/// Writes all bytes. A fault, or a `write` that takes no byte, is `Output`.
+///
+/// `write_all` does not say what it wrote before it failed; this says that it was a beginning of the bytes.
+fn write_bytes<W: Write>(out: &mut W, bytes: &[u8]) -> Result<(), Fault>
+    ensures bytes { WritesTo W.contents out.old out.new bytes.now result }
+    ensures fault { IsOkUnless result Output }
+{
+    let mut rest = bytes;
+    while !rest.is_empty() {
+        match out.write(rest) {
+            Ok(0) => return Err(Fault::Output),
+            Ok(count) => rest = &rest[count..],
+            Err(_) => return Err(Fault::Output),
+        }
+    }
+    Ok(())
+}
+
+/// Writes the number in decimal, without leading zeros.
+fn write_number<W: Write>(out: &mut W, number: u64) -> Result<(), Fault>
+    ensures bytes { WritesTo W.contents out.old out.new (decimal number) result }
+    ensures fault { IsOkUnless result Output }
+{
+    let mut digits = Buffer::new();
+    write_bytes(out, digits.format(number).as_bytes())
+}
+
+/// Writes the date and the time so many seconds after the start of 1970, in UTC. It takes what a deadline may be.
+fn write_seconds<W: Write>(out: &mut W, seconds: u64) -> Result<(), Fault>
+    requires { seconds ≤ last_deadline }
+    ensures bytes { WritesTo W.contents out.old out.new (moment_text seconds) result }
+    ensures fault { IsOkUnless result Output }
+{
+    let Ok(timestamp) = Timestamp::from_second(seconds as i64) else {
+        unreachable!()
+    };
+    let text = DateTimePrinter::new().timestamp_text(timestamp.to_plain());
+    write_bytes(out, text.as_str().as_bytes())
+}
+
+/// Writes the two digits of a byte.
+fn write_hex_byte<W: Write>(out: &mut W, byte: u8) -> Result<(), Fault>
+    ensures bytes { WritesTo W.contents out.old out.new (encode_lower (byte ∷ [])) result }
+    ensures fault { IsOkUnless result Output }
+{
+    let mut digits = [0; 2];
+    let Ok(()) = encode_to_slice([byte], &mut digits) else {
+        unreachable!()
+    };
+    write_bytes(out, &digits)
+}
+
+/// Writes the digits of each byte.
+fn write_hex<W: Write>(out: &mut W, bytes: &[u8]) -> Result<(), Fault>
+    ensures bytes { WritesTo W.contents out.old out.new (encode_lower bytes.now) result }
+    ensures fault { IsOkUnless result Output }
+{
+    for byte in bytes {
+        write_hex_byte(out, *byte)?;
+    }
+    Ok(())
+}
+
+/// Writes a piece of a line.
+fn write_piece<W: Write>(out: &mut W, piece: &Piece<'_>) -> Result<(), Fault>
+    ensures bytes { WritesTo W.contents out.old out.new (piece_text piece.now) result }
+    ensures fault { IsOkUnless result Output }
+{
+    match piece {
+        Piece::Text(text) => write_bytes(out, text.as_bytes()),
+        Piece::Number(number) => write_number(out, *number),
+        Piece::Place(Some(place)) => write_number(out, u64::from(*place)),
+        Piece::When(Some(moment)) => write_seconds(out, moment.seconds()),
+        Piece::Due(Some(deadline)) => write_seconds(out, deadline.seconds()),
+        Piece::Hex(bytes) => write_hex(out, bytes),
+        Piece::Place(None) | Piece::When(None) | Piece::Due(None) => write_bytes(out, b"-"),
+    }
+}
+
+/// Writes the pieces in turn.
+pub fn write_pieces<W: Write>(out: &mut W, pieces: &[Piece<'_>]) -> Result<(), Fault>
+    ensures bytes { WritesTo W.contents out.old out.new (flat_map piece_text pieces.now) result }
+    ensures fault { IsOkUnless result Output }
+{
+    for piece in pieces {
+        write_piece(out, piece)?;
+    }
+    Ok(())
+}
+
+/// Flushes the writer.
+pub fn flush<W: Write>(out: &mut W) -> Result<(), Fault>
+    ensures bytes { Keeps (W.contents out.old) (W.contents out.new) }
+    ensures fault { IsOkUnless result Output }
+{
+    out.flush().map_err(|_| Fault::Output)
+}

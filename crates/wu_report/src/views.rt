@@ -1,0 +1,190 @@
+//! The views of a project, as text.
+
+ghost use Rattle.std.specs.Prelude.{◌≡◌, Err, IfErr};
+ghost use Rattle.wu_report.specs.Projects.{EndsAsBroken, KeepsWorld};
+ghost use Rattle.wu_report.specs.Views.{FailsToWrite, IsViewFault, RefusesEnded, Shows, ShowsUnrefused, WritesLeft};
+ghost use Rattle.wu_store.specs.Loading.{IsRead};
+ghost use Rattle.wu_passes.specs.Projects.{GoesStill, IsOver, KeepsLimit, ServesOn, state_of};
+ghost use Rattle.wu_passes.specs.Standing.{KeepsDoubt};
+ghost use Rattle.wu_passes.specs.Walks.{OnlyReads, StaysServing, walked};
+
+use crate::lines::{Line, write_summary};
+use crate::output::flush;
+use sqlite::Alter;
+use std::alloc::Global;
+use std::io::Write;
+use wu_core::Fault;
+use wu_passes::{Project, Walk};
+
+/// A view of a project.
+#[derive(Clone, Copy, Debug, PartialEq, Eq)]
+pub enum View {
+    /// A line for each workunit, in order of number.
+    Workunits,
+    /// A line for each instance, in order of its workunit's number and of its own.
+    Results,
+    /// A line for each host that was granted credit, in order of the bytes of its name.
+    Hosts,
+    /// A line for each archived workunit, in order of its assimilation.
+    Archive,
+    /// Eleven lines: the version, the next number, and how much there is of what.
+    Summary,
+}
+
+/// Writes the lines that a walk has left.
+fn write_lines<S: Alter, T: Line, W: Write>(
+    walk: &mut Walk<'_, S, T>,
+    out: &mut W,
+) -> Result<(), Fault>
+    ensures same_reference { walk.new.project.ghost_name ≡ walk.old.project.ghost_name }
+    ensures reads { OnlyReads (walked walk.old) (walked walk.new) }
+    ensures opens { StaysServing (walked walk.old) (walked walk.new) result }
+    ensures text { WritesLeft T.text W.contents walk.old walk.new out.old out.new result }
+    ensures fault { IfErr result IsViewFault }
+    ensures unrefused { FailsToWrite walk.old walk.new result }
+{
+    while let Some(line) = walk.next()? {
+        line.write(out)?;
+    }
+    Ok(())
+}
+
+/// Writes the lines of all workunits. It ends no session.
+fn write_workunits<S: Alter, W: Write>(
+    alloc: Global,
+    project: &mut Project<S>,
+    out: &mut W,
+) -> Result<(), Fault>
+    ensures ended { RefusesEnded W.contents project.old project.new out.old out.new result }
+    ensures reads { OnlyReads project.old project.new }
+    ensures opens { GoesStill project.old → ServesOn project.new result }
+    ensures text { Shows W.contents project.old project.new out.old out.new View.Workunits result }
+    ensures fault { GoesStill project.old → IfErr result IsViewFault }
+    ensures unrefused { ShowsUnrefused project.old project.new View.Workunits result }
+{
+    let mut walk = project.walk_workunits(alloc)?;
+    write_lines(&mut walk, out)
+}
+
+/// Writes the lines of all instances. It ends no session.
+fn write_results<S: Alter, W: Write>(
+    alloc: Global,
+    project: &mut Project<S>,
+    out: &mut W,
+) -> Result<(), Fault>
+    ensures ended { RefusesEnded W.contents project.old project.new out.old out.new result }
+    ensures reads { OnlyReads project.old project.new }
+    ensures opens { GoesStill project.old → ServesOn project.new result }
+    ensures text { Shows W.contents project.old project.new out.old out.new View.Results result }
+    ensures fault { GoesStill project.old → IfErr result IsViewFault }
+    ensures unrefused { ShowsUnrefused project.old project.new View.Results result }
+{
+    let mut walk = project.walk_results(alloc)?;
+    write_lines(&mut walk, out)
+}
+
+/// Writes the lines of all hosts. It ends no session.
+fn write_hosts<S: Alter, W: Write>(
+    alloc: Global,
+    project: &mut Project<S>,
+    out: &mut W,
+) -> Result<(), Fault>
+    ensures ended { RefusesEnded W.contents project.old project.new out.old out.new result }
+    ensures reads { OnlyReads project.old project.new }
+    ensures opens { GoesStill project.old → ServesOn project.new result }
+    ensures text { Shows W.contents project.old project.new out.old out.new View.Hosts result }
+    ensures fault { GoesStill project.old → IfErr result IsViewFault }
+    ensures unrefused { ShowsUnrefused project.old project.new View.Hosts result }
+{
+    let mut walk = project.walk_hosts(alloc)?;
+    write_lines(&mut walk, out)
+}
+
+/// Writes the lines of all archived workunits. It ends no session.
+fn write_archive<S: Alter, W: Write>(
+    alloc: Global,
+    project: &mut Project<S>,
+    out: &mut W,
+) -> Result<(), Fault>
+    ensures ended { RefusesEnded W.contents project.old project.new out.old out.new result }
+    ensures reads { OnlyReads project.old project.new }
+    ensures opens { GoesStill project.old → ServesOn project.new result }
+    ensures text { Shows W.contents project.old project.new out.old out.new View.Archive result }
+    ensures fault { GoesStill project.old → IfErr result IsViewFault }
+    ensures unrefused { ShowsUnrefused project.old project.new View.Archive result }
+{
+    let mut walk = project.walk_archive(alloc)?;
+    write_lines(&mut walk, out)
+}
+
+/// Writes the lines of the summary. A failure of the disk ends the session.
+fn write_counts<S: Alter, W: Write>(project: &mut Project<S>, out: &mut W) -> Result<(), Fault>
+    ensures ended { RefusesEnded W.contents project.old project.new out.old out.new result }
+    ensures reads { IsRead (state_of project.old) (state_of project.new) }
+    ensures limit { KeepsLimit project.old project.new }
+    ensures ends { EndsAsBroken project.old project.new result }
+    ensures opens { GoesStill project.old → ServesOn project.new result }
+    ensures text { Shows W.contents project.old project.new out.old out.new View.Summary result }
+    ensures fault { GoesStill project.old → IfErr result IsViewFault }
+    ensures unrefused { ShowsUnrefused project.old project.new View.Summary result }
+{
+    let summary = project.summary()?;
+    write_summary(out, &summary)
+}
+
+/// Writes the lines of a view.
+fn write_view<S: Alter, W: Write>(
+    alloc: Global,
+    project: &mut Project<S>,
+    view: View,
+    out: &mut W,
+) -> Result<(), Fault>
+    ensures ended { RefusesEnded W.contents project.old project.new out.old out.new result }
+    ensures reads { IsRead (state_of project.old) (state_of project.new) }
+    ensures limit { KeepsLimit project.old project.new }
+    ensures ends { EndsAsBroken project.old project.new result }
+    ensures opens { GoesStill project.old → ServesOn project.new result }
+    ensures text { Shows W.contents project.old project.new out.old out.new view result }
+    ensures fault { GoesStill project.old → IfErr result IsViewFault }
+    ensures unrefused { ShowsUnrefused project.old project.new view result }
+{
+    match view {
+        View::Workunits => write_workunits(alloc, project, out),
+        View::Results => write_results(alloc, project, out),
+        View::Hosts => write_hosts(alloc, project, out),
+        View::Archive => write_archive(alloc, project, out),
+        View::Summary => write_counts(project, out),
+    }
+}
+
+/// Writes the lines of a view, and flushes once. It changes no table; a failure of the disk ends the session.
+///
+/// With a fault, what was written is a beginning of the text.
+pub fn show<S: Alter, W: Write>(
+    alloc: Global,
+    project: &mut Project<S>,
+    view: View,
+    out: &mut W,
+) -> Result<(), Fault>
+    ensures text { Shows W.contents project.old project.new out.old out.new view result }
+    ensures goes { KeepsWorld project.old project.new }
+    ensures reads { IsRead (state_of project.old) (state_of project.new) }
+    ensures clean { KeepsDoubt (state_of project.old) (state_of project.new) }
+    ensures limit { KeepsLimit project.old project.new }
+    ensures ended { RefusesEnded W.contents project.old project.new out.old out.new result }
+    ensures ends { EndsAsBroken project.old project.new result }
+    ensures broken { result ≡ Err Fault.Broken → IsOver project.new }
+    ensures fault { GoesStill project.old → IfErr result IsViewFault }
+    ensures unrefused { ShowsUnrefused project.old project.new view result }
+    ensures opens { GoesStill project.old → ServesOn project.new result }
+{
+    match write_view(alloc, project, view, out) {
+        Ok(()) => flush(out),
+        Err(fault) => {
+            if fault == Fault::Broken {
+                project.end_session();
+            }
+            Err(fault)
+        }
+    }
+}

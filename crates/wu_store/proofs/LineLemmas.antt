@@ -1,0 +1,132 @@
+-- Workunits of the same row have the same line, and rows are read as the lines of theirs.
+use Rattle.std.proofs.Common.{◌≡◌, ◌≢◌, ◌∙◌, ℕ, ◌+◌, ◌<◌, List, [], ◌∷◌, ◌++◌, length, map, Option, Some, None, Result, Ok, Err, IfErr, Vec, ap, arith, inl, inr, refl, subst, sym}
+use Rattle.std.proofs.Common.{take}
+use Rattle.std.proofs.lemmas.List.{get_or-map, length-map, map-append, take_more}
+use Rattle.std.specs.Prelude.{All, get_or}
+use Rattle.std.specs.declared.alloc.Global.{Global}
+use Rattle.sqlite.specs.Order.{Row}
+use Rattle.wu_core.specs.declared.states.Assimilate.{Assimilate}
+use Rattle.wu_core.specs.declared.states.Assimilate.TheVariants as assimilate
+use Rattle.wu_core.specs.declared.states.FileDelete.{FileDelete}
+use Rattle.wu_core.specs.declared.states.FileDelete.TheVariants as file_delete
+use Rattle.wu_core.specs.declared.fault.Fault.{Fault}
+use Rattle.wu_core.specs.declared.fault.Fault.TheVariants.{NotAProject}
+use Rattle.wu_core.specs.declared.workunit.Workunit.{Workunit}
+use Rattle.wu_core.specs.declared.mask.ErrorMask.{ErrorMask}
+use Rattle.wu_core.proofs.MaskLemmas.{flags_of-error_mask_code}
+use Rattle.wu_core.specs.Codes.{assimilate_code, file_delete_code}
+use Rattle.wu_core.specs.Mask.{error_mask_code}
+use Rattle.wu_core.specs.World.{World}
+use Rattle.wu_schema.specs.Stored.{number_or_null, workunit_row}
+use Rattle.wu_schema.specs.Restoring.{Restores}
+use Rattle.wu_store.proofs.LoadLemmas.{never_unread}
+use Rattle.wu_store.specs.Answers.{all_rows}
+use Rattle.wu_store.specs.Changes.{bare}
+use Rattle.wu_store.specs.Lines.{FindsLines, line_of, ReadsLine, ReadsLines, workunit_lines}
+use Rattle.wu_store.specs.Loading.{AreStorable}
+use Rattle.wu_store.specs.Reading.{IsStoredWorkunit}
+use Rattle.wu_store.specs.declared.lines.WorkunitLine.{WorkunitLine}
+
+same_number : (a b : Option ℕ) → number_or_null a ≡ number_or_null b → a ≡ b
+same_number None None is = refl
+same_number None (Some n) is = absurd cc
+same_number (Some n) None is = absurd cc
+same_number (Some n) (Some m) is = cc
+
+same_assimilate : (a b : Assimilate) → assimilate_code a ≡ assimilate_code b → a ≡ b
+same_assimilate assimilate.Init assimilate.Init is = refl
+same_assimilate assimilate.Init assimilate.Ready is = absurd cc
+same_assimilate assimilate.Init assimilate.Done is = absurd cc
+same_assimilate assimilate.Ready assimilate.Init is = absurd cc
+same_assimilate assimilate.Ready assimilate.Ready is = refl
+same_assimilate assimilate.Ready assimilate.Done is = absurd cc
+same_assimilate assimilate.Done assimilate.Init is = absurd cc
+same_assimilate assimilate.Done assimilate.Ready is = absurd cc
+same_assimilate assimilate.Done assimilate.Done is = refl
+
+same_file_delete : (a b : FileDelete) → file_delete_code a ≡ file_delete_code b → a ≡ b
+same_file_delete file_delete.Init file_delete.Init is = refl
+same_file_delete file_delete.Init file_delete.Ready is = absurd cc
+same_file_delete file_delete.Init file_delete.Done is = absurd cc
+same_file_delete file_delete.Init file_delete.Error is = absurd cc
+same_file_delete file_delete.Ready file_delete.Init is = absurd cc
+same_file_delete file_delete.Ready file_delete.Ready is = refl
+same_file_delete file_delete.Ready file_delete.Done is = absurd cc
+same_file_delete file_delete.Ready file_delete.Error is = absurd cc
+same_file_delete file_delete.Done file_delete.Init is = absurd cc
+same_file_delete file_delete.Done file_delete.Ready is = absurd cc
+same_file_delete file_delete.Done file_delete.Done is = refl
+same_file_delete file_delete.Done file_delete.Error is = absurd cc
+same_file_delete file_delete.Error file_delete.Init is = absurd cc
+same_file_delete file_delete.Error file_delete.Ready is = absurd cc
+same_file_delete file_delete.Error file_delete.Done is = absurd cc
+same_file_delete file_delete.Error file_delete.Error is = refl
+
+same_mask : (a b : ErrorMask) → error_mask_code a ≡ error_mask_code b → a ≡ b
+same_mask a b is = sym (flags_of-error_mask_code a (error_mask_code b) is) ∙ flags_of-error_mask_code b (error_mask_code b) refl
+
+-- a line shows nothing but what the row keeps
+pub same_line : (v w : Workunit) → workunit_row v ≡ workunit_row w → line_of v ≡ line_of w
+same_line v w is =
+    let number : v.number ≡ w.number = cc in
+    let name : v.name ≡ w.name = cc in
+    let quorum : v.params.min_quorum ≡ w.params.min_quorum = cc in
+    let target : v.params.target_nresults ≡ w.params.target_nresults = cc in
+    let errors : v.params.max_error_results ≡ w.params.max_error_results = cc in
+    let total : v.params.max_total_results ≡ w.params.max_total_results = cc in
+    let successes : v.params.max_success_results ≡ w.params.max_success_results = cc in
+    let delay : v.params.delay_bound ≡ w.params.delay_bound = cc in
+    let credit : v.params.credit ≡ w.params.credit = cc in
+    let input : v.input ≡ w.input = cc in
+    let mask = same_mask v.error_mask w.error_mask cc in
+    let canonical = same_number v.canonical w.canonical cc in
+    let assimilated = same_assimilate v.assimilate w.assimilate cc in
+    let deleted = same_file_delete v.file_delete w.file_delete cc in
+    let done = same_number v.done_at w.done_at cc in
+    rw (number, name, quorum, target, errors, total, successes, delay, credit, input, mask, canonical, assimilated, deleted, done) refl
+
+-- nor do lines
+pub same_lines : (vs ws : List Workunit) → map workunit_row vs ≡ map workunit_row ws → map line_of vs ≡ map line_of ws
+same_lines [] [] is = refl
+same_lines [] (w ∷ ws) is = absurd cc
+same_lines (v ∷ vs) [] is = absurd cc
+same_lines (v ∷ vs) (w ∷ ws) is =
+    let row : workunit_row v ≡ workunit_row w = cc in
+    let rows : map workunit_row vs ≡ map workunit_row ws = cc in
+    rw (same_line v w row, same_lines vs ws rows) refl
+
+-- ---- the lines of rows
+
+-- a row that can't be read is that of no workunit that can be
+pub line_unread : (row : Row) (f : Fault) → Restores workunit_row IsStoredWorkunit row (Err f) → ReadsLine row (Err f)
+line_unread row f reads = record {
+  value = tt;
+  found = λ w can is. never_unread workunit_row IsStoredWorkunit row (Err f) (bare w) reads can is;
+  refused = elim reads.refused [ inl memory ↦ inl memory | inr other ↦ inr (inr other) ];
+}
+
+-- one more row is one more workunit
+pub rows_more : (ws : List Workunit) (rows : List Row) (i : ℕ) (w : Workunit) (d : Row) → map workunit_row ws ≡ take i rows → i < length rows → get_or rows i d ≡ workunit_row w → map workunit_row (ws ++ w ∷ []) ≡ take (i + 1) rows
+rows_more ws rows i w d so_far low at =
+    map-append workunit_row ws (w ∷ []) ∙ ap (λ rs. rs ++ workunit_row w ∷ []) so_far ∙ ap (λ r. take i rows ++ r ∷ []) (sym at) ∙ sym (take_more rows i d low)
+
+module _ (rows : List Row) (i : ℕ) (d row : Row) (f : Fault) (low : i < length rows) (at : get_or rows i d ≡ row) (unread : ReadsLine row (Err f)) where
+  -- rows with one that can't be read are those of no workunits that can all be
+  pub lines_unread : ReadsLines {A = Global} rows (Err f)
+  lines_unread = record { value = tt; found = found; refused = unread.refused }
+    where
+      found : (ws : List Workunit) → All (λ w. IsStoredWorkunit (bare w)) ws → rows ≡ map workunit_row ws → f ≢ NotAProject
+      found [] all same = absurd (let none : length rows ≡ 0 = ap (λ rs. length rs) same in omega (arith, none, low))
+      found (w ∷ ws) all same =
+          let within : i < length (w ∷ ws) = subst (λ n. i < n) (ap (λ rs. length rs) same ∙ length-map (w ∷ ws) workunit_row) low in
+          unread.found (get_or (w ∷ ws) i w) (all i w within) (sym at ∙ ap (λ rs. get_or rs i d) same ∙ get_or-map workunit_row (w ∷ ws) i w d within)
+
+module _ (world : World) (rows : List Row) (are : rows ≡ all_rows world) where
+  -- the lines that rows of a world are read as are that world's
+  pub lines_found : (r : Result (Vec WorkunitLine Global) Fault) → ReadsLines rows r → FindsLines workunit_lines r world
+  lines_found (Ok lines) reads = reads.value.2 ∙ same_lines reads.value.0 world.workunits (sym reads.value.1 ∙ are)
+  lines_found (Err f) reads = tt
+
+  -- and they can be read where its workunits can
+  pub lines_read : (r : Result (Vec WorkunitLine Global) Fault) → ReadsLines rows r → AreStorable world → IfErr r (λ fault. fault ≢ NotAProject)
+  lines_read r reads storable = reads.found world.workunits (λ i d low. (storable i d low).row) are

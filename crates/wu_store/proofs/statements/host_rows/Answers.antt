@@ -1,0 +1,15 @@
+use Rattle.wu_schema.proofs.Words.{[], refl, state, ◌≡◌}
+use Rattle.wu_store.specs.Answers.{all_hosts}
+use Rattle.wu_schema.proofs.Parts.{Hosts}
+use Rattle.wu_store.proofs.AskLemmas.{question, asked_all}
+use Rattle.wu_store.proofs.ViewAnswers.{hosts_asked, hosts_fits, hosts_found}
+use Rattle.wu_store.proofs.statements.host_rows.Goals as goal
+
+pub returns : goal.returns
+returns g c =
+    let old = c.args.conn.now in
+    let new = c.query_all.new.self in
+    let q = c.query_all.ensures in
+    let it = asked_all g.S.Store (question Hosts (λ _. tt) hosts_asked hosts_fits [] refl (λ _. refl)) old new [] refl q.mode q.survives (λ rows world. rows ≡ all_hosts world)
+    (λ rows h world s. hosts_found (state g.S.Store old) (state g.S.Store new) world s rows h) c.query_all.result q.ok q.err in
+    record { reads = it.reads; answers = it.answers; told = it.told; serves = it.serves }

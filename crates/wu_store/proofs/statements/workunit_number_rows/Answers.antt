@@ -1,0 +1,15 @@
+use Rattle.wu_schema.proofs.Words.{[], length, refl, state, ◌≡◌}
+use Rattle.wu_store.specs.Answers.{workunit_count}
+use Rattle.wu_schema.proofs.Parts.{Workunits}
+use Rattle.wu_store.proofs.AskLemmas.{question, asked_all}
+use Rattle.wu_store.proofs.ViewAnswers.{workunits_asked, workunits_fits, workunits_counted}
+use Rattle.wu_store.proofs.statements.workunit_number_rows.Goals as goal
+
+pub returns : goal.returns
+returns g c =
+    let old = c.args.conn.now in
+    let new = c.query_all.new.self in
+    let q = c.query_all.ensures in
+    let it = asked_all g.S.Store (question Workunits (λ _. tt) workunits_asked workunits_fits [] refl (λ _. refl)) old new [] refl q.mode q.survives (λ rows world. length rows ≡ workunit_count world)
+    (λ rows h world s. workunits_counted (state g.S.Store old) (state g.S.Store new) world s rows h) c.query_all.result q.ok q.err in
+    record { reads = it.reads; answers = it.answers; told = it.told; serves = it.serves }

@@ -1,0 +1,235 @@
+//! The values that the lines of the views show, and those of the summary.
+
+ghost use Rattle.std.specs.Prelude.{◌≡◌, ◌++◌, IfErr, IfOk};
+ghost use Rattle.wu_core.specs.declared.fault.Fault.TheVariants.{Memory};
+ghost use Rattle.wu_schema.specs.Restoring.{Restores};
+ghost use Rattle.wu_schema.specs.Stored.{archived_cells};
+ghost use Rattle.wu_store.specs.Lines.{ReadsAll, ReadsLines, result_lines_of};
+ghost use Rattle.wu_store.specs.Reading.{host_row, IsStoredArchived, IsStoredHost};
+
+use crate::rows::{archived_from, name_at, workunit_from};
+use sqlite::Row;
+use std::alloc::Global;
+use wu_core::{
+    Archived, Assimilate, Deadline, ErrorMask, Fault, FileDelete, Instance, Moment, Name, Outcome,
+    Params, ServerState, ValidateState, Workunit,
+};
+use wu_schema::number_at;
+
+/// What the view of workunits shows of one.
+#[derive(Debug, Drop)]
+pub struct WorkunitLine {
+    pub number: u64,
+    pub name: Name,
+    /// How many bytes of input are held.
+    pub input: u64,
+    pub params: Params,
+    pub error_mask: ErrorMask,
+    /// The number of the canonical instance.
+    pub canonical: Option<u32>,
+    pub assimilate: Assimilate,
+    /// Of the input.
+    pub file_delete: FileDelete,
+    /// When it was assimilated.
+    pub done_at: Option<Moment>,
+}
+
+impl WorkunitLine {
+    ghost use Rattle.wu_store.specs.Lines.{line_of, ReadsLine};
+
+    fn of(workunit: Workunit) -> Self
+        ensures { result ≡ line_of workunit }
+    {
+        let Workunit {
+            number,
+            name,
+            params,
+            input,
+            error_mask,
+            canonical,
+            assimilate,
+            file_delete,
+            done_at,
+            instances: _,
+        } = workunit;
+        WorkunitLine {
+            number,
+            name,
+            input: input.len() as u64,
+            params,
+            error_mask,
+            canonical,
+            assimilate,
+            file_delete,
+            done_at,
+        }
+    }
+
+    /// The line of the workunit that a row stands for. A row that stands for none is `NotAProject`.
+    fn read(alloc: Global, row: &Row) -> Result<Self, Fault>
+        ensures { ReadsLine row.now result }
+    {
+        let workunit = workunit_from(alloc, row)?;
+        Ok(WorkunitLine::of(workunit))
+    }
+}
+
+/// The lines of the workunits that rows stand for, in their order. `NotAProject` where one stands for none.
+pub(crate) fn workunit_lines_from(alloc: Global, rows: &[Row]) -> Result<Vec<WorkunitLine>, Fault>
+    ensures { ReadsLines rows.now result }
+{
+    let mut lines = Vec::new(alloc);
+    for row in rows {
+        lines.push(WorkunitLine::read(alloc, row)?)?;
+    }
+    Ok(lines)
+}
+
+/// What the view of results shows of an instance.
+#[derive(Debug, Drop)]
+pub struct ResultLine {
+    /// The name of its workunit.
+    pub workunit: Name,
+    /// Its number among its workunit's instances, from 0.
+    pub n: u32,
+    pub server_state: ServerState,
+    pub outcome: Outcome,
+    pub validate_state: ValidateState,
+    /// Of the output.
+    pub file_delete: FileDelete,
+    /// Where it was sent.
+    pub host: Option<Name>,
+    pub sent_at: Option<Moment>,
+    pub deadline: Option<Deadline>,
+    /// When its result was reported.
+    pub received_at: Option<Moment>,
+    /// How many bytes of output are held.
+    pub output: u64,
+}
+
+impl ResultLine {
+    ghost use Rattle.wu_store.specs.Lines.{result_line_of};
+
+    /// The line of an instance, by its number among those of the workunit of this name.
+    fn of(workunit: Name, n: u32, instance: Instance) -> Self
+        ensures { result ≡ result_line_of workunit (n, instance) }
+    {
+        let Instance {
+            server_state,
+            outcome,
+            validate_state,
+            file_delete,
+            host,
+            sent_at,
+            deadline,
+            received_at,
+            output,
+        } = instance;
+        ResultLine {
+            workunit,
+            n,
+            server_state,
+            outcome,
+            validate_state,
+            file_delete,
+            host,
+            sent_at,
+            deadline,
+            received_at,
+            output: output.len() as u64,
+        }
+    }
+}
+
+/// Adds the lines of a workunit's instances, in order of their numbers.
+pub(crate) fn add_result_lines(lines: &mut Vec<ResultLine>, workunit: Workunit) -> Result<(), Fault>
+    ensures added { IfOk result (λ _. lines.new.items ≡ lines.old.items ++ result_lines_of workunit) }
+    ensures fault { IfErr result (λ fault. fault ≡ Memory) }
+{
+    let Workunit {
+        name,
+        instances,
+        ..
+    } = workunit;
+    let mut n = 0;
+    for instance in instances.into_vec() {
+        lines.push(ResultLine::of(name.copy()?, n, instance))?;
+        n += 1;
+    }
+    Ok(())
+}
+
+/// What the view of hosts shows of one.
+#[derive(Debug, Drop)]
+pub struct HostLine {
+    pub name: Name,
+    /// The credit of all its grants.
+    pub total: u64,
+    /// How many grants it has.
+    pub grants: u64,
+}
+
+/// The line of the host of a row of the table `host` with its columns in their order.
+fn host_from(alloc: Global, row: &Row) -> Result<HostLine, Fault>
+    ensures { Restores host_row IsStoredHost row.now result }
+{
+    if row.column_count() != 3 {
+        return Err(Fault::NotAProject);
+    }
+    let total = number_at(row, 1)?;
+    let grants = number_at(row, 2)?;
+    let name = name_at(alloc, row, 0)?;
+    Ok(HostLine {
+        name,
+        total,
+        grants,
+    })
+}
+
+/// The lines of the hosts that rows stand for, in their order. `NotAProject` where one stands for none.
+pub(crate) fn host_lines_from(alloc: Global, rows: &[Row]) -> Result<Vec<HostLine>, Fault>
+    ensures { ReadsAll host_row IsStoredHost rows.now result }
+{
+    let mut lines = Vec::new(alloc);
+    for row in rows {
+        lines.push(host_from(alloc, row)?)?;
+    }
+    Ok(lines)
+}
+
+/// The archived workunits that rows stand for, in their order. `NotAProject` where one stands for none.
+pub(crate) fn archived_lines_from(alloc: Global, rows: &[Row]) -> Result<Vec<Archived>, Fault>
+    ensures { ReadsAll archived_cells IsStoredArchived rows.now result }
+{
+    let mut lines = Vec::new(alloc);
+    for row in rows {
+        lines.push(archived_from(alloc, row)?)?;
+    }
+    Ok(lines)
+}
+
+/// How much a project holds.
+#[derive(Clone, Copy, Debug, PartialEq, Eq)]
+pub struct Summary {
+    /// Of the schema.
+    pub version: u64,
+    /// The number that the next workunit gets.
+    pub next_number: u64,
+    /// How many workunits are present.
+    pub workunits: u64,
+    /// How many instances they have.
+    pub results: u64,
+    /// How many of these are not sent.
+    pub unsent: u64,
+    /// How many are sent, and not over.
+    pub in_progress: u64,
+    pub over: u64,
+    /// How many workunits were archived.
+    pub archived: u64,
+    /// How many grants of credit were made.
+    pub grants: u64,
+    /// The credit of all grants.
+    pub credit: u64,
+    /// How many files were imported, each once.
+    pub imports: u64,
+}

@@ -1,0 +1,365 @@
+"""A plain script that does a project's work over Python's sqlite3 module, one commit a command, and times it.
+
+    python3 plain.py FILE    prints a line 'name<TAB>milliseconds' for each command
+
+It keeps the same tables, reads the same files and follows the same rules, without the proofs: rows are read with two
+queries a pass, judged in Python, and written with executemany.
+"""
+
+import csv
+import io
+import sqlite3
+import sys
+import time
+from datetime import datetime, timezone
+
+UNSENT, IN_PROGRESS, OVER = 2, 4, 5
+INIT, SUCCESS, CLIENT_ERROR, NO_REPLY, DIDNT_NEED = 0, 1, 3, 4, 5
+VALID, INVALID, NO_CHECK, INCONCLUSIVE, TOO_LATE = 1, 2, 3, 4, 5
+READY, DONE = 1, 2
+NOON = 1_772_366_400
+AFTERNOON = NOON + 10_800
+
+SCHEMA = """
+CREATE TABLE project (one INTEGER PRIMARY KEY CHECK (one = 1), version INTEGER NOT NULL, next_number INTEGER NOT NULL) STRICT;
+CREATE TABLE workunit (number INTEGER PRIMARY KEY, name TEXT NOT NULL UNIQUE, min_quorum INTEGER NOT NULL, target_nresults INTEGER NOT NULL, max_error_results INTEGER NOT NULL, max_total_results INTEGER NOT NULL, max_success_results INTEGER NOT NULL, delay_bound INTEGER NOT NULL, credit INTEGER NOT NULL, input BLOB NOT NULL, error_mask INTEGER NOT NULL, canonical INTEGER, assimilate INTEGER NOT NULL, file_delete INTEGER NOT NULL, done_at INTEGER) STRICT;
+CREATE TABLE result (workunit INTEGER NOT NULL REFERENCES workunit (number) ON DELETE CASCADE, n INTEGER NOT NULL, server_state INTEGER NOT NULL, outcome INTEGER NOT NULL, validate_state INTEGER NOT NULL, file_delete INTEGER NOT NULL, host TEXT, sent_at INTEGER, deadline INTEGER, received_at INTEGER, output BLOB NOT NULL, PRIMARY KEY (workunit, n)) STRICT;
+CREATE TABLE credit_grant (seq INTEGER PRIMARY KEY, workunit INTEGER NOT NULL, n INTEGER NOT NULL, host TEXT NOT NULL, credit INTEGER NOT NULL, UNIQUE (workunit, n)) STRICT;
+CREATE TABLE host (name TEXT PRIMARY KEY NOT NULL, total INTEGER NOT NULL, grants INTEGER NOT NULL) STRICT;
+CREATE TABLE archived (seq INTEGER PRIMARY KEY, number INTEGER NOT NULL UNIQUE, name TEXT NOT NULL UNIQUE, error_mask INTEGER NOT NULL, canonical INTEGER, output BLOB NOT NULL, done_at INTEGER NOT NULL) STRICT;
+CREATE TABLE import (kind INTEGER NOT NULL, name TEXT NOT NULL, template BLOB NOT NULL, content BLOB NOT NULL, first_number INTEGER NOT NULL, verdicts TEXT NOT NULL, PRIMARY KEY (kind, name)) STRICT;
+INSERT INTO project VALUES (1, 1, 1);
+"""
+
+WORKUNIT = "number name min_quorum target_nresults max_error_results max_total_results max_success_results delay_bound credit input error_mask canonical assimilate file_delete done_at".split()
+RESULT = "workunit n server_state outcome validate_state file_delete host sent_at deadline received_at output".split()
+
+
+def seconds(text):
+    return int(datetime.strptime(text, "%Y-%m-%dT%H:%M:%SZ").replace(tzinfo=timezone.utc).timestamp())
+
+
+def open_file(path):
+    db = sqlite3.connect(path, isolation_level=None)
+    db.execute("PRAGMA journal_mode = WAL")
+    db.execute("PRAGMA synchronous = FULL")
+    db.execute("PRAGMA foreign_keys = ON")
+    return db
+
+
+def rows(content):
+    return list(csv.reader(io.StringIO(content.decode())))[1:]
+
+
+def keep(db, kind, name, content, first, verdicts):
+    db.execute("INSERT INTO import VALUES (?, ?, ?, ?, ?, ?)", (kind, name, b"", content, first, verdicts))
+
+
+def batch(db, name, content):
+    db.execute("BEGIN")
+    (number,) = db.execute("SELECT next_number FROM project").fetchone()
+    first, added = number, []
+    for job, data in rows(content):
+        taken = db.execute("SELECT 1 FROM workunit WHERE name = ?1 UNION ALL SELECT 1 FROM archived WHERE name = ?1", (job,)).fetchone()
+        assert taken is None
+        added.append((number, job, 2, 2, 3, 10, 6, 604800, 1, bytes.fromhex(data), 0, None, 0, 0, None))
+        number += 1
+    db.executemany("INSERT INTO workunit VALUES (" + ", ".join("?" * 15) + ")", added)
+    db.execute("UPDATE project SET next_number = ?", (number,))
+    keep(db, 1, name, content, first, "0" * len(added))
+    db.execute("COMMIT")
+
+
+def instance(db, text):
+    name, n = text.rsplit("_", 1)
+    return db.execute(
+        "SELECT r.workunit, r.n, r.server_state, r.outcome, r.host, r.sent_at, w.delay_bound FROM workunit w JOIN result r ON r.workunit = w.number WHERE w.name = ? AND r.n = ?",
+        (name, int(n)),
+    ).fetchone()
+
+
+def sent(db, name, content):
+    db.execute("BEGIN")
+    verdicts = []
+    for text, host, moment in rows(content):
+        found = instance(db, text)
+        if found is None:
+            verdicts.append("1")
+        elif found[2] != UNSENT:
+            verdicts.append("2")
+        elif db.execute("SELECT 1 FROM result WHERE workunit = ? AND host = ?", (found[0], host)).fetchone():
+            verdicts.append("3")
+        else:
+            at = seconds(moment)
+            db.execute("UPDATE result SET server_state = 4, host = ?, sent_at = ?, deadline = ? WHERE workunit = ? AND n = ?", (host, at, at + found[6], found[0], found[1]))
+            verdicts.append("0")
+    keep(db, 2, name, content, 0, "".join(verdicts))
+    db.execute("COMMIT")
+
+
+def reported(db, name, content):
+    db.execute("BEGIN")
+    outcomes = {"success": SUCCESS, "client_error": CLIENT_ERROR, "detached": 7}
+    verdicts = []
+    for text, host, moment, status, output in rows(content):
+        found = instance(db, text)
+        at = seconds(moment)
+        if found is None:
+            verdicts.append("1")
+        elif found[4] is None:
+            verdicts.append("2")
+        elif found[4] != host:
+            verdicts.append("3")
+        elif at < found[5]:
+            verdicts.append("4")
+        elif found[2] == OVER and found[3] != NO_REPLY:
+            verdicts.append("5")
+        else:
+            db.execute(
+                "UPDATE result SET server_state = 5, outcome = ?, validate_state = 0, file_delete = 0, received_at = ?, output = ? WHERE workunit = ? AND n = ?",
+                (outcomes[status], at, bytes.fromhex(output), found[0], found[1]),
+            )
+            verdicts.append("0")
+    keep(db, 3, name, content, 0, "".join(verdicts))
+    db.execute("COMMIT")
+
+
+def load(db):
+    instances = {}
+    for row in db.execute("SELECT * FROM result ORDER BY workunit, n"):
+        instances.setdefault(row[0], []).append(dict(zip(RESULT, row)))
+    for row in db.execute("SELECT * FROM workunit ORDER BY number"):
+        yield dict(zip(WORKUNIT, row)), instances.get(row[0], [])
+
+
+def viable(instances):
+    return [i for i in instances if i["server_state"] == OVER and i["outcome"] == SUCCESS and i["validate_state"] in (INIT, INCONCLUSIVE)]
+
+
+def close_unsent(instances):
+    for i in instances:
+        if i["server_state"] == UNSENT:
+            i["server_state"], i["outcome"] = OVER, DIDNT_NEED
+
+
+def wants_validation(w, instances):
+    if w["error_mask"]:
+        return False
+    new = [i for i in instances if i["server_state"] == OVER and i["outcome"] == SUCCESS and i["validate_state"] == INIT]
+    if w["canonical"] is not None:
+        return bool(new)
+    return bool(new) and len(viable(instances)) >= w["min_quorum"]
+
+
+def transition(w, instances, now):
+    changed = False
+    for i in instances:
+        if i["server_state"] == IN_PROGRESS and i["deadline"] < now:
+            i["server_state"], i["outcome"], changed = OVER, NO_REPLY, True
+    undecided = w["canonical"] is None and w["error_mask"] == 0
+    if undecided and sum(i["outcome"] == CLIENT_ERROR for i in instances) > w["max_error_results"]:
+        w["error_mask"], undecided, changed = 2, False, True
+    if undecided:
+        out = sum(i["server_state"] in (UNSENT, IN_PROGRESS) for i in instances)
+        kept = sum(i["server_state"] == OVER and i["outcome"] == SUCCESS and i["validate_state"] != INVALID for i in instances)
+        needed = max(0, w["target_nresults"] - out - kept)
+        allowed = max(0, w["max_total_results"] - len(instances))
+        for _ in range(min(needed, allowed)):
+            instances.append(dict(zip(RESULT, (w["number"], len(instances), UNSENT, 0, 0, 0, None, None, None, None, b""))))
+            changed = True
+        if needed and not allowed and not out and not wants_validation(w, instances):
+            w["error_mask"], changed = 8, True
+    if w["error_mask"]:
+        for i in viable(instances):
+            i["validate_state"], changed = NO_CHECK, True
+        if any(i["server_state"] == UNSENT for i in instances):
+            close_unsent(instances)
+            changed = True
+        if w["assimilate"] == 0:
+            w["assimilate"], changed = READY, True
+    if w["assimilate"] == DONE:
+        over = all(i["server_state"] == OVER for i in instances)
+        if w["file_delete"] == 0 and over:
+            w["file_delete"], changed = READY, True
+        late = viable(instances)
+        for i in instances:
+            may = (over and not late) if i["n"] == w["canonical"] else (i["server_state"] == OVER and i not in late)
+            if i["file_delete"] == 0 and may:
+                i["file_delete"], changed = READY, True
+    return changed
+
+
+def validate(w, instances, grants):
+    if not wants_validation(w, instances):
+        return False
+    made = []
+    if w["canonical"] is None:
+        some = viable(instances)
+        chosen = next((r for r in some if sum(o["output"] == r["output"] for o in some) >= w["min_quorum"] // 2 + 1), None)
+        if chosen is None:
+            for i in some:
+                i["validate_state"] = INCONCLUSIVE
+            if len(some) > w["max_success_results"]:
+                w["error_mask"] = 4
+                close_unsent(instances)
+            elif len(some) >= w["target_nresults"]:
+                w["target_nresults"] = len(some) + 1
+            return True
+        w["canonical"] = chosen["n"]
+        for i in some:
+            agrees = i["output"] == chosen["output"]
+            i["validate_state"] = VALID if agrees else INVALID
+            if agrees:
+                made.append(i)
+        close_unsent(instances)
+        if w["assimilate"] == 0:
+            w["assimilate"] = READY
+    else:
+        canonical = instances[w["canonical"]]
+        for i in viable(instances):
+            if i["validate_state"] == INIT:
+                if canonical["file_delete"] == DONE:
+                    i["validate_state"] = TOO_LATE
+                elif i["output"] == canonical["output"]:
+                    i["validate_state"] = VALID
+                    made.append(i)
+                else:
+                    i["validate_state"] = INVALID
+    grants.extend((w["number"], i["n"], i["host"], w["credit"]) for i in made)
+    return True
+
+
+def assimilate(w, instances, now, archived):
+    if w["assimilate"] != READY:
+        return False
+    w["assimilate"], w["done_at"] = DONE, now
+    output = b"" if w["canonical"] is None else instances[w["canonical"]]["output"]
+    archived.append((w["number"], w["name"], w["error_mask"], w["canonical"], output, now))
+    return True
+
+
+def delete(w, instances):
+    changed = False
+    if w["file_delete"] == READY:
+        w["file_delete"], w["input"], changed = DONE, b"", True
+    for i in instances:
+        if i["file_delete"] == READY:
+            i["file_delete"], i["output"], changed = DONE, b"", True
+    return changed
+
+
+def purgeable(w, instances, now, min_age):
+    return w["assimilate"] == DONE and w["file_delete"] == DONE and w["done_at"] + min_age <= now and all(i["server_state"] == OVER and i["file_delete"] == DONE for i in instances)
+
+
+def run_pass(db, change, limit):
+    db.execute("BEGIN")
+    workunits, instances = [], []
+    for w, its in load(db):
+        if change(w, its):
+            workunits.append(w)
+            instances.extend(its)
+            if len(workunits) == limit:
+                break
+    db.executemany("UPDATE workunit SET " + ", ".join(f"{c} = :{c}" for c in WORKUNIT[1:]) + " WHERE number = :number", workunits)
+    db.executemany("INSERT OR REPLACE INTO result VALUES (" + ", ".join(":" + c for c in RESULT) + ")", instances)
+    return len(workunits)
+
+
+def validation(db, limit):
+    grants = []
+    handled = run_pass(db, lambda w, i: validate(w, i, grants), limit)
+    (seq,) = db.execute("SELECT coalesce(max(seq), 0) FROM credit_grant").fetchone()
+    db.executemany("INSERT INTO credit_grant VALUES (?, ?, ?, ?, ?)", [(seq + k + 1, *g) for k, g in enumerate(grants)])
+    db.executemany("INSERT INTO host VALUES (?, ?, 1) ON CONFLICT (name) DO UPDATE SET total = total + excluded.total, grants = grants + 1", [(g[2], g[3]) for g in grants])
+    db.execute("COMMIT")
+    return handled
+
+
+def assimilation(db, now, limit):
+    archived = []
+    handled = run_pass(db, lambda w, i: assimilate(w, i, now, archived), limit)
+    (seq,) = db.execute("SELECT coalesce(max(seq), 0) FROM archived").fetchone()
+    db.executemany("INSERT INTO archived VALUES (?, ?, ?, ?, ?, ?, ?)", [(seq + k + 1, *a) for k, a in enumerate(archived)])
+    db.execute("COMMIT")
+    return handled
+
+
+def plain_pass(db, change, limit):
+    handled = run_pass(db, change, limit)
+    db.execute("COMMIT")
+    return handled
+
+
+def purge(db, now, limit, min_age):
+    db.execute("BEGIN")
+    gone = []
+    for w, its in load(db):
+        if purgeable(w, its, now, min_age):
+            gone.append((w["number"],))
+            if len(gone) == limit:
+                break
+    db.executemany("DELETE FROM workunit WHERE number = ?", gone)
+    db.execute("COMMIT")
+    return len(gone)
+
+
+def view(db):
+    words = ["INIT", "READY", "DONE", "ERROR"]
+    out = io.BytesIO()
+    for w in db.execute("SELECT * FROM workunit ORDER BY number"):
+        w = dict(zip(WORKUNIT, w))
+        done = "-" if w["done_at"] is None else datetime.fromtimestamp(w["done_at"], timezone.utc).strftime("%Y-%m-%dT%H:%M:%SZ")
+        canonical = "-" if w["canonical"] is None else w["canonical"]
+        out.write(
+            f"{w['number']} {w['name']} input={len(w['input'])} quorum={w['min_quorum']} target={w['target_nresults']} max_error={w['max_error_results']} max_total={w['max_total_results']} max_success={w['max_success_results']} delay={w['delay_bound']} credit={w['credit']} mask={w['error_mask']} canonical={canonical} assimilate={words[w['assimilate']]} delete={words[w['file_delete']]} done={done}\n".encode()
+        )
+    return out.getvalue().count(b"\n")
+
+
+def timed(name, work):
+    start = time.perf_counter()
+    answer = work()
+    print(f"{name}\t{(time.perf_counter() - start) * 1000:.1f}\t{answer}")
+
+
+def a_thousand(header, first, rest):
+    return (header + "\n" + "".join(f"job_{first + k}{rest}\n" for k in range(1000))).encode()
+
+
+SENDS = "result,host,moment"
+REPORTS = "result,host,moment,status,output"
+
+
+def day(db, place, first):
+    timed(f"{place}: batch", lambda: batch(db, f"b_{first}", a_thousand("name,input", first, ",00ff")))
+    timed(f"{place}: transition", lambda: plain_pass(db, lambda w, i: transition(w, i, NOON), 1000))
+    timed(f"{place}: sends", lambda: sent(db, f"s0_{first}", a_thousand(SENDS, first, "_0,h1,2026-03-01T13:00:00Z")))
+    sent(db, f"s1_{first}", a_thousand(SENDS, first, "_1,h2,2026-03-01T13:00:00Z"))
+    timed(f"{place}: reports", lambda: reported(db, f"r0_{first}", a_thousand(REPORTS, first, "_0,h1,2026-03-01T14:00:00Z,success,aa")))
+    reported(db, f"r1_{first}", a_thousand(REPORTS, first, "_1,h2,2026-03-01T14:00:00Z,success,aa"))
+    timed(f"{place}: validate", lambda: validation(db, 1000))
+    timed(f"{place}: assimilate", lambda: assimilation(db, AFTERNOON, 1000))
+    timed(f"{place}: transition after", lambda: plain_pass(db, lambda w, i: transition(w, i, AFTERNOON), 1000))
+    timed(f"{place}: delete", lambda: plain_pass(db, delete, 1000))
+    timed(f"{place}: purge", lambda: purge(db, AFTERNOON, 1000, 0))
+
+
+def main(path):
+    db = open_file(path)
+    db.executescript("BEGIN;" + SCHEMA + "COMMIT;")
+    day(db, "alone", 1)
+    for k in range(20):
+        batch(db, f"more_{k}", a_thousand("name,input", 100_001 + 1000 * k, ",00ff"))
+        plain_pass(db, lambda w, i: transition(w, i, NOON), 1000)
+    day(db, "among 20,000", 200_001)
+    timed("view of 20,000 lines", lambda: view(db))
+    db.close()
+
+    def reopened():
+        return open_file(path).execute("SELECT version FROM project").fetchone()[0]
+
+    timed("opening with 20,000", reopened)
+
+
+main(sys.argv[1])
