@@ -72,6 +72,14 @@ impl Name {
         self.text.as_str()
     }
 
+    /// Its bytes: 1 to 64, each one that may stand in a name.
+    pub fn as_bytes(&self) -> &[u8]
+        ensures bytes { result.now ≡ self.now }
+        ensures name { is_name self.now ≡ true }
+    {
+        self.text.as_bytes()
+    }
+
     /// The same name again.
     pub fn copy(&self) -> Result<Self, AllocError>
         ensures { IfOk result (λ name. name ≡ self.now) }

@@ -2,3 +2,4 @@ pub mod Beginning
 pub mod Reopening
 pub mod Lives
 pub mod Leftovers
+pub mod Soundness

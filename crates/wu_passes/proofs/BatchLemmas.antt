@@ -1,11 +1,11 @@
 -- What a batch's plan makes of a world is what the machine makes of it.
-use Rattle.std.proofs.Common.{append_assoc, ◌≡◌, ◌⊎◌, ℕ, suc, ◌+◌, ◌<◌, ◌≤◌, ◌==◌, Bool, true, false, List, [], ◌∷◌, ◌++◌, length, get_or, map, Option, Some, None, Result, Ok, Err, IfOk, IfErr, refl, sym, ap, subst, ◌∙◌, inl, inr, arith, nat_lt}
+use Rattle.std.proofs.Common.{append_assoc, ◌≡◌, ◌⊎◌, ℕ, ◌+◌, ◌<◌, ◌≤◌, ◌==◌, Bool, true, false, List, [], ◌∷◌, ◌++◌, length, map, Option, Some, None, Result, Ok, Err, IfOk, IfErr, refl, sym, ap, subst, ◌∙◌, inl, inr, arith, nat_lt}
 use Rattle.std.proofs.lemmas.Bool.Decides.{nat_tests}
 use Rattle.std.proofs.lemmas.Slice.Eq.{bytes_eq-Decides}
 use Rattle.std.proofs.lemmas.Bool.{cases_Bool, or_parts}
 use Rattle.std.proofs.lemmas.List.{append-nil, length-append, map-append}
 use Rattle.std.proofs.lemmas.List.Folds.{list_any-append}
-use Rattle.std.proofs.lemmas.List.Elements.{All-append, All-from_recursion, All-get_or, All-head, All-nil, All-push, All-replicate, All-tail}
+use Rattle.std.proofs.lemmas.List.Elements.{All-append, All-from_recursion, All-head, All-nil, All-push, All-replicate, All-tail}
 use Rattle.std.proofs.Math.Seq.{take-append_seam}
 use Rattle.std.specs.List.{AllByRecursion, enumerate_from}
 use Rattle.std.specs.Prelude.{◌≢◌, All, take, find, bytes_eq, if◌then◌else◌}
@@ -29,7 +29,6 @@ use Rattle.wu_passes.specs.Machine.{done, step, world_of}
 use Rattle.wu_passes.specs.Planning.{additions, first_of, IsNewBatch, IsPlan, IsProject, Plans, TellsTaken, reply_of_answer}
 use Rattle.wu_store.specs.Loading.{IsStorable, IsStoreFault}
 use Rattle.wu_passes.specs.Requests.{AskBatch, Reply}
-use Rattle.wu_passes.specs.Sound.{IsGiven, IsSound}
 use Rattle.wu_passes.specs.declared.imports.Plan.{Plan}
 use Rattle.wu_store.specs.declared.changes.Change.{Change}
 use Rattle.wu_store.specs.declared.changes.Change.TheVariants.{Next, Keep}
@@ -60,14 +59,6 @@ right_adds : (params : Parameters) (n : ℕ) (jobs : List Job) (rest : List Chan
 right_adds params n [] rest world above right = right world
 right_adds params n (job ∷ jobs) rest world above right =
     (above, right_adds params (n + 1) jobs rest (made (added params (n, job)) world) (above_more n world.workunits (new_workunit params n job) above refl) right)
-
--- the numbers of a sound world are below its next number
-above_from : (n : ℕ) (ws : List Workunit) → ((i : ℕ) (d : Workunit) → i < length ws → (get_or ws i d).number < n) → IsAbove n ws
-above_from n [] below = tt
-above_from n (w ∷ ws) below = (below 0 w (omega arith), above_from n ws (λ i d within. below (suc i) d (omega (arith, within))))
-
-pub sound_above : (world : World) → IsSound world → IsAbove world.next_number world.workunits
-sound_above world sound = above_from world.next_number world.workunits (λ i d within. (All-get_or (λ w. IsGiven world w.number) world.workunits i d within sound.given).1)
 
 first_is : (world : World) (jobs : List Job) → first_number world jobs ≡ first_of world.next_number (length jobs)
 first_is world [] = refl
@@ -182,7 +173,7 @@ keeps_import after project import told = record {
 }
 
 -- a workunit that a batch adds can be read
-new_storable : (params : Parameters) (n : ℕ) (job : Job) → IsParameters params → IsJob job → n ≤ most_workunits → IsStorable (new_workunit params n job)
+pub new_storable : (params : Parameters) (n : ℕ) (job : Job) → IsParameters params → IsJob job → n ≤ most_workunits → IsStorable (new_workunit params n job)
 new_storable params n job ranged is low = record {
   number = omega (arith, low);
   row = record { name = is.name; parameters = ranged; input = is.input; canonical = tt; stamped = record { moment = tt; done = λ e. cc; done_only = λ e. cc }; bare = refl };

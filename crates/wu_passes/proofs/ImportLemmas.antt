@@ -72,9 +72,9 @@ stays_if world true one other first second = first
 stays_if world false one other first second = second
 
 -- the imports and the version are as they were
-record Same (world after : World) : Type 0 where
-  imports : after.imports ≡ world.imports
-  version : after.version ≡ world.version
+pub record Same (world after : World) : Type 0 where
+  pub imports : after.imports ≡ world.imports
+  pub version : after.version ≡ world.version
 
 same_then : (world middle after : World) → Same world middle → Same middle after → Same world after
 same_then world middle after first second = record { imports = second.imports ∙ first.imports; version = second.version ∙ first.version }
@@ -87,7 +87,7 @@ same_named : (world : World) (name : List ℕ) (change : Workunit → Workunit) 
 same_named world name change = record { imports = refl; version = refl }
 
 -- rows of sends and of reports add no import
-same_rows : {Row : Type 0} → (rule : Rule Row) (world : World) (rows : List Row) → Same world (after_rows rule world rows)
+pub same_rows : {Row : Type 0} → (rule : Rule Row) (world : World) (rows : List Row) → Same world (after_rows rule world rows)
 same_rows rule world [] = record { imports = refl; version = refl }
 same_rows rule world (row ∷ rows) =
     same_then world (after_row rule world row) (after_rows rule (after_row rule world row) rows)

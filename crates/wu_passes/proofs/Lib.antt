@@ -1,4 +1,4 @@
-mod ImportLemmas
+pub mod ImportLemmas
 mod PlanLemmas
 mod PassPlanLemmas
 pub mod BatchLemmas

@@ -23,7 +23,7 @@ use Rattle.wu_store.specs.declared.due.Pass.TheVariants.{Transition, Validate, A
 use Rattle.wu_passes.specs.declared.command.Command.{Command}
 use Rattle.wu_passes.specs.declared.command.Command.TheVariants as command
 use Rattle.wu_passes.specs.FileRows.{Rule, after_row}
-use Rattle.wu_passes.specs.Machine.{cancel_done, done, HasMoment, is_limit_right, pass_done, present_version, step}
+use Rattle.wu_passes.specs.Machine.{cancel_done, done, HasValues, is_limit_right, pass_done, present_version, step}
 use Rattle.wu_passes.specs.Passes.{images, is_among, passed}
 use Rattle.wu_passes.specs.Planning.{IsProject, request_of}
 use Rattle.wu_passes.specs.Requests.{AskCancel, AskPass, AskUpgrade, Upgraded}
@@ -239,7 +239,7 @@ keeps_project_upgrade world project =
     })
 
 -- whatever becomes of a command, what it leaves of a project is one
-pub keeps_by : (command : Command) → HasMoment (request_of command) → (world : World) → IsProject world → IsProject (step world (request_of command))
+pub keeps_by : (command : Command) → HasValues (request_of command) → (world : World) → IsProject world → IsProject (step world (request_of command))
 keeps_by (command.Batch batch) moment world project = keeps_project world project batch.name batch.template batch.file
 keeps_by (command.Sent file) moment world project = keeps_project_sent world project file.name file.file
 keeps_by (command.Reported file) moment world project = keeps_project_reported world project file.name file.file

@@ -223,7 +223,8 @@ was_sent host moment i applied = by i.host refl
     by (Some its) e = refl
     by None e = cc (rw e at applied)
 
-code_applied : (verdict : ReportVerdict) → report_verdict_code verdict ≡ 0 → verdict ≡ report.Applied
+-- the number 0 is that of a report that is applied
+pub code_applied : (verdict : ReportVerdict) → report_verdict_code verdict ≡ 0 → verdict ≡ report.Applied
 code_applied report.Applied is = refl
 code_applied report.Unknown is = absurd cc
 code_applied report.NotSent is = absurd cc

@@ -1,10 +1,8 @@
 -- Laws of the machine.
 use Rattle.std.specs.Prelude.{◌≡◌, ℕ, List, Ok}
 use Rattle.wu_core.specs.World.{World}
-use Rattle.wu_passes.specs.Machine.{present_version, reply, step, fold_steps}
-use Rattle.wu_passes.specs.Planning.{IsProject}
+use Rattle.wu_passes.specs.Machine.{reply, step, fold_steps}
 use Rattle.wu_passes.specs.Requests.{Request, AskBatch, AskSent, AskReported, Reply}
-use Rattle.wu_passes.specs.Sound.{IsSound}
 
 -- asked again after any requests, it answers what it answered first, and changes nothing
 abbrev pub AnswersAgain : Request → Type 0
@@ -19,7 +17,3 @@ pub record ImportsActOnce : Type 0 where
   pub batch : (name template file : List ℕ) → AnswersAgain (AskBatch name template file)
   pub sent : (name file : List ℕ) → AnswersAgain (AskSent name file)
   pub reported : (name file : List ℕ) → AnswersAgain (AskReported name file)
-
--- a sound world of the present version is one that a command runs over
-abbrev pub SoundIsEnough : Type 0
-SoundIsEnough = (world : World) → IsSound world → world.version ≡ present_version → IsProject world

@@ -8,7 +8,6 @@ pub mod Requests
 pub mod FileRows
 pub mod Touched
 pub mod Sessions
-pub mod Sound
 pub mod Worlds
 pub mod Committing
 pub mod Planning

@@ -10,6 +10,7 @@ use Rattle.wu_rules.specs.Counts.{is_undecided}
 use Rattle.wu_rules.specs.Cancelling.{cancelled}
 use Rattle.wu_passes.specs.Imports.{Done, imported, batch_given, sent_given, reported_given}
 use Rattle.wu_passes.specs.Passes.{passed, handled}
+use Rattle.wu_store.specs.Reading.{IsName}
 use Rattle.wu_store.specs.declared.due.Pass.{Pass}
 use Rattle.wu_store.specs.declared.due.Pass.TheVariants.{Purge}
 use Rattle.wu_passes.specs.Requests.{Request, AskBatch, AskSent, AskReported, AskPass, AskCancel, AskUpgrade, Reply, Passed, Cancelled, Upgraded}
@@ -37,10 +38,14 @@ abbrev pub has_right_limits : Request → Bool
 has_right_limits (AskPass pass now limit min_age) = is_limit_right pass limit min_age
 has_right_limits _ = true
 
--- the moment of a pass is not after the last one
-abbrev pub HasMoment : Request → Type 0
-HasMoment (AskPass pass now limit min_age) = now ≤ last_moment
-HasMoment _ = ⊤
+-- the values of what is asked are in their ranges: an import has a name, and the moment of a pass is not after the last one
+abbrev pub HasValues : Request → Type 0
+HasValues (AskBatch name template file) = IsName name
+HasValues (AskSent name file) = IsName name
+HasValues (AskReported name file) = IsName name
+HasValues (AskPass pass now limit min_age) = now ≤ last_moment
+HasValues (AskCancel name) = ⊤
+HasValues AskUpgrade = ⊤
 
 abbrev pub pass_done : World → Pass → ℕ → ℕ → ℕ → Result Done Fault
 pass_done world pass now limit min_age =

@@ -1,10 +1,9 @@
 //! Laws of the machine and of its worlds: each function's contract is one.
 
-ghost use Rattle.wu_core.specs.World.{empty_world};
-ghost use Rattle.wu_passes.specs.Laws.{ImportsActOnce, SoundIsEnough};
+ghost use Rattle.wu_passes.specs.Laws.{ImportsActOnce};
+ghost use Rattle.wu_passes.specs.Machine.{HasValues};
 ghost use Rattle.wu_passes.specs.Planning.{request_of};
 ghost use Rattle.wu_passes.specs.Projects.{KeepsProjects};
-ghost use Rattle.wu_passes.specs.Sound.{IsSound};
 
 use crate::command::Command;
 
@@ -13,21 +12,20 @@ pub fn imports_act_once()
     ensures { ImportsActOnce }
 {}
 
-/// What a command asks of a world is less than soundness.
-pub fn a_sound_world_is_a_project()
-    ensures { SoundIsEnough }
-{}
-
-/// A fresh project is sound.
-pub fn a_fresh_project_is_sound()
-    ensures { IsSound empty_world }
-{}
-
-/// What a command makes of a world that commands run over is such a world again. Its moment, if it has one, is in range.
-pub fn commands_keep_projects(command: &Command)
-    ensures { KeepsProjects (request_of command.now) }
+/// The values of a command are in their ranges: an import's name is one, and a pass's moment is not after the last.
+pub fn has_values(command: &Command)
+    ensures { HasValues (request_of command.now) }
 {
     match command {
+        Command::Batch(batch) => {
+            batch.name.as_bytes();
+        }
+        Command::Sent(file) => {
+            file.name.as_bytes();
+        }
+        Command::Reported(file) => {
+            file.name.as_bytes();
+        }
         Command::Transition { now, limit: _ } => {
             now.seconds();
         }
@@ -43,4 +41,11 @@ pub fn commands_keep_projects(command: &Command)
         }
         _ => {}
     }
+}
+
+/// What a command makes of a world that commands run over is such a world again.
+pub fn commands_keep_projects(command: &Command)
+    ensures { KeepsProjects (request_of command.now) }
+{
+    has_values(command);
 }

@@ -1,1 +1,13 @@
 pub mod PassLaws
+pub mod Middles
+pub mod SoundParts
+pub mod Rewriting
+pub mod Records
+pub mod Lasts
+pub mod Becoming
+pub mod SoundLemmas
+pub mod SoundPasses
+pub mod SoundRows
+pub mod SoundJobs
+pub mod SoundSteps
+pub mod LastingLaws

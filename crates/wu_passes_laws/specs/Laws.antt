@@ -15,7 +15,7 @@ use Rattle.wu_store.specs.Due.{changes, chosen}
 use Rattle.wu_passes.specs.Machine.{reply, step}
 use Rattle.wu_passes.specs.Passes.{granted, handled, images, is_among, passed}
 use Rattle.wu_passes.specs.Requests.{AskPass, Passed}
-use Rattle.wu_passes.specs.Sound.{IsSound}
+use Rattle.wu_passes_laws.specs.Sound.{IsSound}
 
 -- a pass is said to change a workunit exactly where it makes another of it; a purge exactly where it may be purged, and
 -- leaves nothing of it

@@ -1,1 +1,3 @@
 pub mod Laws
+pub mod Sound
+pub mod Lasting

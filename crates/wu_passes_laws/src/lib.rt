@@ -1,4 +1,6 @@
-//! Laws of passes over the workunits of a world.
+//! Laws of passes, of sound worlds, and of what lasts over lists of requests.
 #![tactic(auto)]
 
+pub mod lasting;
 pub mod laws;
+pub mod sound;

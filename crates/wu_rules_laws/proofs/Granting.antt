@@ -1,5 +1,5 @@
 -- Which results are granted credit, and how a canonical one is chosen.
-use Rattle.std.proofs.Common.{◌≡◌, ℕ, zero, suc, ◌+◌, ◌/◌, ◌<◌, nat_le, Bool, true, false, cond, ◌&&◌, List, [], ◌∷◌, map, length, filter, Option, Some, None, refl, sym, ap, subst, ◌∙◌, bytes_eq, is_none, zero-add, leb-true, arith}
+use Rattle.std.proofs.Common.{◌≡◌, ℕ, zero, suc, ◌+◌, ◌/◌, ◌<◌, nat_le, Bool, true, false, cond, ◌&&◌, List, [], ◌∷◌, map, length, filter, Option, Some, None, refl, sym, ap, subst, ◌∙◌, bytes_eq, is_none, zero-add, leb-true, le-leb, ◌↔◌, arith}
 use Rattle.std.specs.List.{position_from, filter_map, cons_option, enumerate_from, slice_get, All, AllByRecursion, AllPairs}
 use Rattle.std.specs.Option.{option_map}
 use Rattle.std.proofs.lemmas.Option.{slice_get-map}
@@ -16,7 +16,7 @@ use Rattle.wu_rules.specs.Validation.{is_to_validate, output_at, is_deleted_at, 
 use Rattle.wu_rules_laws.specs.Laws.{IsChosen, rehosted, IsRightGrantIn}
 use Rattle.wu_rules.proofs.Lists.{count_step}
 use Rattle.wu_rules_laws.proofs.Changed.{placed, count-placed}
-use Rattle.wu_rules_laws.proofs.Spent.{and_left, and_right}
+use Rattle.wu_rules_laws.proofs.Spent.{and_from, and_left, and_right}
 
 -- ---- the first that passes
 
@@ -58,6 +58,28 @@ chosen w n e =
       enough = leb-true (w.params.min_quorum / 2 + 1) (length (agreeing x.output (viable w))) (and_right (is_viable x) enough found.3.passes);
       first = λ j y lt g. found.3.before j y (omega arith) g;
     }
+
+-- where the first that passes stands is what is found
+position_from-found : {A : Type 0} (p : A → Bool) (s : ℕ) (xs : List A) (k : ℕ) (x : A) → First p xs k x → position_from p s xs ≡ Some (s + k)
+position_from-found p s [] k x f = let none : None ≡ Some x = f.stands in cc
+position_from-found {A} p s (y ∷ ys) zero x f =
+    let own : y ≡ x = (let stands : Some y ≡ Some x = f.stands in cc) in
+    ap (λ b. cond b (Some s) (position_from p (s + 1) ys)) (ap p own ∙ f.passes) ∙ (let e : s ≡ s + 0 = omega arith in ap Some e)
+position_from-found {A} p s (y ∷ ys) (suc k) x f =
+    ap (λ b. cond b (Some s) (position_from p (s + 1) ys)) (f.before 0 y (omega arith) refl)
+    ∙ (position_from-found p (s + 1) ys k x (record { stands = f.stands; passes = f.passes; before = λ j z lt g. f.before (suc j) z (omega arith) g })
+    ∙ (let e : s + 1 + k ≡ s + suc k = omega arith in ap Some e))
+
+-- such a result is the choice
+chosen_first : (w : Workunit) (n : ℕ) → IsChosen w n → consensus w ≡ Some n
+chosen_first w n h =
+    let enough = le-leb (w.params.min_quorum / 2 + 1) (length (agreeing h.chosen.output (viable w))) h.enough in
+    position_from-found (is_agreed w) 0 w.instances n h.chosen (record { stands = h.stands; passes = and_from (is_viable h.chosen) _ h.is_viable enough; before = h.first })
+    ∙ ap Some (zero-add n)
+
+-- the choice is exactly the first on which enough agree
+pub chosen_exactly : (w : Workunit) (n : ℕ) → (consensus w ≡ Some n) ↔ IsChosen w n
+chosen_exactly w n = (chosen w n, chosen_first w n)
 
 -- ---- hosts
 
@@ -106,7 +128,7 @@ kept_all {A} {B} P h s (x ∷ xs) each = by_case (h s x) refl (kept_all P h (s +
     by_case None e r = r
     by_case (Some b) e r = (each 0 x b refl ((let z : s + 0 ≡ s = omega arith in ap (λ m. h m x) z) ∙ sym e), r)
 
-granted_number : (w : Workunit) (output : List ℕ) (n : ℕ) (i : Instance) (g : Grant) → granted_to w output n i ≡ Some g → (is_judged w i ≡ true) × (bytes_eq i.output output ≡ true) × (option_map (λ host. record { workunit = w.number; n = n; host = host; credit = w.params.credit }) i.host ≡ Some g)
+pub granted_number : (w : Workunit) (output : List ℕ) (n : ℕ) (i : Instance) (g : Grant) → granted_to w output n i ≡ Some g → (is_judged w i ≡ true) × (bytes_eq i.output output ≡ true) × (option_map (λ host. record { workunit = w.number; n = n; host = host; credit = w.params.credit }) i.host ≡ Some g)
 granted_number w output n i g e = by_case (is_judged w i) (bytes_eq i.output output) e
   where
     by_case : (a b : Bool) → cond (a && b) (grant_of w n i) None ≡ Some g → (a ≡ true) × (b ≡ true) × (grant_of w n i ≡ Some g)
@@ -121,7 +143,7 @@ pub record NamesBy (w : Workunit) (n : ℕ) (o : Option (List ℕ)) (g : Grant) 
   pub host : o ≡ Some g.host
   pub credit : g.credit ≡ w.params.credit
 
-names : (w : Workunit) (n : ℕ) (i : Instance) (g : Grant) → grant_of w n i ≡ Some g → NamesBy w n i.host g
+pub names : (w : Workunit) (n : ℕ) (i : Instance) (g : Grant) → grant_of w n i ≡ Some g → NamesBy w n i.host g
 names w n i g e = by_case i.host e
   where
     made : List ℕ → Grant

@@ -119,7 +119,7 @@ no_bit true e = absurd (omega arith)
 no_bit false e = refl
 
 -- a mask that is clear after new bits has none of them
-clear_of : (m : ErrorMask) → is_clear m ≡ true → (m.too_many_error_results ≡ false) × (m.too_many_total_results ≡ false)
+pub clear_of : (m : ErrorMask) → is_clear m ≡ true → (m.too_many_error_results ≡ false) × (m.too_many_total_results ≡ false)
 clear_of m e =
     let none : error_mask_code m ≡ 0 = eqb-true (error_mask_code m) 0 e in
     let a : bit_value m.too_many_error_results ≡ 0 = omega arith in

@@ -6,6 +6,7 @@ use Rattle.wu_core.specs.declared.workunit.Workunit.{Workunit}
 use Rattle.wu_core.specs.declared.states.ServerState.{ServerState}
 use Rattle.wu_core.specs.declared.states.ServerState.TheVariants as server
 use Rattle.wu_core.specs.declared.states.Outcome.TheVariants as outcome
+use Rattle.wu_core.specs.declared.states.ValidateState.{ValidateState}
 use Rattle.wu_core.specs.declared.states.ValidateState.TheVariants as validate
 use Rattle.wu_core.specs.declared.states.Assimilate.{Assimilate}
 use Rattle.wu_core.specs.declared.states.Assimilate.TheVariants as assimilate
@@ -73,8 +74,16 @@ files-untouched w e = by_case (is_done_assimilate w.assimilate) refl e
 
 -- ---- under a mask
 
-unsent_given_up : (i : Instance) → is_unsent (given_up i) ≡ false
-unsent_given_up i = by_case (is_viable i) (is_unsent i) refl refl
+pub unsent_closed : (i : Instance) → is_unsent (closed i) ≡ false
+unsent_closed i = by_case (is_unsent i) refl
+  where
+    by_case : (u : Bool) → u ≡ is_unsent i → is_unsent (cond u (record i { server_state = server.Over; outcome = outcome.DidntNeed }) i) ≡ false
+    by_case true e = refl
+    by_case false e = sym e
+
+-- nothing is unsent where viable successes have a verdict and the others are closed
+pub unsent_judged : (v : ValidateState) (i : Instance) → is_unsent (cond (is_viable i) (record i { validate_state = v }) (closed i)) ≡ false
+unsent_judged v i = by_case (is_viable i) refl
   where
     over_not_unsent : (s : ServerState) (b : Bool) → true ≡ (is_over_state s && b) → is_unsent_state s ≡ false
     over_not_unsent server.Over b e = refl
@@ -87,10 +96,9 @@ unsent_given_up i = by_case (is_viable i) (is_unsent i) refl refl
     success true false c e = e
     success false b c e = e
 
-    by_case : (v u : Bool) → v ≡ is_viable i → u ≡ is_unsent i → is_unsent (cond v (record i { validate_state = validate.NoCheck }) (cond u (record i { server_state = server.Over; outcome = outcome.DidntNeed }) i)) ≡ false
-    by_case true u e f = over_not_unsent i.server_state (is_success_outcome i.outcome) (success (is_over_state i.server_state) (is_success_outcome i.outcome) (is_open_verdict i.validate_state) e)
-    by_case false true e f = refl
-    by_case false false e f = sym f
+    by_case : (b : Bool) → b ≡ is_viable i → is_unsent (cond b (record i { validate_state = v }) (closed i)) ≡ false
+    by_case true e = over_not_unsent i.server_state (is_success_outcome i.outcome) (success (is_over_state i.server_state) (is_success_outcome i.outcome) (is_open_verdict i.validate_state) e)
+    by_case false e = unsent_closed i
 
 viable_given_up : (i : Instance) → is_viable (given_up i) ≡ false
 viable_given_up i = by_case (is_viable i) (is_unsent i) refl
@@ -115,7 +123,7 @@ settled-once w = by_case (is_clear w.error_mask) refl
     nothing : (is_init_assimilate (readied_assimilate w.assimilate) || list_any is_unsent (map given_up w.instances) || list_any is_viable (map given_up w.instances)) ≡ false
     nothing =
         let a = ready_not_init w.assimilate in
-        let b = any_false-map is_unsent given_up unsent_given_up w.instances in
+        let b = any_false-map is_unsent given_up (unsent_judged validate.NoCheck) w.instances in
         let c = any_false-map is_viable given_up viable_given_up w.instances in
         or_from _ _ (or_from _ _ a b) c
 

@@ -78,7 +78,21 @@ pub record IsChosen (w : Workunit) (n : ℕ) : Type 0 where
   pub first : (k : ℕ) (other : Instance) → k < n → slice_get w.instances k ≡ Some other → is_agreed w other ≡ false
 
 abbrev pub ChoosesByAgreement : Type 0
-ChoosesByAgreement = (w : Workunit) (n : ℕ) → consensus w ≡ Some n → IsChosen w n
+ChoosesByAgreement = (w : Workunit) (n : ℕ) → (consensus w ≡ Some n) ↔ IsChosen w n
+
+-- a canonical result comes by the validator alone, where enough agree, and no rule takes one away or chooses another
+pub record ChoosesByQuorum (w : Workunit) : Type 0 where
+  pub chosen : (n : ℕ) → w.canonical ≡ None → (validated w).canonical ≡ Some n → IsChosen w n
+  pub kept : (n : ℕ) → w.canonical ≡ Some n → (validated w).canonical ≡ Some n
+  pub transitioned : (now : ℕ) → (transitioned w now).canonical ≡ w.canonical
+  pub assimilated : (now : ℕ) → (assimilated w now).canonical ≡ w.canonical
+  pub emptied : (emptied w).canonical ≡ w.canonical
+  pub cancelled : (cancelled w).canonical ≡ w.canonical
+  pub sent : (n : ℕ) (host : List ℕ) (moment : ℕ) → (sent_in w n host moment).canonical ≡ w.canonical
+  pub reported : (n moment : ℕ) (status : Status) (output : List ℕ) → (reported_in w n moment status output).canonical ≡ w.canonical
+
+abbrev pub ChoosesOnlyByQuorum : Type 0
+ChoosesOnlyByQuorum = (w : Workunit) → ChoosesByQuorum w
 
 -- the same workunit, with other hosts
 abbrev pub rehosted : (ℕ → Instance → Option (List ℕ)) → Workunit → Workunit

@@ -1,7 +1,7 @@
 //! Laws of the rules: each function's contract is one, for every workunit and every moment.
 
 ghost use Rattle.wu_core.specs.declared.workunit.Workunit.{Workunit};
-ghost use Rattle.wu_rules_laws.specs.Laws.{TransitionsOnce, WakesInTime, LooksWhereItChanges, KeepsFinalVerdicts, AssimilatesWhatIsReady, ArchivesWhatWasRead, DeletesWhereItChanges, HoldsNothingReady, PurgesWhatIsThrough, StaysPurgeable, ChoosesByAgreement, ChoosesWithoutHosts, GrantsToTheValid, GrantsOnce, KeepsWorkunitsFormed};
+ghost use Rattle.wu_rules_laws.specs.Laws.{TransitionsOnce, WakesInTime, LooksWhereItChanges, KeepsFinalVerdicts, AssimilatesWhatIsReady, ArchivesWhatWasRead, DeletesWhereItChanges, HoldsNothingReady, PurgesWhatIsThrough, StaysPurgeable, ChoosesByAgreement, ChoosesOnlyByQuorum, ChoosesWithoutHosts, GrantsToTheValid, GrantsOnce, KeepsWorkunitsFormed};
 
 /// A second transition at the same moment changes nothing.
 pub fn transitions_once()
@@ -53,9 +53,16 @@ pub fn stays_purgeable()
     ensures { StaysPurgeable }
 {}
 
-/// A canonical result agrees byte for byte with at least half of the quorum plus one, itself included, and is the first such.
+/// The result that is chosen is just the first that agrees byte for byte with at least half of the quorum plus one, itself
+/// included; where there is none, none is.
 pub fn chooses_by_agreement()
     ensures { ChoosesByAgreement }
+{}
+
+/// A canonical result comes by the validator alone, where at least half of the quorum plus one agree with it; no rule takes
+/// it away or chooses another.
+pub fn chooses_only_by_quorum()
+    ensures { ChoosesOnlyByQuorum }
 {}
 
 /// Hosts have no part in the choice: it depends on states, outputs and order alone.

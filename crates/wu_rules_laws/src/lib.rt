@@ -1,5 +1,6 @@
 //! Laws of the rules on one workunit, and worked examples of them.
 #![tactic(auto)]
 
+pub mod consistent;
 pub mod examples;
 pub mod laws;

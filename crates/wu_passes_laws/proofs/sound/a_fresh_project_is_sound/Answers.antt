@@ -1,12 +1,15 @@
 use Rattle.std.proofs.Common.{arith}
 use Rattle.std.proofs.lemmas.List.Elements.{All-nil}
-use Rattle.wu_passes.proofs.laws.a_fresh_project_is_sound.Goals as goal
+use Rattle.wu_passes_laws.proofs.sound.a_fresh_project_is_sound.Goals as goal
 
 pub returns : goal.returns
 returns c = record {
   next_number = (omega arith, omega arith);
   formed = All-nil _;
   storable = All-nil _;
+  granted_to = All-nil _;
+  archivable = All-nil _;
+  imports = All-nil _;
   consistent = All-nil _;
   recorded = All-nil _;
   given = All-nil _;
@@ -17,6 +20,5 @@ returns c = record {
   archived_names = λ i j d order low. absurd (omega (arith, low));
   grants = All-nil _;
   granted_once = λ i j d order low. absurd (omega (arith, low));
-  imports = All-nil _;
   imported_once = λ i j d order low. absurd (omega (arith, low));
 }

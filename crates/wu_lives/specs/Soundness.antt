@@ -1,0 +1,13 @@
+-- What lives leave of a sound project is sound.
+use Rattle.std.specs.Prelude.{All, List}
+use Rattle.wu_core.specs.World.{World}
+use Rattle.wu_passes.specs.Sessions.{Lived, world_of_life}
+use Rattle.wu_passes_laws.specs.Sound.{IsSound}
+use Rattle.wu_sound_laws.specs.Laws.{HaveValues}
+use Rattle.wu_lives.specs.Lives.{AreSessionsOf, Told}
+
+-- where the world before was sound, the one that a life of these sessions left is, whichever of its cut commands were done
+abbrev pub LeavesSound : Type 0
+LeavesSound =
+    (world : World) (told : List Told) (life : List Lived) → All (λ t. HaveValues t.commands) told → IsSound world
+    → AreSessionsOf world told life → IsSound (world_of_life world life)

@@ -1,0 +1,52 @@
+-- What lasts over any list of requests.
+use Rattle.std.specs.Prelude.{◌≡◌, true, ℕ, ◌<◌, ◌≤◌, ◌++◌, All, List, Some}
+use Rattle.wu_core.specs.World.{World}
+use Rattle.wu_passes.specs.Batches.{is_one_of, taken_names}
+use Rattle.wu_passes.specs.Machine.{fold_steps, HasValues}
+use Rattle.wu_passes.specs.Passes.{is_among}
+use Rattle.wu_passes.specs.Requests.{Request}
+use Rattle.wu_passes_laws.specs.Sound.{IsSound}
+
+-- this holds of each world and of what any list of requests makes of it
+abbrev pub OverSteps : (World → World → Type 0) → Type 0
+OverSteps Is = (world : World) (requests : List Request) → Is world (fold_steps world requests)
+
+-- of each sound world, where the values of what is asked are in range
+abbrev pub OverSoundSteps : (World → World → Type 0) → Type 0
+OverSoundSteps Is =
+    (world : World) (requests : List Request) → All HasValues requests → IsSound world → Is world (fold_steps world requests)
+
+-- the new list begins with the old one
+abbrev pub Begins : {X : Type 0} → List X → List X → Type 0
+Begins {X} old new = (more : List X) × (new ≡ old ++ more)
+
+-- no grant is taken away or changed, no archived row, and no import
+abbrev pub GrantsLast : Type 0
+GrantsLast = OverSteps (λ old new. Begins old.grants new.grants)
+
+abbrev pub ArchiveLasts : Type 0
+ArchiveLasts = OverSteps (λ old new. Begins old.archived new.archived)
+
+abbrev pub ImportsLast : Type 0
+ImportsLast = OverSteps (λ old new. Begins old.imports new.imports)
+
+-- the number that the next workunit gets never falls
+abbrev pub NextNumberRises : Type 0
+NextNumberRises = OverSteps (λ old new. old.next_number ≤ new.next_number)
+
+-- a workunit that has a canonical result has that one as long as it is present
+abbrev pub CanonicalResultsLast : Type 0
+CanonicalResultsLast =
+    OverSoundSteps (λ old new. All (λ w. All (λ v.
+    v.number ≡ w.number → (n : ℕ) → w.canonical ≡ Some n → v.canonical ≡ Some n) new.workunits) old.workunits)
+
+-- a name that a workunit or an archived row has stays taken
+abbrev pub NamesStayTaken : Type 0
+NamesStayTaken =
+    OverSoundSteps (λ old new. (name : List ℕ)
+    → is_one_of (taken_names old) name ≡ true → is_one_of (taken_names new) name ≡ true)
+
+-- a workunit whose number was given earlier was present then: no number is given again
+abbrev pub NumbersAreGivenOnce : Type 0
+NumbersAreGivenOnce =
+    OverSoundSteps (λ old new. All (λ v. v.number < old.next_number → is_among old.workunits v ≡ true) new.workunits)

@@ -1,0 +1,38 @@
+//! Laws of what lasts over any list of requests: each function's contract is one.
+
+ghost use Rattle.wu_passes_laws.specs.Lasting.{GrantsLast, ArchiveLasts, ImportsLast, NextNumberRises, CanonicalResultsLast, NamesStayTaken, NumbersAreGivenOnce};
+
+/// No grant is ever taken away or changed.
+pub fn grants_last()
+    ensures { GrantsLast }
+{}
+
+/// No archived row is ever taken away or changed.
+pub fn the_archive_lasts()
+    ensures { ArchiveLasts }
+{}
+
+/// No import is ever taken away or changed.
+pub fn imports_last()
+    ensures { ImportsLast }
+{}
+
+/// The number that the next workunit gets never falls.
+pub fn the_next_number_rises()
+    ensures { NextNumberRises }
+{}
+
+/// In a sound world a workunit that has a canonical result has that one as long as it is present.
+pub fn canonical_results_last()
+    ensures { CanonicalResultsLast }
+{}
+
+/// In a sound world a name that a workunit or an archived row has stays taken.
+pub fn names_stay_taken()
+    ensures { NamesStayTaken }
+{}
+
+/// In a sound world no number is given to a second workunit.
+pub fn numbers_are_given_once()
+    ensures { NumbersAreGivenOnce }
+{}

@@ -1,0 +1,96 @@
+-- A canonical result comes by the validator alone, where enough agree.
+use Rattle.std.proofs.Common.{◌≡◌, ℕ, nat_lt, Bool, true, false, cond, List, map, length, slice_get, Option, Some, None, refl, sym, ◌∙◌}
+use Rattle.std.specs.Option.{option_map_or}
+use Rattle.wu_core.specs.declared.states.Assimilate.TheVariants as assimilate
+use Rattle.wu_core.specs.declared.states.Status.{Status}
+use Rattle.wu_core.specs.declared.workunit.Instance.{Instance}
+use Rattle.wu_core.specs.declared.workunit.Workunit.{Workunit}
+use Rattle.wu_core.specs.Workunit.{with_instance}
+use Rattle.wu_rules.specs.Assimilation.{assimilated, emptied}
+use Rattle.wu_rules.specs.Cancelling.{cancelled}
+use Rattle.wu_rules.specs.Counts.{consensus, is_clear, viable}
+use Rattle.wu_rules.specs.Instances.{is_done_assimilate, is_ready_assimilate}
+use Rattle.wu_rules.specs.Reporting.{reported_as, reported_in}
+use Rattle.wu_rules.specs.Sending.{sent_in, sent_to}
+use Rattle.wu_rules.specs.Transition.{ended, extended, readied, settled, timed, transitioned, with_files_readied}
+use Rattle.wu_rules.specs.Validation.{agreed_on, decided, is_to_validate, left_open, validated, validated_by}
+use Rattle.wu_rules_laws.specs.Laws.{ChoosesByQuorum, IsChosen}
+use Rattle.wu_rules_laws.proofs.Granting.{chosen_exactly}
+
+-- of two that have this canonical result, either has it
+either : (b : Bool) (v u : Workunit) (o : Option ℕ) → v.canonical ≡ o → u.canonical ≡ o → (cond b v u).canonical ≡ o
+either true v u o one two = one
+either false v u o one two = two
+
+-- ---- the validator
+
+left_open_keeps : (w : Workunit) → (left_open w).canonical ≡ w.canonical
+left_open_keeps w = either (nat_lt w.params.max_success_results (length (viable w))) _ _ w.canonical refl refl
+
+decided_chooses : (w : Workunit) (o : Option ℕ) → consensus w ≡ o → (n : ℕ) → w.canonical ≡ None → (decided w o).canonical ≡ Some n → IsChosen w n
+decided_chooses w None is n undecided chosen = let same = left_open_keeps w in cc
+decided_chooses w (Some m) is n undecided chosen = (chosen_exactly w n).0 (is ∙ chosen)
+
+validated_chooses : (w : Workunit) (n : ℕ) → w.canonical ≡ None → (validated w).canonical ≡ Some n → IsChosen w n
+unfolding validated
+validated_chooses w n undecided = by (is_to_validate w)
+  where
+    by_decision : (o : Option ℕ) → o ≡ None → (validated_by w o).canonical ≡ Some n → IsChosen w n
+    by_decision None none chosen = decided_chooses w (consensus w) refl n undecided chosen
+    by_decision (Some m) some chosen = cc
+
+    by : (b : Bool) → (cond b (validated_by w w.canonical) w).canonical ≡ Some n → IsChosen w n
+    by true chosen = by_decision w.canonical undecided chosen
+    by false chosen = cc
+
+validated_keeps : (w : Workunit) (n : ℕ) → w.canonical ≡ Some n → (validated w).canonical ≡ Some n
+unfolding validated
+validated_keeps w n chosen = by (is_to_validate w)
+  where
+    by : (b : Bool) → (cond b (validated_by w w.canonical) w).canonical ≡ Some n
+    by true = rw chosen refl
+    by false = chosen
+
+-- ---- the transitioner
+
+settled_keeps : (w : Workunit) → (settled w).canonical ≡ w.canonical
+settled_keeps w = either (is_clear w.error_mask) w (ended w) w.canonical refl refl
+
+readied_keeps : (w : Workunit) → (readied w).canonical ≡ w.canonical
+readied_keeps w = either (is_done_assimilate w.assimilate) (with_files_readied w) w w.canonical refl refl
+
+transitioned_keeps : (w : Workunit) (now : ℕ) → (transitioned w now).canonical ≡ w.canonical
+unfolding transitioned
+transitioned_keeps w now = readied_keeps (settled (extended (timed w now))) ∙ settled_keeps (extended (timed w now))
+
+-- ---- the others
+
+assimilated_keeps : (w : Workunit) (now : ℕ) → (assimilated w now).canonical ≡ w.canonical
+unfolding assimilated
+assimilated_keeps w now = either (is_ready_assimilate w.assimilate) (record w { assimilate = assimilate.Done; done_at = Some now }) w w.canonical refl refl
+
+emptied_keeps : (w : Workunit) → (emptied w).canonical ≡ w.canonical
+unfolding emptied
+emptied_keeps w = refl
+
+cancelled_keeps : (w : Workunit) → (cancelled w).canonical ≡ w.canonical
+unfolding cancelled
+cancelled_keeps w = refl
+
+-- one instance changed, where there is one of the number
+placed_keeps : (w : Workunit) (n : ℕ) (change : Instance → Instance) (found : Option Instance)
+    → (option_map_or (λ instance. with_instance w n (change instance)) found w).canonical ≡ w.canonical
+placed_keeps w n change None = refl
+placed_keeps w n change (Some i) = refl
+
+pub chooses : (w : Workunit) → ChoosesByQuorum w
+chooses w = record {
+  chosen = validated_chooses w;
+  kept = validated_keeps w;
+  transitioned = transitioned_keeps w;
+  assimilated = assimilated_keeps w;
+  emptied = emptied_keeps w;
+  cancelled = cancelled_keeps w;
+  sent = λ n host moment. placed_keeps w n (sent_to w host moment) (slice_get w.instances n);
+  reported = λ n moment status output. placed_keeps w n (reported_as moment status output) (slice_get w.instances n);
+}

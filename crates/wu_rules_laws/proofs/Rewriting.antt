@@ -1,0 +1,439 @@
+-- Each rule rewrites a consistent workunit.
+use Rattle.std.proofs.Common.{◌≡◌, ℕ, zero, suc, ◌+◌, ◌<◌, Bool, true, false, not, cond, ◌&&◌, ◌||◌, List, [], ◌∷◌, map, length, slice_get, slice_set, Option, Some, None, IfSome, is_none, option_to_list, refl, sym, ap, subst, ◌∙◌, bytes_eq, arith}
+use Rattle.std.proofs.lemmas.List.Elements.{All-from_recursion, recursion_from_All}
+use Rattle.std.proofs.lemmas.Option.{get_or_from_slice_get, slice_get_within}
+use Rattle.std.proofs.lemmas.Slice.Eq.{bytes_eq-Decides}
+use Rattle.std.specs.List.{All, AllByRecursion, list_any}
+use Rattle.std.specs.Option.{option_map_or}
+use Rattle.wu_core.specs.Formed.{IsInstance, IsWorkunit}
+use Rattle.wu_core.specs.Workunit.{with_instance}
+use Rattle.wu_core.specs.declared.workunit.Archived.{Archived}
+use Rattle.wu_core.specs.declared.workunit.Instance.{Instance}
+use Rattle.wu_core.specs.declared.workunit.Workunit.{Workunit}
+use Rattle.wu_core.specs.declared.states.Assimilate.{Assimilate}
+use Rattle.wu_core.specs.declared.states.Assimilate.TheVariants as assimilate
+use Rattle.wu_core.specs.declared.states.Outcome.{Outcome}
+use Rattle.wu_core.specs.declared.states.Outcome.TheVariants as outcome
+use Rattle.wu_core.specs.declared.states.Status.{Status}
+use Rattle.wu_core.specs.declared.states.ValidateState.TheVariants as validate
+use Rattle.wu_rules.specs.Assimilation.{archived, archived_row, assimilated, emptied}
+use Rattle.wu_rules.specs.Cancelling.{cancelled}
+use Rattle.wu_rules.specs.Counts.{consensus, has_new_success, is_clear}
+use Rattle.wu_rules.specs.Instances.{is_done_assimilate, is_new, is_over_state, is_ready_assimilate, is_success, is_success_outcome, is_unsent, is_viable, readied_assimilate}
+use Rattle.wu_rules.specs.Reporting.{is_no_reply, is_sent_after, report_verdict_in, report_verdict_of, reported_as, reported_in}
+use Rattle.wu_rules.specs.Sending.{is_of, send_verdict_in, send_verdict_of, sent_in, sent_to}
+use Rattle.wu_rules.specs.Transition.{transitioned}
+use Rattle.wu_rules.specs.Validation.{agreed_on, decided, granted_by, grants, grants_by, grants_decided, is_deleted_at, is_judged, is_to_validate, judged_by, judged_late_by, left_open, output_at, validated, validated_by, verdict}
+use Rattle.wu_rules.specs.declared.verdicts.ReportVerdict.TheVariants as report
+use Rattle.wu_rules.specs.declared.verdicts.SendVerdict.TheVariants as send
+use Rattle.wu_rules_laws.specs.Consistent.{ArchivesTheNew, GrantsToTheNew, IsConsistent, IsPossible, Rewrites, RulesRewrite, is_done, is_valid_at, is_valid_verdict, one_if}
+use Rattle.wu_rules_laws.specs.Laws.{IsChosen, IsRightGrantIn}
+use Rattle.wu_rules_laws.proofs.Becoming.{AllBecome, Becomes, all_become, all_become-set, all_possible, becomes_judged_by, becomes_judged_late_by, becomes_reported, becomes_sent, becomes_too_late, init_not_valid, is_valid, new_is_viable, none_made, valid_at, valid_host}
+use Rattle.wu_rules_laws.proofs.Changed.{any_false-map}
+use Rattle.wu_rules_laws.proofs.Following.{Awaits, Quietly, awaits_cancelled, awaits_emptied, awaits_left_open, awaits_same, awaits_set, awaits_transitioned, quietly_cancelled, quietly_emptied, quietly_left_open, quietly_same, quietly_transitioned, quietly_unchanged, ready_done, unsent_same}
+use Rattle.wu_rules_laws.proofs.Granted.{grants_new}
+use Rattle.wu_rules_laws.proofs.Granting.{chosen, grants_right}
+use Rattle.wu_rules_laws.proofs.Kept.{keeps_formed}
+use Rattle.wu_rules_laws.proofs.Settled.{unsent_judged}
+use Rattle.wu_rules_laws.proofs.Spent.{and_left, and_right}
+
+-- ---- the canonical result
+
+-- a success that is VALID
+abbrev IsRight : Instance → Type 0
+IsRight i = (is_success i ≡ true) × (i.validate_state ≡ validate.Valid)
+
+-- of what is possible, only a success is VALID
+valid_success : (i : Instance) → IsPossible i → is_valid_verdict i.validate_state ≡ true → is_success i ≡ true
+valid_success i possible e = by_case (is_success i) refl
+  where
+    by_case : (b : Bool) → b ≡ is_success i → b ≡ true
+    by_case true f = refl
+    by_case false f = let both : true ≡ false = sym e ∙ init_not_valid i.validate_state (possible.judged (sym f)) in cc
+
+-- of possible instances the one that is VALID is right
+right_at : (xs : List Instance) (n : ℕ) → AllByRecursion IsPossible xs → is_valid_at xs n ≡ true → IfSome (slice_get xs n) IsRight
+right_at [] n all e = tt
+right_at (x ∷ xs) zero all e = (valid_success x all.0 e, is_valid x.validate_state e)
+right_at (x ∷ xs) (suc n) all e = right_at xs n all.1 e
+
+-- the one that is there and right is VALID
+valid_here : (xs : List Instance) (n : ℕ) → n < length xs → IfSome (slice_get xs n) IsRight → is_valid_at xs n ≡ true
+valid_here [] n lt h = absurd (omega arith)
+valid_here (x ∷ xs) zero lt h = ap is_valid_verdict h.1
+valid_here (x ∷ xs) (suc n) lt h = valid_here xs n (omega arith) h
+
+-- the canonical result is VALID
+canonical_valid : (w : Workunit) → IsWorkunit w → IsConsistent w → (n : ℕ) → w.canonical ≡ Some n → is_valid_at w.instances n ≡ true
+canonical_valid w formed h n e =
+    valid_here w.instances n (formed.canonical n e) (subst (λ o. IfSome o (λ k. IfSome (slice_get w.instances k) IsRight)) e h.canonical)
+
+-- a canonical result that is VALID is right
+canonical_right : (v : Workunit) → AllByRecursion IsPossible v.instances → ((n : ℕ) → v.canonical ≡ Some n → is_valid_at v.instances n ≡ true)
+    → IfSome v.canonical (λ n. IfSome (slice_get v.instances n) IsRight)
+canonical_right v possible valid = by_case v.canonical refl
+  where
+    by_case : (o : Option ℕ) → v.canonical ≡ o → IfSome o (λ n. IfSome (slice_get v.instances n) IsRight)
+    by_case None e = tt
+    by_case (Some n) e = right_at v.instances n possible (valid n e)
+
+-- ---- no grant, and no archived row
+
+-- what is as it was is not new
+none_new : (b c : Bool) → b ≡ c → 0 ≡ one_if (b && not c)
+none_new true true e = refl
+none_new true false e = cc
+none_new false c e = refl
+
+-- where nothing is made VALID there is no grant
+grants_none : (w v : Workunit) → ((n : ℕ) → is_valid_at v.instances n ≡ is_valid_at w.instances n) → GrantsToTheNew w v []
+grants_none w v same = record {
+  workunit = λ k d lt. absurd (omega arith);
+  each = λ n. none_new (is_valid_at v.instances n) (is_valid_at w.instances n) (same n);
+  own = λ k d lt. absurd (omega arith);
+}
+
+-- where nothing is made DONE there is no archived row
+archives_none : (w v : Workunit) → is_done v ≡ is_done w → ArchivesTheNew w v []
+archives_none w v same = record { once = none_new (is_done v) (is_done w) same; own = λ k d lt. absurd (omega arith) }
+
+-- ---- rules that make nothing VALID
+
+-- a consistent workunit waits as it should
+awaits_of : (w : Workunit) → IsConsistent w → Awaits w
+awaits_of w h = record { nothing_unsent = h.nothing_unsent; undecided = h.undecided }
+
+-- a rule that makes nothing VALID rewrites
+rewrites_quietly : (w v : Workunit) → IsWorkunit w → IsConsistent w → IsWorkunit v → Quietly w v → Awaits v → Rewrites w v [] []
+rewrites_quietly w v formed h made q a =
+    let possible : AllByRecursion IsPossible v.instances = q.instances.possible (recursion_from_All IsPossible w.instances h.instances) in
+    record {
+      number = q.number;
+      name = q.name;
+      credit = q.credit;
+      formed = made;
+      consistent = record {
+        instances = All-from_recursion IsPossible v.instances possible;
+        deletable = q.deletable h.deletable;
+        sendable = q.sendable ∙ h.sendable;
+        decidable = q.decidable ∙ h.decidable;
+        given_up_or_decided = λ e. ap is_none q.canonical ∙ q.given_up h.given_up_or_decided e;
+        nothing_unsent = a.nothing_unsent;
+        undecided = a.undecided;
+        canonical = canonical_right v possible (λ n e. q.instances.valid n ∙ canonical_valid w formed h n (sym q.canonical ∙ e));
+      };
+      valid = λ n e. (let now_valid : is_valid_at v.instances n ≡ true = q.instances.valid n ∙ e in (now_valid, q.instances.host n now_valid));
+      canonical = λ n e. q.canonical ∙ e;
+      done = λ e. q.done ∙ e;
+      granted = grants_none w v q.instances.valid;
+      archives = archives_none w v q.done;
+    }
+
+-- no change rewrites
+rewrites_unchanged : (w : Workunit) → IsWorkunit w → IsConsistent w → Rewrites w w [] []
+rewrites_unchanged w formed h = rewrites_quietly w w formed h formed (quietly_unchanged w) (awaits_of w h)
+
+-- ---- the assimilator
+
+-- what is ready is not DONE
+ready_not_done : (a : Assimilate) → is_ready_assimilate a ≡ true → is_done_assimilate a ≡ false
+ready_not_done assimilate.Init e = refl
+ready_not_done assimilate.Ready e = refl
+ready_not_done assimilate.Done e = sym e
+
+-- the assimilator rewrites, with an archived row where it makes the workunit DONE
+rewrites_assimilated : (w : Workunit) (now : ℕ) → IsWorkunit w → IsConsistent w → Rewrites w (assimilated w now) [] (option_to_list (archived w now))
+unfolding assimilated archived
+rewrites_assimilated w now formed h = by_case (is_ready_assimilate w.assimilate) refl ((keeps_formed w formed).assimilated now)
+  where
+    v : Workunit
+    v = record w { assimilate = assimilate.Done; done_at = Some now }
+
+    by_case : (b : Bool) → b ≡ is_ready_assimilate w.assimilate → IsWorkunit (cond b v w)
+        → Rewrites w (cond b v w) [] (option_to_list (cond b (Some (archived_row w now)) None))
+    by_case true e made = record {
+      number = refl;
+      name = refl;
+      credit = refl;
+      formed = made;
+      consistent = record {
+        instances = h.instances;
+        deletable = h.deletable;
+        sendable = h.sendable;
+        decidable = h.decidable;
+        given_up_or_decided = h.given_up_or_decided;
+        nothing_unsent = h.nothing_unsent;
+        undecided = λ f. (let both : true ≡ false = e ∙ ap is_ready_assimilate (h.undecided f) in cc);
+        canonical = h.canonical;
+      };
+      valid = λ n f. (f, refl);
+      canonical = λ n f. f;
+      done = λ f. refl;
+      granted = grants_none w v (λ n. refl);
+      archives = record {
+        once = ap (λ b. one_if (true && not b)) (sym (ready_not_done w.assimilate (sym e)));
+        own = All-from_recursion (λ (row : Archived). (row.number ≡ w.number) × (row.name ≡ w.name)) (archived_row w now ∷ []) ((refl, refl), tt);
+      };
+    }
+    by_case false e made = rewrites_unchanged w formed h
+
+-- ---- the scheduler
+
+-- what holds of all holds of the one of this number
+pub holds_at : (P : Instance → Type 0) (xs : List Instance) (n : ℕ) (i : Instance) → All P xs → slice_get xs n ≡ Some i → P i
+holds_at P xs n i all e = subst P (get_or_from_slice_get xs n i i e) (all n i (slice_get_within xs n i e))
+
+-- a change of one instance that makes it neither VALID nor unsent rewrites
+rewrites_set : (w : Workunit) (n : ℕ) (i j : Instance) → IsWorkunit w → IsConsistent w → slice_get w.instances n ≡ Some i → Becomes false i j
+    → is_unsent j ≡ false
+    → IsWorkunit (with_instance w n j) → Rewrites w (with_instance w n j) [] []
+rewrites_set w n i j formed h here becomes sent made =
+    rewrites_quietly w (with_instance w n j) formed h made
+    (quietly_same w (slice_set w.instances n j) (all_become-set w.instances n i j here becomes))
+    (awaits_set w n j sent (awaits_of w h))
+
+-- what is sent was unsent
+was_unsent : (w : Workunit) (host : List ℕ) (i : Instance) → send_verdict_of w host i ≡ send.Applied → is_unsent i ≡ true
+was_unsent w host i e = by_case (is_unsent i) e
+  where
+    by_case : (b : Bool) → cond (not b) send.NotUnsent (cond (list_any (is_of host) w.instances) send.SameHost send.Applied) ≡ send.Applied → b ≡ true
+    by_case true f = refl
+    by_case false f = cc
+
+-- a send that is applied rewrites
+rewrites_sent : (w : Workunit) (n : ℕ) (host : List ℕ) (moment : ℕ) → IsWorkunit w → IsConsistent w → send_verdict_in w n host ≡ send.Applied
+    → Rewrites w (sent_in w n host moment) [] []
+rewrites_sent w n host moment formed h applied = by_case (slice_get w.instances n) refl applied ((keeps_formed w formed).sent n host moment)
+  where
+    by_case : (o : Option Instance) → slice_get w.instances n ≡ o → option_map_or (send_verdict_of w host) o send.Unknown ≡ send.Applied
+        → IsWorkunit (option_map_or (λ instance. with_instance w n (sent_to w host moment instance)) o w)
+        → Rewrites w (option_map_or (λ instance. with_instance w n (sent_to w host moment instance)) o w) [] []
+    by_case None e f made = rewrites_unchanged w formed h
+    by_case (Some i) e f made =
+        rewrites_set w n i (sent_to w host moment i) formed h e
+        (becomes_sent (moment + w.params.delay_bound) host moment i (holds_at IsPossible w.instances n i h.instances e) (was_unsent w host i f))
+        refl made
+
+-- what is reported was no success
+taken_no_success : (a b c over : Bool) (o : Outcome)
+    → cond a report.NotSent (cond b report.WrongHost (cond c report.BeforeSent (cond (over && not (is_no_reply o)) report.Over report.Applied))) ≡ report.Applied
+    → (over && is_success_outcome o) ≡ false
+taken_no_success true b c over o e = cc
+taken_no_success false true c over o e = cc
+taken_no_success false false true over o e = cc
+taken_no_success false false false false o e = refl
+taken_no_success false false false true outcome.Success e = cc
+taken_no_success false false false true outcome.Init e = refl
+taken_no_success false false false true outcome.CouldntSend e = refl
+taken_no_success false false false true outcome.ClientError e = refl
+taken_no_success false false false true outcome.NoReply e = refl
+taken_no_success false false false true outcome.DidntNeed e = refl
+taken_no_success false false false true outcome.ValidateError e = refl
+taken_no_success false false false true outcome.ClientDetached e = refl
+
+-- a report is taken of what is no success alone
+pub was_no_success : (host : List ℕ) (moment : ℕ) (i : Instance) → report_verdict_of host moment i ≡ report.Applied → is_success i ≡ false
+was_no_success host moment i e = taken_no_success (is_none i.host) (not (is_of host i)) (is_sent_after moment i) (is_over_state i.server_state) i.outcome e
+
+-- a report that is applied rewrites
+rewrites_reported : (w : Workunit) (n : ℕ) (host : List ℕ) (moment : ℕ) (status : Status) (output : List ℕ) → IsWorkunit w → IsConsistent w
+    → report_verdict_in w n host moment ≡ report.Applied → Rewrites w (reported_in w n moment status output) [] []
+rewrites_reported w n host moment status output formed h applied =
+    by_case (slice_get w.instances n) refl applied ((keeps_formed w formed).reported n host moment status output applied)
+  where
+    by_case : (o : Option Instance) → slice_get w.instances n ≡ o → option_map_or (report_verdict_of host moment) o report.Unknown ≡ report.Applied
+        → IsWorkunit (option_map_or (λ instance. with_instance w n (reported_as moment status output instance)) o w)
+        → Rewrites w (option_map_or (λ instance. with_instance w n (reported_as moment status output instance)) o w) [] []
+    by_case None e f made = rewrites_unchanged w formed h
+    by_case (Some i) e f made =
+        rewrites_set w n i (reported_as moment status output i) formed h e
+        (becomes_reported moment status output i (holds_at IsPossible w.instances n i h.instances e) (was_no_success host moment i f))
+        refl made
+
+-- ---- the validator
+
+-- one of two is enough
+or_true : (a b : Bool) → b ≡ true → (a || b) ≡ true
+or_true true b e = refl
+or_true false b e = e
+
+-- bytes are equal to themselves
+same_bytes : (xs : List ℕ) → bytes_eq xs xs ≡ true
+same_bytes xs = (bytes_eq-Decides xs xs).1 refl
+
+-- what is made VALID by this output
+abbrev is_made : Workunit → List ℕ → Instance → Bool
+is_made w output i = is_judged w i && bytes_eq i.output output
+
+-- with this canonical result, this state of assimilation and these instances
+abbrev judged_to : Workunit → Option ℕ → Assimilate → List Instance → Workunit
+judged_to w canonical a instances = record w { canonical = canonical; assimilate = a; instances = instances }
+
+-- what was VALID is so where instances are judged
+valid_still : (w : Workunit) (output : List ℕ) (ys : List Instance) → AllBecome (is_made w output) w.instances ys
+    → (n : ℕ) → is_valid_at w.instances n ≡ true → is_valid_at ys n ≡ true
+valid_still w output ys become n e =
+    valid_at (is_made w output) w.instances ys become n
+    ∙ or_true (option_map_or (is_made w output) (slice_get w.instances n) false) (is_valid_at w.instances n) e
+
+-- what is judged by an output, and granted for it
+rewrites_judged : (w : Workunit) (output : List ℕ) (c : Option ℕ) (a : Assimilate) (ys : List Instance) → IsWorkunit w → IsConsistent w
+    → is_clear w.error_mask ≡ true
+    → IsWorkunit (judged_to w c a ys) → AllBecome (is_made w output) w.instances ys → ((i : Instance) → is_judged w i ≡ true → is_viable i ≡ true)
+    → ((n : ℕ) → c ≡ Some n → is_valid_at ys n ≡ true) → ((n : ℕ) → w.canonical ≡ Some n → c ≡ Some n)
+    → is_done_assimilate a ≡ is_done_assimilate w.assimilate → Awaits (judged_to w c a ys)
+    → All (IsRightGrantIn w (judged_to w c a ys)) (grants_by w output) → Rewrites w (judged_to w c a ys) (grants_by w output) []
+rewrites_judged w output c a ys formed h clear made become viable valid stays done awaits right = record {
+  number = refl;
+  name = refl;
+  credit = refl;
+  formed = made;
+  consistent = record {
+    instances = All-from_recursion IsPossible ys possible;
+    deletable = h.deletable;
+    sendable = h.sendable;
+    decidable = h.decidable;
+    given_up_or_decided = λ e. (let both : true ≡ false = sym clear ∙ e in cc);
+    nothing_unsent = awaits.nothing_unsent;
+    undecided = awaits.undecided;
+    canonical = canonical_right v possible valid;
+  };
+  valid = λ n e. (let still = valid_still w output ys become n e in (still, valid_host (is_made w output) w.instances ys become n still));
+  canonical = stays;
+  done = λ e. done ∙ e;
+  granted = grants_new w v output viable (recursion_from_All IsInstance w.instances formed.instances) become refl right;
+  archives = archives_none w v done;
+}
+  where
+    v : Workunit
+    v = judged_to w c a ys
+
+    possible : AllByRecursion IsPossible ys
+    possible = all_possible (is_made w output) w.instances ys become (recursion_from_All IsPossible w.instances h.instances)
+
+-- the chosen result is VALID by its own output
+chosen_valid : (w : Workunit) (n : ℕ) (ys : List Instance) → ((i : Instance) → is_judged w i ≡ is_viable i)
+    → AllBecome (is_made w (output_at w.instances n)) w.instances ys
+    → IsChosen w n → is_valid_at ys n ≡ true
+chosen_valid w n ys viable become choice =
+    let output = output_at w.instances n in
+    let own : output ≡ choice.chosen.output = ap (λ o. option_map_or (λ (i : Instance). i.output) o []) choice.stands in
+    let equal : bytes_eq choice.chosen.output output ≡ true = ap (λ bytes. bytes_eq choice.chosen.output bytes) own ∙ same_bytes choice.chosen.output in
+    let one : is_made w output choice.chosen ≡ true = ap (λ b. b && bytes_eq choice.chosen.output output) (viable choice.chosen ∙ choice.is_viable) ∙ equal in
+    let found : option_map_or (is_made w output) (slice_get w.instances n) false ≡ true =
+    ap (λ o. option_map_or (is_made w output) o false) choice.stands ∙ one in
+    valid_at (is_made w output) w.instances ys become n ∙ ap (λ b. b || is_valid_at w.instances n) found
+
+-- a workunit that is decided now is judged by the chosen output
+rewrites_agreed : (w : Workunit) (n : ℕ) → IsWorkunit w → IsConsistent w → is_clear w.error_mask ≡ true → w.canonical ≡ None → consensus w ≡ Some n
+    → IsWorkunit (agreed_on w n) → All (IsRightGrantIn w (agreed_on w n)) (grants_by w (output_at w.instances n))
+    → Rewrites w (agreed_on w n) (grants_by w (output_at w.instances n)) []
+rewrites_agreed w n formed h clear none agreed made right =
+    rewrites_judged w output (Some n) (readied_assimilate w.assimilate) ys formed h clear made become (λ i e. sym (viable i) ∙ e)
+    (λ m e. (let same : n ≡ m = cc in subst (λ k. is_valid_at ys k ≡ true) same (chosen_valid w n ys viable become (chosen w n agreed))))
+    (λ m e. (let both : None ≡ Some m = sym none ∙ e in cc))
+    (ready_done w.assimilate) awaits right
+  where
+    output : List ℕ
+    output = output_at w.instances n
+
+    ys : List Instance
+    ys = map (judged_by output) w.instances
+
+    viable : (i : Instance) → is_judged w i ≡ is_viable i
+    viable i = ap (λ o. cond (is_none o) (is_viable i) (is_new i)) none
+
+    become : AllBecome (is_made w output) w.instances ys
+    become = all_become (is_made w output) (judged_by output)
+        (λ i. subst (λ b. Becomes (b && bytes_eq i.output output) i (judged_by output i)) (sym (viable i)) (becomes_judged_by output i)) w.instances
+
+    awaits : Awaits (agreed_on w n)
+    awaits = record {
+      nothing_unsent = λ e. any_false-map is_unsent (judged_by output) (λ i. unsent_judged (verdict (bytes_eq i.output output)) i) w.instances;
+      undecided = λ e. (let both : false ≡ true = and_right (is_clear w.error_mask) false e in cc);
+    }
+
+-- a new success after the decision is judged by the canonical output
+rewrites_late : (w : Workunit) (c : ℕ) (output : List ℕ) → IsWorkunit w → IsConsistent w → is_clear w.error_mask ≡ true → w.canonical ≡ Some c
+    → IsWorkunit (record w { instances = map (judged_late_by false output) w.instances })
+    → All (IsRightGrantIn w (record w { instances = map (judged_late_by false output) w.instances })) (grants_by w output)
+    → Rewrites w (record w { instances = map (judged_late_by false output) w.instances }) (grants_by w output) []
+rewrites_late w c output formed h clear some made right =
+    rewrites_judged w output w.canonical w.assimilate ys formed h clear made become (λ i e. new_is_viable i (sym (judged_new i) ∙ e))
+    (λ n e. valid_still w output ys become n (canonical_valid w formed h n e)) (λ n e. e) refl awaits right
+  where
+    ys : List Instance
+    ys = map (judged_late_by false output) w.instances
+
+    judged_new : (i : Instance) → is_judged w i ≡ is_new i
+    judged_new i = ap (λ o. cond (is_none o) (is_viable i) (is_new i)) some
+
+    become : AllBecome (is_made w output) w.instances ys
+    become = all_become (is_made w output) (judged_late_by false output)
+        (λ i. subst (λ b. Becomes (b && bytes_eq i.output output) i (judged_late_by false output i)) (sym (judged_new i)) (becomes_judged_late_by output i))
+        w.instances
+
+    awaits : Awaits (record w { instances = ys })
+    awaits =
+        awaits_same w ys
+        (unsent_same is_new (λ i. record i { validate_state = verdict (bytes_eq i.output output) }) (λ i. refl) w.instances) (awaits_of w h)
+
+-- where the canonical output is gone, a new success is too late
+rewrites_too_late : (w : Workunit) (output : List ℕ) → IsWorkunit w → IsConsistent w
+    → IsWorkunit (record w { instances = map (judged_late_by true output) w.instances })
+    → Rewrites w (record w { instances = map (judged_late_by true output) w.instances }) [] []
+rewrites_too_late w output formed h made =
+    rewrites_quietly w (record w { instances = map (judged_late_by true output) w.instances }) formed h made
+    (quietly_same w (map (judged_late_by true output) w.instances) (all_become none_made (judged_late_by true output) (becomes_too_late output) w.instances))
+    (awaits_same w (map (judged_late_by true output) w.instances)
+    (unsent_same is_new (λ i. record i { validate_state = validate.TooLate }) (λ i. refl) w.instances) (awaits_of w h))
+
+-- the validator rewrites, with its grants
+rewrites_validated : (w : Workunit) → IsWorkunit w → IsConsistent w → Rewrites w (validated w) (grants w) []
+unfolding validated grants
+rewrites_validated w formed h = by_case (is_to_validate w) refl (keeps_formed w formed).validated (grants_right w)
+  where
+    by_consensus : (o : Option ℕ) → consensus w ≡ o → is_clear w.error_mask ≡ true → w.canonical ≡ None
+        → IsWorkunit (decided w o) → All (IsRightGrantIn w (decided w o)) (grants_decided w o) → Rewrites w (decided w o) (grants_decided w o) []
+    by_consensus None e clear none made right = rewrites_quietly w (left_open w) formed h made (quietly_left_open w none) (awaits_left_open w (awaits_of w h))
+    by_consensus (Some n) e clear none made right = rewrites_agreed w n formed h clear none e made right
+
+    late : Bool → ℕ → Workunit
+    late gone c = record w { instances = map (judged_late_by gone (output_at w.instances c)) w.instances }
+
+    by_output : (gone : Bool) (c : ℕ) → is_clear w.error_mask ≡ true → w.canonical ≡ Some c
+        → IsWorkunit (late gone c) → All (IsRightGrantIn w (late gone c)) (cond gone [] (grants_by w (output_at w.instances c)))
+        → Rewrites w (late gone c) (cond gone [] (grants_by w (output_at w.instances c))) []
+    by_output true c clear some made right = rewrites_too_late w (output_at w.instances c) formed h made
+    by_output false c clear some made right = rewrites_late w c (output_at w.instances c) formed h clear some made right
+
+    by_canonical : (o : Option ℕ) → w.canonical ≡ o → is_clear w.error_mask ≡ true
+        → IsWorkunit (validated_by w o) → All (IsRightGrantIn w (validated_by w o)) (granted_by w o) → Rewrites w (validated_by w o) (granted_by w o) []
+    by_canonical None e clear made right = by_consensus (consensus w) refl clear e made right
+    by_canonical (Some c) e clear made right = by_output (is_deleted_at w.instances c) c clear e made right
+
+    by_case : (b : Bool) → b ≡ is_to_validate w → IsWorkunit (cond b (validated_by w w.canonical) w)
+        → All (IsRightGrantIn w (cond b (validated_by w w.canonical) w)) (cond b (granted_by w w.canonical) [])
+        → Rewrites w (cond b (validated_by w w.canonical) w) (cond b (granted_by w w.canonical) []) []
+    by_case true e made right =
+        by_canonical w.canonical refl
+        (and_left (is_clear w.error_mask) (has_new_success w) (and_left (is_clear w.error_mask && has_new_success w) _ (sym e))) made right
+    by_case false e made right = rewrites_unchanged w formed h
+
+-- ---- all rules
+
+-- each rule rewrites
+pub rules_rewrite : (w : Workunit) → IsWorkunit w → IsConsistent w → RulesRewrite w
+rules_rewrite w formed h =
+    let rules = keeps_formed w formed in
+    let awaits = awaits_of w h in
+    record {
+      transitioned = λ now. rewrites_quietly w (transitioned w now) formed h (rules.transitioned now)
+          (quietly_transitioned w now) (awaits_transitioned w now awaits);
+      validated = rewrites_validated w formed h;
+      assimilated = λ now. rewrites_assimilated w now formed h;
+      emptied = rewrites_quietly w (emptied w) formed h rules.emptied (quietly_emptied w) (awaits_emptied w awaits);
+      cancelled = λ e. rewrites_quietly w (cancelled w) formed h rules.cancelled (quietly_cancelled w e) (awaits_cancelled w);
+      sent = λ n host moment applied. rewrites_sent w n host moment formed h applied;
+      reported = λ n host moment status output applied. rewrites_reported w n host moment status output formed h applied;
+    }

@@ -1,0 +1,89 @@
+-- No rule changes a final verdict.
+use Rattle.std.proofs.Common.{◌≡◌, ℕ, zero, suc, Bool, true, false, cond, List, [], ◌∷◌, slice_get, slice_set, Option, Some, None, option_map, refl, sym, ap, ◌∙◌}
+use Rattle.std.specs.Option.{option_map_or}
+use Rattle.wu_core.specs.Workunit.{with_instance}
+use Rattle.wu_core.specs.declared.workunit.Instance.{Instance}
+use Rattle.wu_core.specs.declared.workunit.Workunit.{Workunit}
+use Rattle.wu_core.specs.declared.states.Assimilate.TheVariants as assimilate
+use Rattle.wu_core.specs.declared.states.Status.{Status}
+use Rattle.wu_core.specs.declared.states.ValidateState.{ValidateState}
+use Rattle.wu_rules.specs.Assimilation.{assimilated, emptied}
+use Rattle.wu_rules.specs.Cancelling.{cancelled}
+use Rattle.wu_rules.specs.Instances.{is_open_verdict, is_ready_assimilate}
+use Rattle.wu_rules.specs.Reporting.{report_verdict_in, report_verdict_of, reported_as, reported_in}
+use Rattle.wu_rules.specs.Sending.{sent_in, sent_to}
+use Rattle.wu_rules.specs.Transition.{transitioned}
+use Rattle.wu_rules.specs.declared.verdicts.ReportVerdict.TheVariants as report
+use Rattle.wu_rules_laws.specs.Consistent.{IsConsistent, IsPossible, KeepsVerdicts, RulesKeepVerdicts}
+use Rattle.wu_rules_laws.proofs.Becoming.{all_become-set, becomes_reported, final_at, none_made, verdict_at}
+use Rattle.wu_rules_laws.proofs.Following.{Follows, follows_cancelled, quietly_emptied, quietly_transitioned}
+use Rattle.wu_rules_laws.proofs.Judged.{finals_stay}
+use Rattle.wu_rules_laws.proofs.Rewriting.{holds_at, was_no_success}
+
+-- by the verdicts at their places
+verdicts_kept : (w v : Workunit)
+    → ((n : ℕ) (u : ValidateState) → verdict_at w.instances n ≡ Some u → is_open_verdict u ≡ false → verdict_at v.instances n ≡ Some u) → KeepsVerdicts w v
+verdicts_kept w v kept n i here final = kept n i.validate_state (ap (λ o. option_map (λ (j : Instance). j.validate_state) o) here) final
+
+-- no change
+verdicts_unchanged : (w : Workunit) → KeepsVerdicts w w
+verdicts_unchanged w = verdicts_kept w w (λ n u e final. e)
+
+-- where nothing is made VALID
+verdicts_follow : (w v : Workunit) → Follows w.instances v.instances → KeepsVerdicts w v
+verdicts_follow w v h = verdicts_kept w v h.final
+
+-- the assimilator
+verdicts_assimilated : (w : Workunit) (now : ℕ) → KeepsVerdicts w (assimilated w now)
+unfolding assimilated
+verdicts_assimilated w now = by_case (is_ready_assimilate w.assimilate)
+  where
+    by_case : (b : Bool) → KeepsVerdicts w (cond b (record w { assimilate = assimilate.Done; done_at = Some now }) w)
+    by_case true = verdicts_kept w (record w { assimilate = assimilate.Done; done_at = Some now }) (λ n u e final. e)
+    by_case false = verdicts_unchanged w
+
+-- an instance with the same verdict at its place leaves all verdicts
+verdict_set : (xs : List Instance) (n : ℕ) (i j : Instance) → slice_get xs n ≡ Some i → j.validate_state ≡ i.validate_state → (k : ℕ)
+    → verdict_at (slice_set xs n j) k ≡ verdict_at xs k
+verdict_set [] n i j e same k = refl
+verdict_set (x ∷ xs) zero i j e same zero = let own : x ≡ i = cc in ap Some (same ∙ ap (λ (y : Instance). y.validate_state) (sym own))
+verdict_set (x ∷ xs) zero i j e same (suc k) = refl
+verdict_set (x ∷ xs) (suc n) i j e same zero = refl
+verdict_set (x ∷ xs) (suc n) i j e same (suc k) = verdict_set xs n i j e same k
+
+-- a send, to whatever host
+verdicts_sent : (w : Workunit) (n : ℕ) (host : List ℕ) (moment : ℕ) → KeepsVerdicts w (sent_in w n host moment)
+verdicts_sent w n host moment = by_case (slice_get w.instances n) refl
+  where
+    by_case : (o : Option Instance) → slice_get w.instances n ≡ o
+        → KeepsVerdicts w (option_map_or (λ instance. with_instance w n (sent_to w host moment instance)) o w)
+    by_case None e = verdicts_unchanged w
+    by_case (Some i) e =
+        let j = sent_to w host moment i in
+        verdicts_kept w (with_instance w n j) (λ k u f final. verdict_set w.instances n i j e refl k ∙ f)
+
+-- a report that is taken of a consistent workunit
+verdicts_reported : (w : Workunit) (n : ℕ) (host : List ℕ) (moment : ℕ) (status : Status) (output : List ℕ) → IsConsistent w
+    → report_verdict_in w n host moment ≡ report.Applied
+    → KeepsVerdicts w (reported_in w n moment status output)
+verdicts_reported w n host moment status output h applied = by_case (slice_get w.instances n) refl applied
+  where
+    by_case : (o : Option Instance) → slice_get w.instances n ≡ o → option_map_or (report_verdict_of host moment) o report.Unknown ≡ report.Applied
+        → KeepsVerdicts w (option_map_or (λ instance. with_instance w n (reported_as moment status output instance)) o w)
+    by_case None e f = verdicts_unchanged w
+    by_case (Some i) e f =
+        let j = reported_as moment status output i in
+        let becomes = becomes_reported moment status output i (holds_at IsPossible w.instances n i h.instances e) (was_no_success host moment i f) in
+        verdicts_kept w (with_instance w n j) (final_at none_made w.instances (slice_set w.instances n j) (all_become-set w.instances n i j e becomes))
+
+-- all rules
+pub rules_keep_verdicts : (w : Workunit) → RulesKeepVerdicts w
+rules_keep_verdicts w = record {
+  transitioned = λ now. verdicts_follow w (transitioned w now) (quietly_transitioned w now).instances;
+  validated = finals_stay w;
+  assimilated = verdicts_assimilated w;
+  emptied = verdicts_follow w (emptied w) (quietly_emptied w).instances;
+  cancelled = verdicts_follow w (cancelled w) (follows_cancelled w);
+  sent = verdicts_sent w;
+  reported = verdicts_reported w;
+}

@@ -1,0 +1,3 @@
+pub mod NamedHosts
+pub mod Consequences
+pub mod TotalLemmas
