@@ -16,8 +16,8 @@ pub enum Usage {
     Refused(Word),
     /// What is to be shown is no view.
     UnknownView,
-    /// `clap` took the words, and found no value of an option that has to be given. Tests alone show that this never
-    /// comes.
+    /// `clap` took the words, and found no subcommand, or no value of an option that has to be given, or none that
+    /// writes a number of 64 bits where one is wanted. Tests alone show that this never comes.
     Incomplete,
     /// A growth of memory was refused.
     Memory,

@@ -3,7 +3,7 @@
 ghost use Rattle.std.specs.Prelude.{◌≡◌, IfErr, IfOk, option_map};
 ghost use Rattle.clap.specs.Words.{found_of, rows_of};
 ghost use Rattle.wu_cli.specs.Lines.{IsNumberIn, IsTextIn, IsViewIn, value_in};
-ghost use Rattle.wu_cli.specs.Refusals.{IsLacking, IsUnshown};
+ghost use Rattle.wu_cli.specs.Refusals.{IsUnseen, IsWithout, LacksNumber, LacksText};
 ghost use Rattle.wu_cli.specs.declared.usage.Usage.TheVariants.{Memory};
 
 use crate::option::LineOption;
@@ -25,7 +25,7 @@ fn value<'a>(found: &ArgMatches<'a>, option: LineOption) -> Option<&'a str>
 /// The text of an option that has to be given.
 pub fn text(alloc: Global, found: &ArgMatches<'_>, option: LineOption) -> Result<Word, Usage>
     ensures value { IfOk result (IsTextIn (rows_of (found_of found.now)) option) }
-    ensures refused { IfErr result IsLacking }
+    ensures refused { IfErr result (IsWithout (LacksText (rows_of (found_of found.now)) option)) }
 {
     match value(found, option) {
         Some(text) => Ok(Word::from_text(alloc, text)?),
@@ -48,7 +48,7 @@ pub fn template(alloc: Global, found: &ArgMatches<'_>) -> Result<Option<Word>, U
 /// The number of an option that has to be given.
 pub fn number(found: &ArgMatches<'_>, option: LineOption) -> Result<u64, Usage>
     ensures value { IfOk result (IsNumberIn (rows_of (found_of found.now)) option) }
-    ensures refused { IfErr result IsLacking }
+    ensures refused { IfErr result (IsWithout (LacksNumber (rows_of (found_of found.now)) option)) }
 {
     match found.get_one(option.name()) {
         Some(number) => Ok(number),
@@ -59,7 +59,7 @@ pub fn number(found: &ArgMatches<'_>, option: LineOption) -> Result<u64, Usage>
 /// The view that is to be shown.
 pub fn view(found: &ArgMatches<'_>) -> Result<View, Usage>
     ensures value { IfOk result (λ view. IsViewIn (rows_of (found_of found.now)) (Some view)) }
-    ensures refused { IfErr result (IsUnshown (rows_of (found_of found.now))) }
+    ensures refused { IfErr result (IsUnseen (rows_of (found_of found.now))) }
 {
     match value(found, LineOption::View) {
         Some(name) => match view_named(name) {

@@ -3,7 +3,7 @@
 ghost use Rattle.std.specs.Prelude.{◌≡◌, map, string_bytes, IfErr, IfOk};
 ghost use Rattle.clap.specs.Words.{found_of, rows_of};
 ghost use Rattle.wu_cli.specs.Lines.{IsLine};
-ghost use Rattle.wu_cli.specs.Refusals.{Explains, IsLacking, IsLineOf, IsUnread, IsUnshown};
+ghost use Rattle.wu_cli.specs.Refusals.{Explains, IsLacking, IsLineOf, IsUnread};
 
 use crate::line::Line;
 use crate::option::LineOption;
@@ -17,7 +17,7 @@ use std::alloc::Global;
 /// The line of a batch.
 fn batch(alloc: Global, found: &ArgMatches<'_>) -> Result<Line, Usage>
     ensures line { IfOk result (IsLine (rows_of (found_of found.now)) Subcommand.Batch) }
-    ensures refused { IfErr result IsLacking }
+    ensures refused { IfErr result (IsLacking (rows_of (found_of found.now)) Subcommand.Batch) }
 {
     Ok(Line::Batch {
         db: text(alloc, found, LineOption::Database)?,
@@ -30,7 +30,7 @@ fn batch(alloc: Global, found: &ArgMatches<'_>) -> Result<Line, Usage>
 /// The line of a file of sends.
 fn sent(alloc: Global, found: &ArgMatches<'_>) -> Result<Line, Usage>
     ensures line { IfOk result (IsLine (rows_of (found_of found.now)) Subcommand.Sent) }
-    ensures refused { IfErr result IsLacking }
+    ensures refused { IfErr result (IsLacking (rows_of (found_of found.now)) Subcommand.Sent) }
 {
     Ok(Line::Sent {
         db: text(alloc, found, LineOption::Database)?,
@@ -42,7 +42,7 @@ fn sent(alloc: Global, found: &ArgMatches<'_>) -> Result<Line, Usage>
 /// The line of a file of reports.
 fn reported(alloc: Global, found: &ArgMatches<'_>) -> Result<Line, Usage>
     ensures line { IfOk result (IsLine (rows_of (found_of found.now)) Subcommand.Reported) }
-    ensures refused { IfErr result IsLacking }
+    ensures refused { IfErr result (IsLacking (rows_of (found_of found.now)) Subcommand.Reported) }
 {
     Ok(Line::Reported {
         db: text(alloc, found, LineOption::Database)?,
@@ -54,7 +54,7 @@ fn reported(alloc: Global, found: &ArgMatches<'_>) -> Result<Line, Usage>
 /// The line of a transition.
 fn transition(alloc: Global, found: &ArgMatches<'_>) -> Result<Line, Usage>
     ensures line { IfOk result (IsLine (rows_of (found_of found.now)) Subcommand.Transition) }
-    ensures refused { IfErr result IsLacking }
+    ensures refused { IfErr result (IsLacking (rows_of (found_of found.now)) Subcommand.Transition) }
 {
     Ok(Line::Transition {
         db: text(alloc, found, LineOption::Database)?,
@@ -66,7 +66,7 @@ fn transition(alloc: Global, found: &ArgMatches<'_>) -> Result<Line, Usage>
 /// The line of a validation.
 fn validate(alloc: Global, found: &ArgMatches<'_>) -> Result<Line, Usage>
     ensures line { IfOk result (IsLine (rows_of (found_of found.now)) Subcommand.Validate) }
-    ensures refused { IfErr result IsLacking }
+    ensures refused { IfErr result (IsLacking (rows_of (found_of found.now)) Subcommand.Validate) }
 {
     Ok(Line::Validate {
         db: text(alloc, found, LineOption::Database)?,
@@ -77,7 +77,7 @@ fn validate(alloc: Global, found: &ArgMatches<'_>) -> Result<Line, Usage>
 /// The line of an assimilation.
 fn assimilate(alloc: Global, found: &ArgMatches<'_>) -> Result<Line, Usage>
     ensures line { IfOk result (IsLine (rows_of (found_of found.now)) Subcommand.Assimilate) }
-    ensures refused { IfErr result IsLacking }
+    ensures refused { IfErr result (IsLacking (rows_of (found_of found.now)) Subcommand.Assimilate) }
 {
     Ok(Line::Assimilate {
         db: text(alloc, found, LineOption::Database)?,
@@ -89,7 +89,7 @@ fn assimilate(alloc: Global, found: &ArgMatches<'_>) -> Result<Line, Usage>
 /// The line of a deletion.
 fn delete(alloc: Global, found: &ArgMatches<'_>) -> Result<Line, Usage>
     ensures line { IfOk result (IsLine (rows_of (found_of found.now)) Subcommand.Delete) }
-    ensures refused { IfErr result IsLacking }
+    ensures refused { IfErr result (IsLacking (rows_of (found_of found.now)) Subcommand.Delete) }
 {
     Ok(Line::Delete {
         db: text(alloc, found, LineOption::Database)?,
@@ -100,7 +100,7 @@ fn delete(alloc: Global, found: &ArgMatches<'_>) -> Result<Line, Usage>
 /// The line of a purge.
 fn purge(alloc: Global, found: &ArgMatches<'_>) -> Result<Line, Usage>
     ensures line { IfOk result (IsLine (rows_of (found_of found.now)) Subcommand.Purge) }
-    ensures refused { IfErr result IsLacking }
+    ensures refused { IfErr result (IsLacking (rows_of (found_of found.now)) Subcommand.Purge) }
 {
     Ok(Line::Purge {
         db: text(alloc, found, LineOption::Database)?,
@@ -113,7 +113,7 @@ fn purge(alloc: Global, found: &ArgMatches<'_>) -> Result<Line, Usage>
 /// The line of a cancel.
 fn cancel(alloc: Global, found: &ArgMatches<'_>) -> Result<Line, Usage>
     ensures line { IfOk result (IsLine (rows_of (found_of found.now)) Subcommand.Cancel) }
-    ensures refused { IfErr result IsLacking }
+    ensures refused { IfErr result (IsLacking (rows_of (found_of found.now)) Subcommand.Cancel) }
 {
     Ok(Line::Cancel {
         db: text(alloc, found, LineOption::Database)?,
@@ -124,7 +124,7 @@ fn cancel(alloc: Global, found: &ArgMatches<'_>) -> Result<Line, Usage>
 /// The line of a cycle.
 fn cycle(alloc: Global, found: &ArgMatches<'_>) -> Result<Line, Usage>
     ensures line { IfOk result (IsLine (rows_of (found_of found.now)) Subcommand.Cycle) }
-    ensures refused { IfErr result IsLacking }
+    ensures refused { IfErr result (IsLacking (rows_of (found_of found.now)) Subcommand.Cycle) }
 {
     Ok(Line::Cycle {
         db: text(alloc, found, LineOption::Database)?,
@@ -137,7 +137,7 @@ fn cycle(alloc: Global, found: &ArgMatches<'_>) -> Result<Line, Usage>
 /// The line of a view.
 fn show(alloc: Global, found: &ArgMatches<'_>) -> Result<Line, Usage>
     ensures line { IfOk result (IsLine (rows_of (found_of found.now)) Subcommand.Show) }
-    ensures refused { IfErr result (IsUnshown (rows_of (found_of found.now))) }
+    ensures refused { IfErr result (IsUnread (rows_of (found_of found.now)) Subcommand.Show) }
 {
     Ok(Line::Show {
         db: text(alloc, found, LineOption::Database)?,
@@ -148,7 +148,7 @@ fn show(alloc: Global, found: &ArgMatches<'_>) -> Result<Line, Usage>
 /// The line of an upgrade.
 fn upgrade(alloc: Global, found: &ArgMatches<'_>) -> Result<Line, Usage>
     ensures line { IfOk result (IsLine (rows_of (found_of found.now)) Subcommand.Upgrade) }
-    ensures refused { IfErr result IsLacking }
+    ensures refused { IfErr result (IsLacking (rows_of (found_of found.now)) Subcommand.Upgrade) }
 {
     Ok(Line::Upgrade {
         db: text(alloc, found, LineOption::Database)?,

@@ -229,7 +229,8 @@ fn write_upgraded<W: Write>(out: &mut W, from: u64, to: u64) -> Result<(), Fault
 
 /// Writes that a workunit was given up.
 fn write_cancelled<W: Write>(out: &mut W, workunit: &Name) -> Result<(), Fault>
-    ensures bytes { WritesTo W.contents out.old out.new (reply_text (Cancelled workunit.now)) result }
+    ensures bytes { WritesTo W.contents out.old out.new
+        (reply_text (Cancelled workunit.now)) result }
     ensures fault { IsOkUnless result Output }
 {
     write_pieces(

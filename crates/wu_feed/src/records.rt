@@ -78,7 +78,8 @@ pub fn three_fields(row: &ByteRecord) -> Option<(&[u8], &[u8], &[u8])>
 
 /// The fields of a row of five.
 pub fn five_fields(row: &ByteRecord) -> Option<(&[u8], &[u8], &[u8], &[u8], &[u8])>
-    ensures found { IfSome result (λ f. fields_of row.now ≡ f.0.now ∷ f.1.now ∷ f.2.now ∷ f.3.now ∷ f.4.now ∷ []) }
+    ensures found { IfSome result (λ f. fields_of row.now ≡ f.0.now ∷ f.1.now ∷ f.2.now ∷ f.3.now
+        ∷ f.4.now ∷ []) }
     ensures other { IfNone result (length (fields_of row.now) ≢ 5) }
 {
     if row.len() != 5 {

@@ -1,47 +1,24 @@
 -- A sound world whose workunits are rewritten one by one, or taken out, is sound.
-use Rattle.std.proofs.Common.{◌≡◌, Bool, true, false, List, [], ◌∷◌, ◌++◌, append_assoc, append-nil, refl, sym, ap, subst, ◌∙◌}
-use Rattle.std.proofs.lemmas.List.Elements.{All-head, All-nil, All-tail}
+use Rattle.std.proofs.Common.{◌≡◌, true, List, [], ◌∷◌, ◌++◌, append_assoc, append-nil, refl, sym, ap, subst, ◌∙◌}
+use Rattle.std.proofs.lemmas.List.Elements.{All-head, All-tail}
 use Rattle.std.specs.List.{All, flat_map}
-use Rattle.std.specs.Prelude.{◌&&◌, not}
-use Rattle.wu_core.specs.Formed.{IsWorkunit}
 use Rattle.wu_core.specs.World.{World}
 use Rattle.wu_core.specs.declared.workunit.Archived.{Archived}
 use Rattle.wu_core.specs.declared.workunit.Grant.{Grant}
 use Rattle.wu_core.specs.declared.workunit.Workunit.{Workunit}
-use Rattle.wu_rules_laws.specs.Consistent.{IsConsistent, IsGrantFor, is_done, is_valid_at, one_if, Rewrites}
+use Rattle.wu_rules_laws.specs.Consistent.{is_done, Rewrites}
 use Rattle.wu_store.specs.Loading.{IsStorable}
 use Rattle.wu_store.specs.Reading.{IsStoredArchived}
 use Rattle.wu_passes_laws.specs.Sound.{IsRecorded, IsSound}
 use Rattle.wu_passes_laws.proofs.Lasts.{Leads, lasts_rewritten, lasts_same, lasts_then, lasts_without}
 use Rattle.wu_passes_laws.proofs.Middles.{around}
 use Rattle.wu_passes_laws.proofs.Rewriting.{sound_rewritten, sound_without}
-use Rattle.wu_passes_laws.proofs.SoundParts.{IsGrantOf, IsItsRow}
 
 -- what became of a workunit: nothing is left of it and it was DONE, or it was rewritten, and can be read
 abbrev pub Becomes : Workunit → List Workunit → List Grant → List Archived → Type 0
 Becomes w [] gs rows = (gs ≡ []) × (rows ≡ []) × (is_done w ≡ true)
 Becomes w (v ∷ []) gs rows = Rewrites w v gs rows × IsStorable v × All IsStoredArchived rows
 Becomes w (v ∷ u ∷ vs) gs rows = ⊥
-
--- nothing is made so that was so before
-nothing_new : (b : Bool) → 0 ≡ one_if (b && not b)
-nothing_new true = refl
-nothing_new false = refl
-
--- one that is left as it is
-pub rewrites_same : (w : Workunit) → IsWorkunit w → IsConsistent w → Rewrites w w [] []
-rewrites_same w formed consistent = record {
-  number = refl;
-  name = refl;
-  credit = refl;
-  formed = formed;
-  consistent = consistent;
-  valid = λ n valid. (valid, refl);
-  canonical = λ n is. is;
-  done = λ is. is;
-  granted = record { workunit = All-nil (IsGrantOf w); each = λ n. nothing_new (is_valid_at w.instances n); own = All-nil (IsGrantFor w) };
-  archives = record { once = nothing_new (is_done w); own = All-nil (IsItsRow w) };
-}
 
 module _ (world : World) where
   -- the world with these workunits, grants and archived rows
@@ -68,7 +45,13 @@ module _ (world : World) where
     same_holding IsSound (us ++ v ∷ ws) ((us ++ v ∷ []) ++ ws) (gs ++ hs) (gs ++ hs) (rows ++ more) (rows ++ more) (sym (append_assoc us (v ∷ []) ws)) refl
         refl
         (sound_rewritten (holding [] gs rows) us w ws v hs more is.0 sound is.1 is.2),
-    lasts_rewritten world us w ws v gs hs rows more (record { number = is.0.number; name = is.0.name; canonical = is.0.canonical }),
+    lasts_rewritten world us w ws v gs hs rows more (record {
+      number = is.0.number;
+      name = is.0.name;
+      canonical = is.0.canonical;
+      verdicts = is.0.verdicts;
+      given_up = is.0.given_up;
+    }),
   )
   became us w ws gs rows (v ∷ u ∷ vs) hs more is sound = absurd is
 

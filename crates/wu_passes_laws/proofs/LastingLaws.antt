@@ -1,13 +1,13 @@
 -- What follows from what lasts over a list of requests.
-use Rattle.std.proofs.Common.{◌≡◌, ◌<◌, ◌==◌, true, false, List, [], ◌∷◌, get_or, refl, sym, ap, ◌∙◌, inl, inr, arith}
+use Rattle.std.proofs.Common.{◌≡◌, ◌<◌, ◌==◌, true, false, List, [], ◌∷◌, get_or, refl, sym, subst, ◌∙◌, inl, inr, arith}
 use Rattle.std.proofs.lemmas.Bool.{cases_Bool, eq-eqb}
 use Rattle.std.proofs.lemmas.List.Elements.{All-cons, All-contains, All-nil, All-weaker}
 use Rattle.std.specs.List.{All}
 use Rattle.wu_core.specs.declared.workunit.Workunit.{Workunit}
 use Rattle.wu_passes.specs.Machine.{fold_steps}
 use Rattle.wu_passes.specs.Passes.{is_among}
-use Rattle.wu_passes_laws.specs.Lasting.{CanonicalResultsLast, NumbersAreGivenOnce}
-use Rattle.wu_passes_laws.proofs.Lasts.{Came, none_of_any}
+use Rattle.wu_passes_laws.specs.Lasting.{CanonicalResultsLast, GivenUpLasts, NamesLast, NumbersAreGivenOnce, VerdictsLast, WhilePresent}
+use Rattle.wu_passes_laws.proofs.Lasts.{Came, Continues, none_of_any}
 use Rattle.wu_passes_laws.proofs.Middles.{Pairs, to_pairs}
 use Rattle.wu_passes_laws.proofs.SoundSteps.{sound_steps}
 use Rattle.wu_passes_laws.proofs.SoundParts.{Ordered}
@@ -22,9 +22,9 @@ one_of_number (w ∷ ws) up =
     (λ j e here. All-cons (λ (b : Workunit). (get_or ws j e).number ≡ b.number → get_or ws j e ≡ b) w ws
     (λ same. let less = up.0 j e here in absurd (omega (arith, less, same))) (one_of_number ws up.1 j e here))
 
--- what a workunit continues is the one of its number
-pub canonical_results_last : CanonicalResultsLast
-canonical_results_last world requests values sound k d low j e here same n is =
+-- what has the number of a workunit continues it
+continues_on : WhilePresent Continues
+continues_on world requests values sound k d low j e here same =
     let later = fold_steps world requests in
     let w = get_or world.workunits k d in
     let v = get_or later.workunits j e in
@@ -34,7 +34,23 @@ canonical_results_last world requests values sound k d low j e here same n is =
     let same_one : came.0 ≡ w =
     All-contains (λ (a : Workunit). All (λ (b : Workunit). a.number ≡ b.number → a ≡ b) world.workunits) world.workunits came.0 alone came.1 k d low
     (sym came.2.number ∙ same) in
-    came.2.canonical n (ap (λ (u : Workunit). u.canonical) same_one ∙ is)
+    subst (λ u. Continues u v) same_one came.2
+
+-- so its canonical result lasts
+pub canonical_results_last : CanonicalResultsLast
+canonical_results_last world requests values sound k d low j e here same = (continues_on world requests values sound k d low j e here same).canonical
+
+-- its name
+pub names_last : NamesLast
+names_last world requests values sound k d low j e here same = (continues_on world requests values sound k d low j e here same).name
+
+-- its final verdicts
+pub verdicts_last : VerdictsLast
+verdicts_last world requests values sound k d low j e here same = (continues_on world requests values sound k d low j e here same).verdicts
+
+-- and that it was given up
+pub given_up_lasts : GivenUpLasts
+given_up_lasts world requests values sound k d low j e here same = (continues_on world requests values sound k d low j e here same).given_up
 
 -- what came from a world was there under its number
 pub numbers_are_given_once : NumbersAreGivenOnce

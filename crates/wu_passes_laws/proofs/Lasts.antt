@@ -11,21 +11,26 @@ use Rattle.wu_core.specs.World.{World}
 use Rattle.wu_core.specs.declared.workunit.Archived.{Archived}
 use Rattle.wu_core.specs.declared.workunit.Grant.{Grant}
 use Rattle.wu_core.specs.declared.workunit.Workunit.{Workunit}
-use Rattle.wu_rules_laws.specs.Consistent.{is_done, one_if}
+use Rattle.wu_rules_laws.specs.Consistent.{KeepsVerdicts, is_done, one_if}
+use Rattle.wu_rules.specs.Counts.{is_clear}
+use Rattle.wu_rules_laws.proofs.Verdicts.{verdicts_then, verdicts_unchanged}
 use Rattle.wu_passes.specs.Batches.{is_one_of, taken_names}
 use Rattle.wu_passes_laws.specs.Sound.{IsRecorded, IsSound}
 use Rattle.wu_passes_laws.proofs.Middles.{count_none}
 use Rattle.wu_passes_laws.proofs.SoundParts.{is_row_of}
 
--- what became of a workunit has its number, its name, and its canonical result if there is one
+-- what became of a workunit has its number, its name, its canonical result if there is one, and its final verdicts, and is
+-- given up where it was
 pub record Continues (w v : Workunit) : Type 0 where
   pub number : v.number ≡ w.number
   pub name : v.name ≡ w.name
   pub canonical : (n : ℕ) → w.canonical ≡ Some n → v.canonical ≡ Some n
+  pub verdicts : KeepsVerdicts w v
+  pub given_up : is_clear w.error_mask ≡ false → is_clear v.error_mask ≡ false
 
 -- each continues itself
 continues_same : (w : Workunit) → Continues w w
-continues_same w = record { number = refl; name = refl; canonical = λ n is. is }
+continues_same w = record { number = refl; name = refl; canonical = λ n is. is; verdicts = verdicts_unchanged w; given_up = λ e. e }
 
 -- it continues a workunit of the world
 abbrev pub Came : World → Workunit → Type 0
@@ -78,8 +83,9 @@ lasts_then one two three first second = record {
           record {
             number = on.number ∙ before.number;
             name = on.name ∙ before.name;
-            canonical =
-                λ n is. on.canonical n (before.canonical n is);
+            canonical = λ n is. on.canonical n (before.canonical n is);
+            verdicts = verdicts_then its.0 u v before.verdicts on.verdicts;
+            given_up = λ e. on.given_up (before.given_up e);
           },
         )
 

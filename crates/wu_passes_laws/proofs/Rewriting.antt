@@ -13,12 +13,13 @@ use Rattle.wu_core.specs.declared.workunit.Archived.{Archived}
 use Rattle.wu_core.specs.declared.workunit.Grant.{Grant}
 use Rattle.wu_core.specs.declared.workunit.Instance.{Instance}
 use Rattle.wu_core.specs.declared.workunit.Workunit.{Workunit}
-use Rattle.wu_rules_laws.specs.Consistent.{host_at, IsConsistent, IsGrantFor, is_done, is_valid_at, one_if, Rewrites}
+use Rattle.wu_rules_laws.specs.Consistent.{host_at, IsConsistent, IsGrantFor, IsRowOf, is_done, is_valid_at, one_if, Rewrites}
+use Rattle.wu_rules_laws.proofs.Rewriting.{canonical_stays}
 use Rattle.wu_store.specs.Loading.{IsStorable}
 use Rattle.wu_store.specs.Reading.{AreStoredInstances, IsHost, IsName, IsStoredArchived, IsStoredInstance}
 use Rattle.wu_passes_laws.specs.Sound.{IsGiven, IsRecorded, IsSound}
 use Rattle.wu_passes_laws.proofs.Middles.{around, count_agree, count_all, count_append, count_none, counted, from_pairs, instead, none_counted, Pairs, pairs_append, pairs_around, pairs_instead, pairs_of_one, pairs_without, to_pairs, without}
-use Rattle.wu_passes_laws.proofs.SoundParts.{Differ, GrantsDiffer, is_at, is_for, is_row_of, IsGrantIn, IsGrantOf, IsIn, IsItsRow, IsNamedAlike, IsOwn, IsRowIn, IsToName, Ordered, RowNamesDiffer, RowsDiffer}
+use Rattle.wu_passes_laws.proofs.SoundParts.{Differ, GrantsDiffer, is_at, is_for, is_row_of, IsGrantIn, IsGrantOf, IsIn, IsItsRow, IsNamedAlike, IsOwn, IsOwnRow, IsRowIn, IsToName, Ordered, RowNamesDiffer, RowsDiffer}
 
 -- ---- counts
 
@@ -128,7 +129,7 @@ module _ (world : World) (us : List Workunit) (w : Workunit) (ws : List Workunit
     imports = sound.imports;
     consistent = without IsConsistent us w ws sound.consistent;
     recorded = All-weaker (IsRecorded before) (IsRecorded (record world { workunits = us ++ ws }))
-        (λ u is. record { granted = is.granted; own = is.own; archived = is.archived; named = is.named }) (us ++ ws)
+        (λ u is. record { granted = is.granted; own = is.own; archived = is.archived; as_archived = is.as_archived; named = is.named }) (us ++ ws)
         (without (IsRecorded before) us w ws sound.recorded);
     given = without (IsIn world) us w ws sound.given;
     ascending = from_pairs Ordered (us ++ ws)
@@ -164,10 +165,12 @@ module _ (world : World) (us : List Workunit) (w : Workunit) (ws : List Workunit
       own = All-append (IsOwn u) world.grants gs is.own
           (All-weaker (IsGrantOf w) (IsOwn u) (λ grant at same. absurd (other.0 (sym same ∙ at))) gs rewrites.granted.workunit);
       archived = none_more _ _ _ _ (count_append (is_row_of u) world.archived kept)
-          (count_none (is_row_of u) kept (All-weaker (IsItsRow w) (λ (row : Archived). (row.number == u.number) ≡ false)
+          (count_none (is_row_of u) kept (All-weaker (IsItsRow w v) (λ (row : Archived). (row.number == u.number) ≡ false)
           (λ row at. ne_eqb row.number u.number (λ same. other.0 (sym same ∙ at.0))) kept rewrites.archives.own)) is.archived;
+      as_archived = All-append (IsOwnRow u) world.archived kept is.as_archived
+          (All-weaker (IsItsRow w v) (IsOwnRow u) (λ row at same. absurd (other.0 (sym same ∙ at.0))) kept rewrites.archives.own);
       named = All-append (IsNamedAlike u) world.archived kept is.named
-          (All-weaker (IsItsRow w) (IsNamedAlike u)
+          (All-weaker (IsItsRow w v) (IsNamedAlike u)
           (λ row at. (λ same. absurd (other.1 (sym same ∙ at.1)), λ same. absurd (other.0 (sym same ∙ at.0)))) kept rewrites.archives.own);
     }
 
@@ -185,6 +188,18 @@ module _ (world : World) (us : List Workunit) (w : Workunit) (ws : List Workunit
     grant_kept : (g : Grant) → is_valid_at w.instances g.n ≡ true → IsGrantFor w g → IsGrantFor v g
     grant_kept g valid is = record { host = (rewrites.valid g.n valid).1 ∙ is.host; credit = is.credit ∙ sym rewrites.credit }
 
+    -- where it has a row it was DONE
+    was_done : (k : ℕ) (d : Archived) → k < length world.archived → (get_or world.archived k d).number ≡ w.number → is_done w ≡ true
+    was_done k d low at =
+        was_so (is_done w) _ its.archived (counted (is_row_of w) world.archived k d low (eq-eqb (get_or world.archived k d).number w.number at))
+
+    -- the row stays as the workunit
+    row_kept : (row : Archived) → is_done w ≡ true → IsRowOf w row → IsRowOf v row
+    row_kept row done is =
+        let consistent = (around IsConsistent us w ws sound.consistent).1 in
+        let same = rewrites.stays done in
+        (is.0 ∙ sym (canonical_stays w v gs kept consistent rewrites done), is.1 ∙ sym same.0, same.1 ∙ is.2)
+
     -- the grants are for what is made VALID
     new_granted : (n : ℕ) → length (filter (is_for v n) gs) ≡ one_if (is_valid_at v.instances n && not (is_valid_at w.instances n))
     new_granted n =
@@ -197,7 +212,7 @@ module _ (world : World) (us : List Workunit) (w : Workunit) (ws : List Workunit
     -- the row is for what is made DONE
     new_archived : length (filter (is_row_of v) kept) ≡ one_if (is_done v && not (is_done w))
     new_archived =
-        count_all (is_row_of v) kept (All-weaker (IsItsRow w) (λ (row : Archived). (row.number == v.number) ≡ true)
+        count_all (is_row_of v) kept (All-weaker (IsItsRow w v) (λ (row : Archived). (row.number == v.number) ≡ true)
         (λ row at. eq-eqb row.number v.number (at.0 ∙ sym rewrites.number)) kept rewrites.archives.own)
         ∙ rewrites.archives.once
 
@@ -213,11 +228,14 @@ module _ (world : World) (us : List Workunit) (w : Workunit) (ws : List Workunit
       archived = one_more (is_done w) (is_done v) _ _ _ (count_append (is_row_of v) world.archived kept)
           (ap (λ number. length (filter (λ (row : Archived). row.number == number) world.archived)) rewrites.number ∙ its.archived) new_archived
           rewrites.done;
+      as_archived = All-append (IsOwnRow v) world.archived kept
+          (λ k d low same. row_kept (get_or world.archived k d) (was_done k d low (same ∙ rewrites.number)) (its.as_archived k d low (same ∙ rewrites.number)))
+          (All-weaker (IsItsRow w v) (IsOwnRow v) (λ row at same. at.2) kept rewrites.archives.own);
       named = All-append (IsNamedAlike v) world.archived kept
           (All-weaker (IsNamedAlike w) (IsNamedAlike v)
           (λ row is. (λ same. is.0 (same ∙ rewrites.name) ∙ sym rewrites.number, λ same. is.1 (same ∙ rewrites.number) ∙ sym rewrites.name)) world.archived
           its.named)
-          (All-weaker (IsItsRow w) (IsNamedAlike v)
+          (All-weaker (IsItsRow w v) (IsNamedAlike v)
           (λ row at. (λ same. at.0 ∙ sym rewrites.number, λ same. at.1 ∙ sym rewrites.name)) kept rewrites.archives.own);
     }
 
@@ -320,7 +338,7 @@ module _ (world : World) (us : List Workunit) (w : Workunit) (ws : List Workunit
       names = from_pairs Differ (us ++ v ∷ ws) (pairs_instead Differ us w v ws (λ u other same. other (same ∙ rewrites.name))
           (λ u other same. other (sym rewrites.name ∙ same)) (to_pairs Differ (us ++ w ∷ ws) sound.names));
       archived = All-append (IsRowIn world) world.archived kept sound.archived
-          (All-weaker (IsItsRow w) (IsRowIn world) (λ row at. subst (IsGiven world) (rewrites.number ∙ sym at.0) given_v) kept rewrites.archives.own);
+          (All-weaker (IsItsRow w v) (IsRowIn world) (λ row at. subst (IsGiven world) (rewrites.number ∙ sym at.0) given_v) kept rewrites.archives.own);
       archived_once = from_pairs RowsDiffer (world.archived ++ kept) (pairs_append RowsDiffer world.archived kept
           (to_pairs RowsDiffer world.archived sound.archived_once) (pairs_of_one RowsDiffer kept few_rows) archived_apart);
       archived_names = from_pairs RowNamesDiffer (world.archived ++ kept) (pairs_append RowNamesDiffer world.archived kept

@@ -95,6 +95,7 @@ module _ (world : World) (sound : IsSound world) (params : Parameters) (job : Jo
         (All-weaker (IsRowIn world) (λ (row : Archived). (row.number == world.next_number) ≡ false)
         (λ row given. let below = given.1 in ne_eqb row.number world.next_number (λ same. absurd (omega (arith, below, same)))) world.archived
         sound.archived);
+    as_archived = λ k d within same. let below = (sound.archived k d within).1 in absurd (omega (arith, below, same));
     named = λ k d within. let below = (sound.archived k d within).1 in (λ same. absurd (free k d within same), λ same. absurd (omega (arith, below, same)));
   }
 
@@ -109,7 +110,7 @@ module _ (world : World) (sound : IsSound world) (params : Parameters) (job : Jo
     imports = sound.imports;
     consistent = All-push IsConsistent world.workunits new sound.consistent new_consistent;
     recorded = All-push (IsRecorded with_new) world.workunits new
-        (All-weaker (IsRecorded world) (IsRecorded with_new) (λ w it. record { granted = it.granted; own = it.own; archived = it.archived; named = it.named })
+        (All-weaker (IsRecorded world) (IsRecorded with_new) (λ w it. record { granted = it.granted; own = it.own; archived = it.archived; as_archived = it.as_archived; named = it.named })
         world.workunits sound.recorded) (new_recorded free);
     given = All-push (IsIn with_new) world.workunits new (All-weaker (IsIn world) (IsIn with_new) (λ w given. given_still w.number given) world.workunits
         sound.given)
@@ -224,7 +225,7 @@ sound_kept world sound import named told fresh = (kept, lasts)
       imports = All-push (λ (i : Import). IsName i.name × AreVerdicts i.kind i.verdicts) world.imports import sound.imports (named, told);
       consistent = sound.consistent;
       recorded = All-weaker (IsRecorded world) (IsRecorded (with_kept import world))
-          (λ w it. record { granted = it.granted; own = it.own; archived = it.archived; named = it.named }) world.workunits sound.recorded;
+          (λ w it. record { granted = it.granted; own = it.own; archived = it.archived; as_archived = it.as_archived; named = it.named }) world.workunits sound.recorded;
       given = sound.given;
       ascending = sound.ascending;
       names = sound.names;

@@ -46,7 +46,7 @@ sound_now world sound = record {
   imports = sound.imports;
   consistent = sound.consistent;
   recorded = All-weaker (IsRecorded world) (IsRecorded (now_of world))
-      (λ w is. record { granted = is.granted; own = is.own; archived = is.archived; named = is.named }) world.workunits sound.recorded;
+      (λ w is. record { granted = is.granted; own = is.own; archived = is.archived; as_archived = is.as_archived; named = is.named }) world.workunits sound.recorded;
   given = sound.given;
   ascending = sound.ascending;
   names = sound.names;

@@ -6,7 +6,7 @@ use Rattle.wu_core.specs.World.{World, Import}
 use Rattle.wu_core.specs.declared.workunit.Archived.{Archived}
 use Rattle.wu_core.specs.declared.workunit.Grant.{Grant}
 use Rattle.wu_core.specs.declared.workunit.Workunit.{Workunit}
-use Rattle.wu_rules_laws.specs.Consistent.{IsGrantFor}
+use Rattle.wu_rules_laws.specs.Consistent.{IsGrantFor, IsRowOf}
 use Rattle.wu_store.specs.Reading.{IsName}
 use Rattle.wu_passes_laws.specs.Sound.{IsGiven}
 
@@ -64,8 +64,13 @@ IsRowIn world row = IsGiven world row.number
 abbrev pub is_row_of : Workunit → Archived → Bool
 is_row_of w row = row.number == w.number
 
-abbrev pub IsItsRow : Workunit → Archived → Type 0
-IsItsRow w row = (row.number ≡ w.number) × (row.name ≡ w.name)
+-- of the workunit, as it is once it was rewritten
+abbrev pub IsItsRow : Workunit → Workunit → Archived → Type 0
+IsItsRow w v row = (row.number ≡ w.number) × (row.name ≡ w.name) × IsRowOf v row
+
+-- if so, as the workunit
+abbrev pub IsOwnRow : Workunit → Archived → Type 0
+IsOwnRow w row = row.number ≡ w.number → IsRowOf w row
 
 abbrev pub IsNamedAlike : Workunit → Archived → Type 0
 IsNamedAlike w row = (row.name ≡ w.name) ↔ (row.number ≡ w.number)

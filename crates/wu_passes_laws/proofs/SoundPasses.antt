@@ -15,7 +15,7 @@ use Rattle.wu_core.specs.declared.workunit.Workunit.{Workunit}
 use Rattle.wu_rules.specs.Assimilation.{archived, archived_row, canonical_output, is_purgeable, is_spent}
 use Rattle.wu_rules.specs.Instances.{is_deleted_file, is_done_assimilate, is_ready_assimilate}
 use Rattle.wu_rules_laws.specs.Consistent.{IsConsistent, is_done}
-use Rattle.wu_rules_laws.proofs.Rewriting.{rules_rewrite}
+use Rattle.wu_rules_laws.proofs.Rewriting.{rewrites_unchanged, rules_rewrite}
 use Rattle.wu_store.specs.Due.{changes, chosen}
 use Rattle.wu_store.specs.Loading.{IsStorable}
 use Rattle.wu_store.specs.Reading.{IsStoredArchived, IsStoredInstance}
@@ -28,7 +28,7 @@ use Rattle.wu_passes.specs.Requests.{AskPass}
 use Rattle.wu_passes.proofs.PassKeeps.{keeps_project_pass}
 use Rattle.wu_passes.proofs.PassLemmas.{gives_nothing}
 use Rattle.wu_passes_laws.specs.Sound.{IsSound}
-use Rattle.wu_passes_laws.proofs.Becoming.{Becomes, rewrites_same, same_holding, sound_changed}
+use Rattle.wu_passes_laws.proofs.Becoming.{Becomes, same_holding, sound_changed}
 use Rattle.wu_passes_laws.proofs.Lasts.{Leads}
 use Rattle.wu_passes_laws.proofs.Middles.{of_each, Pairs, to_pairs}
 use Rattle.wu_passes_laws.proofs.SoundLemmas.{project_now, now_of}
@@ -208,7 +208,7 @@ module _ (pass : Pass) (now limit min_age : ℕ) (low : now ≤ last_moment) whe
         by : (b : Bool) → (b ≡ true → changes pass now min_age w ≡ true) → All IsStorable (if b then images pass now w else w ∷ [])
             → Becomes w (if b then images pass now w else w ∷ []) (if b then granted pass w else []) (if b then archives pass now w else [])
         by true is images_kept = image_becomes w formed consistent storable pass (is refl) images_kept
-        by false is w_kept = (rewrites_same w formed consistent, storable, All-nil IsStoredArchived)
+        by false is w_kept = (rewrites_unchanged w formed consistent, storable, All-nil IsStoredArchived)
 
     -- a pass leads to a sound world
     pub sound_passed : Leads world (passed pass now min_age limit world)

@@ -22,7 +22,7 @@ use Rattle.wu_rules.specs.Verdicts.{send_verdict_code}
 use Rattle.wu_rules.specs.declared.verdicts.SendVerdict.{SendVerdict}
 use Rattle.wu_rules.specs.declared.verdicts.SendVerdict.TheVariants as send
 use Rattle.wu_rules_laws.specs.Consistent.{IsConsistent, Rewrites}
-use Rattle.wu_rules_laws.proofs.Rewriting.{rules_rewrite}
+use Rattle.wu_rules_laws.proofs.Rewriting.{rewrites_unchanged, rules_rewrite}
 use Rattle.wu_store.specs.Loading.{IsStorable}
 use Rattle.wu_store.specs.Reading.{IsStoredArchived}
 use Rattle.wu_passes.specs.FileRows.{Rule, after_row, after_rows, report_rule, row_verdict, send_rule}
@@ -34,7 +34,7 @@ use Rattle.wu_passes.proofs.PassKeeps.{keeps_project_cancel}
 use Rattle.wu_passes.proofs.PassLemmas.{gives_nothing}
 use Rattle.wu_passes.proofs.StorableLemmas.{code_applied, reports_keep, sends_keep}
 use Rattle.wu_passes_laws.specs.Sound.{IsSound}
-use Rattle.wu_passes_laws.proofs.Becoming.{rewrites_same, same_holding, sound_changed}
+use Rattle.wu_passes_laws.proofs.Becoming.{same_holding, sound_changed}
 use Rattle.wu_passes_laws.proofs.Lasts.{Leads, lasts_same, lasts_then}
 use Rattle.wu_passes_laws.proofs.Middles.{of_each, Pairs, to_pairs}
 use Rattle.wu_passes_laws.proofs.SoundLemmas.{now_of, project_now}
@@ -95,7 +95,7 @@ module _ (world : World) (sound : IsSound world) (name : List ℕ) (image : Work
         where
           by : (b : Bool) → (b ≡ true → workunit_named world name ≡ Some w) → Rewrites w (if b then image w else w) [] []
           by true here = rewrites w (here refl) formed consistent
-          by false here = rewrites_same w formed consistent
+          by false here = rewrites_unchanged w formed consistent
 
 -- ---- a cancel
 

@@ -1,6 +1,9 @@
 -- What lasts over any list of requests.
-use Rattle.std.specs.Prelude.{◌≡◌, true, ℕ, ◌<◌, ◌≤◌, ◌++◌, All, List, Some}
+use Rattle.std.specs.Prelude.{◌≡◌, true, false, ℕ, ◌<◌, ◌≤◌, ◌++◌, All, List, Some}
 use Rattle.wu_core.specs.World.{World}
+use Rattle.wu_core.specs.declared.workunit.Workunit.{Workunit}
+use Rattle.wu_rules.specs.Counts.{is_clear}
+use Rattle.wu_rules_laws.specs.Consistent.{KeepsVerdicts}
 use Rattle.wu_passes.specs.Batches.{is_one_of, taken_names}
 use Rattle.wu_passes.specs.Machine.{fold_steps, HasValues}
 use Rattle.wu_passes.specs.Passes.{is_among}
@@ -34,11 +37,26 @@ ImportsLast = OverSteps (λ old new. Begins old.imports new.imports)
 abbrev pub NextNumberRises : Type 0
 NextNumberRises = OverSteps (λ old new. old.next_number ≤ new.next_number)
 
+-- this holds of each workunit and of what any list of requests makes of it, as long as it is present
+abbrev pub WhilePresent : (Workunit → Workunit → Type 0) → Type 0
+WhilePresent Is =
+    OverSoundSteps (λ old new. All (λ w. All (λ v. v.number ≡ w.number → Is w v) new.workunits) old.workunits)
+
 -- a workunit that has a canonical result has that one as long as it is present
 abbrev pub CanonicalResultsLast : Type 0
-CanonicalResultsLast =
-    OverSoundSteps (λ old new. All (λ w. All (λ v.
-    v.number ≡ w.number → (n : ℕ) → w.canonical ≡ Some n → v.canonical ≡ Some n) new.workunits) old.workunits)
+CanonicalResultsLast = WhilePresent (λ w v. (n : ℕ) → w.canonical ≡ Some n → v.canonical ≡ Some n)
+
+-- a workunit keeps its name as long as it is present
+abbrev pub NamesLast : Type 0
+NamesLast = WhilePresent (λ w v. v.name ≡ w.name)
+
+-- a final verdict of an instance stays as long as its workunit is present
+abbrev pub VerdictsLast : Type 0
+VerdictsLast = WhilePresent KeepsVerdicts
+
+-- a workunit that was given up stays so
+abbrev pub GivenUpLasts : Type 0
+GivenUpLasts = WhilePresent (λ w v. is_clear w.error_mask ≡ false → is_clear v.error_mask ≡ false)
 
 -- a name that a workunit or an archived row has stays taken
 abbrev pub NamesStayTaken : Type 0

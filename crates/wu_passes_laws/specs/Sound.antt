@@ -5,7 +5,7 @@ use Rattle.wu_core.specs.declared.workunit.Workunit.{Workunit}
 use Rattle.wu_core.specs.Formed.{IsWorkunit}
 use Rattle.wu_core.specs.Limits.{most_credit, most_instances, most_workunits}
 use Rattle.wu_core.specs.World.{World}
-use Rattle.wu_rules_laws.specs.Consistent.{IsConsistent, IsGrantFor, is_done, is_valid_at, one_if}
+use Rattle.wu_rules_laws.specs.Consistent.{IsConsistent, IsGrantFor, IsRowOf, is_done, is_valid_at, one_if}
 use Rattle.wu_store.specs.Lines.{IsArchiveStorable}
 use Rattle.wu_store.specs.Loading.{AreStorable}
 use Rattle.wu_store.specs.Reading.{AreVerdicts, IsName}
@@ -25,6 +25,8 @@ pub record IsRecorded (world : World) (w : Workunit) : Type 0 where
   pub own : All (λ grant. grant.workunit ≡ w.number → IsGrantFor w grant) world.grants
   -- it has one archived row exactly where it is DONE
   pub archived : length (filter (λ row. row.number == w.number) world.archived) ≡ one_if (is_done w)
+  -- with its canonical number, its error mask and its moment
+  pub as_archived : All (λ row. row.number ≡ w.number → IsRowOf w row) world.archived
   -- it shares its name with its own archived row alone
   pub named : All (λ row. (row.name ≡ w.name) ↔ (row.number ≡ w.number)) world.archived
 

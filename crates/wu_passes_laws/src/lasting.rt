@@ -1,6 +1,6 @@
 //! Laws of what lasts over any list of requests: each function's contract is one.
 
-ghost use Rattle.wu_passes_laws.specs.Lasting.{GrantsLast, ArchiveLasts, ImportsLast, NextNumberRises, CanonicalResultsLast, NamesStayTaken, NumbersAreGivenOnce};
+ghost use Rattle.wu_passes_laws.specs.Lasting.{GrantsLast, ArchiveLasts, ImportsLast, NextNumberRises, CanonicalResultsLast, NamesLast, VerdictsLast, GivenUpLasts, NamesStayTaken, NumbersAreGivenOnce};
 
 /// No grant is ever taken away or changed.
 pub fn grants_last()
@@ -25,6 +25,21 @@ pub fn the_next_number_rises()
 /// In a sound world a workunit that has a canonical result has that one as long as it is present.
 pub fn canonical_results_last()
     ensures { CanonicalResultsLast }
+{}
+
+/// In a sound world a workunit keeps its name as long as it is present.
+pub fn names_last()
+    ensures { NamesLast }
+{}
+
+/// In a sound world a final verdict of an instance stays as long as its workunit is present.
+pub fn verdicts_last()
+    ensures { VerdictsLast }
+{}
+
+/// In a sound world a workunit that was given up stays so as long as it is present.
+pub fn what_is_given_up_stays_so()
+    ensures { GivenUpLasts }
 {}
 
 /// In a sound world a name that a workunit or an archived row has stays taken.

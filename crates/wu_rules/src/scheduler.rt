@@ -67,7 +67,8 @@ fn put_in_progress(instance: &mut Instance, host: Name, sent_at: Moment, deadlin
 /// verdict says why.
 pub fn send(workunit: &mut Workunit, n: u32, host: Name, moment: Moment) -> SendVerdict
     ensures verdict { result ≡ send_verdict_in workunit.old n host }
-    ensures applied { result ≡ send_verdict.Applied → workunit.new ≡ sent_in workunit.old n host moment }
+    ensures applied { result ≡ send_verdict.Applied
+        → workunit.new ≡ sent_in workunit.old n host moment }
     ensures skipped { result ≢ send_verdict.Applied → workunit.new ≡ workunit.old }
 {
     let verdict = send_verdict(workunit, n, &host);
@@ -158,7 +159,8 @@ pub fn report(
     output: Bytes,
 ) -> ReportVerdict
     ensures verdict { result ≡ report_verdict_in workunit.old n host.now moment }
-    ensures applied { result ≡ report_verdict.Applied → workunit.new ≡ reported_in workunit.old n moment status output }
+    ensures applied { result ≡ report_verdict.Applied
+        → workunit.new ≡ reported_in workunit.old n moment status output }
     ensures skipped { result ≢ report_verdict.Applied → workunit.new ≡ workunit.old }
 {
     let verdict = report_verdict(workunit, n, host, moment);

@@ -1,8 +1,7 @@
 -- A canonical result comes by the validator alone, where enough agree.
-use Rattle.std.proofs.Common.{◌≡◌, ℕ, nat_lt, Bool, true, false, cond, List, map, length, slice_get, Option, Some, None, refl, sym, ◌∙◌}
+use Rattle.std.proofs.Common.{◌≡◌, ℕ, nat_lt, Bool, true, false, cond, length, slice_get, Option, Some, None, refl, ◌∙◌}
 use Rattle.std.specs.Option.{option_map_or}
 use Rattle.wu_core.specs.declared.states.Assimilate.TheVariants as assimilate
-use Rattle.wu_core.specs.declared.states.Status.{Status}
 use Rattle.wu_core.specs.declared.workunit.Instance.{Instance}
 use Rattle.wu_core.specs.declared.workunit.Workunit.{Workunit}
 use Rattle.wu_core.specs.Workunit.{with_instance}
@@ -10,10 +9,10 @@ use Rattle.wu_rules.specs.Assimilation.{assimilated, emptied}
 use Rattle.wu_rules.specs.Cancelling.{cancelled}
 use Rattle.wu_rules.specs.Counts.{consensus, is_clear, viable}
 use Rattle.wu_rules.specs.Instances.{is_done_assimilate, is_ready_assimilate}
-use Rattle.wu_rules.specs.Reporting.{reported_as, reported_in}
-use Rattle.wu_rules.specs.Sending.{sent_in, sent_to}
+use Rattle.wu_rules.specs.Reporting.{reported_as}
+use Rattle.wu_rules.specs.Sending.{sent_to}
 use Rattle.wu_rules.specs.Transition.{ended, extended, readied, settled, timed, transitioned, with_files_readied}
-use Rattle.wu_rules.specs.Validation.{agreed_on, decided, is_to_validate, left_open, validated, validated_by}
+use Rattle.wu_rules.specs.Validation.{decided, is_to_validate, left_open, validated, validated_by}
 use Rattle.wu_rules_laws.specs.Laws.{ChoosesByQuorum, IsChosen}
 use Rattle.wu_rules_laws.proofs.Granting.{chosen_exactly}
 
@@ -24,7 +23,7 @@ either false v u o one two = two
 
 -- ---- the validator
 
-left_open_keeps : (w : Workunit) → (left_open w).canonical ≡ w.canonical
+pub left_open_keeps : (w : Workunit) → (left_open w).canonical ≡ w.canonical
 left_open_keeps w = either (nat_lt w.params.max_success_results (length (viable w))) _ _ w.canonical refl refl
 
 decided_chooses : (w : Workunit) (o : Option ℕ) → consensus w ≡ o → (n : ℕ) → w.canonical ≡ None → (decided w o).canonical ≡ Some n → IsChosen w n

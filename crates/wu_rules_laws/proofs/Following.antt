@@ -1,5 +1,5 @@
 -- Rules that make nothing VALID, and what they leave of a workunit.
-use Rattle.std.proofs.Common.{◌≡◌, ◌≢◌, ℕ, zero, suc, ◌<◌, Bool, true, false, cond, ◌&&◌, ◌||◌, List, [], ◌∷◌, map, length, replicate, slice_get, slice_set, Option, Some, None, is_none, refl, sym, ap, ◌∙◌, nat_lt, arith}
+use Rattle.std.proofs.Common.{◌≡◌, ◌≢◌, ℕ, zero, suc, ◌<◌, Bool, true, false, cond, ◌&&◌, ◌||◌, List, [], ◌∷◌, map, length, replicate, slice_get, slice_set, Option, Some, None, is_none, option_map, refl, sym, ap, ◌∙◌, nat_lt, arith}
 use Rattle.std.proofs.lemmas.Bool.{ne_eqb}
 use Rattle.std.proofs.lemmas.List.Folds.{list_any-append}
 use Rattle.std.specs.List.{AllByRecursion, list_all, list_any}
@@ -23,7 +23,7 @@ use Rattle.wu_rules.specs.Transition.{added, ended, extended, is_all_over, is_fi
 use Rattle.wu_rules.specs.Validation.{doubted, doubted_or_closed, left_open, raised_target}
 use Rattle.wu_rules.proofs.Lists.{any-map}
 use Rattle.wu_rules.proofs.Timing.{not_unsent, same_timed}
-use Rattle.wu_rules_laws.specs.Consistent.{IsPossible, host_at, is_done, is_valid_at}
+use Rattle.wu_rules_laws.specs.Consistent.{IsPossible, KeepsVerdicts, host_at, is_done, is_valid_at}
 use Rattle.wu_rules_laws.proofs.Becoming.{AllBecome, all_become, all_become-more, all_become-placed, all_possible, all_stay, becomes_closed, becomes_doubted, becomes_doubted_or_closed, becomes_given_up, becomes_readied, becomes_timed_out, becomes_without_output, final_at, none_made, readied_right, valid_at, valid_host, verdict_at}
 use Rattle.wu_rules_laws.proofs.Changed.{and_false, any-placed, any_false-map, cond_keeps, or_from, or_left, or_right}
 use Rattle.wu_rules_laws.proofs.Planned.{clear_of, extended-unflagged, no_errors_planned, no_total_planned, none_added}
@@ -63,7 +63,12 @@ follows_then xs ys zs h k = record {
 
 -- ---- workunits
 
--- nothing is made VALID, decided or DONE; a new bit of the mask comes only where there is no canonical result
+-- final verdicts are kept by those at their places
+pub verdicts_kept : (w v : Workunit)
+    → ((n : ℕ) (u : ValidateState) → verdict_at w.instances n ≡ Some u → is_open_verdict u ≡ false → verdict_at v.instances n ≡ Some u) → KeepsVerdicts w v
+verdicts_kept w v kept n i here final = kept n i.validate_state (ap (λ o. option_map (λ (j : Instance). j.validate_state) o) here) final
+
+-- nothing is made VALID, decided or DONE; a new bit of the mask comes only where the workunit is undecided
 pub record Quietly (old new : Workunit) : Type 0 where
   pub number : new.number ≡ old.number
   pub name : new.name ≡ old.name
@@ -73,7 +78,8 @@ pub record Quietly (old new : Workunit) : Type 0 where
   pub deletable : old.file_delete ≢ file_delete.Error → new.file_delete ≢ file_delete.Error
   pub sendable : new.error_mask.couldnt_send_result ≡ old.error_mask.couldnt_send_result
   pub decidable : new.error_mask.no_canonical_result ≡ old.error_mask.no_canonical_result
-  pub given_up : (is_clear old.error_mask ≡ false → is_none old.canonical ≡ true) → is_clear new.error_mask ≡ false → is_none old.canonical ≡ true
+  pub mask : is_undecided old ≡ false → new.error_mask ≡ old.error_mask
+  pub moment : new.done_at ≡ old.done_at
   pub instances : Follows old.instances new.instances
 
 -- only the instances change
@@ -87,7 +93,8 @@ quietly_same w ys h = record {
   deletable = λ right. right;
   sendable = refl;
   decidable = refl;
-  given_up = λ before e. before e;
+  mask = λ e. refl;
+  moment = refl;
   instances = follows w.instances ys h;
 }
 
@@ -111,9 +118,27 @@ quietly_then w v u h k = record {
   deletable = λ right. k.deletable (h.deletable right);
   sendable = k.sendable ∙ h.sendable;
   decidable = k.decidable ∙ h.decidable;
-  given_up = λ before e. sym (ap is_none h.canonical) ∙ k.given_up (λ f. ap is_none h.canonical ∙ h.given_up before f) e;
+  mask = λ e. k.mask (still e) ∙ h.mask e;
+  moment = k.moment ∙ h.moment;
   instances = follows_then w.instances v.instances u.instances h.instances k.instances;
 }
+  where
+    still : is_undecided w ≡ false → is_undecided v ≡ false
+    still e =
+        ap (λ c. is_none c && is_clear v.error_mask) h.canonical ∙ ap (λ m. is_none w.canonical && is_clear m) (h.mask e) ∙ e
+
+-- who was given up or decided, and not both, is not both now
+pub given_up_alone : (w v : Workunit) → Quietly w v → (is_clear w.error_mask ≡ false → is_none w.canonical ≡ true) → is_clear v.error_mask ≡ false
+    → is_none w.canonical ≡ true
+given_up_alone w v q before set = by_case (is_undecided w) refl
+  where
+    by_case : (b : Bool) → b ≡ is_undecided w → is_none w.canonical ≡ true
+    by_case true e = and_left (is_none w.canonical) (is_clear w.error_mask) (sym e)
+    by_case false e = before (sym (ap is_clear (q.mask (sym e))) ∙ set)
+
+-- an undecided workunit may get any mask
+any_mask : (w : Workunit) (m : ErrorMask) → is_undecided w ≡ true → is_undecided w ≡ false → m ≡ w.error_mask
+any_mask w m undecided e = absurd (let both : true ≡ false = sym undecided ∙ e in cc)
 
 -- Who is waited for: no unsent instance once a workunit is given up or decided, and no assimilation before.
 pub record Awaits (w : Workunit) : Type 0 where
@@ -147,10 +172,6 @@ awaits_same w ys same h = record { nothing_unsent = λ e. same ∙ h.nothing_uns
 follows_timed : (w : Workunit) (now : ℕ) → AllBecome none_made w.instances (timed w now).instances
 follows_timed w now = all_become none_made (timed_out now) (becomes_timed_out now) w.instances
 
--- a workunit that is not undecided gets no bit of the mask
-clear_extended : (w : Workunit) → is_undecided w ≡ false → is_clear (extended w).error_mask ≡ is_clear w.error_mask
-clear_extended w e = ap (λ v. is_clear v.error_mask) (extended-unflagged w (no_errors_planned w e) (no_total_planned w e))
-
 -- a mask that is clear after new bits was clear before
 clear_before : (w : Workunit) → is_clear (extended w).error_mask ≡ true → is_clear w.error_mask ≡ true
 clear_before w e =
@@ -170,14 +191,10 @@ quietly_extended w = record {
   deletable = λ right. right;
   sendable = refl;
   decidable = refl;
-  given_up = by_case (is_undecided w) refl;
+  mask = λ e. ap (λ v. v.error_mask) (extended-unflagged w (no_errors_planned w e) (no_total_planned w e));
+  moment = refl;
   instances = follows w.instances (extended w).instances (all_become-more w.instances (added w));
 }
-  where
-    by_case : (b : Bool) → b ≡ is_undecided w → (is_clear w.error_mask ≡ false → is_none w.canonical ≡ true) → is_clear (extended w).error_mask ≡ false
-        → is_none w.canonical ≡ true
-    by_case true e before f = and_left (is_none w.canonical) (is_clear w.error_mask) (sym e)
-    by_case false e before f = before (sym (clear_extended w (sym e)) ∙ f)
 
 -- what is readied is DONE where it was
 pub ready_done : (a : Assimilate) → is_done_assimilate (readied_assimilate a) ≡ is_done_assimilate a
@@ -196,7 +213,8 @@ quietly_settled w = quietly_either (is_clear w.error_mask) w w (ended w) (quietl
   deletable = λ right. right;
   sendable = refl;
   decidable = refl;
-  given_up = λ before e. before e;
+  mask = λ e. refl;
+  moment = refl;
   instances = follows w.instances (map given_up w.instances) (all_become none_made given_up becomes_given_up w.instances);
 })
 
@@ -211,7 +229,8 @@ quietly_readied w = quietly_either (is_done_assimilate w.assimilate) w (with_fil
   deletable = readied_right (is_all_over w) w.file_delete;
   sendable = refl;
   decidable = refl;
-  given_up = λ before e. before e;
+  mask = λ e. refl;
+  moment = refl;
   instances = follows w.instances (outputs_readied w.canonical w.instances)
       (all_become-placed (with_output_readied w.canonical (list_all is_finished w.instances))
       (λ n i. becomes_readied (may_output_go w.canonical (list_all is_finished w.instances) n i) i) 0 w.instances);
@@ -275,8 +294,8 @@ awaits_transitioned w now h = awaits_readied (settled (extended (timed w now))) 
 -- ---- without a consensus
 
 -- without a consensus nothing is made VALID
-pub quietly_left_open : (w : Workunit) → w.canonical ≡ None → Quietly w (left_open w)
-quietly_left_open w none = quietly_either (nat_lt w.params.max_success_results (length (viable w))) w _ _
+pub quietly_left_open : (w : Workunit) → is_undecided w ≡ true → Quietly w (left_open w)
+quietly_left_open w undecided = quietly_either (nat_lt w.params.max_success_results (length (viable w))) w _ _
     (record {
       number = refl;
       name = refl;
@@ -286,7 +305,8 @@ quietly_left_open w none = quietly_either (nat_lt w.params.max_success_results (
       deletable = λ right. right;
       sendable = refl;
       decidable = refl;
-      given_up = λ before e. ap is_none none;
+      mask = any_mask w (record w.error_mask { too_many_success_results = true }) undecided;
+      moment = refl;
       instances = follows w.instances (map doubted_or_closed w.instances) (all_become none_made doubted_or_closed becomes_doubted_or_closed w.instances);
     })
     (record {
@@ -298,7 +318,8 @@ quietly_left_open w none = quietly_either (nat_lt w.params.max_success_results (
       deletable = λ right. right;
       sendable = refl;
       decidable = refl;
-      given_up = λ before e. before e;
+      mask = λ e. refl;
+      moment = refl;
       instances = follows w.instances (map doubted w.instances) (all_become none_made doubted becomes_doubted w.instances);
     })
 
@@ -340,7 +361,8 @@ quietly_cancelled w e = record {
   deletable = λ right. right;
   sendable = refl;
   decidable = refl;
-  given_up = λ before f. and_left (is_none w.canonical) (is_clear w.error_mask) e;
+  mask = any_mask w (record w.error_mask { cancelled = true }) e;
+  moment = refl;
   instances = follows_cancelled w;
 }
 
@@ -370,7 +392,8 @@ quietly_emptied w = record {
   deletable = emptied_right w.file_delete;
   sendable = refl;
   decidable = refl;
-  given_up = λ before e. before e;
+  mask = λ e. refl;
+  moment = refl;
   instances = follows w.instances (map without_output w.instances) (all_become none_made without_output becomes_without_output w.instances);
 }
 

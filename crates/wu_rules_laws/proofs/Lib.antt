@@ -2,6 +2,7 @@ pub mod Awake
 mod Becoming
 mod Changed
 mod Choosing
+mod Deciding
 mod Following
 mod Granted
 mod Granting
@@ -11,4 +12,5 @@ mod Planned
 pub mod Rewriting
 mod Settled
 pub mod Spent
+mod Unsent
 pub mod Verdicts

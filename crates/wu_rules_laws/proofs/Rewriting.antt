@@ -8,6 +8,7 @@ use Rattle.std.specs.Option.{option_map_or}
 use Rattle.wu_core.specs.Formed.{IsInstance, IsWorkunit}
 use Rattle.wu_core.specs.Workunit.{with_instance}
 use Rattle.wu_core.specs.declared.workunit.Archived.{Archived}
+use Rattle.wu_core.specs.declared.workunit.Grant.{Grant}
 use Rattle.wu_core.specs.declared.workunit.Instance.{Instance}
 use Rattle.wu_core.specs.declared.workunit.Workunit.{Workunit}
 use Rattle.wu_core.specs.declared.states.Assimilate.{Assimilate}
@@ -18,7 +19,7 @@ use Rattle.wu_core.specs.declared.states.Status.{Status}
 use Rattle.wu_core.specs.declared.states.ValidateState.TheVariants as validate
 use Rattle.wu_rules.specs.Assimilation.{archived, archived_row, assimilated, emptied}
 use Rattle.wu_rules.specs.Cancelling.{cancelled}
-use Rattle.wu_rules.specs.Counts.{consensus, has_new_success, is_clear}
+use Rattle.wu_rules.specs.Counts.{consensus, has_new_success, is_clear, is_undecided}
 use Rattle.wu_rules.specs.Instances.{is_done_assimilate, is_new, is_over_state, is_ready_assimilate, is_success, is_success_outcome, is_unsent, is_viable, readied_assimilate}
 use Rattle.wu_rules.specs.Reporting.{is_no_reply, is_sent_after, report_verdict_in, report_verdict_of, reported_as, reported_in}
 use Rattle.wu_rules.specs.Sending.{is_of, send_verdict_in, send_verdict_of, sent_in, sent_to}
@@ -26,16 +27,16 @@ use Rattle.wu_rules.specs.Transition.{transitioned}
 use Rattle.wu_rules.specs.Validation.{agreed_on, decided, granted_by, grants, grants_by, grants_decided, is_deleted_at, is_judged, is_to_validate, judged_by, judged_late_by, left_open, output_at, validated, validated_by, verdict}
 use Rattle.wu_rules.specs.declared.verdicts.ReportVerdict.TheVariants as report
 use Rattle.wu_rules.specs.declared.verdicts.SendVerdict.TheVariants as send
-use Rattle.wu_rules_laws.specs.Consistent.{ArchivesTheNew, GrantsToTheNew, IsConsistent, IsPossible, Rewrites, RulesRewrite, is_done, is_valid_at, is_valid_verdict, one_if}
+use Rattle.wu_rules_laws.specs.Consistent.{ArchivesTheNew, GrantsToTheNew, IsConsistent, IsPossible, IsRowOf, Rewrites, RulesRewrite, is_done, is_valid_at, is_valid_verdict, one_if}
 use Rattle.wu_rules_laws.specs.Laws.{IsChosen, IsRightGrantIn}
-use Rattle.wu_rules_laws.proofs.Becoming.{AllBecome, Becomes, all_become, all_become-set, all_possible, becomes_judged_by, becomes_judged_late_by, becomes_reported, becomes_sent, becomes_too_late, init_not_valid, is_valid, new_is_viable, none_made, valid_at, valid_host}
-use Rattle.wu_rules_laws.proofs.Changed.{any_false-map}
-use Rattle.wu_rules_laws.proofs.Following.{Awaits, Quietly, awaits_cancelled, awaits_emptied, awaits_left_open, awaits_same, awaits_set, awaits_transitioned, quietly_cancelled, quietly_emptied, quietly_left_open, quietly_same, quietly_transitioned, quietly_unchanged, ready_done, unsent_same}
+use Rattle.wu_rules_laws.proofs.Becoming.{AllBecome, Becomes, all_become, all_become-set, all_possible, becomes_judged_by, becomes_judged_late_by, becomes_reported, becomes_sent, becomes_too_late, final_at, init_not_valid, is_valid, new_is_viable, none_made, valid_at, valid_host}
+use Rattle.wu_rules_laws.proofs.Changed.{and_false, any_false-map}
+use Rattle.wu_rules_laws.proofs.Following.{Awaits, Quietly, awaits_cancelled, awaits_emptied, awaits_left_open, awaits_same, awaits_set, awaits_transitioned, given_up_alone, quietly_cancelled, quietly_emptied, quietly_left_open, quietly_same, quietly_transitioned, quietly_unchanged, ready_done, unsent_same, verdicts_kept}
 use Rattle.wu_rules_laws.proofs.Granted.{grants_new}
 use Rattle.wu_rules_laws.proofs.Granting.{chosen, grants_right}
 use Rattle.wu_rules_laws.proofs.Kept.{keeps_formed}
 use Rattle.wu_rules_laws.proofs.Settled.{unsent_judged}
-use Rattle.wu_rules_laws.proofs.Spent.{and_left, and_right}
+use Rattle.wu_rules_laws.proofs.Spent.{and_from, and_left, and_right}
 
 -- ---- the canonical result
 
@@ -103,6 +104,18 @@ archives_none w v same = record { once = none_new (is_done v) (is_done w) same; 
 awaits_of : (w : Workunit) → IsConsistent w → Awaits w
 awaits_of w h = record { nothing_unsent = h.nothing_unsent; undecided = h.undecided }
 
+-- what is DONE is not undecided
+done_not_undecided : (w : Workunit) → IsConsistent w → is_done w ≡ true → is_undecided w ≡ false
+done_not_undecided w h done = by_case (is_undecided w) refl
+  where
+    by_case : (b : Bool) → b ≡ is_undecided w → b ≡ false
+    by_case false e = refl
+    by_case true e =
+        let clear = and_right (is_none w.canonical) (is_clear w.error_mask) (sym e) in
+        let none = and_left (is_none w.canonical) (is_clear w.error_mask) (sym e) in
+        let init = h.undecided (and_from (is_clear w.error_mask) (is_none w.canonical) clear none) in
+        sym done ∙ ap is_done_assimilate init
+
 -- a rule that makes nothing VALID rewrites
 rewrites_quietly : (w v : Workunit) → IsWorkunit w → IsConsistent w → IsWorkunit v → Quietly w v → Awaits v → Rewrites w v [] []
 rewrites_quietly w v formed h made q a =
@@ -117,21 +130,39 @@ rewrites_quietly w v formed h made q a =
         deletable = q.deletable h.deletable;
         sendable = q.sendable ∙ h.sendable;
         decidable = q.decidable ∙ h.decidable;
-        given_up_or_decided = λ e. ap is_none q.canonical ∙ q.given_up h.given_up_or_decided e;
+        given_up_or_decided = λ e. ap is_none q.canonical ∙ given_up_alone w v q h.given_up_or_decided e;
         nothing_unsent = a.nothing_unsent;
         undecided = a.undecided;
         canonical = canonical_right v possible (λ n e. q.instances.valid n ∙ canonical_valid w formed h n (sym q.canonical ∙ e));
       };
       valid = λ n e. (let now_valid : is_valid_at v.instances n ≡ true = q.instances.valid n ∙ e in (now_valid, q.instances.host n now_valid));
       canonical = λ n e. q.canonical ∙ e;
+      verdicts = verdicts_kept w v q.instances.final;
+      given_up = λ e. ap is_clear (q.mask (and_false (is_none w.canonical) (is_clear w.error_mask) e)) ∙ e;
       done = λ e. q.done ∙ e;
+      stays = λ e. (q.mask (done_not_undecided w h e), q.moment);
       granted = grants_none w v q.instances.valid;
       archives = archives_none w v q.done;
     }
 
 -- no change rewrites
-rewrites_unchanged : (w : Workunit) → IsWorkunit w → IsConsistent w → Rewrites w w [] []
+pub rewrites_unchanged : (w : Workunit) → IsWorkunit w → IsConsistent w → Rewrites w w [] []
 rewrites_unchanged w formed h = rewrites_quietly w w formed h formed (quietly_unchanged w) (awaits_of w h)
+
+-- what is DONE keeps its canonical result, or that it has none
+pub canonical_stays : (w v : Workunit) (gs : List Grant) (rows : List Archived) → IsConsistent w → Rewrites w v gs rows → is_done w ≡ true
+    → v.canonical ≡ w.canonical
+canonical_stays w v gs rows h rewrites done = by_case w.canonical refl
+  where
+    none : (o : Option ℕ) → is_none o ≡ true → o ≡ None
+    none None e = refl
+    none (Some n) e = cc
+
+    by_case : (o : Option ℕ) → w.canonical ≡ o → v.canonical ≡ o
+    by_case (Some n) e = rewrites.canonical n e
+    by_case None e =
+        let set : is_clear w.error_mask ≡ false = ap (λ c. is_none c && is_clear w.error_mask) (sym e) ∙ done_not_undecided w h done in
+        none v.canonical (rewrites.consistent.given_up_or_decided (rewrites.given_up set))
 
 -- ---- the assimilator
 
@@ -168,11 +199,15 @@ rewrites_assimilated w now formed h = by_case (is_ready_assimilate w.assimilate)
       };
       valid = λ n f. (f, refl);
       canonical = λ n f. f;
+      verdicts = verdicts_kept w v (λ n u f final. f);
+      given_up = λ f. f;
       done = λ f. refl;
+      stays = λ f. absurd (let both : true ≡ false = sym f ∙ ready_not_done w.assimilate (sym e) in cc);
       granted = grants_none w v (λ n. refl);
       archives = record {
         once = ap (λ b. one_if (true && not b)) (sym (ready_not_done w.assimilate (sym e)));
-        own = All-from_recursion (λ (row : Archived). (row.number ≡ w.number) × (row.name ≡ w.name)) (archived_row w now ∷ []) ((refl, refl), tt);
+        own = All-from_recursion (λ (row : Archived). (row.number ≡ w.number) × (row.name ≡ w.name) × IsRowOf v row) (archived_row w now ∷ [])
+            ((refl, refl, (refl, refl, refl)), tt);
       };
     }
     by_case false e made = rewrites_unchanged w formed h
@@ -193,7 +228,7 @@ rewrites_set w n i j formed h here becomes sent made =
     (awaits_set w n j sent (awaits_of w h))
 
 -- what is sent was unsent
-was_unsent : (w : Workunit) (host : List ℕ) (i : Instance) → send_verdict_of w host i ≡ send.Applied → is_unsent i ≡ true
+pub was_unsent : (w : Workunit) (host : List ℕ) (i : Instance) → send_verdict_of w host i ≡ send.Applied → is_unsent i ≡ true
 was_unsent w host i e = by_case (is_unsent i) e
   where
     by_case : (b : Bool) → cond (not b) send.NotUnsent (cond (list_any (is_of host) w.instances) send.SameHost send.Applied) ≡ send.Applied → b ≡ true
@@ -300,7 +335,10 @@ rewrites_judged w output c a ys formed h clear made become viable valid stays do
   };
   valid = λ n e. (let still = valid_still w output ys become n e in (still, valid_host (is_made w output) w.instances ys become n still));
   canonical = stays;
+  verdicts = verdicts_kept w v (final_at (is_made w output) w.instances ys become);
+  given_up = λ e. e;
   done = λ e. done ∙ e;
+  stays = λ e. (refl, refl);
   granted = grants_new w v output viable (recursion_from_All IsInstance w.instances formed.instances) become refl right;
   archives = archives_none w v done;
 }
@@ -395,7 +433,7 @@ rewrites_validated w formed h = by_case (is_to_validate w) refl (keeps_formed w 
   where
     by_consensus : (o : Option ℕ) → consensus w ≡ o → is_clear w.error_mask ≡ true → w.canonical ≡ None
         → IsWorkunit (decided w o) → All (IsRightGrantIn w (decided w o)) (grants_decided w o) → Rewrites w (decided w o) (grants_decided w o) []
-    by_consensus None e clear none made right = rewrites_quietly w (left_open w) formed h made (quietly_left_open w none) (awaits_left_open w (awaits_of w h))
+    by_consensus None e clear none made right = rewrites_quietly w (left_open w) formed h made (quietly_left_open w (and_from (is_none w.canonical) (is_clear w.error_mask) (ap is_none none) clear)) (awaits_left_open w (awaits_of w h))
     by_consensus (Some n) e clear none made right = rewrites_agreed w n formed h clear none e made right
 
     late : Bool → ℕ → Workunit

@@ -1,12 +1,11 @@
 -- No rule changes a final verdict.
-use Rattle.std.proofs.Common.{◌≡◌, ℕ, zero, suc, Bool, true, false, cond, List, [], ◌∷◌, slice_get, slice_set, Option, Some, None, option_map, refl, sym, ap, ◌∙◌}
+use Rattle.std.proofs.Common.{◌≡◌, ℕ, zero, suc, Bool, true, false, cond, List, [], ◌∷◌, slice_get, slice_set, Option, Some, None, option_map, refl, sym, ap, subst, ◌∙◌}
 use Rattle.std.specs.Option.{option_map_or}
 use Rattle.wu_core.specs.Workunit.{with_instance}
 use Rattle.wu_core.specs.declared.workunit.Instance.{Instance}
 use Rattle.wu_core.specs.declared.workunit.Workunit.{Workunit}
 use Rattle.wu_core.specs.declared.states.Assimilate.TheVariants as assimilate
 use Rattle.wu_core.specs.declared.states.Status.{Status}
-use Rattle.wu_core.specs.declared.states.ValidateState.{ValidateState}
 use Rattle.wu_rules.specs.Assimilation.{assimilated, emptied}
 use Rattle.wu_rules.specs.Cancelling.{cancelled}
 use Rattle.wu_rules.specs.Instances.{is_open_verdict, is_ready_assimilate}
@@ -16,18 +15,24 @@ use Rattle.wu_rules.specs.Transition.{transitioned}
 use Rattle.wu_rules.specs.declared.verdicts.ReportVerdict.TheVariants as report
 use Rattle.wu_rules_laws.specs.Consistent.{IsConsistent, IsPossible, KeepsVerdicts, RulesKeepVerdicts}
 use Rattle.wu_rules_laws.proofs.Becoming.{all_become-set, becomes_reported, final_at, none_made, verdict_at}
-use Rattle.wu_rules_laws.proofs.Following.{Follows, follows_cancelled, quietly_emptied, quietly_transitioned}
+use Rattle.wu_rules_laws.proofs.Following.{Follows, follows_cancelled, quietly_emptied, quietly_transitioned, verdicts_kept}
 use Rattle.wu_rules_laws.proofs.Judged.{finals_stay}
 use Rattle.wu_rules_laws.proofs.Rewriting.{holds_at, was_no_success}
 
--- by the verdicts at their places
-verdicts_kept : (w v : Workunit)
-    → ((n : ℕ) (u : ValidateState) → verdict_at w.instances n ≡ Some u → is_open_verdict u ≡ false → verdict_at v.instances n ≡ Some u) → KeepsVerdicts w v
-verdicts_kept w v kept n i here final = kept n i.validate_state (ap (λ o. option_map (λ (j : Instance). j.validate_state) o) here) final
-
 -- no change
-verdicts_unchanged : (w : Workunit) → KeepsVerdicts w w
+pub verdicts_unchanged : (w : Workunit) → KeepsVerdicts w w
 verdicts_unchanged w = verdicts_kept w w (λ n u e final. e)
+
+-- one change after another
+pub verdicts_then : (w v u : Workunit) → KeepsVerdicts w v → KeepsVerdicts v u → KeepsVerdicts w u
+verdicts_then w v u first second n i here final = by_case (slice_get v.instances n) refl (first n i here final)
+  where
+    by_case : (o : Option Instance) → slice_get v.instances n ≡ o → option_map (λ j. j.validate_state) o ≡ Some i.validate_state
+        → verdict_at u.instances n ≡ Some i.validate_state
+    by_case None e f = cc
+    by_case (Some j) e f =
+        let same : j.validate_state ≡ i.validate_state = cc in
+        second n j e (subst (λ s. is_open_verdict s ≡ false) (sym same) final) ∙ ap Some same
 
 -- where nothing is made VALID
 verdicts_follow : (w v : Workunit) → Follows w.instances v.instances → KeepsVerdicts w v

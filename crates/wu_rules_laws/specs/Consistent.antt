@@ -78,13 +78,24 @@ pub record GrantsToTheNew (old new : Workunit) (grants : List Grant) : Type 0 wh
       ≡ one_if (is_valid_at new.instances n && not (is_valid_at old.instances n))
   pub own : All (IsGrantFor new) grants
 
--- a workunit has one archived row exactly where it is made DONE, of its number and its name
+-- an archived row has the canonical number, the error mask and the moment of its workunit
+abbrev pub IsRowOf : Workunit → Archived → Type 0
+IsRowOf w row = (row.canonical ≡ w.canonical) × (row.error_mask ≡ w.error_mask) × (w.done_at ≡ Some row.done_at)
+
+-- a workunit has one archived row exactly where it is made DONE, of its number and its name, as it is then
 pub record ArchivesTheNew (old new : Workunit) (archived : List Archived) : Type 0 where
   pub once : length archived ≡ one_if (is_done new && not (is_done old))
-  pub own : All (λ row. (row.number ≡ old.number) × (row.name ≡ old.name)) archived
+  pub own : All (λ row. (row.number ≡ old.number) × (row.name ≡ old.name) × IsRowOf new row) archived
 
--- What a rule makes of a consistent workunit, with what it grants and archives. What was decided stays: who is VALID, with
--- its host, the canonical result, and that it is DONE.
+-- the final verdicts of the old instances are those of the new ones at their places
+abbrev pub KeepsVerdicts : Workunit → Workunit → Type 0
+KeepsVerdicts old new =
+    (n : ℕ) (i : Instance) → slice_get old.instances n ≡ Some i → is_open_verdict i.validate_state ≡ false
+    → option_map (λ j. j.validate_state) (slice_get new.instances n) ≡ Some i.validate_state
+
+-- What a rule makes of a consistent workunit, with what it grants and archives. What was decided stays: who is VALID,
+-- with its host, each final verdict, the canonical result, that it was given up, and that it is DONE, with its mask and
+-- its moment.
 pub record Rewrites (old new : Workunit) (grants : List Grant) (archived : List Archived) : Type 0 where
   pub number : new.number ≡ old.number
   pub name : new.name ≡ old.name
@@ -94,7 +105,10 @@ pub record Rewrites (old new : Workunit) (grants : List Grant) (archived : List 
   pub valid : (n : ℕ) → is_valid_at old.instances n ≡ true
       → (is_valid_at new.instances n ≡ true) × (host_at new.instances n ≡ host_at old.instances n)
   pub canonical : (n : ℕ) → old.canonical ≡ Some n → new.canonical ≡ Some n
+  pub verdicts : KeepsVerdicts old new
+  pub given_up : is_clear old.error_mask ≡ false → is_clear new.error_mask ≡ false
   pub done : is_done old ≡ true → is_done new ≡ true
+  pub stays : is_done old ≡ true → (new.error_mask ≡ old.error_mask) × (new.done_at ≡ old.done_at)
   pub granted : GrantsToTheNew old new grants
   pub archives : ArchivesTheNew old new archived
 
@@ -114,12 +128,6 @@ pub record RulesRewrite (w : Workunit) : Type 0 where
 abbrev pub KeepsWorkunitsConsistent : Type 0
 KeepsWorkunitsConsistent = (w : Workunit) → IsWorkunit w → IsConsistent w → RulesRewrite w
 
--- the final verdicts of the old instances are those of the new ones at their places
-abbrev pub KeepsVerdicts : Workunit → Workunit → Type 0
-KeepsVerdicts old new =
-    (n : ℕ) (i : Instance) → slice_get old.instances n ≡ Some i → is_open_verdict i.validate_state ≡ false
-    → option_map (λ j. j.validate_state) (slice_get new.instances n) ≡ Some i.validate_state
-
 -- no final verdict changes; not even a report that is taken changes one, where the workunit is consistent
 pub record RulesKeepVerdicts (w : Workunit) : Type 0 where
   pub transitioned : (now : ℕ) → KeepsVerdicts w (transitioned w now)
@@ -133,3 +141,8 @@ pub record RulesKeepVerdicts (w : Workunit) : Type 0 where
 
 abbrev pub KeepsAllVerdicts : Type 0
 KeepsAllVerdicts = (w : Workunit) → RulesKeepVerdicts w
+
+-- what is decided or given up has nothing to send: a send is applied of an undecided workunit alone
+abbrev pub SendsWhatIsUndecided : Type 0
+SendsWhatIsUndecided =
+    (w : Workunit) (n : ℕ) (host : List ℕ) → IsConsistent w → send_verdict_in w n host ≡ send.Applied → is_undecided w ≡ true

@@ -1,21 +1,22 @@
 -- What the rules mean, in the words of the field.
-use Rattle.std.specs.Prelude.{◌≡◌, ◌≢◌, ◌↔◌, ℕ, ◌+◌, ◌/◌, ◌<◌, ◌≤◌, length, true, false, if◌then◌else◌, [], List, map, Option, Some, None, option_map, slice_get, IsSomeAnd}
+use Rattle.std.specs.Prelude.{◌≡◌, ◌≢◌, ◌↔◌, ℕ, ◌+◌, ◌/◌, ◌<◌, ◌≤◌, length, true, false, if◌then◌else◌, [], List, map, Option, Some, None, option_map, slice_get, IsSomeAnd, bytes_eq}
 use Rattle.std.specs.List.{enumerate_from, All, AllPairs}
 use Rattle.wu_core.specs.declared.workunit.Workunit.{Workunit}
 use Rattle.wu_core.specs.Formed.{IsWorkunit}
 use Rattle.wu_core.specs.declared.workunit.Grant.{Grant}
 use Rattle.wu_core.specs.declared.workunit.Instance.{Instance}
 use Rattle.wu_core.specs.declared.states.Status.{Status}
+use Rattle.wu_core.specs.declared.states.ValidateState.{ValidateState}
 use Rattle.wu_core.specs.declared.states.ValidateState.TheVariants as validate
 use Rattle.wu_rules.specs.declared.verdicts.ReportVerdict.TheVariants as report
-use Rattle.wu_rules.specs.Instances.{is_viable, is_open_verdict, is_ready_assimilate, is_ready_file}
+use Rattle.wu_rules.specs.Instances.{is_new, is_viable, is_open_verdict, is_ready_assimilate, is_ready_file}
 use Rattle.wu_rules.specs.Assimilation.{assimilated, archived, emptied, is_to_delete, is_purgeable}
 use Rattle.wu_rules.specs.Cancelling.{cancelled}
 use Rattle.wu_rules.specs.Counts.{viable, agreeing, is_agreed, consensus}
 use Rattle.wu_rules.specs.Reporting.{report_verdict_in, reported_in}
 use Rattle.wu_rules.specs.Sending.{sent_in}
 use Rattle.wu_rules.specs.Transition.{transitioned}
-use Rattle.wu_rules.specs.Validation.{is_to_validate, validated, grants}
+use Rattle.wu_rules.specs.Validation.{grants, is_deleted_at, is_to_validate, output_at, validated, verdict}
 use Rattle.wu_rules.specs.Waking.{wake}
 
 -- a second transition at the same moment changes nothing
@@ -93,6 +94,24 @@ pub record ChoosesByQuorum (w : Workunit) : Type 0 where
 
 abbrev pub ChoosesOnlyByQuorum : Type 0
 ChoosesOnlyByQuorum = (w : Workunit) → ChoosesByQuorum w
+
+-- the verdict of the instance of this number
+abbrev pub verdict_at : Workunit → ℕ → Option ValidateState
+verdict_at w n = option_map (λ i. i.validate_state) (slice_get w.instances n)
+
+-- The validator decides by the consensus. At the decision a viable success is VALID where its output is the chosen one,
+-- byte for byte, and else INVALID; so is a new one after it, as long as the canonical output is held.
+pub record DecidesBy (w : Workunit) : Type 0 where
+  pub chosen : is_to_validate w ≡ true → w.canonical ≡ None → (validated w).canonical ≡ consensus w
+  pub judged : (c n : ℕ) (i : Instance) → is_to_validate w ≡ true → w.canonical ≡ None → consensus w ≡ Some c
+      → slice_get w.instances n ≡ Some i → is_viable i ≡ true
+      → verdict_at (validated w) n ≡ Some (verdict (bytes_eq i.output (output_at w.instances c)))
+  pub judged_late : (c n : ℕ) (i : Instance) → is_to_validate w ≡ true → w.canonical ≡ Some c
+      → is_deleted_at w.instances c ≡ false → slice_get w.instances n ≡ Some i → is_new i ≡ true
+      → verdict_at (validated w) n ≡ Some (verdict (bytes_eq i.output (output_at w.instances c)))
+
+abbrev pub DecidesByConsensus : Type 0
+DecidesByConsensus = (w : Workunit) → DecidesBy w
 
 -- the same workunit, with other hosts
 abbrev pub rehosted : (ℕ → Instance → Option (List ℕ)) → Workunit → Workunit

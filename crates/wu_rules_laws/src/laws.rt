@@ -1,7 +1,7 @@
 //! Laws of the rules: each function's contract is one, for every workunit and every moment.
 
 ghost use Rattle.wu_core.specs.declared.workunit.Workunit.{Workunit};
-ghost use Rattle.wu_rules_laws.specs.Laws.{TransitionsOnce, WakesInTime, LooksWhereItChanges, KeepsFinalVerdicts, AssimilatesWhatIsReady, ArchivesWhatWasRead, DeletesWhereItChanges, HoldsNothingReady, PurgesWhatIsThrough, StaysPurgeable, ChoosesByAgreement, ChoosesOnlyByQuorum, ChoosesWithoutHosts, GrantsToTheValid, GrantsOnce, KeepsWorkunitsFormed};
+ghost use Rattle.wu_rules_laws.specs.Laws.{TransitionsOnce, WakesInTime, LooksWhereItChanges, KeepsFinalVerdicts, AssimilatesWhatIsReady, ArchivesWhatWasRead, DeletesWhereItChanges, HoldsNothingReady, PurgesWhatIsThrough, StaysPurgeable, ChoosesByAgreement, ChoosesOnlyByQuorum, ChoosesWithoutHosts, DecidesByConsensus, GrantsToTheValid, GrantsOnce, KeepsWorkunitsFormed};
 
 /// A second transition at the same moment changes nothing.
 pub fn transitions_once()
@@ -63,6 +63,12 @@ pub fn chooses_by_agreement()
 /// it away or chooses another.
 pub fn chooses_only_by_quorum()
     ensures { ChoosesOnlyByQuorum }
+{}
+
+/// The validator decides exactly by the consensus: what it chooses is the consensus, and a success that it judges is VALID
+/// where its output is the chosen one byte for byte, and else INVALID.
+pub fn decides_by_consensus()
+    ensures { DecidesByConsensus }
 {}
 
 /// Hosts have no part in the choice: it depends on states, outputs and order alone.

@@ -38,7 +38,8 @@ fn create_result<S: Alter>(tx: &mut Transaction<'_, S>) -> Result<(), Error>
 
 fn create_credit_grant<S: Alter>(tx: &mut Transaction<'_, S>) -> Result<(), Error>
     ensures writes { Writes S.Store tx.old tx.new result }
-    ensures makes { Does S.Store tx.old tx.new result (MakesTable (codes "credit_grant", grant_at)) }
+    ensures makes { Does S.Store tx.old tx.new result
+        (MakesTable (codes "credit_grant", grant_at)) }
 {
     execute(tx, CREATE_CREDIT_GRANT, &[])
 }

@@ -64,7 +64,8 @@ pub fn fault_after<S: Alter>(conn: &mut Connection<S>, error: &Error) -> Fault
     ensures mode { conn.old.in_transaction ≡ false → conn.new.in_transaction ≡ false }
     ensures kind { result ≡ Fault.NotAProject → fault_of error.now ≡ Fault.NotAProject }
     ensures failed { IsFailure (fault_of error.now) → result ≡ fault_of error.now }
-    ensures refused { fault_of error.now ≡ Fault.NotAProject → BreaksTruly S.Store conn.old conn.new result }
+    ensures refused { fault_of error.now ≡ Fault.NotAProject
+        → BreaksTruly S.Store conn.old conn.new result }
     ensures told { IsTold result }
     ensures serves { Serves S.Store conn.old conn.new result }
     ensures back { GoesBack S.Store conn.old conn.new }

@@ -21,12 +21,14 @@ pub fn one_database_is_one_world()
 /// Instances that are added one by one come to the workunit with all of them.
 pub fn instances_are_added_one_by_one()
     ensures { (w : Workunit) (i : Instance) (world : World) → LacksNumber w.number world.workunits
-        → with_instance w.number i (with_placed w world) ≡ with_placed (and_instance w.number i w) world }
+        → with_instance w.number i (with_placed w world)
+        ≡ with_placed (and_instance w.number i w) world }
 {}
 
 /// To delete the workunit of a number and to add one of that number is to replace it.
 pub fn deleting_and_adding_is_replacing()
-    ensures { (db : Database) (world : World) (w : Workunit) → StandsFor db world → HasNumber w.number world.workunits
+    ensures { (db : Database) (world : World) (w : Workunit) → StandsFor db world
+        → HasNumber w.number world.workunits
         → with_placed w (without_workunit w.number world) ≡ with_replaced w world }
 {}
 
@@ -36,29 +38,35 @@ pub fn the_first_above_the_last_is_the_next()
         → first_above number world ≡ Some w → all_above number world ≡ w ∷ all_above w.number world }
     ensures none { (db : Database) (world : World) (number : ℕ) → StandsFor db world
         → first_above number world ≡ None → all_above number world ≡ [] }
-    ensures all { (world : World) (number : ℕ) → All (λ (w : Workunit). number < w.number) world.workunits
+    ensures all { (world : World) (number : ℕ)
+        → All (λ (w : Workunit). number < w.number) world.workunits
         → all_above number world ≡ world.workunits }
 {}
 
 /// A workunit that was removed is not found, and each other one is as it was.
 pub fn a_removed_workunit_is_not_found()
-    ensures gone { (number : ℕ) (world : World) → numbered number (without_workunit number world) ≡ None }
+    ensures gone { (number : ℕ) (world : World)
+        → numbered number (without_workunit number world) ≡ None }
     ensures others { (number other : ℕ) (world : World) → number ≢ other
         → numbered other (without_workunit number world) ≡ numbered other world }
 {}
 
 /// Grants at places in a row from the next one on are right, and come behind those that are there.
 pub fn grants_in_a_row_are_right()
-    ensures right { (place : ℕ) (grants : List Grant) (world : World) → IsNextPlace place world.grants
+    ensures right { (place : ℕ) (grants : List Grant) (world : World)
+        → IsNextPlace place world.grants
         → AreRight (granted_from place grants) world }
     ensures made { (place : ℕ) (grants : List Grant) (world : World)
-        → made_all (granted_from place grants) world ≡ record world { grants = world.grants ++ grants } }
+        → made_all (granted_from place grants) world
+        ≡ record world { grants = world.grants ++ grants } }
 {}
 
 /// So do archived rows.
 pub fn archived_rows_in_a_row_are_right()
-    ensures right { (place : ℕ) (rows : List Archived) (world : World) → IsNextPlace place world.archived
+    ensures right { (place : ℕ) (rows : List Archived) (world : World)
+        → IsNextPlace place world.archived
         → AreRight (archived_from place rows) world }
     ensures made { (place : ℕ) (rows : List Archived) (world : World)
-        → made_all (archived_from place rows) world ≡ record world { archived = world.archived ++ rows } }
+        → made_all (archived_from place rows) world
+        ≡ record world { archived = world.archived ++ rows } }
 {}

@@ -143,7 +143,8 @@ impl ResultLine {
 
 /// Adds the lines of a workunit's instances, in order of their numbers.
 pub(crate) fn add_result_lines(lines: &mut Vec<ResultLine>, workunit: Workunit) -> Result<(), Fault>
-    ensures added { IfOk result (λ _. lines.new.items ≡ lines.old.items ++ result_lines_of workunit) }
+    ensures added { IfOk result
+        (λ _. lines.new.items ≡ lines.old.items ++ result_lines_of workunit) }
     ensures fault { IfErr result (λ fault. fault ≡ Memory) }
 {
     let Workunit {

@@ -474,7 +474,8 @@ pub fn insert_import<S: Alter>(
     import: &Import<'_>,
 ) -> Result<(), Error>
     ensures writes { Writes S.Store tx.old tx.new result }
-    ensures puts { Changes S.Store tx.old tx.new result (with_import (import_of_change import.now)) }
+    ensures puts { Changes S.Store tx.old tx.new result
+        (with_import (import_of_change import.now)) }
 {
     execute(
         tx,

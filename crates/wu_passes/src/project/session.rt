@@ -33,7 +33,8 @@ fn find_or_create<S: Alter>(conn: &mut Connection<S>) -> Result<(), Fault>
     ensures made { MakesFresh S.Store conn.old conn.new result }
     ensures left { LeavesFresh S.Store conn.old conn.new }
     ensures known { FindsKnown S.Store conn.old conn.new result }
-    ensures later { (version : ℕ) → result ≡ Err (Fault.NewSchema version) → present_version < version }
+    ensures later { (version : ℕ) → result ≡ Err (Fault.NewSchema version)
+        → present_version < version }
     ensures refused { RefusesWhole S.Store conn.old conn.new result }
     ensures stored { TellsStored S.Store conn.old conn.new result }
     ensures keeps { KeepsFound S.Store conn.old conn.new }

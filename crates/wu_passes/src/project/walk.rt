@@ -88,7 +88,8 @@ impl<S: Alter> Project<S> {
     /// Their lines are all read before the first is handed out: `NotAProject` where a row is no value.
     pub fn walk_workunits(&mut self, alloc: Global) -> Result<WorkunitWalk<'_, S>, Fault>
         ensures* refused { sem 𝓛 (RestsIfRefused S.row S.Store AreStorable self.entry result) }
-        ensures same_reference { IfOk result (λ walk. walk.project.ghost_name ≡ self.entry.ghost_name) }
+        ensures same_reference { IfOk result
+            (λ walk. walk.project.ghost_name ≡ self.entry.ghost_name) }
         ensures ended { IsOver self.old → result ≡ Err Fault.Ended }
         ensures reads { IfOk result (λ walk. OnlyReads self.old (walked walk)) }
         ensures open { IfOk result (λ walk. WasOpenBefore self.old (walked walk) result) }
@@ -110,7 +111,8 @@ impl<S: Alter> Project<S> {
     /// Their lines are all read before the first is handed out: `NotAProject` where a row is no value.
     pub fn walk_results(&mut self, alloc: Global) -> Result<ResultWalk<'_, S>, Fault>
         ensures* refused { sem 𝓛 (RestsIfRefused S.row S.Store AreStorable self.entry result) }
-        ensures same_reference { IfOk result (λ walk. walk.project.ghost_name ≡ self.entry.ghost_name) }
+        ensures same_reference { IfOk result
+            (λ walk. walk.project.ghost_name ≡ self.entry.ghost_name) }
         ensures ended { IsOver self.old → result ≡ Err Fault.Ended }
         ensures reads { IfOk result (λ walk. OnlyReads self.old (walked walk)) }
         ensures open { IfOk result (λ walk. WasOpenBefore self.old (walked walk) result) }
@@ -132,7 +134,8 @@ impl<S: Alter> Project<S> {
     /// Their lines are all read before the first is handed out: `NotAProject` where a row is no value.
     pub fn walk_hosts(&mut self, alloc: Global) -> Result<HostWalk<'_, S>, Fault>
         ensures* refused { sem 𝓛 (RestsIfRefused S.row S.Store AreHostsNamed self.entry result) }
-        ensures same_reference { IfOk result (λ walk. walk.project.ghost_name ≡ self.entry.ghost_name) }
+        ensures same_reference { IfOk result
+            (λ walk. walk.project.ghost_name ≡ self.entry.ghost_name) }
         ensures ended { IsOver self.old → result ≡ Err Fault.Ended }
         ensures reads { IfOk result (λ walk. OnlyReads self.old (walked walk)) }
         ensures open { IfOk result (λ walk. WasOpenBefore self.old (walked walk) result) }
@@ -154,7 +157,8 @@ impl<S: Alter> Project<S> {
     /// Their lines are all read before the first is handed out: `NotAProject` where a row is no value.
     pub fn walk_archive(&mut self, alloc: Global) -> Result<ArchiveWalk<'_, S>, Fault>
         ensures* refused { sem 𝓛 (RestsIfRefused S.row S.Store IsArchiveStorable self.entry result) }
-        ensures same_reference { IfOk result (λ walk. walk.project.ghost_name ≡ self.entry.ghost_name) }
+        ensures same_reference { IfOk result
+            (λ walk. walk.project.ghost_name ≡ self.entry.ghost_name) }
         ensures ended { IsOver self.old → result ≡ Err Fault.Ended }
         ensures reads { IfOk result (λ walk. OnlyReads self.old (walked walk)) }
         ensures open { IfOk result (λ walk. WasOpenBefore self.old (walked walk) result) }
