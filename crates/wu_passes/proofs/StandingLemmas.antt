@@ -4,7 +4,7 @@ use Rattle.sqlite.specs.Effect.{Database}
 use Rattle.sqlite.specs.State.{State, HasCleanDisk, IsUnchanged, Survives}
 use Rattle.wu_core.specs.declared.fault.Fault.{Fault}
 use Rattle.wu_core.specs.declared.fault.Fault.TheVariants.{Broken, NotAProject}
-use Rattle.wu_schema.specs.Faults.{IsFailure}
+use Rattle.wu_schema.specs.Faults.{IsFailure, IsTold}
 use Rattle.wu_core.specs.World.{World, empty_world}
 use Rattle.wu_schema.specs.Calls.{LeavesOnly, IsBack, IsDone, IsMade, IsRefused, IsUndone}
 use Rattle.wu_schema.specs.Made.{MakesProject}
@@ -16,7 +16,7 @@ use Rattle.wu_passes.specs.Machine.{done, present_version, reply, reply_of, step
 use Rattle.wu_passes.specs.Planning.{FailsToRead, IsPlan, Plans, reply_of_answer}
 use Rattle.wu_store.specs.Loading.{IsRead, IsStoreFault}
 use Rattle.wu_passes.specs.Requests.{Request}
-use Rattle.wu_passes.specs.Standing.{GoesOn, HasEnded, IsAnswered, IsCutBy, IsRefusal, KeepsAll, KeepsShown, LeavesAlso, Stands, StoresLater, TellsLater, WhyNot}
+use Rattle.wu_passes.specs.Standing.{GoesOn, HasEnded, IsAdoptionFault, IsAnswered, IsCutBy, IsRefusal, KeepsAll, KeepsShown, LeavesAlso, Stands, StoresLater, TellsLater, WhyNot}
 use Rattle.wu_passes.specs.declared.imports.Plan.{Plan}
 use Rattle.wu_passes.specs.declared.command.Answer.{Answer}
 use Rattle.wu_store.specs.declared.changes.Change.{Change}
@@ -198,3 +198,17 @@ stored_later db found version later is told high absent answers = record {
 pub tells_worlds : (world : World) (found : Option ℕ) (version : ℕ) (r : Result (Unit {0}) Fault) → found ≡ Some version → found ≡ Some world.version → IfErr r (TellsLater version) → IfErr r (IsRefusal world)
 tells_worlds world found version (Ok x) is stored told = tt
 tells_worlds world found version (Err e) is stored told = let same : version ≡ world.version = let so = sym is ∙ stored in cc in inr (subst (λ n. TellsLater n e) same told)
+
+-- which faults an adoption may come to
+pub adoption_fault : (fault : Fault) → IsTold fault → IsAdoptionFault fault
+adoption_fault fault (inl refused) = inl (inr (inr refused))
+adoption_fault fault (inr (inl wanted)) = inl (inl wanted)
+adoption_fault fault (inr (inr failed)) = inl (inr (inl failed))
+
+pub adoption_told : {T : Type 0} (r : Result T Fault) → IfErr r IsTold → IfErr r IsAdoptionFault
+adoption_told (Ok x) told = tt
+adoption_told (Err fault) told = adoption_fault fault told
+
+pub adoption_later : {T : Type 0} (version : ℕ) (r : Result T Fault) → IfErr r (TellsLater version) → IfErr r IsAdoptionFault
+adoption_later version (Ok x) later = tt
+adoption_later version (Err fault) later = inr (version, later)

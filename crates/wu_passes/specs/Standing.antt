@@ -96,6 +96,10 @@ FindsKnown g old new result = HasCleanDisk (state g new) → OnOk result (IsKnow
 abbrev pub TellsLater : ℕ → Fault → Type 0
 TellsLater version fault = (fault ≡ NewSchema version) × (present_version < version)
 
+-- an adoption is refused for a fault of the store, or for a later version
+abbrev pub IsAdoptionFault : Fault → Type 0
+IsAdoptionFault fault = IsStoreFault fault ⊎ ((version : ℕ) × TellsLater version fault)
+
 -- ---- what the adoption of a connection does to it
 
 -- Tables that stand for a world go on standing for it; it is of the present version, or is refused.

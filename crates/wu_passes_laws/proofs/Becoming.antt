@@ -51,6 +51,8 @@ module _ (world : World) where
       canonical = is.0.canonical;
       verdicts = is.0.verdicts;
       given_up = is.0.given_up;
+      hosts = is.0.hosts;
+      apart = is.0.apart;
     }),
   )
   became us w ws gs rows (v ∷ u ∷ vs) hs more is sound = absurd is

@@ -3,12 +3,15 @@ use Rattle.std.proofs.Common.{◌≡◌, ◌<◌, ◌==◌, true, false, List, [
 use Rattle.std.proofs.lemmas.Bool.{cases_Bool, eq-eqb}
 use Rattle.std.proofs.lemmas.List.Elements.{All-cons, All-contains, All-nil, All-weaker}
 use Rattle.std.specs.List.{All}
+use Rattle.wu_core.specs.World.{empty_world}
 use Rattle.wu_core.specs.declared.workunit.Workunit.{Workunit}
+use Rattle.wu_rules_laws.specs.Consistent.{HostsApart}
 use Rattle.wu_passes.specs.Machine.{fold_steps}
 use Rattle.wu_passes.specs.Passes.{is_among}
-use Rattle.wu_passes_laws.specs.Lasting.{CanonicalResultsLast, GivenUpLasts, NamesLast, NumbersAreGivenOnce, VerdictsLast, WhilePresent}
+use Rattle.wu_passes_laws.specs.Lasting.{CanonicalResultsLast, GivenUpLasts, HostsAreApart, HostsLast, HostsStayApart, NamesLast, NumbersAreGivenOnce, VerdictsLast, WhilePresent}
 use Rattle.wu_passes_laws.proofs.Lasts.{Came, Continues, none_of_any}
 use Rattle.wu_passes_laws.proofs.Middles.{Pairs, to_pairs}
+use Rattle.wu_passes_laws.proofs.SoundLemmas.{empty_sound}
 use Rattle.wu_passes_laws.proofs.SoundSteps.{sound_steps}
 use Rattle.wu_passes_laws.proofs.SoundParts.{Ordered}
 
@@ -48,9 +51,21 @@ names_last world requests values sound k d low j e here same = (continues_on wor
 pub verdicts_last : VerdictsLast
 verdicts_last world requests values sound k d low j e here same = (continues_on world requests values sound k d low j e here same).verdicts
 
--- and that it was given up
+-- that it was given up
 pub given_up_lasts : GivenUpLasts
 given_up_lasts world requests values sound k d low j e here same = (continues_on world requests values sound k d low j e here same).given_up
+
+-- and the hosts of its instances
+pub hosts_last : HostsLast
+hosts_last world requests values sound k d low j e here same = (continues_on world requests values sound k d low j e here same).hosts
+
+-- hosts that are apart stay so
+pub hosts_stay_apart : HostsStayApart
+hosts_stay_apart world requests values sound = (sound_steps requests world values sound).1.apart
+
+-- and in a fresh project they are
+pub hosts_are_apart : HostsAreApart
+hosts_are_apart requests values = hosts_stay_apart empty_world requests values empty_sound (All-nil HostsApart)
 
 -- what came from a world was there under its number
 pub numbers_are_given_once : NumbersAreGivenOnce

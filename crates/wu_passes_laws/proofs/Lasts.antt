@@ -11,26 +11,36 @@ use Rattle.wu_core.specs.World.{World}
 use Rattle.wu_core.specs.declared.workunit.Archived.{Archived}
 use Rattle.wu_core.specs.declared.workunit.Grant.{Grant}
 use Rattle.wu_core.specs.declared.workunit.Workunit.{Workunit}
-use Rattle.wu_rules_laws.specs.Consistent.{KeepsVerdicts, is_done, one_if}
+use Rattle.wu_rules_laws.specs.Consistent.{HostsApart, KeepsHosts, KeepsVerdicts, is_done, one_if}
 use Rattle.wu_rules.specs.Counts.{is_clear}
 use Rattle.wu_rules_laws.proofs.Verdicts.{verdicts_then, verdicts_unchanged}
 use Rattle.wu_passes.specs.Batches.{is_one_of, taken_names}
 use Rattle.wu_passes_laws.specs.Sound.{IsRecorded, IsSound}
-use Rattle.wu_passes_laws.proofs.Middles.{count_none}
+use Rattle.wu_passes_laws.proofs.Middles.{around, count_none}
 use Rattle.wu_passes_laws.proofs.SoundParts.{is_row_of}
 
--- what became of a workunit has its number, its name, its canonical result if there is one, and its final verdicts, and is
--- given up where it was
+-- what became of a workunit has its number, its name, its canonical result if there is one, its final verdicts and the hosts
+-- of its instances, is given up where it was, and its hosts are apart where they were
 pub record Continues (w v : Workunit) : Type 0 where
   pub number : v.number ≡ w.number
   pub name : v.name ≡ w.name
   pub canonical : (n : ℕ) → w.canonical ≡ Some n → v.canonical ≡ Some n
   pub verdicts : KeepsVerdicts w v
   pub given_up : is_clear w.error_mask ≡ false → is_clear v.error_mask ≡ false
+  pub hosts : KeepsHosts w v
+  pub apart : HostsApart w → HostsApart v
 
 -- each continues itself
 continues_same : (w : Workunit) → Continues w w
-continues_same w = record { number = refl; name = refl; canonical = λ n is. is; verdicts = verdicts_unchanged w; given_up = λ e. e }
+continues_same w = record {
+  number = refl;
+  name = refl;
+  canonical = λ n is. is;
+  verdicts = verdicts_unchanged w;
+  given_up = λ e. e;
+  hosts = λ n host is. is;
+  apart = λ e. e;
+}
 
 -- it continues a workunit of the world
 abbrev pub Came : World → Workunit → Type 0
@@ -41,6 +51,7 @@ pub record Lasts (old new : World) : Type 0 where
   pub next : old.next_number ≤ new.next_number
   pub came : All (λ (v : Workunit). v.number < old.next_number → Came old v) new.workunits
   pub names : (name : List ℕ) → is_one_of (taken_names old) name ≡ true → is_one_of (taken_names new) name ≡ true
+  pub apart : All HostsApart old.workunits → All HostsApart new.workunits
 
 -- the later world is sound, and all that is to last has lasted
 abbrev pub Leads : World → World → Type 0
@@ -56,8 +67,8 @@ pub lasts_same : (world : World) → Lasts world world
 lasts_same world = record {
   next = omega arith;
   came = came_all world;
-  names =
-      λ name is. is;
+  names = λ name is. is;
+  apart = λ all. all;
 }
 
 -- what lasts twice lasts
@@ -67,6 +78,7 @@ lasts_then one two three first second = record {
   came = All-weaker (λ (v : Workunit). v.number < two.next_number → Came two v) (λ (v : Workunit). v.number < one.next_number → Came one v) back
       three.workunits second.came;
   names = λ name is. second.names name (first.names name is);
+  apart = λ all. second.apart (first.apart all);
 }
   where
     back : (v : Workunit) → (v.number < two.next_number → Came two v) → v.number < one.next_number → Came one v
@@ -86,6 +98,8 @@ lasts_then one two three first second = record {
             canonical = λ n is. on.canonical n (before.canonical n is);
             verdicts = verdicts_then its.0 u v before.verdicts on.verdicts;
             given_up = λ e. on.given_up (before.given_up e);
+            hosts = λ n host is. on.hosts n host (before.hosts n host is);
+            apart = λ e. on.apart (before.apart e);
           },
         )
 
@@ -194,6 +208,13 @@ module _ (world : World) (us : List Workunit) (w : Workunit) (ws vs : List Worku
       (All-weaker (Contains ws) (λ (v : Workunit). v.number < world.next_number → Came before v)
       (λ v there low. (v, Contains-append_right us (w ∷ ws) v (Contains-append_right (w ∷ []) ws v there), continues_same v)) ws (All-contains_itself ws))
 
+  -- hosts that were apart stay so
+  apart_after : All (Continues w) vs → All HostsApart (us ++ w ∷ ws) → All HostsApart ((us ++ vs) ++ ws)
+  apart_after on all =
+      let parts = around HostsApart us w ws all in
+      All-append HostsApart (us ++ vs) ws
+      (All-append HostsApart us vs parts.0 (All-weaker (Continues w) HostsApart (λ v it. it.apart parts.1) vs on)) parts.2
+
   -- the names that were taken stay so
   names_after : (name : List ℕ) → (bytes_eq w.name name ≡ true → (any_of vs name ≡ true) ⊎ (any_rows rows name ≡ true))
       → is_one_of (taken_names before) name ≡ true → is_one_of (taken_names after) name ≡ true
@@ -211,8 +232,8 @@ module _ (world : World) (us : List Workunit) (w : Workunit) (ws vs : List Worku
   lasts_after on moved = record {
     next = omega arith;
     came = came_after on;
-    names =
-        λ name is. names_after name (moved name) is;
+    names = λ name is. names_after name (moved name) is;
+    apart = apart_after on;
   }
 
 -- one that is rewritten

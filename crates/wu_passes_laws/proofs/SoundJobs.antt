@@ -19,7 +19,7 @@ use Rattle.wu_core.specs.declared.workunit.Instance.{Instance}
 use Rattle.wu_core.specs.declared.workunit.Workunit.{Workunit}
 use Rattle.wu_feed.specs.Ranges.{IsJob}
 use Rattle.wu_feed.specs.declared.jobs.Job.{Job}
-use Rattle.wu_rules_laws.specs.Consistent.{IsConsistent, IsGrantFor, IsPossible, is_valid_at, is_valid_verdict, one_if}
+use Rattle.wu_rules_laws.specs.Consistent.{HostsApart, IsConsistent, IsGrantFor, IsPossible, is_valid_at, is_valid_verdict, one_if}
 use Rattle.wu_store.specs.Loading.{IsStorable}
 use Rattle.wu_store.specs.Reading.{AreVerdicts, IsName}
 use Rattle.wu_passes.specs.Batches.{first_taken, is_one_of, job_names, new_workunit, taken_names, with_jobs}
@@ -134,6 +134,7 @@ module _ (world : World) (sound : IsSound world) (params : Parameters) (job : Jo
     came = All-push (λ (v : Workunit). v.number < world.next_number → Came world v) world.workunits new (came_all world)
         (λ below. absurd (omega (arith, below)));
     names = λ name is. names_more name world.workunits (new ∷ []) world.archived is;
+    apart = λ all. All-push HostsApart world.workunits new all (λ m n host one other. cc);
   }
 
 -- ---- the jobs of a batch
@@ -244,6 +245,6 @@ sound_kept world sound import named told fresh = (kept, lasts)
     lasts = record {
       next = omega arith;
       came = came_all world;
-      names =
-          λ name is. is;
+      names = λ name is. is;
+      apart = λ all. all;
     }

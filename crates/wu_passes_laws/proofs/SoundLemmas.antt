@@ -1,7 +1,7 @@
 -- What follows from soundness.
 use Rattle.std.proofs.Common.{◌≡◌, ℕ, suc, ◌<◌, List, [], ◌∷◌, length, get_or, refl, arith}
-use Rattle.std.proofs.lemmas.List.Elements.{All-get_or, All-weaker}
-use Rattle.wu_core.specs.World.{World, Import}
+use Rattle.std.proofs.lemmas.List.Elements.{All-get_or, All-nil, All-weaker}
+use Rattle.wu_core.specs.World.{World, Import, empty_world}
 use Rattle.wu_core.specs.declared.workunit.Workunit.{Workunit}
 use Rattle.wu_store.specs.Changes.{IsAbove}
 use Rattle.wu_store.specs.Reading.{AreVerdicts, IsName}
@@ -61,3 +61,25 @@ sound_now world sound = record {
 -- a sound world at the present version is one that a command runs over
 pub project_now : (world : World) → IsSound world → IsProject (now_of world)
 project_now world sound = is_project (now_of world) (sound_now world sound) refl
+
+-- a fresh project is sound
+pub empty_sound : IsSound empty_world
+empty_sound = record {
+  next_number = (omega arith, omega arith);
+  formed = All-nil _;
+  storable = All-nil _;
+  granted_to = All-nil _;
+  archivable = All-nil _;
+  imports = All-nil _;
+  consistent = All-nil _;
+  recorded = All-nil _;
+  given = All-nil _;
+  ascending = λ i j d order low. absurd (omega (arith, low));
+  names = λ i j d order low. absurd (omega (arith, low));
+  archived = All-nil _;
+  archived_once = λ i j d order low. absurd (omega (arith, low));
+  archived_names = λ i j d order low. absurd (omega (arith, low));
+  grants = All-nil _;
+  granted_once = λ i j d order low. absurd (omega (arith, low));
+  imported_once = λ i j d order low. absurd (omega (arith, low));
+}

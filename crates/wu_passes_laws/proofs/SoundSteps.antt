@@ -141,7 +141,7 @@ module _ (world : World) (sound : IsSound world) where
   done_sound (AskCancel name) values = sound_cancelled world sound name
   done_sound AskUpgrade values = (
     sound_now world sound,
-    record { next = omega arith; came = came_all world; names = λ name is. is },
+    record { next = omega arith; came = came_all world; names = λ name is. is; apart = λ all. all },
   )
 
   -- a step leads to a sound world

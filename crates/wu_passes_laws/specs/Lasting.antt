@@ -1,9 +1,9 @@
 -- What lasts over any list of requests.
 use Rattle.std.specs.Prelude.{◌≡◌, true, false, ℕ, ◌<◌, ◌≤◌, ◌++◌, All, List, Some}
-use Rattle.wu_core.specs.World.{World}
+use Rattle.wu_core.specs.World.{World, empty_world}
 use Rattle.wu_core.specs.declared.workunit.Workunit.{Workunit}
 use Rattle.wu_rules.specs.Counts.{is_clear}
-use Rattle.wu_rules_laws.specs.Consistent.{KeepsVerdicts}
+use Rattle.wu_rules_laws.specs.Consistent.{HostsApart, KeepsHosts, KeepsVerdicts}
 use Rattle.wu_passes.specs.Batches.{is_one_of, taken_names}
 use Rattle.wu_passes.specs.Machine.{fold_steps, HasValues}
 use Rattle.wu_passes.specs.Passes.{is_among}
@@ -57,6 +57,20 @@ VerdictsLast = WhilePresent KeepsVerdicts
 -- a workunit that was given up stays so
 abbrev pub GivenUpLasts : Type 0
 GivenUpLasts = WhilePresent (λ w v. is_clear w.error_mask ≡ false → is_clear v.error_mask ≡ false)
+
+-- an instance that was sent stays with its host as long as its workunit is present
+abbrev pub HostsLast : Type 0
+HostsLast = WhilePresent KeepsHosts
+
+-- where no host has two instances of a workunit, none ever gets a second
+abbrev pub HostsStayApart : Type 0
+HostsStayApart = OverSoundSteps (λ old new. All HostsApart old.workunits → All HostsApart new.workunits)
+
+-- so in a project that began fresh no host ever has two
+abbrev pub HostsAreApart : Type 0
+HostsAreApart =
+    (requests : List Request) → All HasValues requests
+    → All HostsApart (fold_steps empty_world requests).workunits
 
 -- a name that a workunit or an archived row has stays taken
 abbrev pub NamesStayTaken : Type 0

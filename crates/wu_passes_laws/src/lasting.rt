@@ -1,6 +1,6 @@
 //! Laws of what lasts over any list of requests: each function's contract is one.
 
-ghost use Rattle.wu_passes_laws.specs.Lasting.{GrantsLast, ArchiveLasts, ImportsLast, NextNumberRises, CanonicalResultsLast, NamesLast, VerdictsLast, GivenUpLasts, NamesStayTaken, NumbersAreGivenOnce};
+ghost use Rattle.wu_passes_laws.specs.Lasting.{GrantsLast, ArchiveLasts, ImportsLast, NextNumberRises, CanonicalResultsLast, NamesLast, VerdictsLast, GivenUpLasts, HostsLast, HostsStayApart, HostsAreApart, NamesStayTaken, NumbersAreGivenOnce};
 
 /// No grant is ever taken away or changed.
 pub fn grants_last()
@@ -40,6 +40,22 @@ pub fn verdicts_last()
 /// In a sound world a workunit that was given up stays so as long as it is present.
 pub fn what_is_given_up_stays_so()
     ensures { GivenUpLasts }
+{}
+
+/// In a sound world an instance that was sent stays with its host as long as its workunit is present.
+pub fn hosts_last()
+    ensures { HostsLast }
+{}
+
+/// Where a world is sound and no host has two instances of one of its workunits, no host ever gets a second one, nor two of
+/// a workunit that comes later.
+pub fn hosts_stay_apart()
+    ensures { HostsStayApart }
+{}
+
+/// In a project that began fresh no host ever has two instances of a workunit.
+pub fn hosts_are_apart()
+    ensures { HostsAreApart }
 {}
 
 /// In a sound world a name that a workunit or an archived row has stays taken.

@@ -1,5 +1,5 @@
 -- What becomes of the instances of a workunit, each at its place.
-use Rattle.std.proofs.Common.{◌≡◌, ◌≢◌, ℕ, zero, suc, ◌+◌, Bool, true, false, cond, ◌&&◌, ◌||◌, List, [], ◌∷◌, ◌++◌, map, replicate, slice_get, slice_set, Option, Some, option_map, refl, sym, ap, subst, ◌∙◌, bytes_eq}
+use Rattle.std.proofs.Common.{◌≡◌, ◌≢◌, ℕ, zero, suc, ◌+◌, Bool, true, false, cond, ◌&&◌, ◌||◌, List, [], ◌∷◌, ◌++◌, map, replicate, slice_get, slice_set, Option, Some, None, option_map, refl, sym, ap, subst, ◌∙◌, bytes_eq}
 use Rattle.std.specs.List.{AllByRecursion}
 use Rattle.std.specs.Option.{option_map_or}
 use Rattle.wu_core.specs.Statuses.{outcome_of}
@@ -78,7 +78,7 @@ not_over_no_success : (i : Instance) → is_over_state i.server_state ≡ false 
 not_over_no_success i e = ap (λ b. b && is_success_outcome i.outcome) e
 
 -- what is unsent is no success
-unsent_no_success : (i : Instance) → is_unsent i ≡ true → is_success i ≡ false
+pub unsent_no_success : (i : Instance) → is_unsent i ≡ true → is_success i ≡ false
 unsent_no_success i e = not_over_no_success i (unsent_not_over i.server_state e)
 
 -- a file that is named for deletion is not in error
@@ -91,16 +91,16 @@ readied_right b f right = by_case (b && is_init_file f)
 
 -- ---- what becomes of one instance
 
--- It stays possible and keeps a final verdict; it is made VALID or not, and has its host where it is VALID.
+-- It stays possible and keeps a final verdict and its host; it is made VALID or not.
 pub record Becomes (made : Bool) (i j : Instance) : Type 0 where
   pub possible : IsPossible i → IsPossible j
   pub valid : is_valid_verdict j.validate_state ≡ (made || is_valid_verdict i.validate_state)
   pub final : is_open_verdict i.validate_state ≡ false → j.validate_state ≡ i.validate_state
-  pub host : is_valid_verdict j.validate_state ≡ true → j.host ≡ i.host
+  pub host : j.host ≡ i.host
 
 -- what stays becomes itself
 stays : (i : Instance) → Becomes false i i
-stays i = record { possible = λ h. h; valid = refl; final = λ e. refl; host = λ e. refl }
+stays i = record { possible = λ h. h; valid = refl; final = λ e. refl; host = refl }
 
 -- what becomes of it in both branches becomes of it
 becomes_either : (made b : Bool) (i x y : Instance) → (b ≡ true → Becomes made i x) → (b ≡ false → Becomes made i y) → Becomes made i (cond b x y)
@@ -122,7 +122,7 @@ becomes_judged i v e =
       };
       valid = sym (ap (λ b. is_valid_verdict v || b) (open_not_valid i.validate_state opened) ∙ or_false (is_valid_verdict v));
       final = λ fails. (let both : true ≡ false = sym opened ∙ fails in cc);
-      host = λ f. refl;
+      host = refl;
     }
 
 -- another state of the output's file, and another output
@@ -132,7 +132,7 @@ becomes_filed i f output right = record {
   possible = λ h. record { active = h.active; sendable = h.sendable; checked = h.checked; deletable = right h.deletable; judged = h.judged };
   valid = refl;
   final = λ e. refl;
-  host = λ e. refl;
+  host = refl;
 }
 
 -- over, where it was no success, with an outcome that is possible
@@ -142,24 +142,23 @@ becomes_ended i o fails sendable checked = record {
   possible = λ h. record { active = λ e. cc; sendable = sendable; checked = checked; deletable = h.deletable; judged = λ e. h.judged fails };
   valid = refl;
   final = λ e. refl;
-  host = λ e. refl;
+  host = refl;
 }
 
 -- INIT is not VALID
 pub init_not_valid : (v : ValidateState) → v ≡ validate.Init → is_valid_verdict v ≡ false
 init_not_valid v e = ap is_valid_verdict e
 
--- a possible instance that is sent
-pub becomes_sent : (deadline : ℕ) (host : List ℕ) (moment : ℕ) (i : Instance) → IsPossible i → is_unsent i ≡ true
-    → Becomes false i (due_at deadline host moment i)
-becomes_sent deadline host moment i possible e =
-    let fails : is_success i ≡ false = unsent_no_success i e in
-    record {
-      possible = λ h. record { active = λ f. cc; sendable = h.sendable; checked = h.checked; deletable = h.deletable; judged = λ f. h.judged fails };
-      valid = refl;
-      final = λ f. refl;
-      host = λ f. (let both : true ≡ false = sym f ∙ init_not_valid i.validate_state (possible.judged fails) in cc);
-    }
+-- a possible instance that is sent stays possible
+pub possible_sent : (deadline : ℕ) (host : List ℕ) (moment : ℕ) (i : Instance) → IsPossible i → is_unsent i ≡ true
+    → IsPossible (due_at deadline host moment i)
+possible_sent deadline host moment i h e = record {
+  active = λ f. cc;
+  sendable = h.sendable;
+  checked = h.checked;
+  deletable = h.deletable;
+  judged = λ f. h.judged (unsent_no_success i e);
+}
 
 -- no report says that an instance could not be sent
 outcome_sendable : (s : Status) → outcome_of s ≢ outcome.CouldntSend
@@ -182,7 +181,7 @@ becomes_reported moment status output i possible fails =
       possible = λ h. record { active = λ f. cc; sendable = outcome_sendable status; checked = outcome_checked status; deletable = λ f. cc; judged = λ f. refl };
       valid = sym (init_not_valid i.validate_state init);
       final = λ f. sym init;
-      host = λ f. refl;
+      host = refl;
     }
 
 -- ---- what the rules make of one instance
@@ -335,9 +334,15 @@ valid_at made (x ∷ xs) [] h n = absurd h
 valid_at made (x ∷ xs) (y ∷ ys) h zero = h.0.valid
 valid_at made (x ∷ xs) (y ∷ ys) h (suc n) = valid_at made xs ys h.1 n
 
--- what is VALID has its host still
-pub valid_host : (made : Instance → Bool) (xs ys : List Instance) → AllBecome made xs ys → (n : ℕ) → is_valid_at ys n ≡ true → host_at ys n ≡ host_at xs n
-valid_host made [] ys h n e = (let both : true ≡ false = sym e ∙ fresh_not_valid ys h n in cc)
-valid_host made (x ∷ xs) [] h n e = absurd h
-valid_host made (x ∷ xs) (y ∷ ys) h zero e = h.0.host e
-valid_host made (x ∷ xs) (y ∷ ys) h (suc n) e = valid_host made xs ys h.1 n e
+-- a new instance has no host
+fresh_not_hosted : (ys : List Instance) → AllByRecursion (λ y. y ≡ fresh) ys → (n : ℕ) → host_at ys n ≡ None
+fresh_not_hosted [] h n = refl
+fresh_not_hosted (y ∷ ys) h zero = ap (λ i. i.host) h.0
+fresh_not_hosted (y ∷ ys) h (suc n) = fresh_not_hosted ys h.1 n
+
+-- each has its host still, and no other
+pub same_host : (made : Instance → Bool) (xs ys : List Instance) → AllBecome made xs ys → (n : ℕ) → host_at ys n ≡ host_at xs n
+same_host made [] ys h n = fresh_not_hosted ys h n
+same_host made (x ∷ xs) [] h n = absurd h
+same_host made (x ∷ xs) (y ∷ ys) h zero = h.0.host
+same_host made (x ∷ xs) (y ∷ ys) h (suc n) = same_host made xs ys h.1 n

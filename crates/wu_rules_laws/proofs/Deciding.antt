@@ -1,15 +1,16 @@
 -- The validator decides by the consensus, and judges by what it chose.
-use Rattle.std.proofs.Common.{◌≡◌, ℕ, true, false, cond, map, slice_get, Option, Some, None, option_map, refl, sym, ap, ◌∙◌, bytes_eq}
+use Rattle.std.proofs.Common.{◌≡◌, ℕ, Bool, true, false, cond, map, length, nat_lt, slice_get, Option, Some, None, option_map, refl, sym, ap, ◌∙◌, bytes_eq}
 use Rattle.std.proofs.lemmas.Option.{slice_get-map}
 use Rattle.wu_core.specs.declared.workunit.Instance.{Instance}
 use Rattle.wu_core.specs.declared.workunit.Workunit.{Workunit}
-use Rattle.wu_rules.specs.Counts.{consensus}
+use Rattle.wu_core.specs.declared.states.ValidateState.TheVariants as validate
+use Rattle.wu_rules.specs.Counts.{consensus, viable}
 use Rattle.wu_rules.specs.Instances.{closed, is_new, is_viable}
-use Rattle.wu_rules.specs.Validation.{agreed_on, decided, is_deleted_at, is_to_validate, judged_after, judged_by, judged_late_by, output_at, validated, validated_by, verdict}
+use Rattle.wu_rules.specs.Validation.{agreed_on, decided, doubted, doubted_or_closed, is_deleted_at, is_to_validate, judged_after, judged_by, judged_late_by, left_open, output_at, raised_target, validated, validated_by, verdict}
 use Rattle.wu_rules_laws.specs.Laws.{DecidesBy, verdict_at}
 use Rattle.wu_rules_laws.proofs.Choosing.{left_open_keeps}
 
-decides : (w : Workunit) → is_to_validate w ≡ true → w.canonical ≡ None → (validated w).canonical ≡ consensus w
+pub decides : (w : Workunit) → is_to_validate w ≡ true → w.canonical ≡ None → (validated w).canonical ≡ consensus w
 unfolding validated
 decides w e none =
     ap (λ b. (cond b (validated_by w w.canonical) w).canonical) e ∙ (ap (λ o. (validated_by w o).canonical) none ∙ by (consensus w))
@@ -29,18 +30,54 @@ judges_by_chosen w c n i e none agreed here viable =
     ∙ (ap (λ o. option_map (λ (j : Instance). j.validate_state) o) (slice_get-map (judged_by output) w.instances n ∙ ap (λ o. option_map (judged_by output) o) here)
     ∙ ap (λ b. Some (cond b (record i { validate_state = verdict (bytes_eq i.output output) }) (closed i)).validate_state) viable)
 
+-- after the decision each instance is judged by the canonical output, or by that it is deleted
+judged_at : (w : Workunit) (c n : ℕ) (i : Instance) (gone : Bool) → is_to_validate w ≡ true → w.canonical ≡ Some c → is_deleted_at w.instances c ≡ gone
+    → slice_get w.instances n ≡ Some i
+    → verdict_at (validated w) n ≡ Some (judged_late_by gone (output_at w.instances c) i).validate_state
+unfolding validated
+judged_at w c n i gone e some there here =
+    let output = output_at w.instances c in
+    let image : validated w ≡ judged_after w c = ap (λ b. cond b (validated_by w w.canonical) w) e ∙ ap (validated_by w) some in
+    let late : (record w { instances = map (judged_late_by gone output) w.instances }).instances ≡ (judged_after w c).instances = ap (λ g. map (judged_late_by g output) w.instances) (sym there) in
+    ap (λ (v : Workunit). option_map (λ (j : Instance). j.validate_state) (slice_get v.instances n)) image
+    ∙ (ap (λ zs. option_map (λ (j : Instance). j.validate_state) (slice_get zs n)) (sym late)
+    ∙ ap (λ o. option_map (λ (j : Instance). j.validate_state) o) (slice_get-map (judged_late_by gone output) w.instances n ∙ ap (λ o. option_map (judged_late_by gone output) o) here))
+
 judges_late_right : (w : Workunit) (c n : ℕ) (i : Instance) → is_to_validate w ≡ true → w.canonical ≡ Some c → is_deleted_at w.instances c ≡ false
     → slice_get w.instances n ≡ Some i → is_new i ≡ true
     → verdict_at (validated w) n ≡ Some (verdict (bytes_eq i.output (output_at w.instances c)))
-unfolding validated
 judges_late_right w c n i e some there here new =
-    let output = output_at w.instances c in
-    let image : validated w ≡ judged_after w c = ap (λ b. cond b (validated_by w w.canonical) w) e ∙ ap (validated_by w) some in
-    let late : (record w { instances = map (judged_late_by false output) w.instances }).instances ≡ (judged_after w c).instances = ap (λ g. map (judged_late_by g output) w.instances) (sym there) in
-    ap (λ (v : Workunit). option_map (λ (j : Instance). j.validate_state) (slice_get v.instances n)) image
-    ∙ (ap (λ zs. option_map (λ (j : Instance). j.validate_state) (slice_get zs n)) (sym late)
-    ∙ (ap (λ o. option_map (λ (j : Instance). j.validate_state) o) (slice_get-map (judged_late_by false output) w.instances n ∙ ap (λ o. option_map (judged_late_by false output) o) here)
-    ∙ ap (λ b. Some (cond b (record i { validate_state = verdict (bytes_eq i.output output) }) i).validate_state) new))
+    judged_at w c n i false e some there here
+    ∙ ap (λ b. Some (cond b (record i { validate_state = verdict (bytes_eq i.output (output_at w.instances c)) }) i).validate_state) new
+
+judges_too_late : (w : Workunit) (c n : ℕ) (i : Instance) → is_to_validate w ≡ true → w.canonical ≡ Some c → is_deleted_at w.instances c ≡ true
+    → slice_get w.instances n ≡ Some i → is_new i ≡ true → verdict_at (validated w) n ≡ Some validate.TooLate
+judges_too_late w c n i e some gone here new =
+    judged_at w c n i true e some gone here ∙ ap (λ b. Some (cond b (record i { validate_state = validate.TooLate }) i).validate_state) new
+
+-- what is left open is doubted
+doubts : (w : Workunit) (n : ℕ) (i : Instance) → slice_get w.instances n ≡ Some i → is_viable i ≡ true → verdict_at (left_open w) n ≡ Some validate.Inconclusive
+doubts w n i here viable_i = by_limit (nat_lt w.params.max_success_results (length (viable w)))
+  where
+    at : (f : Instance → Instance) → option_map (λ (j : Instance). j.validate_state) (slice_get (map f w.instances) n) ≡ Some (f i).validate_state
+    at f = ap (λ o. option_map (λ (j : Instance). j.validate_state) o) (slice_get-map f w.instances n ∙ ap (λ o. option_map f o) here)
+
+    by_limit : (b : Bool) → verdict_at (cond b (record w { error_mask = record w.error_mask { too_many_success_results = true }; instances = map doubted_or_closed w.instances }) (record w { params = record w.params { target_nresults = raised_target w.params (length (viable w)) }; instances = map doubted w.instances })) n ≡ Some validate.Inconclusive
+    by_limit true = at doubted_or_closed ∙ ap (λ b. Some (cond b (record i { validate_state = validate.Inconclusive }) (closed i)).validate_state) viable_i
+    by_limit false = at doubted ∙ ap (λ b. Some (cond b (record i { validate_state = validate.Inconclusive }) i).validate_state) viable_i
+
+leaves_doubted : (w : Workunit) (n : ℕ) (i : Instance) → is_to_validate w ≡ true → w.canonical ≡ None → consensus w ≡ None
+    → slice_get w.instances n ≡ Some i → is_viable i ≡ true → verdict_at (validated w) n ≡ Some validate.Inconclusive
+unfolding validated
+leaves_doubted w n i e none unagreed here viable_i =
+    let image : validated w ≡ left_open w = ap (λ b. cond b (validated_by w w.canonical) w) e ∙ (ap (validated_by w) none ∙ ap (decided w) unagreed) in
+    ap (λ (v : Workunit). verdict_at v n) image ∙ doubts w n i here viable_i
 
 pub decides_by : (w : Workunit) → DecidesBy w
-decides_by w = record { chosen = decides w; judged = judges_by_chosen w; judged_late = judges_late_right w }
+decides_by w = record {
+  chosen = decides w;
+  judged = judges_by_chosen w;
+  judged_late = judges_late_right w;
+  too_late = judges_too_late w;
+  doubted = leaves_doubted w;
+}

@@ -1,6 +1,6 @@
 -- Rules that make nothing VALID, and what they leave of a workunit.
-use Rattle.std.proofs.Common.{◌≡◌, ◌≢◌, ℕ, zero, suc, ◌<◌, Bool, true, false, cond, ◌&&◌, ◌||◌, List, [], ◌∷◌, map, length, replicate, slice_get, slice_set, Option, Some, None, is_none, option_map, refl, sym, ap, ◌∙◌, nat_lt, arith}
-use Rattle.std.proofs.lemmas.Bool.{ne_eqb}
+use Rattle.std.proofs.Common.{◌≡◌, ◌≢◌, ℕ, zero, suc, ◌<◌, Bool, true, false, cond, ◌&&◌, ◌||◌, List, [], ◌∷◌, map, length, replicate, slice_get, slice_set, Option, Some, None, is_none, option_map, refl, sym, ap, ◌∙◌, inl, inr, nat_lt, arith}
+use Rattle.std.proofs.lemmas.Bool.{cases_eq, ne_eqb}
 use Rattle.std.proofs.lemmas.List.Folds.{list_any-append}
 use Rattle.std.specs.List.{AllByRecursion, list_all, list_any}
 use Rattle.std.specs.Option.{option_map_or}
@@ -19,24 +19,28 @@ use Rattle.wu_rules.specs.Assimilation.{emptied, without_output}
 use Rattle.wu_rules.specs.Cancelling.{cancelled}
 use Rattle.wu_rules.specs.Counts.{is_clear, is_undecided, viable}
 use Rattle.wu_rules.specs.Instances.{closed, given_up, is_done_assimilate, is_open_verdict, is_ready_file, is_unsent, is_viable, readied_assimilate, timed_out}
+use Rattle.wu_rules.specs.Sending.{is_of}
 use Rattle.wu_rules.specs.Transition.{added, ended, extended, is_all_over, is_finished, may_output_go, outputs_readied, readied, settled, timed, transitioned, with_files_readied, with_output_readied}
 use Rattle.wu_rules.specs.Validation.{doubted, doubted_or_closed, left_open, raised_target}
 use Rattle.wu_rules.proofs.Lists.{any-map}
 use Rattle.wu_rules.proofs.Timing.{not_unsent, same_timed}
-use Rattle.wu_rules_laws.specs.Consistent.{IsPossible, KeepsVerdicts, host_at, is_done, is_valid_at}
-use Rattle.wu_rules_laws.proofs.Becoming.{AllBecome, all_become, all_become-more, all_become-placed, all_possible, all_stay, becomes_closed, becomes_doubted, becomes_doubted_or_closed, becomes_given_up, becomes_readied, becomes_timed_out, becomes_without_output, final_at, none_made, readied_right, valid_at, valid_host, verdict_at}
+use Rattle.wu_rules_laws.specs.Consistent.{IsPossible, KeepsVerdicts, host_at, is_done, is_valid_at, is_valid_verdict}
+use Rattle.wu_rules_laws.proofs.Becoming.{AllBecome, all_become, all_become-more, all_become-placed, all_possible, all_stay, becomes_closed, becomes_doubted, becomes_doubted_or_closed, becomes_given_up, becomes_readied, becomes_timed_out, becomes_without_output, final_at, none_made, readied_right, same_host, valid_at, verdict_at}
 use Rattle.wu_rules_laws.proofs.Changed.{and_false, any-placed, any_false-map, cond_keeps, or_from, or_left, or_right}
+use Rattle.wu_rules_laws.proofs.Hosted.{Apart, StayHosted, all_set, apart_same, at_other, at_set, stay_apart, stay_hosted}
 use Rattle.wu_rules_laws.proofs.Planned.{clear_of, extended-unflagged, no_errors_planned, no_total_planned, none_added}
 use Rattle.wu_rules_laws.proofs.Settled.{unsent_closed, unsent_judged}
 use Rattle.wu_rules_laws.proofs.Spent.{and_from, and_left, and_right}
 
 -- ---- instances
 
--- they stay possible, the same ones are VALID, with their hosts, and each final verdict stays
+-- they stay possible, the same ones are VALID, each final verdict stays and each host, and hosts that were apart stay so
 pub record Follows (old new : List Instance) : Type 0 where
   pub possible : AllByRecursion IsPossible old → AllByRecursion IsPossible new
   pub valid : (n : ℕ) → is_valid_at new n ≡ is_valid_at old n
   pub host : (n : ℕ) → is_valid_at new n ≡ true → host_at new n ≡ host_at old n
+  pub hosts : StayHosted old new
+  pub apart : Apart old → Apart new
   pub final : (n : ℕ) (v : ValidateState) → verdict_at old n ≡ Some v → is_open_verdict v ≡ false → verdict_at new n ≡ Some v
 
 -- what becomes of instances of which none is made VALID
@@ -44,7 +48,9 @@ pub follows : (xs ys : List Instance) → AllBecome none_made xs ys → Follows 
 follows xs ys h = record {
   possible = all_possible none_made xs ys h;
   valid = λ n. valid_at none_made xs ys h n ∙ ap (λ b. b || is_valid_at xs n) (never (slice_get xs n));
-  host = valid_host none_made xs ys h;
+  host = λ n e. same n;
+  hosts = λ n host e. same n ∙ e;
+  apart = apart_same xs ys same;
   final = final_at none_made xs ys h;
 }
   where
@@ -52,12 +58,39 @@ follows xs ys h = record {
     never None = refl
     never (Some i) = refl
 
+    same : (n : ℕ) → host_at ys n ≡ host_at xs n
+    same = same_host none_made xs ys h
+
+-- one that is sent without a verdict, to a host that has none of them
+pub follows_sent : (xs : List Instance) (n : ℕ) (i j : Instance) (host : List ℕ) → slice_get xs n ≡ Some i → IsPossible j
+    → i.validate_state ≡ validate.Init → j.validate_state ≡ i.validate_state → i.host ≡ None → j.host ≡ Some host → list_any (is_of host) xs ≡ false
+    → Follows xs (slice_set xs n j)
+follows_sent xs n i j host here possible init same unsent sent none = record {
+  possible = all_set IsPossible xs n j possible;
+  valid = valid;
+  host = λ k e. elim (cases_eq k n) [
+    | inl own ↦
+        let before : is_valid_at xs n ≡ false = ap (λ o. option_map_or (λ (x : Instance). is_valid_verdict x.validate_state) o false) here
+        ∙ ap is_valid_verdict init in
+        absurd (let both : true ≡ false = sym e ∙ valid k ∙ ap (is_valid_at xs) own ∙ before in cc)
+    | inr other ↦ at_other xs n j k other
+  ];
+  hosts = stay_hosted xs n i j here host unsent sent;
+  apart = stay_apart xs n i j here host unsent sent none;
+  final = λ k v e f. at_set (λ o. option_map (λ (x : Instance). x.validate_state) o) xs n i j here (ap Some same) k ∙ e;
+}
+  where
+    valid : (k : ℕ) → is_valid_at (slice_set xs n j) k ≡ is_valid_at xs k
+    valid = at_set (λ o. option_map_or (λ (x : Instance). is_valid_verdict x.validate_state) o false) xs n i j here (ap is_valid_verdict same)
+
 -- one change after another
 follows_then : (xs ys zs : List Instance) → Follows xs ys → Follows ys zs → Follows xs zs
 follows_then xs ys zs h k = record {
   possible = λ all. k.possible (h.possible all);
   valid = λ n. k.valid n ∙ h.valid n;
   host = λ n e. k.host n e ∙ h.host n (sym (k.valid n) ∙ e);
+  hosts = λ n host e. k.hosts n host (h.hosts n host e);
+  apart = λ e. k.apart (h.apart e);
   final = λ n v e f. k.final n v (h.final n v e f) f;
 }
 
@@ -83,8 +116,8 @@ pub record Quietly (old new : Workunit) : Type 0 where
   pub instances : Follows old.instances new.instances
 
 -- only the instances change
-pub quietly_same : (w : Workunit) (ys : List Instance) → AllBecome none_made w.instances ys → Quietly w (record w { instances = ys })
-quietly_same w ys h = record {
+pub quietly_with : (w : Workunit) (ys : List Instance) → Follows w.instances ys → Quietly w (record w { instances = ys })
+quietly_with w ys follow = record {
   number = refl;
   name = refl;
   credit = refl;
@@ -95,8 +128,12 @@ quietly_same w ys h = record {
   decidable = refl;
   mask = λ e. refl;
   moment = refl;
-  instances = follows w.instances ys h;
+  instances = follow;
 }
+
+-- where none of them is made VALID
+pub quietly_same : (w : Workunit) (ys : List Instance) → AllBecome none_made w.instances ys → Quietly w (record w { instances = ys })
+quietly_same w ys h = quietly_with w ys (follows w.instances ys h)
 
 -- nothing changes
 pub quietly_unchanged : (w : Workunit) → Quietly w w

@@ -12,12 +12,11 @@ use Rattle.wu_core.specs.declared.states.Outcome.{Outcome}
 use Rattle.wu_core.specs.declared.states.Outcome.TheVariants as outcome
 use Rattle.wu_core.specs.declared.states.ServerState.{ServerState}
 use Rattle.wu_core.specs.declared.states.ServerState.TheVariants as server
-use Rattle.wu_core.specs.declared.states.ValidateState.TheVariants as validate
 use Rattle.wu_rules.specs.Instances.{is_open_verdict, is_over_state, is_success, is_success_outcome, is_viable}
 use Rattle.wu_rules.specs.Validation.{grant_of, granted_to, grants_by, is_judged}
 use Rattle.wu_rules_laws.specs.Consistent.{GrantsToTheNew, IsGrantFor, is_valid_at, is_valid_verdict, one_if}
 use Rattle.wu_rules_laws.specs.Laws.{IsRightGrantIn}
-use Rattle.wu_rules_laws.proofs.Becoming.{AllBecome, open_not_valid, valid_at, valid_host}
+use Rattle.wu_rules_laws.proofs.Becoming.{AllBecome, open_not_valid, same_host, valid_at}
 use Rattle.wu_rules_laws.proofs.Granting.{granted_number, names}
 use Rattle.wu_rules_laws.proofs.Spent.{and_left, and_right}
 
@@ -97,7 +96,7 @@ success_is outcome.ValidateError e = cc
 success_is outcome.ClientDetached e = cc
 
 -- a success has a host
-success_host : (i : Instance) → IsInstance i → is_success i ≡ true → is_some i.host ≡ true
+pub success_host : (i : Instance) → IsInstance i → is_success i ≡ true → is_some i.host ≡ true
 success_host i formed e =
     formed.success (over_is i.server_state (and_left (is_over_state i.server_state) (is_success_outcome i.outcome) e))
     (success_is i.outcome (and_right (is_over_state i.server_state) (is_success_outcome i.outcome) e))
@@ -168,15 +167,10 @@ grants_new w v output viable formed become credit right = record {
         (valid_at made w.instances v.instances become n)
         (made_open made (λ i e. viable i (and_left (is_judged w i) (bytes_eq i.output output) e)) (slice_get w.instances n))
 
-    now_valid : (o : Option Instance) → option_map (λ j. j.validate_state) o ≡ Some validate.Valid
-        → option_map_or (λ i. is_valid_verdict i.validate_state) o false ≡ true
-    now_valid None e = cc
-    now_valid (Some i) e = let valid : i.validate_state ≡ validate.Valid = cc in ap is_valid_verdict valid
-
     own : (g : Grant) → IsRightGrantIn w v g → IsGrantFor v g
     own g r = record {
       host =
-          valid_host made w.instances v.instances become g.n (now_valid (slice_get v.instances g.n) r.valid_after)
+          same_host made w.instances v.instances become g.n
           ∙ (ap (λ o. option_map_or (λ (i : Instance). i.host) o None) r.stands ∙ r.host);
       credit = r.credit ∙ sym credit;
     }

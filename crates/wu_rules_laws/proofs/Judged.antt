@@ -121,7 +121,7 @@ pub judges-all : (w : Workunit) → JudgesAll w (validated_by w w.canonical)
 judges-all w = judges-by w w.canonical
 
 -- no new success is left
-none_new_left : (old new : Workunit) → JudgesAll old new → has_new_success new ≡ false
+pub none_new_left : (old new : Workunit) → JudgesAll old new → has_new_success new ≡ false
 none_new_left old new h = ap (λ zs. list_any is_new zs) h.instances ∙ any_false-map is_new h.each h.judges.none_new old.instances
 
 wanted_new : (a b c : Bool) → (a && b && c) ≡ true → b ≡ true

@@ -6,9 +6,11 @@ mod Deciding
 mod Following
 mod Granted
 mod Granting
+mod Hosted
 pub mod Judged
 mod Kept
 mod Planned
+mod Progress
 pub mod Rewriting
 mod Settled
 pub mod Spent

@@ -1,5 +1,5 @@
 -- Each rule rewrites a consistent workunit.
-use Rattle.std.proofs.Common.{◌≡◌, ℕ, zero, suc, ◌+◌, ◌<◌, Bool, true, false, not, cond, ◌&&◌, ◌||◌, List, [], ◌∷◌, map, length, slice_get, slice_set, Option, Some, None, IfSome, is_none, option_to_list, refl, sym, ap, subst, ◌∙◌, bytes_eq, arith}
+use Rattle.std.proofs.Common.{◌≡◌, ℕ, zero, suc, ◌+◌, ◌<◌, Bool, true, false, not, cond, ◌&&◌, ◌||◌, List, [], ◌∷◌, map, length, slice_get, slice_set, Option, Some, None, IfSome, is_none, is_some, option_to_list, refl, sym, ap, subst, ◌∙◌, bytes_eq, arith}
 use Rattle.std.proofs.lemmas.List.Elements.{All-from_recursion, recursion_from_All}
 use Rattle.std.proofs.lemmas.Option.{get_or_from_slice_get, slice_get_within}
 use Rattle.std.proofs.lemmas.Slice.Eq.{bytes_eq-Decides}
@@ -15,25 +15,28 @@ use Rattle.wu_core.specs.declared.states.Assimilate.{Assimilate}
 use Rattle.wu_core.specs.declared.states.Assimilate.TheVariants as assimilate
 use Rattle.wu_core.specs.declared.states.Outcome.{Outcome}
 use Rattle.wu_core.specs.declared.states.Outcome.TheVariants as outcome
+use Rattle.wu_core.specs.declared.states.ServerState.{ServerState}
+use Rattle.wu_core.specs.declared.states.ServerState.TheVariants as server
 use Rattle.wu_core.specs.declared.states.Status.{Status}
 use Rattle.wu_core.specs.declared.states.ValidateState.TheVariants as validate
 use Rattle.wu_rules.specs.Assimilation.{archived, archived_row, assimilated, emptied}
 use Rattle.wu_rules.specs.Cancelling.{cancelled}
 use Rattle.wu_rules.specs.Counts.{consensus, has_new_success, is_clear, is_undecided}
-use Rattle.wu_rules.specs.Instances.{is_done_assimilate, is_new, is_over_state, is_ready_assimilate, is_success, is_success_outcome, is_unsent, is_viable, readied_assimilate}
+use Rattle.wu_rules.specs.Instances.{is_done_assimilate, is_new, is_over_state, is_ready_assimilate, is_success, is_success_outcome, is_unsent, is_unsent_state, is_viable, readied_assimilate}
 use Rattle.wu_rules.specs.Reporting.{is_no_reply, is_sent_after, report_verdict_in, report_verdict_of, reported_as, reported_in}
 use Rattle.wu_rules.specs.Sending.{is_of, send_verdict_in, send_verdict_of, sent_in, sent_to}
 use Rattle.wu_rules.specs.Transition.{transitioned}
 use Rattle.wu_rules.specs.Validation.{agreed_on, decided, granted_by, grants, grants_by, grants_decided, is_deleted_at, is_judged, is_to_validate, judged_by, judged_late_by, left_open, output_at, validated, validated_by, verdict}
 use Rattle.wu_rules.specs.declared.verdicts.ReportVerdict.TheVariants as report
 use Rattle.wu_rules.specs.declared.verdicts.SendVerdict.TheVariants as send
-use Rattle.wu_rules_laws.specs.Consistent.{ArchivesTheNew, GrantsToTheNew, IsConsistent, IsPossible, IsRowOf, Rewrites, RulesRewrite, is_done, is_valid_at, is_valid_verdict, one_if}
+use Rattle.wu_rules_laws.specs.Consistent.{ArchivesTheNew, GrantsToTheNew, IsConsistent, IsPossible, IsRowOf, Rewrites, RulesRewrite, host_at, is_done, is_valid_at, is_valid_verdict, one_if}
 use Rattle.wu_rules_laws.specs.Laws.{IsChosen, IsRightGrantIn}
-use Rattle.wu_rules_laws.proofs.Becoming.{AllBecome, Becomes, all_become, all_become-set, all_possible, becomes_judged_by, becomes_judged_late_by, becomes_reported, becomes_sent, becomes_too_late, final_at, init_not_valid, is_valid, new_is_viable, none_made, valid_at, valid_host}
+use Rattle.wu_rules_laws.proofs.Becoming.{AllBecome, Becomes, all_become, all_become-set, all_possible, becomes_judged_by, becomes_judged_late_by, becomes_reported, becomes_too_late, final_at, init_not_valid, is_valid, new_is_viable, none_made, possible_sent, same_host, unsent_no_success, valid_at}
 use Rattle.wu_rules_laws.proofs.Changed.{and_false, any_false-map}
-use Rattle.wu_rules_laws.proofs.Following.{Awaits, Quietly, awaits_cancelled, awaits_emptied, awaits_left_open, awaits_same, awaits_set, awaits_transitioned, given_up_alone, quietly_cancelled, quietly_emptied, quietly_left_open, quietly_same, quietly_transitioned, quietly_unchanged, ready_done, unsent_same, verdicts_kept}
+use Rattle.wu_rules_laws.proofs.Following.{Awaits, Follows, Quietly, awaits_cancelled, awaits_emptied, awaits_left_open, awaits_same, awaits_set, awaits_transitioned, follows, follows_sent, given_up_alone, quietly_cancelled, quietly_emptied, quietly_left_open, quietly_same, quietly_transitioned, quietly_unchanged, quietly_with, ready_done, unsent_same, verdicts_kept}
 use Rattle.wu_rules_laws.proofs.Granted.{grants_new}
 use Rattle.wu_rules_laws.proofs.Granting.{chosen, grants_right}
+use Rattle.wu_rules_laws.proofs.Hosted.{apart_same}
 use Rattle.wu_rules_laws.proofs.Kept.{keeps_formed}
 use Rattle.wu_rules_laws.proofs.Settled.{unsent_judged}
 use Rattle.wu_rules_laws.proofs.Spent.{and_from, and_left, and_right}
@@ -138,6 +141,8 @@ rewrites_quietly w v formed h made q a =
       valid = λ n e. (let now_valid : is_valid_at v.instances n ≡ true = q.instances.valid n ∙ e in (now_valid, q.instances.host n now_valid));
       canonical = λ n e. q.canonical ∙ e;
       verdicts = verdicts_kept w v q.instances.final;
+      hosts = q.instances.hosts;
+      apart = q.instances.apart;
       given_up = λ e. ap is_clear (q.mask (and_false (is_none w.canonical) (is_clear w.error_mask) e)) ∙ e;
       done = λ e. q.done ∙ e;
       stays = λ e. (q.mask (done_not_undecided w h e), q.moment);
@@ -200,6 +205,8 @@ rewrites_assimilated w now formed h = by_case (is_ready_assimilate w.assimilate)
       valid = λ n f. (f, refl);
       canonical = λ n f. f;
       verdicts = verdicts_kept w v (λ n u f final. f);
+      hosts = λ n host f. f;
+      apart = λ f. f;
       given_up = λ f. f;
       done = λ f. refl;
       stays = λ f. absurd (let both : true ≡ false = sym f ∙ ready_not_done w.assimilate (sym e) in cc);
@@ -218,14 +225,11 @@ rewrites_assimilated w now formed h = by_case (is_ready_assimilate w.assimilate)
 pub holds_at : (P : Instance → Type 0) (xs : List Instance) (n : ℕ) (i : Instance) → All P xs → slice_get xs n ≡ Some i → P i
 holds_at P xs n i all e = subst P (get_or_from_slice_get xs n i i e) (all n i (slice_get_within xs n i e))
 
--- a change of one instance that makes it neither VALID nor unsent rewrites
-rewrites_set : (w : Workunit) (n : ℕ) (i j : Instance) → IsWorkunit w → IsConsistent w → slice_get w.instances n ≡ Some i → Becomes false i j
-    → is_unsent j ≡ false
+-- a change of one instance that makes nothing VALID, and this one not unsent, rewrites
+rewrites_set : (w : Workunit) (n : ℕ) (j : Instance) → IsWorkunit w → IsConsistent w → Follows w.instances (slice_set w.instances n j) → is_unsent j ≡ false
     → IsWorkunit (with_instance w n j) → Rewrites w (with_instance w n j) [] []
-rewrites_set w n i j formed h here becomes sent made =
-    rewrites_quietly w (with_instance w n j) formed h made
-    (quietly_same w (slice_set w.instances n j) (all_become-set w.instances n i j here becomes))
-    (awaits_set w n j sent (awaits_of w h))
+rewrites_set w n j formed h follow sent made =
+    rewrites_quietly w (with_instance w n j) formed h made (quietly_with w (slice_set w.instances n j) follow) (awaits_set w n j sent (awaits_of w h))
 
 -- what is sent was unsent
 pub was_unsent : (w : Workunit) (host : List ℕ) (i : Instance) → send_verdict_of w host i ≡ send.Applied → is_unsent i ≡ true
@@ -234,6 +238,29 @@ was_unsent w host i e = by_case (is_unsent i) e
     by_case : (b : Bool) → cond (not b) send.NotUnsent (cond (list_any (is_of host) w.instances) send.SameHost send.Applied) ≡ send.Applied → b ≡ true
     by_case true f = refl
     by_case false f = cc
+
+-- and the host had none of the instances
+had_none : (w : Workunit) (host : List ℕ) (i : Instance) → send_verdict_of w host i ≡ send.Applied → list_any (is_of host) w.instances ≡ false
+had_none w host i e = by_case (is_unsent i) (list_any (is_of host) w.instances) e
+  where
+    by_case : (b c : Bool) → cond (not b) send.NotUnsent (cond c send.SameHost send.Applied) ≡ send.Applied → c ≡ false
+    by_case false c f = cc
+    by_case true true f = cc
+    by_case true false f = refl
+
+-- what is unsent has no host
+no_host : (i : Instance) → IsInstance i → is_unsent i ≡ true → i.host ≡ None
+no_host i formed e = none i.host (formed.unsent (unsent_is i.server_state e))
+  where
+    unsent_is : (s : ServerState) → is_unsent_state s ≡ true → s ≡ server.Unsent
+    unsent_is server.Unsent f = refl
+    unsent_is server.Inactive f = cc
+    unsent_is server.InProgress f = cc
+    unsent_is server.Over f = cc
+
+    none : (o : Option (List ℕ)) → is_some o ≡ false → o ≡ None
+    none None f = refl
+    none (Some host) f = cc
 
 -- a send that is applied rewrites
 rewrites_sent : (w : Workunit) (n : ℕ) (host : List ℕ) (moment : ℕ) → IsWorkunit w → IsConsistent w → send_verdict_in w n host ≡ send.Applied
@@ -245,8 +272,12 @@ rewrites_sent w n host moment formed h applied = by_case (slice_get w.instances 
         → Rewrites w (option_map_or (λ instance. with_instance w n (sent_to w host moment instance)) o w) [] []
     by_case None e f made = rewrites_unchanged w formed h
     by_case (Some i) e f made =
-        rewrites_set w n i (sent_to w host moment i) formed h e
-        (becomes_sent (moment + w.params.delay_bound) host moment i (holds_at IsPossible w.instances n i h.instances e) (was_unsent w host i f))
+        let possible = holds_at IsPossible w.instances n i h.instances e in
+        let unsent = was_unsent w host i f in
+        rewrites_set w n (sent_to w host moment i) formed h
+        (follows_sent w.instances n i (sent_to w host moment i) host e (possible_sent (moment + w.params.delay_bound) host moment i possible unsent)
+        (possible.judged (unsent_no_success i unsent)) refl (no_host i (holds_at IsInstance w.instances n i formed.instances e) unsent) refl
+        (had_none w host i f))
         refl made
 
 -- what is reported was no success
@@ -281,9 +312,9 @@ rewrites_reported w n host moment status output formed h applied =
         → Rewrites w (option_map_or (λ instance. with_instance w n (reported_as moment status output instance)) o w) [] []
     by_case None e f made = rewrites_unchanged w formed h
     by_case (Some i) e f made =
-        rewrites_set w n i (reported_as moment status output i) formed h e
-        (becomes_reported moment status output i (holds_at IsPossible w.instances n i h.instances e) (was_no_success host moment i f))
-        refl made
+        let j = reported_as moment status output i in
+        let become = becomes_reported moment status output i (holds_at IsPossible w.instances n i h.instances e) (was_no_success host moment i f) in
+        rewrites_set w n j formed h (follows w.instances (slice_set w.instances n j) (all_become-set w.instances n i j e become)) refl made
 
 -- ---- the validator
 
@@ -333,9 +364,11 @@ rewrites_judged w output c a ys formed h clear made become viable valid stays do
     undecided = awaits.undecided;
     canonical = canonical_right v possible valid;
   };
-  valid = λ n e. (let still = valid_still w output ys become n e in (still, valid_host (is_made w output) w.instances ys become n still));
+  valid = λ n e. (let still = valid_still w output ys become n e in (still, same n));
   canonical = stays;
   verdicts = verdicts_kept w v (final_at (is_made w output) w.instances ys become);
+  hosts = λ n host e. same n ∙ e;
+  apart = apart_same w.instances ys same;
   given_up = λ e. e;
   done = λ e. done ∙ e;
   stays = λ e. (refl, refl);
@@ -348,6 +381,9 @@ rewrites_judged w output c a ys formed h clear made become viable valid stays do
 
     possible : AllByRecursion IsPossible ys
     possible = all_possible (is_made w output) w.instances ys become (recursion_from_All IsPossible w.instances h.instances)
+
+    same : (n : ℕ) → host_at ys n ≡ host_at w.instances n
+    same = same_host (is_made w output) w.instances ys become
 
 -- the chosen result is VALID by its own output
 chosen_valid : (w : Workunit) (n : ℕ) (ys : List Instance) → ((i : Instance) → is_judged w i ≡ is_viable i)

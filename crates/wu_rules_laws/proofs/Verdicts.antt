@@ -1,5 +1,5 @@
 -- No rule changes a final verdict.
-use Rattle.std.proofs.Common.{◌≡◌, ℕ, zero, suc, Bool, true, false, cond, List, [], ◌∷◌, slice_get, slice_set, Option, Some, None, option_map, refl, sym, ap, subst, ◌∙◌}
+use Rattle.std.proofs.Common.{◌≡◌, ℕ, Bool, true, false, cond, List, slice_get, slice_set, Option, Some, None, option_map, refl, sym, ap, subst, ◌∙◌}
 use Rattle.std.specs.Option.{option_map_or}
 use Rattle.wu_core.specs.Workunit.{with_instance}
 use Rattle.wu_core.specs.declared.workunit.Instance.{Instance}
@@ -16,6 +16,7 @@ use Rattle.wu_rules.specs.declared.verdicts.ReportVerdict.TheVariants as report
 use Rattle.wu_rules_laws.specs.Consistent.{IsConsistent, IsPossible, KeepsVerdicts, RulesKeepVerdicts}
 use Rattle.wu_rules_laws.proofs.Becoming.{all_become-set, becomes_reported, final_at, none_made, verdict_at}
 use Rattle.wu_rules_laws.proofs.Following.{Follows, follows_cancelled, quietly_emptied, quietly_transitioned, verdicts_kept}
+use Rattle.wu_rules_laws.proofs.Hosted.{at_set}
 use Rattle.wu_rules_laws.proofs.Judged.{finals_stay}
 use Rattle.wu_rules_laws.proofs.Rewriting.{holds_at, was_no_success}
 
@@ -47,15 +48,6 @@ verdicts_assimilated w now = by_case (is_ready_assimilate w.assimilate)
     by_case true = verdicts_kept w (record w { assimilate = assimilate.Done; done_at = Some now }) (λ n u e final. e)
     by_case false = verdicts_unchanged w
 
--- an instance with the same verdict at its place leaves all verdicts
-verdict_set : (xs : List Instance) (n : ℕ) (i j : Instance) → slice_get xs n ≡ Some i → j.validate_state ≡ i.validate_state → (k : ℕ)
-    → verdict_at (slice_set xs n j) k ≡ verdict_at xs k
-verdict_set [] n i j e same k = refl
-verdict_set (x ∷ xs) zero i j e same zero = let own : x ≡ i = cc in ap Some (same ∙ ap (λ (y : Instance). y.validate_state) (sym own))
-verdict_set (x ∷ xs) zero i j e same (suc k) = refl
-verdict_set (x ∷ xs) (suc n) i j e same zero = refl
-verdict_set (x ∷ xs) (suc n) i j e same (suc k) = verdict_set xs n i j e same k
-
 -- a send, to whatever host
 verdicts_sent : (w : Workunit) (n : ℕ) (host : List ℕ) (moment : ℕ) → KeepsVerdicts w (sent_in w n host moment)
 verdicts_sent w n host moment = by_case (slice_get w.instances n) refl
@@ -65,7 +57,7 @@ verdicts_sent w n host moment = by_case (slice_get w.instances n) refl
     by_case None e = verdicts_unchanged w
     by_case (Some i) e =
         let j = sent_to w host moment i in
-        verdicts_kept w (with_instance w n j) (λ k u f final. verdict_set w.instances n i j e refl k ∙ f)
+        verdicts_kept w (with_instance w n j) (λ k u f final. at_set (λ o. option_map (λ (x : Instance). x.validate_state) o) w.instances n i j e refl k ∙ f)
 
 -- a report that is taken of a consistent workunit
 verdicts_reported : (w : Workunit) (n : ℕ) (host : List ℕ) (moment : ℕ) (status : Status) (output : List ℕ) → IsConsistent w

@@ -93,9 +93,21 @@ KeepsVerdicts old new =
     (n : ℕ) (i : Instance) → slice_get old.instances n ≡ Some i → is_open_verdict i.validate_state ≡ false
     → option_map (λ j. j.validate_state) (slice_get new.instances n) ≡ Some i.validate_state
 
+-- a host has at most one instance of the workunit
+abbrev pub HostsApart : Workunit → Type 0
+HostsApart w =
+    (m n : ℕ) (host : List ℕ) → host_at w.instances m ≡ Some host → host_at w.instances n ≡ Some host
+    → m ≡ n
+
+-- an instance that was sent stays with its host
+abbrev pub KeepsHosts : Workunit → Workunit → Type 0
+KeepsHosts old new =
+    (n : ℕ) (host : List ℕ) → host_at old.instances n ≡ Some host
+    → host_at new.instances n ≡ Some host
+
 -- What a rule makes of a consistent workunit, with what it grants and archives. What was decided stays: who is VALID,
 -- with its host, each final verdict, the canonical result, that it was given up, and that it is DONE, with its mask and
--- its moment.
+-- its moment. What was sent stays with its host, and a host that has an instance gets no second one.
 pub record Rewrites (old new : Workunit) (grants : List Grant) (archived : List Archived) : Type 0 where
   pub number : new.number ≡ old.number
   pub name : new.name ≡ old.name
@@ -106,6 +118,8 @@ pub record Rewrites (old new : Workunit) (grants : List Grant) (archived : List 
       → (is_valid_at new.instances n ≡ true) × (host_at new.instances n ≡ host_at old.instances n)
   pub canonical : (n : ℕ) → old.canonical ≡ Some n → new.canonical ≡ Some n
   pub verdicts : KeepsVerdicts old new
+  pub hosts : KeepsHosts old new
+  pub apart : HostsApart old → HostsApart new
   pub given_up : is_clear old.error_mask ≡ false → is_clear new.error_mask ≡ false
   pub done : is_done old ≡ true → is_done new ≡ true
   pub stays : is_done old ≡ true → (new.error_mask ≡ old.error_mask) × (new.done_at ≡ old.done_at)

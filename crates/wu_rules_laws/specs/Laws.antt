@@ -1,10 +1,11 @@
 -- What the rules mean, in the words of the field.
-use Rattle.std.specs.Prelude.{◌≡◌, ◌≢◌, ◌↔◌, ℕ, ◌+◌, ◌/◌, ◌<◌, ◌≤◌, length, true, false, if◌then◌else◌, [], List, map, Option, Some, None, option_map, slice_get, IsSomeAnd, bytes_eq}
+use Rattle.std.specs.Prelude.{◌≡◌, ◌≢◌, ◌↔◌, ℕ, ◌+◌, ◌/◌, ◌<◌, ◌≤◌, length, true, false, if◌then◌else◌, [], List, map, Option, Some, None, option_map, slice_get, is_some, IsSomeAnd, IfSome, bytes_eq}
 use Rattle.std.specs.List.{enumerate_from, All, AllPairs}
 use Rattle.wu_core.specs.declared.workunit.Workunit.{Workunit}
 use Rattle.wu_core.specs.Formed.{IsWorkunit}
 use Rattle.wu_core.specs.declared.workunit.Grant.{Grant}
 use Rattle.wu_core.specs.declared.workunit.Instance.{Instance}
+use Rattle.wu_core.specs.declared.states.ServerState.TheVariants as server
 use Rattle.wu_core.specs.declared.states.Status.{Status}
 use Rattle.wu_core.specs.declared.states.ValidateState.{ValidateState}
 use Rattle.wu_core.specs.declared.states.ValidateState.TheVariants as validate
@@ -12,16 +13,23 @@ use Rattle.wu_rules.specs.declared.verdicts.ReportVerdict.TheVariants as report
 use Rattle.wu_rules.specs.Instances.{is_new, is_viable, is_open_verdict, is_ready_assimilate, is_ready_file}
 use Rattle.wu_rules.specs.Assimilation.{assimilated, archived, emptied, is_to_delete, is_purgeable}
 use Rattle.wu_rules.specs.Cancelling.{cancelled}
-use Rattle.wu_rules.specs.Counts.{viable, agreeing, is_agreed, consensus}
+use Rattle.wu_rules.specs.Counts.{viable, agreeing, is_agreed, is_clear, is_undecided, has_new_success, consensus}
 use Rattle.wu_rules.specs.Reporting.{report_verdict_in, reported_in}
 use Rattle.wu_rules.specs.Sending.{sent_in}
 use Rattle.wu_rules.specs.Transition.{transitioned}
 use Rattle.wu_rules.specs.Validation.{grants, is_deleted_at, is_to_validate, output_at, validated, verdict}
 use Rattle.wu_rules.specs.Waking.{wake}
+use Rattle.wu_rules_laws.specs.Consistent.{HostsApart}
 
 -- a second transition at the same moment changes nothing
 abbrev pub TransitionsOnce : Type 0
 TransitionsOnce = (w : Workunit) (now : ℕ) → transitioned (transitioned w now) now ≡ transitioned w now
+
+-- after a transition no instance is in progress past its deadline
+abbrev pub TimesOutWhatIsLate : Type 0
+TimesOutWhatIsLate =
+    (w : Workunit) (now n : ℕ) (i : Instance) → slice_get (transitioned w now).instances n ≡ Some i
+    → i.server_state ≡ server.InProgress → IfSome i.deadline (λ deadline. now ≤ deadline)
 
 -- the moment of waking is there and not after now exactly where the transition now changes the workunit
 abbrev pub WakesInTime : Type 0
@@ -41,11 +49,19 @@ KeepsFinalVerdicts =
 abbrev pub AssimilatesWhatIsReady : Type 0
 AssimilatesWhatIsReady = (w : Workunit) (now : ℕ) → (is_ready_assimilate w.assimilate ≡ true) ↔ (assimilated w now ≢ w)
 
--- what is archived is the canonical output as it was read the moment before
+-- the output that is archived of what is ready, and else none
+abbrev pub archived_output : Workunit → ℕ → Option (List ℕ)
+archived_output w now = option_map (λ row. row.output) (archived w now)
+
+-- what is archived is the canonical output as it was read the moment before; no byte without a canonical result
+pub record ArchivesOutput (w : Workunit) (now : ℕ) : Type 0 where
+  pub canonical : (n : ℕ) (i : Instance) → w.canonical ≡ Some n → slice_get w.instances n ≡ Some i
+      → archived_output w now ≡ (if is_ready_assimilate w.assimilate then Some i.output else None)
+  pub nothing : w.canonical ≡ None
+      → archived_output w now ≡ (if is_ready_assimilate w.assimilate then Some [] else None)
+
 abbrev pub ArchivesWhatWasRead : Type 0
-ArchivesWhatWasRead =
-    (w : Workunit) (now n : ℕ) (i : Instance) → w.canonical ≡ Some n → slice_get w.instances n ≡ Some i
-    → option_map (λ row. row.output) (archived w now) ≡ (if is_ready_assimilate w.assimilate then Some i.output else None)
+ArchivesWhatWasRead = (w : Workunit) (now : ℕ) → ArchivesOutput w now
 
 -- the file deleter is wanted exactly where it changes something
 abbrev pub DeletesWhereItChanges : Type 0
@@ -100,7 +116,8 @@ abbrev pub verdict_at : Workunit → ℕ → Option ValidateState
 verdict_at w n = option_map (λ i. i.validate_state) (slice_get w.instances n)
 
 -- The validator decides by the consensus. At the decision a viable success is VALID where its output is the chosen one,
--- byte for byte, and else INVALID; so is a new one after it, as long as the canonical output is held.
+-- byte for byte, and else INVALID; so is a new one after it, as long as the canonical output is held, and TOO_LATE once
+-- that is deleted. Without a consensus each viable success is INCONCLUSIVE.
 pub record DecidesBy (w : Workunit) : Type 0 where
   pub chosen : is_to_validate w ≡ true → w.canonical ≡ None → (validated w).canonical ≡ consensus w
   pub judged : (c n : ℕ) (i : Instance) → is_to_validate w ≡ true → w.canonical ≡ None → consensus w ≡ Some c
@@ -109,9 +126,29 @@ pub record DecidesBy (w : Workunit) : Type 0 where
   pub judged_late : (c n : ℕ) (i : Instance) → is_to_validate w ≡ true → w.canonical ≡ Some c
       → is_deleted_at w.instances c ≡ false → slice_get w.instances n ≡ Some i → is_new i ≡ true
       → verdict_at (validated w) n ≡ Some (verdict (bytes_eq i.output (output_at w.instances c)))
+  pub too_late : (c n : ℕ) (i : Instance) → is_to_validate w ≡ true → w.canonical ≡ Some c
+      → is_deleted_at w.instances c ≡ true → slice_get w.instances n ≡ Some i → is_new i ≡ true
+      → verdict_at (validated w) n ≡ Some validate.TooLate
+  pub doubted : (n : ℕ) (i : Instance) → is_to_validate w ≡ true → w.canonical ≡ None → consensus w ≡ None
+      → slice_get w.instances n ≡ Some i → is_viable i ≡ true
+      → verdict_at (validated w) n ≡ Some validate.Inconclusive
 
 abbrev pub DecidesByConsensus : Type 0
 DecidesByConsensus = (w : Workunit) → DecidesBy w
+
+-- An undecided workunit with a new success, and with viable ones enough for its quorum, gets its
+-- canonical result from the validator as soon as enough of them agree.
+abbrev pub DecidesWithItsQuorum : Type 0
+DecidesWithItsQuorum =
+    (w : Workunit) (c : ℕ) → is_undecided w ≡ true → has_new_success w ≡ true
+    → w.params.min_quorum ≤ length (viable w) → consensus w ≡ Some c
+    → (validated w).canonical ≡ Some c
+
+-- after the decision, and without an error, the validator leaves no success without a verdict
+abbrev pub JudgesWhatComesLate : Type 0
+JudgesWhatComesLate =
+    (w : Workunit) (c : ℕ) → w.canonical ≡ Some c → is_clear w.error_mask ≡ true
+    → (n : ℕ) (i : Instance) → slice_get (validated w).instances n ≡ Some i → is_new i ≡ false
 
 -- the same workunit, with other hosts
 abbrev pub rehosted : (ℕ → Instance → Option (List ℕ)) → Workunit → Workunit
@@ -120,6 +157,18 @@ rehosted hosts w = record w { instances = map (λ p. record p.1 { host = hosts p
 -- hosts have no part in the choice
 abbrev pub ChoosesWithoutHosts : Type 0
 ChoosesWithoutHosts = (hosts : ℕ → Instance → Option (List ℕ)) (w : Workunit) → consensus (rehosted hosts w) ≡ consensus w
+
+-- each of these instances has a host, and no two have the same
+pub record HaveDifferentHosts (instances : List Instance) : Type 0 where
+  pub hosted : All (λ i. is_some i.host ≡ true) instances
+  pub apart : AllPairs (λ one other. one.host ≢ other.host) instances
+
+-- Where no host has two instances, the viable successes of one output are of as many hosts as they are. So are those
+-- that agree with a result that is chosen, at least half of the quorum plus one.
+abbrev pub AgreeFromDifferentHosts : Type 0
+AgreeFromDifferentHosts =
+    (w : Workunit) (output : List ℕ) → IsWorkunit w → HostsApart w
+    → HaveDifferentHosts (agreeing output (viable w))
 
 -- a grant is of an instance that had no final verdict and is VALID now, for its host, with its workunit's credit
 pub record IsRightGrantIn (old new : Workunit) (g : Grant) : Type 0 where

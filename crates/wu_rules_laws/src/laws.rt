@@ -1,11 +1,16 @@
 //! Laws of the rules: each function's contract is one, for every workunit and every moment.
 
 ghost use Rattle.wu_core.specs.declared.workunit.Workunit.{Workunit};
-ghost use Rattle.wu_rules_laws.specs.Laws.{TransitionsOnce, WakesInTime, LooksWhereItChanges, KeepsFinalVerdicts, AssimilatesWhatIsReady, ArchivesWhatWasRead, DeletesWhereItChanges, HoldsNothingReady, PurgesWhatIsThrough, StaysPurgeable, ChoosesByAgreement, ChoosesOnlyByQuorum, ChoosesWithoutHosts, DecidesByConsensus, GrantsToTheValid, GrantsOnce, KeepsWorkunitsFormed};
+ghost use Rattle.wu_rules_laws.specs.Laws.{TransitionsOnce, TimesOutWhatIsLate, WakesInTime, LooksWhereItChanges, KeepsFinalVerdicts, AssimilatesWhatIsReady, ArchivesWhatWasRead, DeletesWhereItChanges, HoldsNothingReady, PurgesWhatIsThrough, StaysPurgeable, ChoosesByAgreement, ChoosesOnlyByQuorum, ChoosesWithoutHosts, AgreeFromDifferentHosts, DecidesByConsensus, DecidesWithItsQuorum, JudgesWhatComesLate, GrantsToTheValid, GrantsOnce, KeepsWorkunitsFormed};
 
 /// A second transition at the same moment changes nothing.
 pub fn transitions_once()
     ensures { TransitionsOnce }
+{}
+
+/// After a transition no instance is in progress past its deadline.
+pub fn times_out_what_is_late()
+    ensures { TimesOutWhatIsLate }
 {}
 
 /// The moment of waking is there and not after now exactly where the transition now changes the workunit.
@@ -28,7 +33,7 @@ pub fn assimilates_what_is_ready()
     ensures { AssimilatesWhatIsReady }
 {}
 
-/// What is archived is the canonical output as it was read the moment before.
+/// What is archived is the canonical output as it was read the moment before; no byte without a canonical result.
 pub fn archives_what_was_read()
     ensures { ArchivesWhatWasRead }
 {}
@@ -71,9 +76,26 @@ pub fn decides_by_consensus()
     ensures { DecidesByConsensus }
 {}
 
+/// An undecided workunit with a new success, and with viable ones enough for its quorum, gets its canonical result from the
+/// validator as soon as enough of them agree.
+pub fn decides_with_its_quorum()
+    ensures { DecidesWithItsQuorum }
+{}
+
+/// After the decision, and without an error, the validator leaves no success without a verdict.
+pub fn judges_what_comes_late()
+    ensures { JudgesWhatComesLate }
+{}
+
 /// Hosts have no part in the choice: it depends on states, outputs and order alone.
 pub fn chooses_without_hosts()
     ensures { ChoosesWithoutHosts }
+{}
+
+/// Where no host has two instances of a workunit, the results that agree are each from another host: so are those by which
+/// one is chosen.
+pub fn agree_from_different_hosts()
+    ensures { AgreeFromDifferentHosts }
 {}
 
 /// No instance gets credit without becoming VALID, and none that had its verdict before.

@@ -6,7 +6,7 @@ ghost use Rattle.sqlite.specs.Held.{state};
 ghost use Rattle.wu_passes.specs.Machine.{has_right_limits, present_version};
 ghost use Rattle.wu_passes.specs.Planning.{IsProject, NeverEnded, OpenOrFails, PlansFor, request_of};
 ghost use Rattle.wu_store.specs.Loading.{IsRead, KeepsTables, NotRefusedIn, OverWorlds, ServesUnlessFailed};
-ghost use Rattle.wu_passes.specs.Standing.{FindsKnown, FindsWorld, GoesBackRefused, IsCutBy, KeepsDoubt, KeepsFound, KeepsWhole, LeavesFresh, MakesBeside, MakesFresh, MayEnd, RefusesOnly, RefusesWhole, TellsStored};
+ghost use Rattle.wu_passes.specs.Standing.{FindsKnown, FindsWorld, GoesBackRefused, IsAdoptionFault, IsCutBy, KeepsDoubt, KeepsFound, KeepsWhole, LeavesFresh, MakesBeside, MakesFresh, MayEnd, RefusesOnly, RefusesWhole, TellsStored};
 ghost use Rattle.wu_passes.specs.Projects.{AdoptsBeside, AdoptsFresh, AdoptsKnown, AdoptsWhole, AdoptsWorld, AnswersEnded, CarriesOut, ComesBack, connection_of, DoubtsStill, GivesBack, GoesStill, has_ended, IsLater, IsOpen, IsOver, IsUnlimited, KeepsLimit, NeedsOpen, PlansOn, ReadsUnrefused, RefusesAdoption, RefusesLimit, RefusesStanding, RunsOn, ServesAgain, ServesOn, ServesRight, state_of, StaysUnchanged, TellsStoredLater, TellsWhy};
 
 use crate::batch::plan_batch;
@@ -44,6 +44,7 @@ fn find_or_create<S: Alter>(conn: &mut Connection<S>) -> Result<(), Fault>
     ensures only { RefusesOnly S.Store conn.old conn.new result }
     ensures limit { (state S.Store conn.new).step_limit ≡ (state S.Store conn.old).step_limit }
     ensures opens { ServesUnlessFailed S.Store conn.new result }
+    ensures told { IfErr result IsAdoptionFault }
 {
     match version_of(conn) {
         Ok(Some(version)) => check_version(version),
@@ -138,6 +139,7 @@ impl<S: Alter> Project<S> {
         ensures unlimited { IfOk result IsUnlimited }
         ensures opens { IfOk result IsOpen }
         ensures serves { conn.in_transaction ≡ false → IfErr result (ServesAgain S.Store) }
+        ensures told { IfErr result (λ refusal. IsAdoptionFault refusal.1) }
     {
         if !conn.is_autocommit() {
             return Err((conn, Fault::NotAProject));

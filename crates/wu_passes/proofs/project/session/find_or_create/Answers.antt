@@ -5,7 +5,7 @@ use Rattle.sqlite.specs.State.{HasCleanDisk}
 use Rattle.sqlite.specs.Held.{state}
 use Rattle.wu_core.specs.World.{empty_world}
 use Rattle.wu_schema.proofs.CallLemmas.{leaves_only}
-use Rattle.wu_passes.proofs.StandingLemmas.{created_is, known_is, leaves_made, leaves_read, none_known, refusal_is, stored_later, tells_worlds}
+use Rattle.wu_passes.proofs.StandingLemmas.{adoption_fault, adoption_later, adoption_told, created_is, known_is, leaves_made, leaves_read, none_known, refusal_is, stored_later, tells_worlds}
 use Rattle.wu_passes.proofs.project.session.find_or_create.Goals as goal
 
 pub returns-in-Ok-None-clause-made : goal.returns-in-Ok-None-clause-made
@@ -65,3 +65,12 @@ pub returns-in-Ok-None-clause-only : goal.returns-in-Ok-None-clause-only
 returns-in-Ok-None-clause-only g c clean unlimited world first stands =
     let before : HasCleanDisk (state g.S.Store c.version_of.new.conn) = omega (arith, c.create.ensures.crash.clean) in
     absurd (let no = sym c.in-Ok-None.field-0-is ∙ c.in-Ok-None.ensures.stored before world stands in cc)
+
+pub returns-in-Ok-Some-clause-told : goal.returns-in-Ok-Some-clause-told
+returns-in-Ok-Some-clause-told g c = adoption_later c.in-Ok-Some.version c.check_version.result c.check_version.ensures.later
+
+pub returns-in-Ok-None-clause-told : goal.returns-in-Ok-None-clause-told
+returns-in-Ok-None-clause-told g c = adoption_told c.create.result c.create.ensures.told
+
+pub returns-in-Err-clause-told : goal.returns-in-Err-clause-told
+returns-in-Err-clause-told g c = adoption_fault c.in-Err.fault c.in-Err.ensures.told

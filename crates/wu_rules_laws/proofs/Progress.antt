@@ -1,0 +1,80 @@
+-- What has to happen happens: what is late is timed out, what has its quorum is decided, and what comes late is judged.
+use Rattle.std.proofs.Common.{◌≡◌, ℕ, zero, suc, ◌≤◌, nat_le, nat_lt, Bool, true, false, cond, ◌&&◌, List, [], ◌∷◌, length, slice_get, Option, Some, None, is_none, IfSome, refl, sym, ap, ◌∙◌, le-leb, arith}
+use Rattle.std.proofs.lemmas.Bool.Decides.{nat_tests}
+use Rattle.std.specs.List.{list_any}
+use Rattle.std.specs.Option.{option_map_or}
+use Rattle.wu_core.specs.declared.workunit.Instance.{Instance}
+use Rattle.wu_core.specs.declared.workunit.Workunit.{Workunit}
+use Rattle.wu_core.specs.declared.states.ServerState.TheVariants as server
+use Rattle.wu_rules.specs.Counts.{consensus, has_new_success, is_clear, is_undecided, viable}
+use Rattle.wu_rules.specs.Instances.{is_in_progress_state, is_new, is_overdue}
+use Rattle.wu_rules.specs.Transition.{transitioned}
+use Rattle.wu_rules.specs.Validation.{is_to_validate, validated, validated_by}
+use Rattle.wu_rules_laws.proofs.Awake.{transitioned-not_overdue}
+use Rattle.wu_rules_laws.proofs.Changed.{or_left, or_right}
+use Rattle.wu_rules_laws.proofs.Deciding.{decides}
+use Rattle.wu_rules_laws.proofs.Judged.{judges-all, none_new_left}
+
+-- where none passes a test, the one at a place does not
+fails_at : {A : Type 0} (p : A → Bool) (xs : List A) (n : ℕ) (x : A) → list_any p xs ≡ false → slice_get xs n ≡ Some x → p x ≡ false
+fails_at p [] n x none e = cc
+fails_at p (y ∷ ys) zero x none e = let first : p y ≡ false = or_left (p y) (list_any p ys) none in cc
+fails_at p (y ∷ ys) (suc n) x none e = fails_at p ys n x (or_right (p y) (list_any p ys) none) e
+
+-- ---- what is late is timed out
+
+in_time : (now : ℕ) (o : Option ℕ) → option_map_or (λ deadline. nat_lt deadline now) o false ≡ false → IfSome o (λ deadline. now ≤ deadline)
+in_time now None e = tt
+in_time now (Some deadline) e = grind (arith, nat_tests)
+
+pub times_out : (w : Workunit) (now n : ℕ) (i : Instance) → slice_get (transitioned w now).instances n ≡ Some i
+    → i.server_state ≡ server.InProgress → IfSome i.deadline (λ deadline. now ≤ deadline)
+times_out w now n i here running =
+    let not_overdue : is_overdue now i ≡ false = fails_at (is_overdue now) (transitioned w now).instances n i (transitioned-not_overdue w now) here in
+    in_time now i.deadline (ap (λ s. is_in_progress_state s && option_map_or (λ deadline. nat_lt deadline now) i.deadline false) (sym running) ∙ not_overdue)
+
+-- ---- what has its quorum is decided
+
+no_canonical : (o : Option ℕ) (clear : Bool) → (is_none o && clear) ≡ true → o ≡ None
+no_canonical None clear e = refl
+no_canonical (Some c) clear e = cc
+
+no_error : (o : Option ℕ) (clear : Bool) → (is_none o && clear) ≡ true → clear ≡ true
+no_error None clear e = e
+no_error (Some c) clear e = cc
+
+looks : (clear new none enough : Bool) → clear ≡ true → new ≡ true → enough ≡ true → (clear && new && cond none enough true) ≡ true
+looks clear new true enough e f g = cc
+looks clear new false enough e f g = cc
+
+pub decides_quorum : (w : Workunit) (c : ℕ) → is_undecided w ≡ true → has_new_success w ≡ true → w.params.min_quorum ≤ length (viable w) → consensus w ≡ Some c
+    → (validated w).canonical ≡ Some c
+decides_quorum w c undecided new enough agreed =
+    let clear = no_error w.canonical (is_clear w.error_mask) undecided in
+    let looked = looks (is_clear w.error_mask) (has_new_success w) (is_none w.canonical) _ clear new (le-leb w.params.min_quorum (length (viable w)) enough) in
+    decides w looked (no_canonical w.canonical (is_clear w.error_mask) undecided) ∙ agreed
+
+-- ---- what comes late is judged
+
+-- where the validator does not look after the decision, nothing is new
+nothing_new : (w : Workunit) (c : ℕ) → w.canonical ≡ Some c → is_clear w.error_mask ≡ true → is_to_validate w ≡ false → has_new_success w ≡ false
+nothing_new w c some clear e = by_case (is_clear w.error_mask) (has_new_success w) w.canonical clear some e
+  where
+    by_case : (clear new : Bool) (o : Option ℕ) → clear ≡ true → o ≡ Some c
+        → (clear && new && cond (is_none o) (nat_le w.params.min_quorum (length (viable w))) true) ≡ false → new ≡ false
+    by_case true true (Some c) e f g = cc
+    by_case true true None e f g = cc
+    by_case true false o e f g = refl
+    by_case false new o e f g = cc
+
+none_new_after : (w : Workunit) (c : ℕ) → w.canonical ≡ Some c → is_clear w.error_mask ≡ true → has_new_success (validated w) ≡ false
+unfolding validated
+none_new_after w c some clear = by_case (is_to_validate w) refl
+  where
+    by_case : (b : Bool) → is_to_validate w ≡ b → has_new_success (cond b (validated_by w w.canonical) w) ≡ false
+    by_case true e = none_new_left w (validated_by w w.canonical) (judges-all w)
+    by_case false e = nothing_new w c some clear e
+
+pub judges_late : (w : Workunit) (c : ℕ) → w.canonical ≡ Some c → is_clear w.error_mask ≡ true
+    → (n : ℕ) (i : Instance) → slice_get (validated w).instances n ≡ Some i → is_new i ≡ false
+judges_late w c some clear n i here = fails_at is_new (validated w).instances n i (none_new_after w c some clear) here
