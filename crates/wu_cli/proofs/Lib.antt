@@ -3,3 +3,5 @@ mod NumberLemmas
 mod ParseLemmas
 mod TableLemmas
 mod TextLemmas
+mod ScriptLemmas
+mod StepLemmas

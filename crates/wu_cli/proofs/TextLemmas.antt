@@ -1,12 +1,14 @@
 -- What is written of a text, and a flush after it.
-use Rattle.std.proofs.Common.{◌≡◌, ℕ, ◌∷◌, List, length, take, sym, subst, arith}
+use Rattle.std.proofs.Common.{◌≡◌, ℕ, ◌++◌, List, length, sym, subst, arith}
 use Rattle.std.specs.Prelude.{Option, Result, Ok, Err}
 use Rattle.std.specs.Io.KnownBytes.{Appends, Keeps}
 use Rattle.std.proofs.KnownBytes.{Appends-kept}
 use Rattle.std.proofs.lemmas.List.{take_all}
 use Rattle.wu_core.specs.declared.fault.Fault.{Fault}
-use Rattle.wu_report.specs.Writing.{Writes}
-use Rattle.wu_cli.specs.Endings.{fault_line, usage_text}
+use Rattle.wu_feed.specs.declared.script.LineCause.{LineCause}
+use Rattle.wu_report.proofs.WritingLemmas.{AppendsFront-longer}
+use Rattle.wu_report.specs.Writing.{AppendsFront, Writes}
+use Rattle.wu_cli.specs.Endings.{cause_text, fault_line, usage_text}
 use Rattle.wu_cli.specs.declared.usage.Usage.{Usage}
 
 -- all was written, and the flush wrote nothing
@@ -20,3 +22,14 @@ told_as a b r fault other is wrote = subst (λ (it : Fault). Writes a b (fault_l
 
 pub usage_told_as : {T E : Type 0} (a b : Option (List ℕ)) (r : Result T E) (usage other : Usage) → usage ≡ other → Writes a b (usage_text other) r → Writes a b (usage_text usage) r
 usage_told_as a b r usage other is wrote = subst (λ (it : Usage). Writes a b (usage_text it) r) (sym is) wrote
+
+pub cause_told_as : {T E : Type 0} (a b : Option (List ℕ)) (r : Result T E) (cause other : LineCause) → cause ≡ other → Writes a b (cause_text other) r → Writes a b (cause_text cause) r
+cause_told_as a b r cause other is wrote = subst (λ (it : LineCause). Writes a b (cause_text it) r) (sym is) wrote
+
+-- the first part failed, and with it the whole
+pub first_failed : {T E : Type 0} (a b : Option (List ℕ)) (xs ys : List ℕ) (first : Result T E) (e : E) → first ≡ Err e → Writes a b xs first → AppendsFront a b (xs ++ ys)
+first_failed a b xs ys first e is wrote = AppendsFront-longer a b xs ys (subst (λ r. Writes a b xs r) is wrote)
+
+-- the first part was written
+pub first_written : {T E : Type 0} (a b : Option (List ℕ)) (xs : List ℕ) (first : Result T E) (t : T) → first ≡ Ok t → Writes a b xs first → Appends a b xs
+first_written a b xs first t is wrote = subst (λ r. Writes a b xs r) is wrote

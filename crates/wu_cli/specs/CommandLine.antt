@@ -6,7 +6,7 @@ use Rattle.clap.specs.declared.builder.value_parser.ValueParser.TheVariants.{Uns
 use Rattle.wu_cli.specs.declared.option.LineOption.{LineOption}
 use Rattle.wu_cli.specs.declared.option.LineOption.TheVariants.{Database, Name, Jobs, Template, File, Now, Limit, MinAge, Workunit, View}
 use Rattle.wu_cli.specs.declared.subcommand.Subcommand.{Subcommand}
-use Rattle.wu_cli.specs.declared.subcommand.Subcommand.TheVariants.{Batch, Sent, Reported, Transition, Validate, Assimilate, Delete, Purge, Cancel, Cycle, Show, Upgrade}
+use Rattle.wu_cli.specs.declared.subcommand.Subcommand.TheVariants.{Batch, Sent, Reported, Transition, Validate, Assimilate, Delete, Purge, Cancel, Cycle, Show, Upgrade, Script}
 
 -- an option without its two hyphens
 abbrev pub option_name : LineOption → List ℕ
@@ -45,6 +45,7 @@ subcommand_name Cancel = codes "cancel"
 subcommand_name Cycle = codes "cycle"
 subcommand_name Show = codes "show"
 subcommand_name Upgrade = codes "upgrade"
+subcommand_name Script = codes "script"
 
 -- the options of a subcommand, in the order of its usage line
 abbrev pub options_of : Subcommand → List LineOption
@@ -60,9 +61,10 @@ options_of Cancel = Database ∷ Workunit ∷ []
 options_of Cycle = Database ∷ Now ∷ Limit ∷ MinAge ∷ []
 options_of Show = Database ∷ View ∷ []
 options_of Upgrade = Database ∷ []
+options_of Script = Database ∷ File ∷ []
 
 abbrev pub all_subcommands : List Subcommand
-all_subcommands = Batch ∷ Sent ∷ Reported ∷ Transition ∷ Validate ∷ Assimilate ∷ Delete ∷ Purge ∷ Cancel ∷ Cycle ∷ Show ∷ Upgrade ∷ []
+all_subcommands = Batch ∷ Sent ∷ Reported ∷ Transition ∷ Validate ∷ Assimilate ∷ Delete ∷ Purge ∷ Cancel ∷ Cycle ∷ Show ∷ Upgrade ∷ Script ∷ []
 
 -- the subcommand of this name
 abbrev pub subcommand_named : List ℕ → Option Subcommand

@@ -6,6 +6,13 @@ use Rattle.wu_core.specs.declared.fault.Fault.TheVariants as fault
 use Rattle.wu_drive.specs.Texts.{fault_text}
 use Rattle.wu_report.specs.Texts.{line_end}
 use Rattle.wu_report.specs.Writing.{AppendsFront}
+use Rattle.std.specs.Fmt.{decimal}
+use Rattle.wu_feed.specs.declared.script.LineCause.{LineCause}
+use Rattle.wu_feed.specs.declared.script.LineCause.TheVariants as cause
+use Rattle.wu_cli.specs.declared.entry.Refusal.{Refusal}
+use Rattle.wu_cli.specs.declared.entry.Refusal.TheVariants as refusal
+use Rattle.wu_cli.specs.declared.step.BadLine.{BadLine}
+use Rattle.wu_cli.specs.declared.step.LineFault.{LineFault}
 use Rattle.wu_cli.specs.declared.usage.Usage.{Usage}
 use Rattle.wu_cli.specs.declared.usage.Usage.TheVariants as usage
 
@@ -43,3 +50,39 @@ status_of (Some fault) = fault_status fault
 abbrev pub usage_status : Usage → ℕ
 usage_status usage.Memory = fault_status fault.Memory
 usage_status _ = 2
+
+-- ---- of a script
+
+-- which line of a script it is
+abbrev pub line_front : ℕ → List ℕ
+line_front number = codes "line " ++ decimal number ++ codes ": "
+
+abbrev pub cause_text : LineCause → List ℕ
+cause_text cause.OpenQuote = codes "a quote is not closed" ++ line_end
+cause_text cause.NotText = codes "the words are no UTF-8 text" ++ line_end
+cause_text cause.TooManyLines = codes "a script has at most 1000 lines" ++ line_end
+
+abbrev pub refusal_text : Refusal → List ℕ
+refusal_text (refusal.Text cause) = cause_text cause
+refusal_text (refusal.Words usage) = usage_text usage
+refusal_text refusal.Script = codes "a script cannot stand in a script" ++ line_end
+refusal_text (refusal.Fault fault) = fault_line fault
+
+-- the first line that can't be run, and why
+abbrev pub bad_line_text : BadLine → List ℕ
+bad_line_text bad = line_front bad.number ++ refusal_text bad.why
+
+-- the line whose fault ended the script, and the line of the fault
+abbrev pub line_fault_text : LineFault → List ℕ
+line_fault_text end = line_front end.number ++ fault_line end.fault
+
+-- as of words and of a fault
+abbrev pub refusal_status : Refusal → ℕ
+refusal_status (refusal.Text cause) = 2
+refusal_status (refusal.Words usage) = usage_status usage
+refusal_status refusal.Script = 2
+refusal_status (refusal.Fault fault) = fault_status fault
+
+abbrev pub status_of_line : Option LineFault → ℕ
+status_of_line None = 0
+status_of_line (Some end) = fault_status end.fault

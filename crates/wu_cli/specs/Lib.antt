@@ -4,3 +4,5 @@ pub mod Endings
 pub mod Lines
 pub mod Performing
 pub mod Refusals
+pub mod Scripting
+pub mod Scripts

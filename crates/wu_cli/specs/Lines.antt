@@ -1,16 +1,19 @@
 -- A line: the subcommand that clap finds, with the values of its options.
-use Rattle.std.specs.Prelude.{◌≡◌, ℕ, ◌==◌, if◌then◌else◌, List, [], ◌∷◌, codes, bytes_eq, length, Option, Some, None}
+use Rattle.std.specs.Prelude.{◌≡◌, ℕ, if◌then◌else◌, List, codes, bytes_eq, Option, Some, None}
 use Rattle.std.specs.Str.Parse.{digits_value, without_leading_plus}
 use Rattle.clap.specs.Words.{Row, first_of, one_of}
 use Rattle.wu_report.specs.declared.views.View.{View}
 use Rattle.wu_report.specs.declared.views.View.TheVariants.{Workunits, Results, Hosts, Archive, Summary}
-use Rattle.wu_cli.specs.CommandLine.{option_name, subcommand_name}
+use Rattle.wu_cli.specs.CommandLine.{option_name}
 use Rattle.wu_cli.specs.declared.option.LineOption.{LineOption}
 use Rattle.wu_cli.specs.declared.option.LineOption.TheVariants as option
 use Rattle.wu_cli.specs.declared.subcommand.Subcommand.{Subcommand}
 use Rattle.wu_cli.specs.declared.subcommand.Subcommand.TheVariants as subcommand
 use Rattle.wu_cli.specs.declared.line.Line.{Line}
 use Rattle.wu_cli.specs.declared.line.Line.TheVariants as line
+use Rattle.wu_cli.specs.declared.order.Order.{Order}
+use Rattle.wu_cli.specs.declared.order.Order.TheVariants as order
+use Rattle.wu_cli.specs.declared.order.ScriptFile.{ScriptFile}
 
 -- the view of this name
 abbrev pub view_named : List ℕ → Option View
@@ -88,3 +91,12 @@ database_of (line.Upgrade db) = db
 -- the line is of this subcommand, with these values
 abbrev pub IsLine : List Row → Subcommand → Line → Type 0
 IsLine found subcommand line = (subcommand_of_line line ≡ subcommand) × HasValues found line
+
+-- the values of a script's options are those that clap finds
+abbrev pub IsScript : List Row → ScriptFile → Type 0
+IsScript found script = IsTextIn found option.Database script.db × IsTextIn found option.File script.file
+
+-- what words ask for is of this subcommand, with these values
+abbrev pub IsOrder : List Row → Subcommand → Order → Type 0
+IsOrder found asked (order.Line line) = IsLine found asked line
+IsOrder found asked (order.Script script) = (asked ≡ subcommand.Script) × IsScript found script

@@ -5,12 +5,15 @@ use Rattle.clap.specs.Words.{Row, fault_of, kind_of, one_of, subcommand_of}
 use Rattle.clap.specs.declared.error.Error.{Error}
 use Rattle.clap.specs.declared.error.kind.ErrorKind.TheVariants.{OutOfMemory}
 use Rattle.wu_cli.specs.CommandLine.{is_number, is_required, option_name, options_of, program, subcommand_name, subcommand_named}
-use Rattle.wu_cli.specs.Lines.{HasValues, IsViewIn, subcommand_of_line, value_in}
+use Rattle.wu_cli.specs.Lines.{HasValues, IsScript, IsViewIn, subcommand_of_line, value_in}
 use Rattle.wu_cli.specs.declared.line.Line.{Line}
+use Rattle.wu_cli.specs.declared.order.Order.{Order}
+use Rattle.wu_cli.specs.declared.order.Order.TheVariants as order
+use Rattle.wu_cli.specs.declared.order.ScriptFile.{ScriptFile}
 use Rattle.wu_cli.specs.declared.option.LineOption.{LineOption}
 use Rattle.wu_cli.specs.declared.option.LineOption.TheVariants.{View}
 use Rattle.wu_cli.specs.declared.subcommand.Subcommand.{Subcommand}
-use Rattle.wu_cli.specs.declared.subcommand.Subcommand.TheVariants.{Show}
+use Rattle.wu_cli.specs.declared.subcommand.Subcommand.TheVariants.{Script, Show}
 use Rattle.wu_cli.specs.declared.usage.Usage.{Usage}
 use Rattle.wu_cli.specs.declared.usage.Usage.TheVariants.{Refused, UnknownView, Incomplete, Memory}
 
@@ -87,3 +90,13 @@ Explains words Memory = ⊤
 abbrev pub IsLineOf : List (List ℕ) → Line → Type 0
 IsLineOf words line =
     (fault_of program words ≡ []) × ((found : List Row) × (subcommand_of program words ≡ Some (subcommand_name (subcommand_of_line line), found)) × HasValues found line)
+
+-- clap takes the words, and they name a script with the values that it finds
+abbrev pub IsScriptOf : List (List ℕ) → ScriptFile → Type 0
+IsScriptOf words script =
+    (fault_of program words ≡ []) × ((found : List Row) × (subcommand_of program words ≡ Some (subcommand_name Script, found)) × IsScript found script)
+
+-- what the words ask for
+abbrev pub IsOrderOf : List (List ℕ) → Order → Type 0
+IsOrderOf words (order.Line line) = IsLineOf words line
+IsOrderOf words (order.Script script) = IsScriptOf words script

@@ -1,15 +1,17 @@
 //! What a line asks of a project, with the contents of its files.
 
-ghost use Rattle.std.specs.Prelude.{◌≡◌, ◌<◌, length};
+ghost use Rattle.std.specs.Prelude.{◌≡◌, drop};
+ghost use Rattle.std.specs.Vec.Iter.{into_iter_items};
 ghost use Rattle.wu_core.specs.Reads.{Gives};
 ghost use Rattle.wu_core.specs.Names.{name_of};
 ghost use Rattle.wu_feed.specs.Moments.{moment_of};
-ghost use Rattle.wu_cli.specs.Actions.{all_of_cycle, batch, bytes_of, content_bytes, content_of, files_of, one, prepared, read_bytes, rows_file};
+ghost use Rattle.wu_cli.specs.Actions.{all_of_cycle, batch, bytes_of, content_of, one, prepared, rows_file};
 
 use crate::line::Line;
 use crate::word::Word;
-use std::alloc::{AllocError, Global};
+use std::alloc::Global;
 use std::marker::Model;
+use std::vec::IntoIter;
 use wu_core::{Bytes, Fault, FileCause, Moment, Name};
 use wu_drive::{Batch, Command, RowsFile, View, cycle};
 use wu_feed::read_moment;
@@ -66,25 +68,18 @@ fn one(alloc: Global, command: Command) -> Result<Action, Fault>
     Ok(Action::Commands(Commands::from_vec(commands)))
 }
 
-/// The bytes of a file, copied. One that could not be read is refused as a whole.
-fn bytes(alloc: Global, content: &Option<Vec<u8>>) -> Result<Bytes, Fault>
-    ensures { Gives result (read_bytes (content_bytes content.now)) }
+/// The bytes of a line's next file. One that could not be read, or that is not there, is refused as a whole.
+fn next_content(contents: &mut IntoIter<Option<Vec<u8>>>) -> Result<Bytes, Fault>
+    ensures first { result ≡ content_of (bytes_of (into_iter_items contents.old)) 0 }
+    ensures rest { into_iter_items contents.new ≡ drop 1 (into_iter_items contents.old) }
 {
-    match content {
-        Some(content) => Ok(Bytes::from_vec(Vec::from_slice(alloc, content.as_slice())?)),
-        None => Err(Fault::BadFile {
+    match contents.next() {
+        Some(Some(bytes)) => Ok(Bytes::from_vec(bytes)),
+        _ => Err(Fault::BadFile {
             row: 0,
             cause: FileCause::Unreadable,
         }),
     }
-}
-
-/// The bytes of a line's file, by its place.
-fn content(alloc: Global, contents: &[Option<Vec<u8>>], place: usize) -> Result<Bytes, Fault>
-    requires { place < length contents.now }
-    ensures { Gives result (content_of (bytes_of contents.now) place) }
-{
-    bytes(alloc, &contents[place])
 }
 
 fn moment(text: &Word) -> Result<Moment, Fault>
@@ -99,14 +94,14 @@ fn name(alloc: Global, text: &Word) -> Result<Name, Fault>
     Name::read(alloc, text.as_str().as_bytes())
 }
 
-/// The action of a batch.
-fn batch(alloc: Global, text: &Word, contents: &[Option<Vec<u8>>]) -> Result<Action, Fault>
-    requires { length contents.now ≡ 2 }
-    ensures { Gives result (batch text.now (bytes_of contents.now)) }
+/// The action of a batch: the contents are those of its jobs and of its template.
+fn batch(alloc: Global, text: &Word, contents: Vec<Option<Vec<u8>>>) -> Result<Action, Fault>
+    ensures { Gives result (batch text.now (bytes_of contents.items)) }
 {
+    let mut contents = contents.into_iter();
     let name = name(alloc, text)?;
-    let file = content(alloc, contents, 0)?;
-    let template = content(alloc, contents, 1)?;
+    let file = next_content(&mut contents)?;
+    let template = next_content(&mut contents)?;
     one(
         alloc,
         Command::Batch(Batch {
@@ -118,12 +113,11 @@ fn batch(alloc: Global, text: &Word, contents: &[Option<Vec<u8>>]) -> Result<Act
 }
 
 /// A file of rows under its name.
-fn rows_file(alloc: Global, text: &Word, contents: &[Option<Vec<u8>>]) -> Result<RowsFile, Fault>
-    requires { length contents.now ≡ 1 }
-    ensures { Gives result (rows_file text.now (bytes_of contents.now)) }
+fn rows_file(alloc: Global, text: &Word, contents: Vec<Option<Vec<u8>>>) -> Result<RowsFile, Fault>
+    ensures { Gives result (rows_file text.now (bytes_of contents.items)) }
 {
     let name = name(alloc, text)?;
-    let file = content(alloc, contents, 0)?;
+    let file = next_content(&mut contents.into_iter())?;
     Ok(RowsFile { name, file })
 }
 
@@ -136,12 +130,11 @@ fn all_of_cycle(alloc: Global, now: &Word, limit: u64, min_age: u64) -> Result<A
 }
 
 /// What a line asks of a project, with the contents of its files in the order of its usage line: None for one that could
-/// not be read, no bytes for a template that the line leaves out. It answers the first fault among the options from left
-/// to right: `BadName`, `BadMoment`, or for a file `BadFile` with row 0 and `Unreadable`. Limits and ages are not looked
-/// at.
-pub fn prepare(alloc: Global, line: &Line, contents: &[Option<Vec<u8>>]) -> Result<Action, Fault>
-    requires { length contents.now ≡ length (files_of line.now) }
-    ensures { Gives result (prepared line.now (bytes_of contents.now)) }
+/// not be read, no bytes for a template that the line leaves out. It takes their bytes and copies none. It answers the
+/// first fault among the options from left to right: `BadName`, `BadMoment`, or for a file that was not read `BadFile`
+/// with row 0 and `Unreadable`. Limits and ages are not looked at.
+pub fn prepare(alloc: Global, line: &Line, contents: Vec<Option<Vec<u8>>>) -> Result<Action, Fault>
+    ensures { Gives result (prepared line.now (bytes_of contents.items)) }
 {
     match line {
         Line::Batch { name, .. } => batch(alloc, name, contents),

@@ -14,7 +14,7 @@ pub enum LineOption {
     Jobs,
     /// A file with the parameters of a batch's jobs. It may be left out.
     Template,
-    /// A file of sends or of reports.
+    /// A file of sends, of reports or of commands.
     File,
     /// The moment of a pass.
     Now,
@@ -92,7 +92,8 @@ impl LineOption {
                 "CSV file of jobs with the header name,input; at most 1,000 rows and 1,048,576 bytes",
             LineOption::Template =>
                 "TOML file of the jobs' parameters, at most 65,536 bytes; each parameter that is absent has its default",
-            LineOption::File => "CSV file with its header, at most 1,000 rows and 1,048,576 bytes",
+            LineOption::File =>
+                "CSV file with its header, at most 1,000 rows and 1,048,576 bytes; of a script a command a line, without the program's name and without --db",
             LineOption::Now => "The moment in UTC as YYYY-MM-DDTHH:MM:SSZ, from 1970 to 2099",
             LineOption::Limit =>
                 "How many workunits are changed at most, the first by number: 1 to 1000",

@@ -1,10 +1,12 @@
 //! What is done for a line over a project, and the status of the program.
 
 ghost use Rattle.std.specs.Prelude.{◌≡◌};
-ghost use Rattle.wu_cli.specs.Endings.{fault_status, status_of, usage_status};
+ghost use Rattle.wu_cli.specs.Endings.{fault_status, status_of, status_of_line, usage_status};
 ghost use Rattle.wu_cli.specs.Performing.{as_result, Performs, Runs, Sees};
+ghost use Rattle.wu_cli.specs.Scripting.{DrivesSteps, LengthensBySteps, PerformsSteps};
 
 use crate::action::Action;
+use crate::step::{LineFault, Step};
 use crate::usage::Usage;
 use sqlite::Alter;
 use std::alloc::Global;
@@ -92,4 +94,31 @@ pub fn perform<S: Alter, W: Write>(
         Action::Look(view) => sees(alloc, project, *view, out),
     };
     (status_of(end), end)
+}
+
+/// Does what the steps of a script ask for, in order, up to the first fault. It answers the status of the program, and the
+/// fault that ended it with its line.
+pub fn perform_script<S: Alter, W: Write>(
+    alloc: Global,
+    project: &mut Project<S>,
+    steps: &[Step],
+    out: &mut W,
+) -> (u8, Option<LineFault>)
+    ensures does { PerformsSteps W.contents project.old project.new out.old out.new
+        steps.now result.1 }
+    ensures status { result.0 ≡ status_of_line result.1 }
+    ensures drives { DrivesSteps project.old project.new steps.now result.1 }
+    ensures lives { LengthensBySteps project.old project.new steps.now }
+{
+    for step in steps {
+        let (status, end) = perform(alloc, project, &step.action, out);
+        match end {
+            Some(fault) => {
+                let number = step.number;
+                return (status, Some(LineFault { number, fault }));
+            }
+            None => {}
+        }
+    }
+    (0, None)
 }

@@ -20,10 +20,11 @@ pub enum Subcommand {
     Cycle,
     Show,
     Upgrade,
+    Script,
 }
 
 /// All subcommands, in the order of help.
-pub const SUBCOMMANDS: [Subcommand; 12] = [
+pub const SUBCOMMANDS: [Subcommand; 13] = [
     Subcommand::Batch,
     Subcommand::Sent,
     Subcommand::Reported,
@@ -36,6 +37,7 @@ pub const SUBCOMMANDS: [Subcommand; 12] = [
     Subcommand::Cycle,
     Subcommand::Show,
     Subcommand::Upgrade,
+    Subcommand::Script,
 ];
 
 impl Subcommand {
@@ -55,6 +57,7 @@ impl Subcommand {
             Subcommand::Cycle => "cycle",
             Subcommand::Show => "show",
             Subcommand::Upgrade => "upgrade",
+            Subcommand::Script => "script",
         }
     }
 
@@ -75,6 +78,7 @@ impl Subcommand {
             "cycle" => Some(Subcommand::Cycle),
             "show" => Some(Subcommand::Show),
             "upgrade" => Some(Subcommand::Upgrade),
+            "script" => Some(Subcommand::Script),
             _ => None,
         }
     }
@@ -110,6 +114,7 @@ impl Subcommand {
             Subcommand::Cancel => &[LineOption::Database, LineOption::Workunit],
             Subcommand::Show => &[LineOption::Database, LineOption::View],
             Subcommand::Upgrade => &[LineOption::Database],
+            Subcommand::Script => &[LineOption::Database, LineOption::File],
         }
     }
 
@@ -133,6 +138,8 @@ impl Subcommand {
                 "Run transition, validate, transition, assimilate, transition, delete and purge in a row",
             Subcommand::Show => "Print a view of the project",
             Subcommand::Upgrade => "Bring an older project to the schema of this program",
+            Subcommand::Script =>
+                "Run the commands of a file in one opening, up to the first fault",
         }
     }
 
@@ -158,6 +165,7 @@ impl Subcommand {
                 "Example: lintelthyme cycle --db project.db --now 2026-03-01T12:00:00Z --limit 1000 --min-age 604800",
             Subcommand::Show => "Example: lintelthyme show --db project.db --view summary",
             Subcommand::Upgrade => "Example: lintelthyme upgrade --db project.db",
+            Subcommand::Script => "Example: lintelthyme script --db project.db --file day.txt",
         }
     }
 }

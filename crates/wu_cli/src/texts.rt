@@ -4,11 +4,14 @@ ghost use Rattle.std.specs.Prelude.{◌++◌, codes, flat_map};
 ghost use Rattle.std.specs.Fmt.{decimal};
 ghost use Rattle.wu_report.specs.Texts.{line_end};
 ghost use Rattle.wu_report.specs.Writing.{piece_text, WritesTo};
-ghost use Rattle.wu_cli.specs.Endings.{fault_line, unopened_line, usage_text, WritesAll};
+ghost use Rattle.wu_cli.specs.Endings.{bad_line_text, cause_text, fault_line, line_fault_text, line_front, refusal_text, unopened_line, usage_text, WritesAll};
 
+use crate::entry::Refusal;
+use crate::step::{BadLine, LineFault};
 use crate::usage::Usage;
 use std::io::Write;
 use wu_core::Fault;
+use wu_feed::LineCause;
 use wu_report::{Piece, flush, write_pieces};
 
 /// Writes the pieces in turn, and flushes.
@@ -127,6 +130,85 @@ pub fn write_unopened<W: Write>(out: &mut W) -> bool
     ensures { WritesAll (W.contents out.old) (W.contents out.new) unopened_line result }
 {
     match plain(out, "cannot open the database") {
+        Ok(()) => true,
+        Err(_) => false,
+    }
+}
+
+/// Writes which line of a script it is.
+fn line_number<W: Write>(out: &mut W, number: u64) -> Result<(), Fault>
+    ensures { WritesTo W.contents out.old out.new (line_front number) result }
+{
+    write_pieces(
+        out,
+        &[
+            Piece::Text("line "),
+            Piece::Number(number),
+            Piece::Text(": "),
+        ],
+    )
+}
+
+/// Writes why a line of a script is not taken apart into words.
+fn text_of_cause<W: Write>(out: &mut W, cause: LineCause) -> Result<(), Fault>
+    ensures { WritesTo W.contents out.old out.new (cause_text cause) result }
+{
+    match cause {
+        LineCause::OpenQuote => plain(out, "a quote is not closed"),
+        LineCause::NotText => plain(out, "the words are no UTF-8 text"),
+        LineCause::TooManyLines => plain(out, "a script has at most 1000 lines"),
+    }
+}
+
+/// Writes why a line of a script can't be run.
+fn text_of_refusal<W: Write>(out: &mut W, why: &Refusal) -> Result<(), Fault>
+    ensures { WritesTo W.contents out.old out.new (refusal_text why.now) result }
+{
+    match why {
+        Refusal::Text(cause) => text_of_cause(out, *cause),
+        Refusal::Words(usage) => text_of_usage(out, usage),
+        Refusal::Script => plain(out, "a script cannot stand in a script"),
+        Refusal::Fault(fault) => line_of_fault(out, *fault),
+    }
+}
+
+/// Writes which line of a script can't be run, and why.
+fn line_of_bad_line<W: Write>(out: &mut W, bad: &BadLine) -> Result<(), Fault>
+    ensures { WritesTo W.contents out.old out.new (bad_line_text bad.now) result }
+{
+    match line_number(out, bad.number) {
+        Ok(()) => text_of_refusal(out, &bad.why),
+        Err(fault) => Err(fault),
+    }
+}
+
+/// Writes the line of a script whose fault ended it, with the line of the fault.
+fn line_of_line_fault<W: Write>(out: &mut W, end: LineFault) -> Result<(), Fault>
+    ensures { WritesTo W.contents out.old out.new (line_fault_text end) result }
+{
+    match line_number(out, end.number) {
+        Ok(()) => line_of_fault(out, end.fault),
+        Err(fault) => Err(fault),
+    }
+}
+
+/// Writes which line of a script can't be run, why, and flushes, without taking memory. It answers whether all of it went
+/// out.
+pub fn write_bad_line<W: Write>(bad: &BadLine, out: &mut W) -> bool
+    ensures { WritesAll (W.contents out.old) (W.contents out.new) (bad_line_text bad.now) result }
+{
+    match line_of_bad_line(out, bad) {
+        Ok(()) => true,
+        Err(_) => false,
+    }
+}
+
+/// Writes the line of a script whose fault ended it, with the line of the fault, and flushes, without taking memory. It
+/// answers whether all of it went out.
+pub fn write_line_fault<W: Write>(end: &LineFault, out: &mut W) -> bool
+    ensures { WritesAll (W.contents out.old) (W.contents out.new) (line_fault_text end.now) result }
+{
+    match line_of_line_fault(out, *end) {
         Ok(()) => true,
         Err(_) => false,
     }

@@ -2,11 +2,12 @@
 
 ghost use Rattle.std.specs.Prelude.{◌≡◌, map, string_bytes, IfErr, IfOk};
 ghost use Rattle.clap.specs.Words.{found_of, rows_of};
-ghost use Rattle.wu_cli.specs.Lines.{IsLine};
-ghost use Rattle.wu_cli.specs.Refusals.{Explains, IsLacking, IsLineOf, IsUnread};
+ghost use Rattle.wu_cli.specs.Lines.{IsLine, IsOrder, IsScript};
+ghost use Rattle.wu_cli.specs.Refusals.{Explains, IsLacking, IsOrderOf, IsUnread};
 
 use crate::line::Line;
 use crate::option::LineOption;
+use crate::order::{Order, ScriptFile};
 use crate::parse::parse;
 use crate::subcommand::Subcommand;
 use crate::usage::Usage;
@@ -155,32 +156,45 @@ fn upgrade(alloc: Global, found: &ArgMatches<'_>) -> Result<Line, Usage>
     })
 }
 
-/// The line of a subcommand, with the values that `clap` found.
-fn line_of(alloc: Global, subcommand: Subcommand, found: &ArgMatches<'_>) -> Result<Line, Usage>
-    ensures line { IfOk result (IsLine (rows_of (found_of found.now)) subcommand) }
-    ensures refused { IfErr result (IsUnread (rows_of (found_of found.now)) subcommand) }
+/// A script's file, and the database that it is for.
+fn script(alloc: Global, found: &ArgMatches<'_>) -> Result<ScriptFile, Usage>
+    ensures script { IfOk result (IsScript (rows_of (found_of found.now))) }
+    ensures refused { IfErr result (IsLacking (rows_of (found_of found.now)) Subcommand.Script) }
 {
-    match subcommand {
-        Subcommand::Batch => batch(alloc, found),
-        Subcommand::Sent => sent(alloc, found),
-        Subcommand::Reported => reported(alloc, found),
-        Subcommand::Transition => transition(alloc, found),
-        Subcommand::Validate => validate(alloc, found),
-        Subcommand::Assimilate => assimilate(alloc, found),
-        Subcommand::Delete => delete(alloc, found),
-        Subcommand::Purge => purge(alloc, found),
-        Subcommand::Cancel => cancel(alloc, found),
-        Subcommand::Cycle => cycle(alloc, found),
-        Subcommand::Show => show(alloc, found),
-        Subcommand::Upgrade => upgrade(alloc, found),
-    }
+    Ok(ScriptFile {
+        db: text(alloc, found, LineOption::Database)?,
+        file: text(alloc, found, LineOption::File)?,
+    })
 }
 
-/// The line that the words are, of which the first is the program's name. `clap` takes them apart: one subcommand, each
+/// What a subcommand asks for, with the values that `clap` found.
+fn order_of(alloc: Global, subcommand: Subcommand, found: &ArgMatches<'_>) -> Result<Order, Usage>
+    ensures order { IfOk result (IsOrder (rows_of (found_of found.now)) subcommand) }
+    ensures refused { IfErr result (IsUnread (rows_of (found_of found.now)) subcommand) }
+{
+    let line = match subcommand {
+        Subcommand::Batch => batch(alloc, found)?,
+        Subcommand::Sent => sent(alloc, found)?,
+        Subcommand::Reported => reported(alloc, found)?,
+        Subcommand::Transition => transition(alloc, found)?,
+        Subcommand::Validate => validate(alloc, found)?,
+        Subcommand::Assimilate => assimilate(alloc, found)?,
+        Subcommand::Delete => delete(alloc, found)?,
+        Subcommand::Purge => purge(alloc, found)?,
+        Subcommand::Cancel => cancel(alloc, found)?,
+        Subcommand::Cycle => cycle(alloc, found)?,
+        Subcommand::Show => show(alloc, found)?,
+        Subcommand::Upgrade => upgrade(alloc, found)?,
+        Subcommand::Script => return Ok(Order::Script(script(alloc, found)?)),
+    };
+    Ok(Order::Line(line))
+}
+
+/// What the words ask for, of which the first is the program's name. `clap` takes them apart: one subcommand, each
 /// option given once, `--db` always; limits and ages are numbers of 64 bits. Other words, and a request for help, are
 /// `Refused` with the text of `clap`; a view that there is not is `UnknownView`.
-pub fn read_words(alloc: Global, words: &[String]) -> Result<Line, Usage>
-    ensures line { IfOk result (IsLineOf (map string_bytes words.now)) }
+pub fn read_words(alloc: Global, words: &[String]) -> Result<Order, Usage>
+    ensures order { IfOk result (IsOrderOf (map string_bytes words.now)) }
     ensures refused { IfErr result (Explains (map string_bytes words.now)) }
 {
     let matches = parse(alloc, words)?;
@@ -188,7 +202,7 @@ pub fn read_words(alloc: Global, words: &[String]) -> Result<Line, Usage>
         return Err(Usage::Incomplete);
     };
     match Subcommand::named(name) {
-        Some(subcommand) => line_of(alloc, subcommand, found),
+        Some(subcommand) => order_of(alloc, subcommand, found),
         None => Err(Usage::Incomplete),
     }
 }

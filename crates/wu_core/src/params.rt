@@ -224,36 +224,3 @@ impl Default for Params {
         }
     }
 }
-
-#[cfg(test)]
-mod tests {
-    use super::*;
-
-    #[test]
-    fn checks_the_ends_of_each_range(rt: HostRuntime) {
-        let least = Params::checked([1, 1, 0, 1, 0, 1, 0]);
-        assert_eq!(rt; least.map(|params| params.delay_bound()), Ok(1));
-        let most = Params::checked([20, 20, 100, 100, 100, 31_536_000, 1_000_000]);
-        assert_eq!(rt; most.map(|params| params.credit()), Ok(1_000_000));
-        assert_eq!(rt;
-            Params::checked([2, 2, 3, 10, 6, 604_800, 1]),
-            Ok(Params::default())
-        );
-    }
-
-    #[test]
-    fn names_the_first_key_at_fault(rt: HostRuntime) {
-        let key = Params::checked([3, 2, -1, 10, 6, 604_800, 1_000_001]).err();
-        assert_eq!(rt; key, Some(Fault::BadTemplate(TemplateKey::TargetNresults)));
-        let key = Params::checked([2, 2, 3, 0, 101, 604_800, 1]).err();
-        assert_eq!(rt; key, Some(Fault::BadTemplate(TemplateKey::MaxTotalResults)));
-    }
-
-    #[test]
-    fn takes_a_raised_target_from_stored_values(rt: HostRuntime) {
-        let raised = Params::from_values([2, 101, 3, 10, 6, 604_800, 1]);
-        assert_eq!(rt; raised.map(|params| params.target_nresults()), Some(101));
-        assert_eq!(rt; Params::from_values([2, 102, 3, 10, 6, 604_800, 1]), None);
-        assert_eq!(rt; Params::from_values([3, 2, 3, 10, 6, 604_800, 1]), None);
-    }
-}

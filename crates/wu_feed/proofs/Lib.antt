@@ -2,8 +2,10 @@ mod FieldLemmas
 mod InputLemmas
 mod JobLemmas
 mod MomentLemmas
+mod OnLiterals
 mod RecordLemmas
 pub mod RangeLemmas
 mod RowLemmas
+mod ScriptLemmas
 mod TemplateLemmas
 mod FaultLemmas

@@ -6,5 +6,6 @@ pub mod Moments
 pub mod Ranges
 pub mod Reports
 pub mod Rows
+pub mod Scripts
 pub mod Sends
 pub mod Templates

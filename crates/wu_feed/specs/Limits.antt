@@ -20,3 +20,7 @@ last_row = most_rows + 1
 -- the header, the rows that a file may have, and one more
 abbrev pub most_records : ℕ
 most_records = most_rows + 2
+
+-- lines of a script
+abbrev pub most_lines : ℕ
+most_lines = 1000

@@ -1,6 +1,8 @@
-//! The readers of what a BOINC project is fed with: moments, templates, and files of jobs, of sends and of reports.
+//! The readers of what a BOINC project is fed with: moments, templates, files of jobs, of sends and of
+//! reports, and scripts.
 #![tactic(auto)]
 
+mod examples;
 mod inputs;
 mod jobs;
 mod limits;
@@ -8,13 +10,18 @@ mod moment;
 mod records;
 mod reports;
 mod rows;
+mod script;
 mod sends;
 mod template;
+mod words;
 
+pub use examples::{reads_a_script, reads_faulty_lines, reads_no_line};
 pub use jobs::{Job, Jobs, read_jobs};
-pub use limits::{LAST_ROW, LONGEST_FILE, LONGEST_TEMPLATE, MOST_RECORDS, MOST_ROWS};
+pub use limits::{LAST_ROW, LONGEST_FILE, LONGEST_TEMPLATE, MOST_LINES, MOST_RECORDS, MOST_ROWS};
 pub use moment::read_moment;
 pub use reports::{ReportRow, Reports, read_reports};
 pub use rows::Rows;
+pub use script::{LineCause, ScriptLine, read_script};
 pub use sends::{SendRow, Sends, read_sends};
 pub use template::read_template;
+pub use words::Words;

@@ -14,3 +14,6 @@ pub const LAST_ROW: u32 = MOST_ROWS + 1;
 
 /// The header, the rows that a file may have, and one more.
 pub const MOST_RECORDS: usize = MOST_ROWS as usize + 2;
+
+/// The most lines that a script may have.
+pub const MOST_LINES: usize = 1_000;

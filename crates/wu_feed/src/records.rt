@@ -15,7 +15,7 @@ use wu_core::{Fault, FileCause};
 
 /// The fault of an error that stopped a reader of a slice, which is want of memory: a slice doesn't fail to be read. An
 /// error of a record's length or bytes stops no reader, and is not taken.
-fn fault_of(_error: &csv::Error) -> Fault
+pub fn fault_of(_error: &csv::Error) -> Fault
     requires { stops_reader (error_kind _error.now) ≡ true }
     ensures { result ≡ Memory }
 {

@@ -1,6 +1,8 @@
 //! What stands in a database that is adopted.
 
-use crate::setting::{ONE_JOB, adopted, answers, imports, memory, refused, runs, shows_lines};
+use crate::setting::{
+    FIRST_ADDED, ONE_JOB, adopted, answers, imports, memory, refused, runs, shows_lines,
+};
 use sqlite::{Connection, MemStore};
 use std::process::Abort;
 use wu_core::Fault;
@@ -19,13 +21,7 @@ fn other_tables_are_left_alone(rt: HostRuntime) {
         "CREATE TABLE notes (text TEXT); INSERT INTO notes VALUES ('kept')",
     );
     let mut project = adopted(&rt, conn);
-    imports(
-        &rt,
-        &mut project,
-        "b1",
-        ONE_JOB,
-        "batch b1: 1 added, first 1\n",
-    );
+    imports(&rt, &mut project, "b1", ONE_JOB, FIRST_ADDED);
     let mut conn = project.release();
     answers(
         &rt,

@@ -1,44 +1,28 @@
-//! Tests of whole projects: the worked examples of files, of passes and of a cancel; what stands in a database that is
-//! adopted; what a stop of a command's calls leaves; lives; lines of the command line; what is flushed; and what is as
-//! long as it may be.
+//! What only a program can ask of whole projects: what stands in a database that is adopted; statements of the store;
+//! what is stored and not shown; what is as long as it may be; writers of a test's own; lives over two files, a connection
+//! after a failed write and openings that stop; and the texts of the command line that no script has.
 #![tactic(auto)]
 
 #[cfg(test)]
 mod adoption;
 #[cfg(test)]
-mod batches;
-#[cfg(test)]
-mod bounds;
-#[cfg(test)]
-mod cancels;
-#[cfg(test)]
-mod cut_passes;
-#[cfg(test)]
 mod cuts;
 #[cfg(test)]
 mod disks;
-#[cfg(test)]
-mod files;
-#[cfg(test)]
-mod instances;
 #[cfg(test)]
 mod limits;
 #[cfg(test)]
 mod lives;
 #[cfg(test)]
-mod passes;
-#[cfg(test)]
-mod purges;
-#[cfg(test)]
-mod scripts;
+mod sessions;
 #[cfg(test)]
 mod setting;
 #[cfg(test)]
 mod statements;
 #[cfg(test)]
-mod stops;
+mod stored;
 #[cfg(test)]
-mod views;
+mod values;
 #[cfg(test)]
 mod words;
 #[cfg(test)]

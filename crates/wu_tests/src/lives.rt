@@ -3,38 +3,24 @@
 //! What a test does is written for any disk, and what it asks of a store stands in a few functions over any store: that
 //! the store over two files serves is proved again at each call of such a function.
 
-use crate::disks::files_of;
+use crate::disks::{empty_files, files_of};
 use crate::setting::{
-    ONE_JOB, ONE_WORKUNIT, TWO_WORKUNITS, adopted, batch, imports, is_bytes, is_count, is_run,
-    opened, shows, shows_lines,
+    FIRST_ADDED, ONE_JOB, ONE_WORKUNIT, SECOND_JOB, TWO_WORKUNITS, adopted, batch, imports,
+    is_bytes, is_count, is_run, opened, shows, shows_lines,
 };
 use sqlite::{Alter, Connection, FileStore, Files, Options};
-use sqlite_disk::{Crash, Disk, Memory};
+use sqlite_disk::{Crash, Disk};
 use std::process::Abort;
 use wu_drive::{Command, Project, Run};
 use wu_lives::{
     adopt_stop_and_adopt, drive_stop_and_open, live, live_all, open_and_adopt, stop_and_open,
 };
 
-/// What the batch of one job prints.
-pub const FIRST_ADDED: &str = "batch b1: 1 added, first 1\n";
-
-/// Another jobs file.
-pub const SECOND_JOB: &[u8] = b"name,input\njob_2,\n";
-
 /// What the batch of the other file prints after the first.
 const SECOND_ADDED: &str = "batch b2: 1 added, first 2\n";
 
-/// Two empty files.
-fn empty_files(rt: &(impl Abort + AllocGlobal)) -> Files<Memory> {
-    Files {
-        log: Memory::new(rt.alloc()),
-        db: Memory::new(rt.alloc()),
-    }
-}
-
 /// The project of a connection over files.
-pub fn resumed<D: Disk + Drop>(
+fn resumed<D: Disk + Drop>(
     rt: &(impl Abort + AllocGlobal),
     conn: Connection<FileStore<D>>,
 ) -> Project<FileStore<D>> {
@@ -46,12 +32,7 @@ pub fn begun<D: Disk + Drop>(
     rt: &(impl Abort + AllocGlobal),
     files: Files<D>,
 ) -> Project<FileStore<D>> {
-    resumed(rt, opened(rt, files).ok().expect(rt, "an open"))
-}
-
-/// A list of the one batch.
-fn first(rt: &(impl Abort + AllocGlobal)) -> [Command; 1] {
-    [batch(rt, "b1", b"", ONE_JOB)]
+    resumed(rt, opened(rt, files))
 }
 
 /// Sees that a run did its one command, the first batch, and wrote its text.
@@ -103,11 +84,22 @@ fn a_batch_is_found_after_a_stop(rt: HostRuntime) {
     finds_a_batch(&rt, empty_files(&rt));
 }
 
+/// A list of one batch.
+fn life(rt: &(impl Abort + AllocGlobal), name: &str, file: &[u8]) -> Vec<Command> {
+    let mut commands = Vec::new(rt.alloc());
+    commands
+        .push(batch(rt, name, b"", file))
+        .ok()
+        .expect(rt, "memory");
+    commands
+}
+
 /// Runs a list, stops, and goes on.
 fn finds_a_list<D: Crash + Drop>(rt: &(impl Abort + AllocGlobal), files: Files<D>) {
     let mut out = Vec::new(rt.alloc());
     let project = begun(rt, files);
-    let again = drive_stop_and_open(rt.alloc(), project, &first(rt), &mut out, Options::new(2));
+    let list = life(rt, "b1", ONE_JOB);
+    let again = drive_stop_and_open(rt.alloc(), project, &list, &mut out, Options::new(2));
     let (run, conn) = again.expect(rt, "an open");
     did_first(rt, run, out.as_slice());
     goes_on(rt, resumed(rt, conn), ONE_WORKUNIT);
@@ -122,7 +114,8 @@ fn a_list_is_found_after_a_stop(rt: HostRuntime) {
 fn lives_on<D: Crash + Drop>(rt: &(impl Abort + AllocGlobal), files: Files<D>) {
     let mut out = Vec::new(rt.alloc());
     let project = begun(rt, files);
-    let lived = live(rt.alloc(), project, &first(rt), &mut out, Options::new(2));
+    let list = life(rt, "b1", ONE_JOB);
+    let lived = live(rt.alloc(), project, &list, &mut out, Options::new(2));
     let (run, project) = lived.expect(rt, "a life");
     did_first(rt, run, out.as_slice());
     goes_on(rt, project, ONE_WORKUNIT);
@@ -131,16 +124,6 @@ fn lives_on<D: Crash + Drop>(rt: &(impl Abort + AllocGlobal), files: Files<D>) {
 #[test]
 fn a_session_goes_on_after_a_stop(rt: HostRuntime) {
     lives_on(&rt, empty_files(&rt));
-}
-
-/// A life of one batch.
-fn life(rt: &(impl Abort + AllocGlobal), name: &str, file: &[u8]) -> Vec<Command> {
-    let mut commands = Vec::new(rt.alloc());
-    commands
-        .push(batch(rt, name, b"", file))
-        .ok()
-        .expect(rt, "memory");
-    commands
 }
 
 /// Lives two lives, of a batch each.
@@ -200,7 +183,7 @@ fn adopted_twice<D: Crash + Drop>(
 
 /// Stops after an adoption of blank files, and after an adoption of a project with one workunit.
 fn stops_after_adoptions<D: Crash + Drop>(rt: &(impl Abort + AllocGlobal), files: Files<D>) {
-    let conn = opened(rt, files).ok().expect(rt, "an open");
+    let conn = opened(rt, files);
     let conn = takes_first(rt, adopted_twice(rt, conn));
     goes_on(rt, adopted_twice(rt, conn), ONE_WORKUNIT);
 }

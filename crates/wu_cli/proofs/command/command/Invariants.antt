@@ -1,4 +1,4 @@
-use Rattle.std.proofs.Common.{◌≡◌, false, map, take}
+use Rattle.std.proofs.Common.{◌≡◌, map, take}
 use Rattle.clap.specs.Words.{app_of}
 use Rattle.wu_cli.specs.CommandLine.{all_subcommands, program_with, subcommand_shape}
 use Rattle.wu_cli.proofs.command.command.Given as goal

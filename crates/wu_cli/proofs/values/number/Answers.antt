@@ -1,5 +1,5 @@
 use Rattle.std.proofs.Common.{◌≡◌, inl, refl}
-use Rattle.std.specs.Prelude.{Option, Some, None, ℕ}
+use Rattle.std.specs.Prelude.{Some, None}
 use Rattle.clap.specs.Words.{found_of}
 use Rattle.wu_cli.proofs.NumberLemmas.{number_lacks, number_read}
 use Rattle.wu_cli.proofs.values.number.Goals as goal

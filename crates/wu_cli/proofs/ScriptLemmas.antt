@@ -1,0 +1,280 @@
+-- From step to step of a script.
+use Rattle.std.proofs.Common.{◌≡◌, inl, inr, ℕ, zero, suc, ◌+◌, ◌<◌, ◌≤◌, Bool, false, List, [], ◌∷◌, ◌++◌, length, drop, get_or, map, take, Option, Some, None, refl, sym, ap, subst, ◌∙◌, arith, length-append, take-append-drop}
+use Rattle.std.proofs.Math.Seq.{take-append-add, take-length}
+use Rattle.std.proofs.lemmas.List.{drop_more, map-append, take-append-le, take_more}
+use Rattle.std.proofs.lemmas.List.Concat.{flat_map-append}
+use Rattle.std.proofs.lemmas.Bool.{cases_Bool}
+use Rattle.std.specs.Prelude.{slice_get}
+use Rattle.sqlite.specs.State.{State, HasCleanDisk}
+use Rattle.sqlite_trees.specs.declared.store.Store.{Ghosts}
+use Rattle.wu_core.specs.World.{World}
+use Rattle.wu_core.specs.declared.fault.Fault.{Fault}
+use Rattle.wu_drive.specs.declared.runs.Run.{Run}
+use Rattle.wu_drive.specs.Driving.{AnswerAll, Drives, world_after}
+use Rattle.wu_drive.proofs.LifeLemmas.{lengthens}
+use Rattle.wu_passes.specs.declared.command.Answer.{Answer}
+use Rattle.wu_passes.specs.declared.command.Command.{Command}
+use Rattle.wu_passes.specs.declared.project.Project.{Project}
+use Rattle.wu_passes.specs.Machine.{fold_steps, step}
+use Rattle.wu_passes.specs.Planning.{IsProject, request_of}
+use Rattle.wu_passes.specs.Projects.{GoesStill, has_ended, state_of}
+use Rattle.wu_passes.specs.Requests.{Request}
+use Rattle.wu_passes.specs.Sessions.{world_of_life}
+use Rattle.wu_passes.specs.Standing.{GoesOn, HasEnded, KeepsDoubt}
+use Rattle.wu_cli.specs.Performing.{Performs}
+use Rattle.wu_cli.specs.Scripting.{commands_of_action, commands_of_steps, DrivesSteps, LengthensBySteps, PerformsEach, PerformsSteps, PerformsUntil, so_far}
+use Rattle.wu_cli.specs.declared.action.Action.{Action}
+use Rattle.wu_cli.specs.declared.action.Action.TheVariants.{Commands, Look}
+use Rattle.wu_cli.specs.declared.step.LineFault.{LineFault}
+use Rattle.wu_cli.specs.declared.step.Step.{Step}
+
+-- ---- one step more
+
+module _ {S W : Type 0} {store : Ghosts S} (contents : W → Option (List ℕ)) where
+  pub each_none : (project : Project S store) (out : W) → PerformsEach contents project project out out []
+  unfolding PerformsEach
+  each_none project out = (refl, refl)
+
+  pub each_more : (old mid new : Project S store) (out_old out_mid out_new : W) (steps : List Step) (one : Step)
+      → PerformsEach contents old mid out_old out_mid steps → Performs contents mid new out_mid out_new one.action None
+      → PerformsEach contents old new out_old out_new (steps ++ one ∷ [])
+  unfolding PerformsEach
+  each_more old mid new out_old out_mid out_new [] one each does =
+      (new, out_new, subst (λ o. Performs contents o new out_old out_new one.action None) each.0 (subst (λ o. Performs contents mid new o out_new one.action None) each.1 does), (refl, refl))
+  each_more old mid new out_old out_mid out_new (first ∷ steps) one each does =
+      (each.0, each.1, each.2, each_more each.0 mid new each.1 out_mid out_new steps one each.3 does)
+
+  -- each step up to a place, and the one there
+  pub each_next : (old mid new : Project S store) (out_old out_mid out_new : W) (steps : List Step) (i : ℕ) (one : Step) → i < length steps → one ≡ get_or steps i one
+      → PerformsEach contents old mid out_old out_mid (take i steps) → Performs contents mid new out_mid out_new one.action None
+      → PerformsEach contents old new out_old out_new (take (i + 1) steps)
+  each_next old mid new out_old out_mid out_new steps i one within is each does =
+      subst (λ l. PerformsEach contents old new out_old out_new l) (sym (take_more steps i one within ∙ ap (λ y. take i steps ++ y ∷ []) (sym is)))
+      (each_more old mid new out_old out_mid out_new (take i steps) one each does)
+
+  -- that one ends with a fault
+  pub until_here : (old mid new : Project S store) (out_old out_mid out_new : W) (steps : List Step) (i : ℕ) (one : Step) (fault : Fault) → i < length steps → one ≡ get_or steps i one
+      → PerformsEach contents old mid out_old out_mid (take i steps) → Performs contents mid new out_mid out_new one.action (Some fault)
+      → PerformsUntil contents old new out_old out_new steps (record { number = one.number; fault = fault })
+  until_here old mid new out_old out_mid out_new steps i one fault within is each does = record {
+    before = take i steps;
+    last = one;
+    after = drop (i + 1) steps;
+    order = sym (take-append-drop i steps) ∙ ap (λ l. take i steps ++ l) (drop_more steps i one within ∙ ap (λ y. y ∷ drop (i + 1) steps) (sym is));
+    number = refl;
+    mid = mid;
+    out_mid = out_mid;
+    each = each;
+    ends = does;
+  }
+
+-- ---- the machine over two lists
+
+-- the machine's world after commands
+abbrev pub world_of : World → List Command → World
+world_of world commands = fold_steps world (map request_of commands)
+
+fold_both : (world : World) (xs ys : List Request) → fold_steps world (xs ++ ys) ≡ fold_steps (fold_steps world xs) ys
+fold_both world [] ys = refl
+fold_both world (x ∷ xs) ys = fold_both (step world x) xs ys
+
+pub world_both : (world : World) (xs ys : List Command) → world_of world (xs ++ ys) ≡ world_of (world_of world xs) ys
+world_both world xs ys = ap (λ rs. fold_steps world rs) (map-append request_of xs ys) ∙ fold_both world (map request_of xs) (map request_of ys)
+
+answer_both : (world : World) (xs ys : List Command) (first more : List Answer) → AnswerAll world xs first → AnswerAll (world_of world xs) ys more → AnswerAll world (xs ++ ys) (first ++ more)
+answer_both world [] ys [] more one two = two
+answer_both world [] ys (a ∷ first) more one two = absurd one
+answer_both world (x ∷ xs) ys [] more one two = absurd one
+answer_both world (x ∷ xs) ys (a ∷ first) more one two = (one.0, answer_both (step world (request_of x)) xs ys first more one.1 two)
+
+-- ---- a list within a longer one
+
+get_front : (xs after : List Command) (k : ℕ) (c : Command) → slice_get xs k ≡ Some c → slice_get (xs ++ after) k ≡ Some c
+get_front [] after k c there = absurd (cc)
+get_front (x ∷ xs) after zero c there = there
+get_front (x ∷ xs) after (suc k) c there = get_front xs after k c there
+
+get_behind : (before ys : List Command) (k : ℕ) → slice_get (before ++ ys) (length before + k) ≡ slice_get ys k
+get_behind [] ys k = ap (slice_get ys) (omega arith)
+get_behind (x ∷ before) ys k =
+    let next : length (x ∷ before) + k ≡ suc (length before + k) = omega arith in
+    ap (slice_get (x ∷ before ++ ys)) next ∙ get_behind before ys k
+
+pub get_within : (before xs after : List Command) (k : ℕ) (c : Command) → slice_get xs k ≡ Some c → slice_get (before ++ (xs ++ after)) (length before + k) ≡ Some c
+get_within before xs after k c there = get_behind before (xs ++ after) k ∙ get_front xs after k c there
+
+pub take_within : (before xs after : List Command) (k : ℕ) → k ≤ length xs → take (length before + k) (before ++ (xs ++ after)) ≡ before ++ take k xs
+take_within before xs after k low = take-append-add before (xs ++ after) k ∙ ap (λ l. before ++ l) (take-append-le k xs after low)
+
+same_command : (one other : Command) → ◌≡◌ {A = Option Command} (Some one) (Some other) → one ≡ other
+same_command one other same = cc
+
+-- what a list of commands did after others were done, of all of them
+module _ (world : World) (before xs after : List Command) (done answers : List Answer) (run : Run) (is_cut : Bool) (new : State)
+    (first : AnswerAll world before done) (drives : Drives (world_of world before) xs answers run is_cut new) where
+  next : world_after world (before ++ (xs ++ after)) (length before + run.acknowledged) ≡ world_after (world_of world before) xs run.acknowledged
+  next = ap (λ cs. world_of world cs) (take_within before xs after run.acknowledged drives.within) ∙ world_both world before (take run.acknowledged xs)
+
+  pub drives_within : Drives world (before ++ (xs ++ after)) (done ++ answers) (so_far (length before + run.acknowledged)) is_cut new
+  drives_within = record {
+    within = omega (arith, length-append before (xs ++ after), length-append xs after, drives.within);
+    answered = subst (λ cs. AnswerAll world cs (done ++ answers)) (sym (take_within before xs after run.acknowledged drives.within))
+        (answer_both world before (take run.acknowledged xs) done answers first drives.answered);
+    end = λ fault told. absurd (cc);
+    goes = λ going. subst (λ w. GoesOn new w) (sym next) (drives.goes going);
+    ended = λ ended.
+        let at = drives.ended ended in
+        (at.0, get_within before xs after run.acknowledged at.0 at.1, subst (λ w. HasEnded new w (request_of at.0)) (sym next) at.2);
+    project = subst (λ w. IsProject w) (sym next) drives.project;
+    cut_project = λ ended cut there.
+        let at = drives.ended ended in
+        let same : at.0 ≡ cut = same_command at.0 cut (sym (get_within before xs after run.acknowledged at.0 at.1) ∙ there) in
+        subst (λ w. IsProject (step w (request_of cut))) (sym next) (drives.cut_project ended cut (at.1 ∙ ap (λ c. Some c) same));
+  }
+
+-- the commands of steps with one among them
+commands_around : (before : List Step) (one : Step) (after : List Step)
+    → commands_of_steps (before ++ one ∷ after) ≡ commands_of_steps before ++ (commands_of_action one.action ++ commands_of_steps after)
+commands_around before one after = flat_map-append (λ (s : Step). commands_of_action s.action) before (one ∷ after)
+
+-- ---- one step
+
+module _ {S W : Type 0} {store : Ghosts S} (contents : W → Option (List ℕ)) (old new : Project S store) (out_old out_new : W) where
+  one_goes : (action : Action) → Performs contents old new out_old out_new action None → GoesStill old → GoesStill new
+  one_goes (Commands commands) (run, runs, end) going = elim (cases_Bool (has_ended new)) [
+    | inl over ↦
+        let ends = runs.ends going over in
+        absurd (let no : ◌≡◌ {A = Option Fault} None (Some ends.0) = sym end ∙ ends.1 in cc)
+    | inr still ↦ still
+  ]
+  one_goes (Look view) sees going = elim (cases_Bool (has_ended new)) [
+    | inl over ↦ absurd (let no = sees.ends going over in cc)
+    | inr still ↦ still
+  ]
+
+  one_clean : (action : Action) (end : Option Fault) → Performs contents old new out_old out_new action end → KeepsDoubt (state_of old) (state_of new)
+  one_clean (Commands commands) end (run, runs, is) = runs.clean
+  one_clean (Look view) end sees = sees.clean
+
+  -- what a step does of its commands
+  pub one_drives : (action : Action) (end : Option Fault) → Performs contents old new out_old out_new action end
+      → GoesStill old → HasCleanDisk (state_of new) → (world : World) → IsProject world → GoesOn (state_of old) world
+      → (answers : List Answer) × (run : Run) × (is_cut : Bool) × Drives world (commands_of_action action) answers run is_cut (state_of new)
+  one_drives (Commands commands) end (run, runs, is) going clean world project goes =
+      (runs.answers.0, run, has_ended new, runs.answers.2 going clean world project goes)
+  one_drives (Look view) end sees going clean world project goes = (
+    [],
+    so_far 0,
+    false,
+    record {
+      within = omega arith;
+      answered = tt;
+      end = λ fault told. absurd (cc);
+      goes = λ still. sees.goes clean world goes;
+      ended = λ ended. absurd (cc);
+      project = project;
+      cut_project = λ ended cut there. absurd (cc);
+    },
+  )
+
+  -- and all of them, where it ends without a fault
+  one_done : (action : Action) → Performs contents old new out_old out_new action None
+      → GoesStill old → HasCleanDisk (state_of new) → (world : World) → IsProject world → GoesOn (state_of old) world
+      → (answers : List Answer) × AnswerAll world (commands_of_action action) answers
+      × GoesOn (state_of new) (world_of world (commands_of_action action)) × IsProject (world_of world (commands_of_action action))
+  one_done (Commands commands) (run, runs, end) going clean world project goes =
+      let all : take run.acknowledged commands ≡ commands = ap (λ k. take k commands) (runs.all end) ∙ take-length commands in
+      let drives = runs.answers.2 going clean world project goes in (
+        runs.answers.0,
+        subst (λ cs. AnswerAll world cs runs.answers.0) all drives.answered,
+        subst (λ cs. GoesOn (state_of new) (world_of world cs)) all (drives.goes (one_goes (Commands commands) (run, runs, end) going)),
+        subst (λ cs. IsProject (world_of world cs)) all drives.project,
+      )
+  one_done (Look view) sees going clean world project goes = ([], tt, sees.goes clean world goes, project)
+
+-- ---- all steps
+
+module _ {S W : Type 0} {store : Ghosts S} (contents : W → Option (List ℕ)) where
+  each_clean : (old new : Project S store) (out_old out_new : W) (steps : List Step) → PerformsEach contents old new out_old out_new steps → KeepsDoubt (state_of old) (state_of new)
+  unfolding PerformsEach
+  each_clean old new out_old out_new [] each = subst (λ p. KeepsDoubt (state_of old) (state_of p)) (sym each.0) (omega arith)
+  each_clean old new out_old out_new (one ∷ steps) each =
+      let first = one_clean contents old each.0 out_old each.1 one.action None each.2 in
+      let rest = each_clean each.0 new each.1 out_new steps each.3 in
+      omega (arith, first, rest)
+
+  each_goes : (old new : Project S store) (out_old out_new : W) (steps : List Step) → PerformsEach contents old new out_old out_new steps → GoesStill old → GoesStill new
+  unfolding PerformsEach
+  each_goes old new out_old out_new [] each going = subst (λ p. GoesStill p) (sym each.0) going
+  each_goes old new out_old out_new (one ∷ steps) each going =
+      each_goes each.0 new each.1 out_new steps each.3 (one_goes contents old each.0 out_old each.1 one.action each.2 going)
+
+  each_done : (old new : Project S store) (out_old out_new : W) (steps : List Step) → PerformsEach contents old new out_old out_new steps
+      → GoesStill old → HasCleanDisk (state_of new) → (world : World) → IsProject world → GoesOn (state_of old) world
+      → (answers : List Answer) × AnswerAll world (commands_of_steps steps) answers
+      × GoesOn (state_of new) (world_of world (commands_of_steps steps)) × IsProject (world_of world (commands_of_steps steps))
+  unfolding PerformsEach
+  each_done old new out_old out_new [] each going clean world project goes =
+      ([], tt, subst (λ p. GoesOn (state_of p) world) (sym each.0) goes, project)
+  each_done old new out_old out_new (one ∷ steps) each going clean world project goes =
+      let rest_clean = each_clean each.0 new each.1 out_new steps each.3 in
+      let before : HasCleanDisk (state_of each.0) = omega (arith, rest_clean, clean) in
+      let first = one_done contents old each.0 out_old each.1 one.action each.2 going before world project goes in
+      let still = one_goes contents old each.0 out_old each.1 one.action each.2 going in
+      let mine = commands_of_action one.action in
+      let rest = each_done each.0 new each.1 out_new steps each.3 still clean (world_of world mine) first.3 first.2 in
+      let both = sym (world_both world mine (commands_of_steps steps)) in (
+        first.0 ++ rest.0,
+        answer_both world mine (commands_of_steps steps) first.0 rest.0 first.1 rest.1,
+        subst (λ w. GoesOn (state_of new) w) both rest.2,
+        subst (λ w. IsProject w) both rest.3,
+      )
+
+  steps_clean : (old new : Project S store) (out_old out_new : W) (steps : List Step) (end : Option LineFault) → PerformsSteps contents old new out_old out_new steps end → KeepsDoubt (state_of old) (state_of new)
+  steps_clean old new out_old out_new steps None each = each_clean old new out_old out_new steps each
+  steps_clean old new out_old out_new steps (Some end) until =
+      let first = each_clean old until.mid out_old until.out_mid until.before until.each in
+      let last = one_clean contents until.mid new until.out_mid out_new until.last.action (Some end.fault) until.ends in
+      omega (arith, first, last)
+
+  pub drives_steps : (old new : Project S store) (out_old out_new : W) (steps : List Step) (end : Option LineFault) → PerformsSteps contents old new out_old out_new steps end → DrivesSteps old new steps end
+  drives_steps old new out_old out_new steps None each going clean world project goes =
+      let done = each_done old new out_old out_new steps each going clean world project goes in
+      let commands = commands_of_steps steps in
+      let whole : take (length commands) commands ≡ commands = take-length commands in
+      record {
+        count = length commands;
+        answers = done.0;
+        is_cut = false;
+        drives = record {
+          within = omega arith;
+          answered = subst (λ cs. AnswerAll world cs done.0) (sym whole) done.1;
+          end = λ fault told. absurd (cc);
+          goes = λ still. subst (λ cs. GoesOn (state_of new) (world_of world cs)) (sym whole) done.2;
+          ended = λ ended. absurd (cc);
+          project = subst (λ cs. IsProject (world_of world cs)) (sym whole) done.3;
+          cut_project = λ ended cut there. absurd (cc);
+        };
+        whole = λ none. refl;
+      }
+  drives_steps old new out_old out_new steps (Some end) until going clean world project goes =
+      let last_clean = one_clean contents until.mid new until.out_mid out_new until.last.action (Some end.fault) until.ends in
+      let before : HasCleanDisk (state_of until.mid) = omega (arith, last_clean, clean) in
+      let done = each_done old until.mid out_old until.out_mid until.before until.each going before world project goes in
+      let still = each_goes old until.mid out_old until.out_mid until.before until.each going in
+      let firsts = commands_of_steps until.before in
+      let last = one_drives contents until.mid new until.out_mid out_new until.last.action (Some end.fault) until.ends still clean (world_of world firsts) done.3 done.2 in
+      let all = ap commands_of_steps until.order ∙ commands_around until.before until.last until.after in
+      record {
+        count = length firsts + last.1.acknowledged;
+        answers = done.0 ++ last.0;
+        is_cut = last.2;
+        drives = subst (λ cs. Drives world cs (done.0 ++ last.0) (so_far (length firsts + last.1.acknowledged)) last.2 (state_of new)) (sym all)
+            (drives_within world firsts (commands_of_action until.last.action) (commands_of_steps until.after) done.0 last.0 last.1 last.2 (state_of new) done.1 last.3);
+        whole = λ none. absurd (cc);
+      }
+
+  pub lengthens_steps : (old new : Project S store) (out_old out_new : W) (steps : List Step) (end : Option LineFault) → PerformsSteps contents old new out_old out_new steps end → LengthensBySteps old new steps
+  lengthens_steps old new out_old out_new steps end performs going clean start life project goes =
+      let driven = drives_steps old new out_old out_new steps end performs going clean (world_of_life start life) project goes in
+      (driven.count, driven.is_cut, lengthens start life (commands_of_steps steps) driven.answers (so_far driven.count) driven.is_cut (state_of new) driven.drives)

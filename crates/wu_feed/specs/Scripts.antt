@@ -1,0 +1,76 @@
+-- Scripts: the lines of a text, each with its words, as `csv` reads them. Lines are numbered from 1.
+use Rattle.std.specs.Prelude.{ℕ, ◌==◌, nat_lt, Bool, if◌then◌else◌, List, [], ◌∷◌, ◌++◌, length, filter, slice_get, Option, Some, None, Result, Ok, Err}
+use Rattle.std.specs.List.{enumerate_from, filter_map, list_any, slice_split}
+use Rattle.std.specs.Str.{is_utf8}
+use Rattle.std.specs.Str.Lines.{strip_carriage_return}
+use Rattle.csv.specs.Machine.{Read, line_feed, next_record}
+use Rattle.csv.specs.Reading.{default_config, strip_bom}
+use Rattle.csv.specs.declared.parser.Config.{Config}
+use Rattle.csv.specs.declared.parser.State.TheVariants as st
+use Rattle.csv.specs.declared.parser.Terminator.TheVariants as term
+use Rattle.wu_core.specs.declared.fault.Fault.{Fault}
+use Rattle.wu_core.specs.declared.fault.Fault.TheVariants.{BadFile}
+use Rattle.wu_core.specs.declared.fault.FileCause.TheVariants as file
+use Rattle.wu_feed.specs.Limits.{longest_file, most_lines}
+use Rattle.wu_feed.specs.declared.script.LineCause.{LineCause}
+use Rattle.wu_feed.specs.declared.script.LineCause.TheVariants as cause
+use Rattle.wu_feed.specs.declared.script.ScriptLine.{ScriptLine}
+
+-- a blank (32) stands between words, a line that begins with `#` (35) is a comment, and a line feed ends a line
+abbrev pub script_config : Config
+script_config = record default_config { delimiter = 32; comment = Some 35; terminator = term.Any line_feed }
+
+-- the fields of a record, if there is one
+abbrev pub fields_if : Option Read → List (List ℕ)
+fields_if (Some read) = read.0
+fields_if None = []
+
+-- the fields of a line; a carriage return at its end is none of them
+abbrev pub fields_in : List ℕ → List (List ℕ)
+fields_in line = fields_if (next_record script_config st.StartRecord [] [] (strip_bom (strip_carriage_return line ++ line_feed ∷ [])))
+
+-- why a field is no word: a quote that is not closed takes in the line feed
+abbrev pub field_cause : List ℕ → Option LineCause
+field_cause field = if list_any (λ byte. byte == line_feed) field then Some cause.OpenQuote else if is_utf8 field then None else Some cause.NotText
+
+-- the words, unless there is a cause
+abbrev pub words_unless : Option LineCause → List (List ℕ) → Result (List (List ℕ)) LineCause
+words_unless (Some why) words = Err why
+words_unless None words = Ok words
+
+-- it is not empty
+abbrev pub has_bytes : List ℕ → Bool
+has_bytes bytes = nat_lt 0 (length bytes)
+
+-- the words among fields: those with bytes; the first field that is no word decides
+abbrev pub words_among : List (List ℕ) → Result (List (List ℕ)) LineCause
+words_among fields = words_unless (slice_get (filter_map field_cause fields) 0) (filter has_bytes fields)
+
+-- the words of the line of a number; a line after the last one has none
+abbrev pub words_at : ℕ → List ℕ → Result (List (List ℕ)) LineCause
+words_at number line = if nat_lt most_lines number then Err cause.TooManyLines else words_among (fields_in line)
+
+-- a line with its words, and one at fault
+abbrev pub with_words : ℕ → List (List ℕ) → ScriptLine
+with_words number words = record { number = number; words = Ok words }
+
+abbrev pub at_fault : ℕ → LineCause → ScriptLine
+at_fault number why = record { number = number; words = Err why }
+
+-- a line that has words, or a cause for which it has none
+abbrev pub line_with : ℕ → Result (List (List ℕ)) LineCause → Option ScriptLine
+line_with number (Ok []) = None
+line_with number (Ok words) = Some (with_words number words)
+line_with number (Err why) = Some (at_fault number why)
+
+-- what a numbered line is; one without a byte is none
+abbrev pub line_of : ℕ × List ℕ → Option ScriptLine
+line_of line = if has_bytes line.1 then line_with line.0 (words_at line.0 line.1) else None
+
+-- the lines of a text, with their numbers
+abbrev pub numbered_lines : List ℕ → List (ℕ × List ℕ)
+numbered_lines text = enumerate_from 1 (slice_split (λ byte. byte == line_feed) text)
+
+-- the lines of a script
+abbrev pub script_of : List ℕ → Result (List ScriptLine) Fault
+script_of text = if nat_lt longest_file (length text) then Err (BadFile 0 file.TooLong) else Ok (filter_map line_of (numbered_lines text))

@@ -1,0 +1,166 @@
+//! Scripts: a command a line, whose words stand apart by blanks.
+
+ghost use Rattle.std.specs.Prelude.{◌≡◌, ◌==◌, IfErr, IfOk, None, Ok, Some, map};
+ghost use Rattle.std.specs.List.{enumerate_from, filter_map, slice_split};
+ghost use Rattle.std.specs.Str.Lines.{strip_carriage_return};
+ghost use Rattle.csv.specs.Machine.{line_feed};
+ghost use Rattle.csv.specs.Records.{fields_of};
+ghost use Rattle.wu_core.specs.Reads.{FailsForMemory, Gives};
+ghost use Rattle.wu_feed.specs.Rows.{IsFileFault};
+ghost use Rattle.wu_feed.specs.Scripts.{field_cause, fields_in, line_of, script_of, words_among, words_at};
+
+use crate::limits::{LONGEST_FILE, MOST_LINES};
+use crate::records::{fault_at, fault_of};
+use crate::rows::Rows;
+use crate::words::Words;
+use csv::{ByteRecord, ReaderBuilder, Terminator};
+use std::alloc::{AllocError, Global};
+use wu_core::{Fault, FileCause};
+
+/// Why a line of a script has no words.
+#[derive(Clone, Copy, Debug, PartialEq, Eq)]
+pub enum LineCause {
+    /// A quote is not closed on the line.
+    OpenQuote,
+    /// A word is no UTF-8 text.
+    NotText,
+    /// The line comes after the last one that a script may have.
+    TooManyLines,
+}
+
+/// A line of a script that has words, or a cause for which it has none.
+#[derive(Debug, Drop)]
+pub struct ScriptLine {
+    /// The number of the line in its text, from 1.
+    pub number: u64,
+    pub words: Result<Words, LineCause>,
+}
+
+/// The line without the carriage return at its end, if it has one.
+fn without_return(line: &[u8]) -> &[u8]
+    ensures { result.now ≡ strip_carriage_return line.now }
+{
+    match line {
+        [front @ .., b'\r'] => front,
+        _ => line,
+    }
+}
+
+/// The fields of a line. The only fault is `Memory`.
+fn read_fields(alloc: Global, line: &[u8]) -> Result<ByteRecord, Fault>
+    ensures found { IfOk result (λ row. fields_of row ≡ fields_in line.now) }
+    ensures refused { FailsForMemory result }
+{
+    let mut text = Vec::new(alloc);
+    text.extend_from_slice(without_return(line))?;
+    text.push(b'\n')?;
+    let mut reader = ReaderBuilder::new()
+        .has_headers(false)
+        .flexible(true)
+        .delimiter(b' ')
+        .comment(Some(b'#'))
+        .terminator(Terminator::Any(b'\n'))
+        .from_reader(alloc, text.as_slice());
+    let mut row = ByteRecord::new(alloc);
+    match reader.read_byte_record(&mut row) {
+        Ok(true) => Ok(row),
+        // A comment, or nothing.
+        Ok(false) => Ok(ByteRecord::new(alloc)),
+        Err(error) => Err(fault_of(&error)),
+    }
+}
+
+/// The field as a word. A quote that is not closed takes in the line feed.
+fn read_word(field: &[u8]) -> Result<&str, LineCause>
+    ensures word { IfOk result (λ word. (word.now ≡ field.now) × (field_cause field.now ≡ None)) }
+    ensures cause { IfErr result (λ cause. field_cause field.now ≡ Some cause) }
+{
+    if field.contains(&b'\n') {
+        return Err(LineCause::OpenQuote);
+    }
+    match std::str::from_utf8(field) {
+        Ok(word) => Ok(word),
+        Err(_) => Err(LineCause::NotText),
+    }
+}
+
+/// The words among the fields of a line: those with bytes. The first field that is no word decides.
+fn words_among(alloc: Global, row: &ByteRecord) -> Result<Result<Words, LineCause>, Fault>
+    ensures { Gives result (Ok (words_among (fields_of row.now))) }
+{
+    let mut words = Vec::new(alloc);
+    for field in row {
+        let word = match read_word(field) {
+            Ok(word) => word,
+            Err(cause) => return Ok(Err(cause)),
+        };
+        if !word.is_empty() {
+            words.push(String::from_str(alloc, word)?)?;
+        }
+    }
+    Ok(Ok(Words::from_vec(words)))
+}
+
+/// The words of the line of this number, or the cause for which it has none.
+fn read_words(alloc: Global, number: u64, line: &[u8]) -> Result<Result<Words, LineCause>, Fault>
+    ensures { Gives result (Ok (words_at number line.now)) }
+{
+    if number > MOST_LINES as u64 {
+        return Ok(Err(LineCause::TooManyLines));
+    }
+    let row = read_fields(alloc, line)?;
+    words_among(alloc, &row)
+}
+
+/// What the line of this number is: none without words.
+fn read_line(alloc: Global, number: u64, line: &[u8]) -> Result<Option<ScriptLine>, Fault>
+    ensures { Gives result (Ok (line_of (number, line.now))) }
+{
+    if line.is_empty() {
+        return Ok(None);
+    }
+    match read_words(alloc, number, line)? {
+        Ok(words) if words.as_slice().is_empty() => Ok(None),
+        words => Ok(Some(ScriptLine { number, words })),
+    }
+}
+
+/// The lines of a text that are numbered from 1. The only fault is `Memory`.
+fn read_lines(alloc: Global, lines: &[&[u8]]) -> Result<Rows<ScriptLine>, Fault>
+    ensures { Gives result (Ok (filter_map line_of
+        (enumerate_from 1 (map (λ line. line.now) lines.now)))) }
+{
+    let mut items = Vec::new(alloc);
+    let mut number = 0;
+    for line in lines {
+        number += 1;
+        if let Some(item) = read_line(alloc, number, line)? {
+            items.push(item)?;
+        }
+    }
+    Ok(Rows::from_vec(items))
+}
+
+/// The parts of a text between its line feeds.
+fn split_lines(alloc: Global, text: &[u8]) -> Result<Vec<&[u8]>, AllocError>
+    ensures { IfOk result (λ lines. map (λ line. line.now) lines.items
+        ≡ slice_split (λ byte. byte == line_feed) text.now) }
+{
+    text.split(|byte| *byte == b'\n').collect(alloc)
+}
+
+/// The lines of a script of at most 1,048,576 bytes, each with its number, from 1, and its words. Words stand apart by
+/// blanks; a word in double quotes may hold blanks, and a quote in it is written twice; no word is empty. A line that
+/// begins with `#` and a line without words are left out. A line at fault has a cause in place of its words: an open
+/// quote, a word that is no text, or, whatever it has, a place after the thousandth line. A longer text is `BadFile`
+/// with row 0 and `TooLong`.
+pub fn read_script(alloc: Global, text: &[u8]) -> Result<Rows<ScriptLine>, Fault>
+    ensures exact { Gives result (script_of text.now) }
+    ensures told { IfErr result IsFileFault }
+{
+    if text.len() > LONGEST_FILE {
+        return Err(fault_at(0, FileCause::TooLong));
+    }
+    let lines = split_lines(alloc, text)?;
+    read_lines(alloc, lines.as_slice())
+}

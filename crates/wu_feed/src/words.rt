@@ -1,0 +1,39 @@
+//! The words of a line.
+
+ghost use Rattle.std.specs.Prelude.{◌≡◌, map, string_bytes};
+
+use std::marker::Model;
+
+/// The words of a line in their order, which contracts see as a list of texts.
+#[derive(Debug, Drop)]
+pub struct Words {
+    items: Vec<String>,
+}
+
+impl Model for Words {
+    ghost use Rattle.std.specs.Prelude.{ℕ, List, map, string_bytes};
+
+    ghost Value = { List (List ℕ) };
+
+    ghost view = { λ words. map string_bytes words.items.items };
+}
+
+impl Words {
+    pub fn from_vec(items: Vec<String>) -> Self
+        ensures { result ≡ map string_bytes items.items }
+    {
+        Words { items }
+    }
+
+    pub fn into_vec(self) -> Vec<String>
+        ensures { map string_bytes result.items ≡ self }
+    {
+        self.items
+    }
+
+    pub fn as_slice(&self) -> &[String]
+        ensures { map string_bytes result.now ≡ self.now }
+    {
+        self.items.as_slice()
+    }
+}
