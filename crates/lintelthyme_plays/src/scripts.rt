@@ -1,0 +1,80 @@
+//! The lines of a script, with what their files hold.
+
+use anyhow::{Result, bail};
+use std::alloc::AllocError;
+use std::fs;
+use std::io::{self, Write};
+use wu_cli::{
+    Action, BadLine, Entry, FedEntry, LineFile, Refusal, Steps, prepare, prepare_script,
+    read_lines, write_bad_line, write_fault, write_usage,
+};
+
+/// The database that the lines of a script are for. Nothing is opened by this name.
+pub const DATABASE: &str = "project.db";
+
+/// What a file holds, None where it can't be read. A template that is left out has no bytes.
+fn content(rt: &HostRuntime, file: &LineFile<'_>) -> Option<Vec<u8>> {
+    match file.path {
+        Some(path) => fs::read(rt, path).ok(),
+        None => Some(Vec::new(rt.alloc())),
+    }
+}
+
+/// What the files of a line hold.
+fn contents(rt: &HostRuntime, entry: &Entry) -> Result<Vec<Option<Vec<u8>>>, AllocError> {
+    let files = entry.files(rt.alloc())?;
+    let mut contents = Vec::new(rt.alloc());
+    for file in files.as_slice() {
+        contents.push(content(rt, file))?;
+    }
+    Ok(contents)
+}
+
+/// What a line of a script asks for, or why it can't be run.
+pub fn action(rt: &HostRuntime, entry: Entry) -> Result<Action, Refusal> {
+    let contents = contents(rt, &entry)?;
+    let line = entry.line?;
+    prepare(rt.alloc(), &line, contents).map_err(Refusal::Fault)
+}
+
+/// What the lines of a script ask for. All of them can be run.
+pub fn steps(rt: &HostRuntime, text: &str) -> Result<Steps> {
+    let mut lines = Vec::new(rt.alloc());
+    for entry in read_lines(rt.alloc(), DATABASE, text.as_bytes())?.into_vec() {
+        let contents = contents(rt, &entry)?;
+        lines.push(FedEntry { entry, contents })?;
+    }
+    match prepare_script(rt.alloc(), lines) {
+        Ok(steps) => Ok(steps),
+        Err(bad) => bail!("line {} can't be run", bad.number),
+    }
+}
+
+/// Writes why a line can't be run, and answers its status.
+pub fn write_refusal(why: Refusal, transcript: &mut Vec<u8>) -> u8 {
+    let status = why.status();
+    let _ = match why {
+        Refusal::Words(usage) => write_usage(&usage, transcript),
+        Refusal::Fault(fault) => write_fault(&fault, transcript),
+        Refusal::Text(_) | Refusal::Script => {
+            write_bad_line(&BadLine { number: 1, why }, transcript)
+        }
+    };
+    status
+}
+
+/// Writes the status that a line ends with, unless it is 0.
+pub fn write_status(status: u8, transcript: &mut Vec<u8>) -> io::Result<()> {
+    if status == 0 {
+        return Ok(());
+    }
+    writeln!(transcript, "status {status}")
+}
+
+/// Writes a line that is a comment.
+pub fn write_comment(line: &str, transcript: &mut Vec<u8>) -> io::Result<()> {
+    if line.starts_with('#') {
+        writeln!(transcript, "{line}")?;
+    }
+    Ok(())
+}

@@ -1,0 +1,48 @@
+//! What a play asks of a project, over any store.
+
+use anyhow::{Result, bail};
+use sqlite::{Alter, Connection};
+use std::alloc::Global;
+use wu_cli::{Action, perform};
+use wu_core::Fault;
+use wu_drive::{Project, View, show};
+
+/// A session over the project in a database.
+pub fn adopt<S: Alter + Drop>(conn: Connection<S>) -> Result<Project<S>> {
+    match Project::adopt(conn) {
+        Ok(project) => Ok(project),
+        Err((_, fault)) => bail!("the adoption: {fault}"),
+    }
+}
+
+/// All five views, one after another.
+pub fn views<S: Alter>(alloc: Global, project: &mut Project<S>) -> Result<Vec<u8>> {
+    let mut out = Vec::new(alloc);
+    for view in [
+        View::Workunits,
+        View::Results,
+        View::Hosts,
+        View::Archive,
+        View::Summary,
+    ] {
+        show(alloc, project, view, &mut out)?;
+    }
+    Ok(out)
+}
+
+/// Does what a line asks for, and answers the fault that ended it.
+pub fn do_action<S: Alter>(
+    alloc: Global,
+    project: &mut Project<S>,
+    action: &Action,
+    out: &mut Vec<u8>,
+) -> Option<Fault> {
+    perform(alloc, project, action, out).1
+}
+
+/// Whether a database has no table.
+pub fn is_blank<S: Alter>(conn: &mut Connection<S>) -> Result<bool> {
+    let row = conn.query_row("SELECT count(*) FROM sqlite_schema", &[])?;
+    let count: i64 = row.get(0)?;
+    Ok(count == 0)
+}

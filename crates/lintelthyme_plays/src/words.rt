@@ -1,0 +1,45 @@
+//! A play of whole command lines over files of the current folder, by the call that the program makes.
+
+use crate::scripts::{write_comment, write_status};
+use anyhow::{Result, bail};
+use std::io::Write;
+use wu_feed::{LineCause, Words, read_script};
+use wu_program::obey;
+
+/// The words of a process: the program's name, and those of a line.
+fn process_words(rt: &HostRuntime, words: Result<Words, LineCause>) -> Result<Vec<String>> {
+    let Ok(words) = words else {
+        bail!("a line has no words");
+    };
+    let mut words = words.into_vec();
+    words.insert(0, String::from_str(rt.alloc(), "lintelthyme")?)?;
+    Ok(words)
+}
+
+/// Runs the program with these words: what it prints, what it tells of a fault, and its status.
+fn run(rt: &HostRuntime, words: &[String], transcript: &mut Vec<u8>) -> Result<()> {
+    let mut told = Vec::new(rt.alloc());
+    let status = obey(rt, words, transcript, &mut told);
+    transcript.write_all(told.as_slice())?;
+    write_status(status, transcript)?;
+    Ok(())
+}
+
+/// Plays a line of the script.
+fn play_line(rt: &HostRuntime, line: &str, transcript: &mut Vec<u8>) -> Result<()> {
+    write_comment(line, transcript)?;
+    for line_of_words in read_script(rt.alloc(), line.as_bytes())?.into_vec() {
+        writeln!(transcript, "> {line}")?;
+        let words = process_words(rt, line_of_words.words)?;
+        run(rt, words.as_slice(), transcript)?;
+    }
+    Ok(())
+}
+
+/// Plays a script.
+pub fn play(rt: &HostRuntime, text: &str, transcript: &mut Vec<u8>) -> Result<()> {
+    for line in text.lines() {
+        play_line(rt, line, transcript)?;
+    }
+    Ok(())
+}
