@@ -3,17 +3,7 @@
 //! the program then ends with status 1.
 #![tactic(auto)]
 
-mod course;
-mod disks;
-mod lives;
-mod memory;
-mod narrow;
-mod outputs;
 mod plays;
-mod runs;
-mod scripts;
-mod sessions;
-mod stops;
 mod words;
 
 use anyhow::{Context, Result};

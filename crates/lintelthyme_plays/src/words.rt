@@ -1,9 +1,9 @@
 //! A play of whole command lines over files of the current folder, by the call that the program makes.
 
-use crate::scripts::{write_comment, write_status};
 use anyhow::{Result, bail};
 use std::io::Write;
 use wu_feed::{LineCause, Words, read_script};
+use wu_plays::{write_comment, write_status};
 use wu_program::obey;
 
 /// The words of a process: the program's name, and those of a line.

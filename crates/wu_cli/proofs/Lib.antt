@@ -1,7 +1,3 @@
-mod ContentLemmas
-mod NumberLemmas
-mod ParseLemmas
-mod TableLemmas
 mod TextLemmas
 mod ScriptLemmas
-mod StepLemmas
+mod WorkLemmas

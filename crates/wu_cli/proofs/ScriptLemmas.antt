@@ -12,21 +12,22 @@ use Rattle.wu_core.specs.declared.fault.Fault.{Fault}
 use Rattle.wu_drive.specs.declared.runs.Run.{Run}
 use Rattle.wu_drive.specs.Driving.{AnswerAll, Drives, world_after}
 use Rattle.wu_drive.proofs.LifeLemmas.{lengthens}
-use Rattle.wu_passes.specs.declared.command.Answer.{Answer}
-use Rattle.wu_passes.specs.declared.command.Command.{Command}
+use Rattle.wu_machine.specs.declared.command.Answer.{Answer}
+use Rattle.wu_machine.specs.declared.command.Command.{Command}
 use Rattle.wu_passes.specs.declared.project.Project.{Project}
-use Rattle.wu_passes.specs.Machine.{fold_steps, step}
-use Rattle.wu_passes.specs.Planning.{IsProject, request_of}
+use Rattle.wu_machine.specs.Machine.{fold_steps, step}
+use Rattle.wu_machine.specs.Commands.{request_of}
+use Rattle.wu_machine.specs.Sound.{IsProject}
 use Rattle.wu_passes.specs.Projects.{GoesStill, has_ended, state_of}
-use Rattle.wu_passes.specs.Requests.{Request}
-use Rattle.wu_passes.specs.Sessions.{world_of_life}
+use Rattle.wu_machine.specs.Requests.{Request}
+use Rattle.wu_machine.specs.Sessions.{world_of_life}
 use Rattle.wu_passes.specs.Standing.{GoesOn, HasEnded, KeepsDoubt}
 use Rattle.wu_cli.specs.Performing.{Performs}
 use Rattle.wu_cli.specs.Scripting.{commands_of_action, commands_of_steps, DrivesSteps, LengthensBySteps, PerformsEach, PerformsSteps, PerformsUntil, so_far}
-use Rattle.wu_cli.specs.declared.action.Action.{Action}
-use Rattle.wu_cli.specs.declared.action.Action.TheVariants.{Commands, Look}
-use Rattle.wu_cli.specs.declared.step.LineFault.{LineFault}
-use Rattle.wu_cli.specs.declared.step.Step.{Step}
+use Rattle.wu_words.specs.declared.action.Action.{Action}
+use Rattle.wu_words.specs.declared.action.Action.TheVariants.{Commands, Look}
+use Rattle.wu_words.specs.declared.step.LineFault.{LineFault}
+use Rattle.wu_words.specs.declared.step.Step.{Step}
 
 -- ---- one step more
 
@@ -152,7 +153,7 @@ module _ {S W : Type 0} {store : Ghosts S} (contents : W → Option (List ℕ)) 
     | inr still ↦ still
   ]
 
-  one_clean : (action : Action) (end : Option Fault) → Performs contents old new out_old out_new action end → KeepsDoubt (state_of old) (state_of new)
+  pub one_clean : (action : Action) (end : Option Fault) → Performs contents old new out_old out_new action end → KeepsDoubt (state_of old) (state_of new)
   one_clean (Commands commands) end (run, runs, is) = runs.clean
   one_clean (Look view) end sees = sees.clean
 
@@ -230,7 +231,7 @@ module _ {S W : Type 0} {store : Ghosts S} (contents : W → Option (List ℕ)) 
         subst (λ w. IsProject w) both rest.3,
       )
 
-  steps_clean : (old new : Project S store) (out_old out_new : W) (steps : List Step) (end : Option LineFault) → PerformsSteps contents old new out_old out_new steps end → KeepsDoubt (state_of old) (state_of new)
+  pub steps_clean : (old new : Project S store) (out_old out_new : W) (steps : List Step) (end : Option LineFault) → PerformsSteps contents old new out_old out_new steps end → KeepsDoubt (state_of old) (state_of new)
   steps_clean old new out_old out_new steps None each = each_clean old new out_old out_new steps each
   steps_clean old new out_old out_new steps (Some end) until =
       let first = each_clean old until.mid out_old until.out_mid until.before until.each in

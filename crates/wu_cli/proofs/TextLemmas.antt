@@ -9,7 +9,7 @@ use Rattle.wu_feed.specs.declared.script.LineCause.{LineCause}
 use Rattle.wu_report.proofs.WritingLemmas.{AppendsFront-longer}
 use Rattle.wu_report.specs.Writing.{AppendsFront, Writes}
 use Rattle.wu_cli.specs.Endings.{cause_text, fault_line, usage_text}
-use Rattle.wu_cli.specs.declared.usage.Usage.{Usage}
+use Rattle.wu_words.specs.declared.usage.Usage.{Usage}
 
 -- all was written, and the flush wrote nothing
 pub flushed : {T E : Type 0} (a b c : Option (List ℕ)) (text : List ℕ) (r : Result T E) → Appends a b text → Keeps b c → Writes a c text r

@@ -1,5 +1,5 @@
--- How the program ends: the line on its standard error, and its status.
-use Rattle.std.specs.Prelude.{ℕ, Bool, true, false, List, ◌++◌, codes, Option, Some, None}
+-- How the program ends: the line on its standard error.
+use Rattle.std.specs.Prelude.{ℕ, Bool, true, false, List, ◌++◌, codes, Option}
 use Rattle.std.specs.Io.KnownBytes.{Appends}
 use Rattle.wu_core.specs.declared.fault.Fault.{Fault}
 use Rattle.wu_core.specs.declared.fault.Fault.TheVariants as fault
@@ -9,12 +9,12 @@ use Rattle.wu_report.specs.Writing.{AppendsFront}
 use Rattle.std.specs.Fmt.{decimal}
 use Rattle.wu_feed.specs.declared.script.LineCause.{LineCause}
 use Rattle.wu_feed.specs.declared.script.LineCause.TheVariants as cause
-use Rattle.wu_cli.specs.declared.entry.Refusal.{Refusal}
-use Rattle.wu_cli.specs.declared.entry.Refusal.TheVariants as refusal
-use Rattle.wu_cli.specs.declared.step.BadLine.{BadLine}
-use Rattle.wu_cli.specs.declared.step.LineFault.{LineFault}
-use Rattle.wu_cli.specs.declared.usage.Usage.{Usage}
-use Rattle.wu_cli.specs.declared.usage.Usage.TheVariants as usage
+use Rattle.wu_words.specs.declared.entry.Refusal.{Refusal}
+use Rattle.wu_words.specs.declared.entry.Refusal.TheVariants as refusal
+use Rattle.wu_words.specs.declared.step.BadLine.{BadLine}
+use Rattle.wu_words.specs.declared.step.LineFault.{LineFault}
+use Rattle.wu_words.specs.declared.usage.Usage.{Usage}
+use Rattle.wu_words.specs.declared.usage.Usage.TheVariants as usage
 
 abbrev pub fault_line : Fault → List ℕ
 fault_line fault = fault_text fault ++ line_end
@@ -32,24 +32,6 @@ unopened_line = codes "cannot open the database" ++ line_end
 abbrev pub WritesAll : Option (List ℕ) → Option (List ℕ) → List ℕ → Bool → Type 0
 WritesAll old new text true = Appends old new text
 WritesAll old new text false = AppendsFront old new text
-
--- 1: refused; 3: the database failed, or its session had ended; 4: no memory; 5: the output failed
-abbrev pub fault_status : Fault → ℕ
-fault_status fault.Memory = 4
-fault_status fault.Broken = 3
-fault_status fault.Ended = 3
-fault_status fault.Output = 5
-fault_status _ = 1
-
--- 0: done
-abbrev pub status_of : Option Fault → ℕ
-status_of None = 0
-status_of (Some fault) = fault_status fault
-
--- 2: the words are no line
-abbrev pub usage_status : Usage → ℕ
-usage_status usage.Memory = fault_status fault.Memory
-usage_status _ = 2
 
 -- ---- of a script
 
@@ -75,14 +57,3 @@ bad_line_text bad = line_front bad.number ++ refusal_text bad.why
 -- the line whose fault ended the script, and the line of the fault
 abbrev pub line_fault_text : LineFault → List ℕ
 line_fault_text end = line_front end.number ++ fault_line end.fault
-
--- as of words and of a fault
-abbrev pub refusal_status : Refusal → ℕ
-refusal_status (refusal.Text cause) = 2
-refusal_status (refusal.Words usage) = usage_status usage
-refusal_status refusal.Script = 2
-refusal_status (refusal.Fault fault) = fault_status fault
-
-abbrev pub status_of_line : Option LineFault → ℕ
-status_of_line None = 0
-status_of_line (Some end) = fault_status end.fault

@@ -4,19 +4,19 @@ use Rattle.sqlite_trees.specs.declared.store.Store.{Ghosts}
 use Rattle.wu_core.specs.declared.fault.Fault.{Fault}
 use Rattle.wu_core.specs.declared.fault.Fault.TheVariants.{Broken}
 use Rattle.wu_store.specs.Loading.{IsRead}
-use Rattle.wu_passes.specs.declared.command.Answer.{Answer}
-use Rattle.wu_passes.specs.declared.command.Command.{Command}
+use Rattle.wu_machine.specs.declared.command.Answer.{Answer}
+use Rattle.wu_machine.specs.declared.command.Command.{Command}
 use Rattle.wu_passes.specs.declared.project.Project.{Project}
 use Rattle.wu_passes.specs.Projects.{GoesStill, IsOver, KeepsLimit, ServesOn, state_of}
 use Rattle.wu_passes.specs.Standing.{KeepsDoubt, MayEnd}
 use Rattle.wu_drive.specs.declared.runs.Run.{Run}
-use Rattle.wu_report.specs.declared.views.View.{View}
-use Rattle.wu_drive.specs.Driving.{DrivesNothing, DrivesProject, DrivesWhy, EndsBy, LengthensLife, ServesUnlessEnded}
+use Rattle.wu_machine.specs.declared.view.View.{View}
+use Rattle.wu_drive.specs.Driving.{DrivesNothing, DrivesProject, DrivesWhy, EndsBy, LeavesAll, LengthensLife, ServesUnlessEnded}
 use Rattle.wu_report.specs.Projects.{EndsAsBroken, KeepsWorld}
 use Rattle.wu_report.specs.Views.{IsViewFault, RefusesEnded, Shows, ShowsUnrefused}
 use Rattle.wu_drive.specs.Writing.{WritesAnswers}
-use Rattle.wu_cli.specs.declared.action.Action.{Action}
-use Rattle.wu_cli.specs.declared.action.Action.TheVariants.{Commands, Look}
+use Rattle.wu_words.specs.declared.action.Action.{Action}
+use Rattle.wu_words.specs.declared.action.Action.TheVariants.{Commands, Look}
 
 -- the commands are run in order, up to the first fault: all that is known of a run
 pub record Runs {S W : Type 0} {store : Ghosts S} (contents : W → Option (List ℕ)) (old new : Project S store) (out_old out_new : W) (commands : List Command) (run : Run) : Type 0 where
@@ -25,6 +25,7 @@ pub record Runs {S W : Type 0} {store : Ghosts S} (contents : W → Option (List
   pub opens : ServesUnlessEnded old new run
   pub lives : LengthensLife old new commands run
   pub ended : DrivesNothing old new out_old out_new run
+  pub untouched : LeavesAll old new run
   pub ends : GoesStill old → IsOver new → EndsBy run MayEnd
   pub broken : GoesStill old → run.end ≡ Some Broken → IsOver new
   pub clean : KeepsDoubt (state_of old) (state_of new)

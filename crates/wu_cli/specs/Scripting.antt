@@ -5,18 +5,18 @@ use Rattle.sqlite_trees.specs.declared.store.Store.{Ghosts}
 use Rattle.wu_core.specs.World.{World}
 use Rattle.wu_drive.specs.declared.runs.Run.{Run}
 use Rattle.wu_drive.specs.Driving.{Drives, Lengthens, session_of}
-use Rattle.wu_passes.specs.declared.command.Answer.{Answer}
-use Rattle.wu_passes.specs.declared.command.Command.{Command}
+use Rattle.wu_machine.specs.declared.command.Answer.{Answer}
+use Rattle.wu_machine.specs.declared.command.Command.{Command}
 use Rattle.wu_passes.specs.declared.project.Project.{Project}
-use Rattle.wu_passes.specs.Planning.{IsProject}
+use Rattle.wu_machine.specs.Sound.{IsProject}
 use Rattle.wu_passes.specs.Projects.{GoesStill, state_of}
-use Rattle.wu_passes.specs.Sessions.{Lived, world_of_life}
+use Rattle.wu_machine.specs.Sessions.{Lived, world_of_life}
 use Rattle.wu_passes.specs.Standing.{GoesOn}
 use Rattle.wu_cli.specs.Performing.{Performs}
-use Rattle.wu_cli.specs.declared.action.Action.{Action}
-use Rattle.wu_cli.specs.declared.action.Action.TheVariants.{Commands, Look}
-use Rattle.wu_cli.specs.declared.step.LineFault.{LineFault}
-use Rattle.wu_cli.specs.declared.step.Step.{Step}
+use Rattle.wu_words.specs.declared.action.Action.{Action}
+use Rattle.wu_words.specs.declared.action.Action.TheVariants.{Commands, Look}
+use Rattle.wu_words.specs.declared.step.LineFault.{LineFault}
+use Rattle.wu_words.specs.declared.step.Step.{Step}
 
 -- ---- step by step
 

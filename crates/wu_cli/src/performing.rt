@@ -1,55 +1,16 @@
-//! What is done for a line over a project, and the status of the program.
+//! What is done for a line or a script over a project, and the status that it ends with.
 
 ghost use Rattle.std.specs.Prelude.{◌≡◌};
-ghost use Rattle.wu_cli.specs.Endings.{fault_status, status_of, status_of_line, usage_status};
 ghost use Rattle.wu_cli.specs.Performing.{as_result, Performs, Runs, Sees};
 ghost use Rattle.wu_cli.specs.Scripting.{DrivesSteps, LengthensBySteps, PerformsSteps};
+ghost use Rattle.wu_words.specs.Statuses.{status_of, status_of_line};
 
-use crate::action::Action;
-use crate::step::{LineFault, Step};
-use crate::usage::Usage;
 use sqlite::Alter;
 use std::alloc::Global;
 use std::io::Write;
 use wu_core::Fault;
 use wu_drive::{Command, Project, Run, View, drive, show};
-
-/// The status of a database that could not be opened.
-pub const UNOPENED: u8 = 3;
-
-/// The status that the program ends with after a fault.
-pub fn fault_status(fault: Fault) -> u8
-    ensures { result ≡ fault_status fault }
-{
-    match fault {
-        Fault::Memory => 4,
-        Fault::Broken | Fault::Ended => 3,
-        Fault::Output => 5,
-        _ => 1,
-    }
-}
-
-/// The status that the program ends with: 0 where no fault came.
-pub fn status_of(end: Option<Fault>) -> u8
-    ensures { result ≡ status_of end }
-{
-    match end {
-        None => 0,
-        Some(fault) => fault_status(fault),
-    }
-}
-
-impl Usage {
-    /// The status that the program ends with where the words are no line.
-    pub fn status(&self) -> u8
-        ensures { result ≡ usage_status self.now }
-    {
-        match self {
-            Usage::Memory => fault_status(Fault::Memory),
-            _ => 2,
-        }
-    }
-}
+use wu_words::{Action, LineFault, Step, status_of};
 
 /// Runs commands in order.
 fn runs<S: Alter, W: Write>(

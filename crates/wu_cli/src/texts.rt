@@ -6,13 +6,11 @@ ghost use Rattle.wu_report.specs.Texts.{line_end};
 ghost use Rattle.wu_report.specs.Writing.{piece_text, WritesTo};
 ghost use Rattle.wu_cli.specs.Endings.{bad_line_text, cause_text, fault_line, line_fault_text, line_front, refusal_text, unopened_line, usage_text, WritesAll};
 
-use crate::entry::Refusal;
-use crate::step::{BadLine, LineFault};
-use crate::usage::Usage;
 use std::io::Write;
 use wu_core::Fault;
 use wu_feed::LineCause;
 use wu_report::{Piece, flush, write_pieces};
+use wu_words::{BadLine, LineFault, Refusal, Usage};
 
 /// Writes the pieces in turn, and flushes.
 fn write_flushed<W: Write>(out: &mut W, pieces: &[Piece<'_>]) -> Result<(), Fault>

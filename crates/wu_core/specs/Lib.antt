@@ -8,6 +8,7 @@ pub mod Parameters
 pub mod Reads
 pub mod ResultNames
 pub mod Statuses
+pub mod Storable
 pub mod Templates
 pub mod Workunit
 pub mod Words

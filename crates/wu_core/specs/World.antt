@@ -1,5 +1,5 @@
 -- The world: what a project holds, apart from any tables.
-use Rattle.std.specs.Prelude.{ℕ, ◌==◌, Bool, ◌&&◌, List, [], bytes_eq}
+use Rattle.std.specs.Prelude.{ℕ, ◌<◌, ◌==◌, Bool, ◌&&◌, List, [], AllPairs, bytes_eq}
 use Rattle.wu_core.specs.declared.workunit.Workunit.{Workunit}
 use Rattle.wu_core.specs.declared.workunit.Grant.{Grant}
 use Rattle.wu_core.specs.declared.workunit.Archived.{Archived}
@@ -42,3 +42,7 @@ pub record World : Type 0 where
 -- before any command
 abbrev pub empty_world : World
 empty_world = record { workunits = []; grants = []; archived = []; imports = []; next_number = 1; version = 1 }
+
+-- its workunits are in order of their numbers, and no two have one
+abbrev pub IsInOrder : World → Type 0
+IsInOrder world = AllPairs (λ one other. one.number < other.number) world.workunits

@@ -5,12 +5,12 @@ use Rattle.std.proofs.KnownBytes.{Appends-trans}
 use Rattle.std.proofs.lemmas.List.Concat.{flat_map-append}
 use Rattle.std.specs.Io.KnownBytes.{Appends}
 use Rattle.wu_core.specs.declared.fault.Fault.TheVariants.{Output}
-use Rattle.wu_passes.specs.declared.command.Answer.{Answer}
+use Rattle.wu_machine.specs.declared.command.Answer.{Answer}
 use Rattle.wu_drive.specs.declared.runs.Run.{Run}
 use Rattle.wu_drive.specs.Texts.{reply_text}
 use Rattle.wu_drive.specs.Writing.{WritesAnswers, answers_text}
 use Rattle.wu_report.specs.Writing.{AppendsFront}
-use Rattle.wu_passes.specs.Planning.{reply_of_answer}
+use Rattle.wu_machine.specs.Commands.{reply_of_answer}
 
 abbrev text : Answer → List ℕ
 text answer = reply_text (reply_of_answer answer)

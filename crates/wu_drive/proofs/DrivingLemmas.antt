@@ -12,17 +12,20 @@ use Rattle.wu_core.specs.declared.fault.Fault.{Fault}
 use Rattle.wu_core.specs.declared.fault.Fault.TheVariants.{BadLimit, Output}
 use Rattle.std.proofs.lemmas.List.Elements.{All-nil}
 use Rattle.wu_core.specs.World.{Import, World, empty_world}
-use Rattle.wu_store.specs.Reading.{AreVerdicts}
-use Rattle.wu_passes.specs.declared.command.Answer.{Answer}
-use Rattle.wu_passes.specs.declared.command.Command.{Command}
+use Rattle.wu_core.specs.Storable.{AreVerdicts, IsStorable}
+use Rattle.wu_machine.specs.declared.command.Answer.{Answer}
+use Rattle.wu_machine.specs.declared.command.Command.{Command}
 use Rattle.wu_drive.specs.declared.runs.Run.{Run}
 use Rattle.wu_drive.specs.Driving.{AnswerAll, Drives, NotDone, world_after}
-use Rattle.wu_passes.specs.Machine.{fold_steps, has_right_limits, reply, step}
-use Rattle.wu_passes.specs.Planning.{IsProject, request_of, reply_of_answer}
-use Rattle.wu_store.specs.Loading.{IsStorable, IsStoreFault}
-use Rattle.wu_passes.specs.Projects.{IsOpen, KeepsProjects, RefusesLimit, ServesRight, state_of}
+use Rattle.wu_machine.specs.Machine.{fold_steps, has_right_limits, reply, step}
+use Rattle.wu_machine.specs.Commands.{request_of, reply_of_answer}
+use Rattle.wu_machine.specs.Sound.{IsProject}
+use Rattle.wu_store.specs.Loading.{IsStoreFault}
+use Rattle.wu_passes.specs.Adopting.{KeepsAll}
+use Rattle.wu_passes.specs.Projects.{IsOpen, RefusesLimit, ServesRight, state_of}
+use Rattle.wu_machine.specs.Laws.{KeepsProjects}
 use Rattle.wu_passes.specs.declared.project.Project.{Project}
-use Rattle.wu_passes.specs.Requests.{Request}
+use Rattle.wu_machine.specs.Requests.{Request}
 use Rattle.wu_passes.specs.Standing.{GoesOn, Runs, Stands, WhyNot}
 
 pub fold_more : (world : World) (requests : List Request) (one : Request) → fold_steps world (requests ++ one ∷ []) ≡ step (fold_steps world requests) one
@@ -135,3 +138,8 @@ module _ {S : Type 0} {g : Ghosts S} (old new : Project S g) (command : Command)
     | inl right ↦ subst (λ r. MatchResult r (λ _. IsTrue (state_of new).is_open) (λ f. IsFailure f ⊎ IsTrue (state_of new).is_open)) is (serves right clean)
     | inr wrong ↦ inr (subst (λ project. IsOpen project) (sym (refuses wrong).1) was clean)
   ]
+
+-- before the first command was done the project is the one from before
+pub leaves_first : {S : Type 0} {store : Ghosts S} (old mid new : Project S store) (fault : Fault) → mid ≡ old → IsFailure fault ⊎ KeepsAll (state_of mid) (state_of new)
+    → IsFailure fault ⊎ KeepsAll (state_of old) (state_of new)
+leaves_first old mid new fault same it = subst (λ p. IsFailure fault ⊎ KeepsAll (state_of p) (state_of new)) same it

@@ -4,14 +4,14 @@ use Rattle.std.proofs.lemmas.Bool.{cases_Bool}
 use Rattle.sqlite.specs.State.{State}
 use Rattle.sqlite.specs.Tree.{Trees}
 use Rattle.wu_core.specs.World.{World}
-use Rattle.wu_passes.specs.declared.command.Answer.{Answer}
-use Rattle.wu_passes.specs.declared.command.Command.{Command}
+use Rattle.wu_machine.specs.declared.command.Answer.{Answer}
+use Rattle.wu_machine.specs.declared.command.Command.{Command}
 use Rattle.wu_drive.specs.declared.runs.Run.{Run}
 use Rattle.wu_passes.specs.Committing.{FoundAs}
 use Rattle.wu_drive.specs.Driving.{Drives, Lengthens, session_of, world_after}
-use Rattle.wu_passes.specs.Machine.{step}
-use Rattle.wu_passes.specs.Planning.{request_of}
-use Rattle.wu_passes.specs.Sessions.{Lived, world_accepted, world_lived, world_of_life}
+use Rattle.wu_machine.specs.Machine.{step}
+use Rattle.wu_machine.specs.Commands.{request_of}
+use Rattle.wu_machine.specs.Sessions.{Lived, world_accepted, world_lived, world_of_life}
 use Rattle.wu_drive.proofs.DrivingLemmas.{fold_more}
 
 -- one session more

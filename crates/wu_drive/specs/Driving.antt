@@ -4,17 +4,19 @@ use Rattle.sqlite.specs.State.{State, HasCleanDisk}
 use Rattle.sqlite_trees.specs.declared.store.Store.{Ghosts}
 use Rattle.sqlite.specs.Tree.{Trees}
 use Rattle.wu_schema.specs.Faults.{IsFailure}
+use Rattle.wu_passes.specs.Adopting.{KeepsAll}
 use Rattle.wu_passes.specs.Committing.{FoundAs}
-use Rattle.wu_passes.specs.Sessions.{Lived, Session, world_of_life}
+use Rattle.wu_machine.specs.Sessions.{Lived, Session, world_of_life}
 use Rattle.wu_core.specs.World.{World}
 use Rattle.wu_core.specs.declared.fault.Fault.{Fault}
 use Rattle.wu_core.specs.declared.fault.Fault.TheVariants.{Ended, Output}
-use Rattle.wu_passes.specs.Machine.{fold_steps, reply, step}
-use Rattle.wu_passes.specs.Planning.{IsProject, request_of, reply_of_answer}
+use Rattle.wu_machine.specs.Machine.{fold_steps, reply, step}
+use Rattle.wu_machine.specs.Commands.{request_of, reply_of_answer}
+use Rattle.wu_machine.specs.Sound.{IsProject}
 use Rattle.wu_store.specs.Loading.{IsStoreFault}
 use Rattle.wu_passes.specs.Standing.{GoesOn, HasEnded, WhyNot}
-use Rattle.wu_passes.specs.declared.command.Answer.{Answer}
-use Rattle.wu_passes.specs.declared.command.Command.{Command}
+use Rattle.wu_machine.specs.declared.command.Answer.{Answer}
+use Rattle.wu_machine.specs.declared.command.Command.{Command}
 use Rattle.wu_passes.specs.declared.project.Project.{Project}
 use Rattle.wu_passes.specs.Projects.{GoesStill, has_ended, IsOver, IsUnlimited, state_of}
 use Rattle.wu_drive.specs.declared.runs.Run.{Run}
@@ -99,6 +101,13 @@ LengthensLife old new commands run =
 abbrev pub DrivesNothing : {S W : Type 0} {store : Ghosts S} → Project S store → Project S store → W → W → Run → Type 0
 DrivesNothing old new out_old out_new run =
     IsOver old → (new ≡ old) × (out_new ≡ out_old) × (run.acknowledged ≡ 0) × IfSome run.end (λ fault. fault ≡ Ended)
+
+-- where the first command was not done, but for want of memory or of the disk, all is as it was: every table, and what a
+-- stop may leave
+abbrev pub LeavesAll : {S : Type 0} {store : Ghosts S} → Project S store → Project S store → Run → Type 0
+LeavesAll old new run =
+    HasCleanDisk (state_of new) → run.acknowledged ≡ 0
+    → IfSome run.end (λ fault. IsFailure fault ⊎ KeepsAll (state_of old) (state_of new))
 
 -- the run ended early, with such a fault
 abbrev pub EndsBy : Run → (Fault → Type 0) → Type 0

@@ -1,4 +1,3 @@
-pub mod Cycles
 pub mod Texts
 pub mod Writing
 pub mod Driving

@@ -8,9 +8,9 @@ use Rattle.wu_core.specs.declared.import.ImportKind.{ImportKind}
 use Rattle.wu_core.specs.declared.import.ImportKind.TheVariants as kind
 use Rattle.wu_core.specs.Words.{template_key_word, file_cause_word}
 use Rattle.wu_report.specs.Texts.{line_end}
-use Rattle.wu_store.specs.declared.due.Pass.{Pass}
-use Rattle.wu_store.specs.declared.due.Pass.TheVariants.{Transition, Validate, Assimilate, Delete, Purge}
-use Rattle.wu_passes.specs.Requests.{Reply, Imported, Passed, Cancelled, Upgraded}
+use Rattle.wu_rules.specs.declared.due.Pass.{Pass}
+use Rattle.wu_rules.specs.declared.due.Pass.TheVariants.{Transition, Validate, Assimilate, Delete, Purge}
+use Rattle.wu_machine.specs.Requests.{Reply, Imported, Passed, Cancelled, Upgraded}
 
 -- the line of a fault, without its end
 abbrev pub fault_text : Fault → List ℕ

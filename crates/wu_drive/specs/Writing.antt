@@ -1,8 +1,8 @@
 -- The texts of answers, and what a run leaves of them in a writer.
 use Rattle.std.specs.Prelude.{◌≡◌, ◌≢◌, ℕ, ◌-◌, ◌≤◌, List, codes, length, take, flat_map, Option, Some}
 use Rattle.std.specs.Io.KnownBytes.{Appends}
-use Rattle.wu_passes.specs.declared.command.Answer.{Answer}
-use Rattle.wu_passes.specs.Planning.{reply_of_answer}
+use Rattle.wu_machine.specs.declared.command.Answer.{Answer}
+use Rattle.wu_machine.specs.Commands.{reply_of_answer}
 use Rattle.wu_drive.specs.declared.replies.AppliedFile.{AppliedFile}
 use Rattle.wu_drive.specs.declared.replies.AppliedFile.TheVariants.{Sends, Reports}
 use Rattle.wu_core.specs.declared.fault.Fault.TheVariants.{Output}

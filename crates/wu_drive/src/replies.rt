@@ -3,7 +3,7 @@
 ghost use Rattle.std.specs.Prelude.{◌≡◌, IsOkUnless};
 ghost use Rattle.wu_core.specs.declared.fault.Fault.TheVariants.{Output};
 ghost use Rattle.wu_drive.specs.Texts.{applied_count, batch_text, import_text, number_or_dash, pass_word, reply_text, report_skip_word, send_skip_word};
-ghost use Rattle.wu_passes.specs.Requests.{Cancelled, Passed, Upgraded};
+ghost use Rattle.wu_machine.specs.Requests.{Cancelled, Passed, Upgraded};
 ghost use Rattle.wu_drive.specs.Writing.{answer_text, applied_text, file_word, skip_word, skipped_line, skipped_lines};
 ghost use Rattle.wu_report.specs.Writing.{piece_text, WritesTo};
 

@@ -1,9 +1,9 @@
 //! Lists of commands, and the demonstration.
 
 ghost use Rattle.std.specs.Prelude.{◌≡◌, ◌≤◌, List, Some, length};
-ghost use Rattle.wu_drive.specs.Driving.{DrivesNothing, DrivesProject, DrivesWhy, EndsBy, LengthensLife, ServesUnlessEnded};
+ghost use Rattle.wu_drive.specs.Driving.{DrivesNothing, DrivesProject, DrivesWhy, EndsBy, LeavesAll, LengthensLife, ServesUnlessEnded};
 ghost use Rattle.wu_drive.specs.Writing.{WritesAnswers};
-ghost use Rattle.wu_passes.specs.declared.command.Answer.{Answer};
+ghost use Rattle.wu_machine.specs.declared.command.Answer.{Answer};
 ghost use Rattle.wu_passes.specs.Projects.{GoesStill, IsOver, KeepsLimit, state_of};
 ghost use Rattle.wu_passes.specs.Standing.{KeepsDoubt, MayEnd};
 
@@ -12,7 +12,7 @@ use sqlite::{Alter, Connection};
 use std::alloc::Global;
 use std::io::Write;
 use wu_core::{Bytes, Fault, Name};
-use wu_passes::laws::commands_keep_projects;
+use wu_machine::laws::commands_keep_projects;
 use wu_passes::{Batch, Command, Project};
 use wu_report::{View, show};
 
@@ -30,7 +30,8 @@ pub struct Run {
 /// An acknowledged command is one that was answered, also where its text could not be written. The run ends early with
 /// the refusal of the next command, with a fault of the store, or with `Output` for the text of the last one done. It
 /// ends the session with `Memory` or `Broken` alone, and after any other end the connection is open. Over a session that
-/// had ended it answers `Ended` at once. Where a stop before it could leave one world alone, the worlds that a stop may
+/// had ended it answers `Ended` at once. Where the first command was not done, every table is as it was, but for want of
+/// memory or of the disk. Where a stop before it could leave one world alone, the worlds that a stop may
 /// leave after it are those of the acknowledged commands, with the cut one or without.
 pub fn drive<S: Alter, W: Write>(
     alloc: Global,
@@ -45,6 +46,7 @@ pub fn drive<S: Alter, W: Write>(
     ensures opens { ServesUnlessEnded project.old project.new result }
     ensures lives { LengthensLife project.old project.new commands.now result }
     ensures ended { DrivesNothing project.old project.new out.old out.new result }
+    ensures untouched { LeavesAll project.old project.new result }
     ensures ends { GoesStill project.old → IsOver project.new → EndsBy result MayEnd }
     ensures broken { GoesStill project.old → result.end ≡ Some Fault.Broken → IsOver project.new }
     ensures clean { KeepsDoubt (state_of project.old) (state_of project.new) }

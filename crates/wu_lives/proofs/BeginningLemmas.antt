@@ -16,7 +16,8 @@ use Rattle.sqlite.specs.Files.{AreFoundIn, Finds, IsEmpty, IsOpened, file_state}
 use Rattle.sqlite.specs.Tree.{Trees}
 use Rattle.wu_core.specs.World.{World, empty_world}
 use Rattle.wu_passes.specs.Committing.{FoundAs}
-use Rattle.wu_passes.specs.Standing.{GoesOn, IsVacant, LeavesAlso}
+use Rattle.wu_passes.specs.Adopting.{IsVacant, LeavesFresh}
+use Rattle.wu_passes.specs.Standing.{GoesOn}
 use Rattle.wu_schema.specs.StandsFor.{IsFree}
 use Rattle.wu_schema.proofs.VersionLemmas.{free_lacks}
 use Rattle.std.proofs.Common.{◌⊎◌}
@@ -66,7 +67,7 @@ module _ {D : Type 0} {g : Ghosts D} (files : Files D) (again : Held (FileStore 
   goes_from stays world held = goes_from_trees stays world (subst (λ (db : Trees). FoundAs db world) (sym (found.holds held.trees held.holds)) held.found)
 
 -- what a stop within an adoption left of a free database
-module _ (old mid again : State) (free : AwaitsProject old) (left : LeavesAlso old mid empty_world) (reopened : IsReopened mid again) where
+module _ (old mid again : State) (free : AwaitsProject old) (left : LeavesFresh old mid) (reopened : IsReopened mid again) where
   still_vacant : again.now.trees ≡ old.now.trees → IsVacant again
   still_vacant same = subst (λ (d : Database). LacksProject d.schema) (sym (same_database old.now again.now free.committed.sound reopened.whole.sound same)) free.vacant
 

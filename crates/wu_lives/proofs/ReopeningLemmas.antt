@@ -26,15 +26,16 @@ use Rattle.wu_schema.specs.StandsFor.{StandsFor}
 use Rattle.wu_schema.proofs.StandsLemmas.{stands_again}
 use Rattle.wu_passes.specs.Committing.{FoundAs}
 use Rattle.wu_drive.specs.Driving.{AnswerAll, Drives, EndsBy, world_after}
-use Rattle.wu_passes.specs.Machine.{fold_steps, step}
-use Rattle.wu_passes.specs.Planning.{IsProject, request_of}
+use Rattle.wu_machine.specs.Machine.{fold_steps, step}
+use Rattle.wu_machine.specs.Commands.{request_of}
+use Rattle.wu_machine.specs.Sound.{IsProject}
 use Rattle.wu_passes.specs.Standing.{GoesOn, MayEnd}
-use Rattle.wu_passes.specs.declared.command.Answer.{Answer}
-use Rattle.wu_passes.specs.declared.command.Command.{Command}
+use Rattle.wu_machine.specs.declared.command.Answer.{Answer}
+use Rattle.wu_machine.specs.declared.command.Command.{Command}
 use Rattle.wu_drive.specs.declared.runs.Run.{Run}
 use Rattle.wu_lives.specs.Lives.{AreOf, AreSessionsOf, commands_of, HasLived, IsSessionOf, Told, WritesTold}
 use Rattle.wu_lives.specs.Reopening.{HoldsBeginning, IsCommitted, IsKept, IsReopened}
-use Rattle.wu_passes.specs.Sessions.{Lived, world_accepted, world_lived, world_of_life}
+use Rattle.wu_machine.specs.Sessions.{Lived, world_accepted, world_lived, world_of_life}
 use Rattle.wu_drive.specs.Driving.{session_of}
 use Rattle.wu_drive.specs.Writing.{WritesAnswers}
 use Rattle.wu_drive.proofs.LifeLemmas.{life_more}

@@ -10,10 +10,11 @@ use Rattle.sqlite.specs.Tree.{Trees}
 use Rattle.wu_core.specs.World.{World, empty_world}
 use Rattle.wu_passes.specs.Committing.{FoundAs}
 use Rattle.wu_passes.specs.declared.project.Project.{Project}
-use Rattle.wu_passes.specs.Machine.{present_version}
-use Rattle.wu_passes.specs.Planning.{IsProject}
+use Rattle.wu_machine.specs.Machine.{present_version}
+use Rattle.wu_machine.specs.Sound.{IsProject}
 use Rattle.wu_passes.specs.Projects.{state_of}
-use Rattle.wu_passes.specs.Standing.{GoesOn, IsVacant}
+use Rattle.wu_passes.specs.Adopting.{IsVacant}
+use Rattle.wu_passes.specs.Standing.{GoesOn}
 use Rattle.wu_lives.specs.Reopening.{IsCommitted}
 
 module _ {D : Type 0} (g : Ghosts D) (files : Files D) where

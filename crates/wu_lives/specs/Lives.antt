@@ -7,12 +7,12 @@ use Rattle.wu_core.specs.World.{World}
 use Rattle.wu_drive.specs.declared.runs.Run.{Run}
 use Rattle.wu_drive.specs.Driving.{AnswerAll, EndsBy, session_of}
 use Rattle.wu_drive.specs.Writing.{WritesAnswers}
-use Rattle.wu_passes.specs.declared.command.Answer.{Answer}
-use Rattle.wu_passes.specs.declared.command.Command.{Command}
+use Rattle.wu_machine.specs.declared.command.Answer.{Answer}
+use Rattle.wu_machine.specs.declared.command.Command.{Command}
 use Rattle.wu_passes.specs.declared.project.Project.{Project}
-use Rattle.wu_passes.specs.Planning.{IsProject}
+use Rattle.wu_machine.specs.Sound.{IsProject}
 use Rattle.wu_passes.specs.Projects.{GoesStill}
-use Rattle.wu_passes.specs.Sessions.{Lived, world_lived, world_of_life}
+use Rattle.wu_machine.specs.Sessions.{Lived, world_lived, world_of_life}
 use Rattle.wu_passes.specs.Standing.{GoesOn, MayEnd}
 use Rattle.wu_lives.specs.Reopening.{OfEachWorld}
 

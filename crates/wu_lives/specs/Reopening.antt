@@ -1,5 +1,5 @@
 -- A project whose two files are opened again after a stop.
-use Rattle.std.specs.Prelude.{◌≡◌, ◌+◌, ◌<◌, ◌≤◌, ℕ, List, length, take, IfSome, IsTrue, None, Ok, Option, Some}
+use Rattle.std.specs.Prelude.{◌≡◌, ◌+◌, ◌<◌, ◌≤◌, ℕ, List, length, take, IfSome, IsTrue, None, Option, Some}
 use Rattle.sqlite_disk.specs.declared.Disk.{Ghosts}
 use Rattle.sqlite_store.specs.declared.store.FileStore.{FileStore}
 use Rattle.sqlite.specs.Effect.{IsDatabase}
@@ -11,12 +11,13 @@ use Rattle.wu_core.specs.World.{World}
 use Rattle.wu_core.specs.declared.fault.Fault.TheVariants.{Broken, Ended}
 use Rattle.wu_schema.specs.Calls.{LeavesOnly}
 use Rattle.wu_drive.specs.Driving.{AnswerAll, EndsBy, EndsEarly, LengthensLife, world_after}
-use Rattle.wu_passes.specs.Planning.{IsProject}
-use Rattle.wu_passes.specs.Projects.{AdoptsWhole, GoesStill, IsOver, state_of}
-use Rattle.wu_passes.specs.Standing.{GoesOn, KeepsDoubt, MayEnd}
+use Rattle.wu_machine.specs.Sound.{IsProject}
+use Rattle.wu_passes.specs.Adopting.{Adopts}
+use Rattle.wu_passes.specs.Projects.{GoesStill, IsOver, state_of}
+use Rattle.wu_passes.specs.Standing.{GoesOn, MayEnd}
 use Rattle.wu_drive.specs.Writing.{WritesAnswers}
-use Rattle.wu_passes.specs.declared.command.Answer.{Answer}
-use Rattle.wu_passes.specs.declared.command.Command.{Command}
+use Rattle.wu_machine.specs.declared.command.Answer.{Answer}
+use Rattle.wu_machine.specs.declared.command.Command.{Command}
 use Rattle.wu_passes.specs.declared.project.Project.{Project}
 use Rattle.wu_drive.specs.declared.runs.Run.{Run}
 
@@ -78,12 +79,11 @@ module _ {D : Type 0} {g : Ghosts D} where
   FindsLeft old commands run new =
       (left : Project (FileStore D g) over_files) × IsLeft old commands run left × FindsAgain (state_of left) new
 
-  -- and the next session adopts the project that is found as it stands
+  -- and the next session adopts what is found
   pub record AdoptsLeft (old : Project (FileStore D g) over_files) (commands : List Command) (run : Run) (new : Project (FileStore D g) over_files) : Type 0 where
     pub again : Held (FileStore D g)
     pub found : FindsLeft old commands run (file_state again)
-    pub whole : AdoptsWhole over_files again (Ok new)
-    pub clean : KeepsDoubt (file_state again) (state_of new)
+    pub adopted : Adopts (file_state again) (state_of new)
 
 -- so many commands of the list: every acknowledged one, and at most one more, which was cut
 pub record IsKept (commands : List Command) (run : Run) (count : ℕ) : Type 0 where

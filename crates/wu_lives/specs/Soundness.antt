@@ -1,8 +1,8 @@
 -- What lives leave of a sound project is sound.
 use Rattle.std.specs.Prelude.{All, List}
 use Rattle.wu_core.specs.World.{World}
-use Rattle.wu_passes.specs.Sessions.{Lived, world_of_life}
-use Rattle.wu_passes_laws.specs.Sound.{IsSound}
+use Rattle.wu_machine.specs.Sessions.{Lived, world_of_life}
+use Rattle.wu_machine.specs.Sound.{IsSound}
 use Rattle.wu_sound_laws.specs.Laws.{HaveValues}
 use Rattle.wu_lives.specs.Lives.{AreSessionsOf, Told}
 

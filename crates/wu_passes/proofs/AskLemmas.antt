@@ -6,11 +6,10 @@ use Rattle.std.proofs.Common.{get_or, take, drop, length-take-le, take_all}
 use Rattle.std.proofs.lemmas.List.{length-map, get_or-map, take_more, take-append-drop, take-map}
 use Rattle.std.proofs.lemmas.List.Folds.{find-append}
 use Rattle.std.specs.List.{enumerate_from, list_any}
-use Rattle.std.specs.Prelude.{◌||◌, ◌&&◌, ◌==◌, All, IfSome, bytes_eq, find, MatchResult}
+use Rattle.std.specs.Prelude.{◌||◌, ◌&&◌, ◌==◌, All, IfErr, IfOk, IfSome, bytes_eq, find, MatchResult}
 use Rattle.std.proofs.lemmas.List.Elements.{All-head, All-tail}
 use Rattle.wu_core.specs.Codes.{import_kind_code}
 use Rattle.wu_core.specs.declared.import.ImportKind.TheVariants as kind
-use Rattle.sqlite.specs.State.{State}
 use Rattle.wu_core.specs.declared.fault.Fault.{Fault}
 use Rattle.wu_core.specs.declared.import.ImportKind.{ImportKind}
 use Rattle.wu_core.specs.declared.workunit.Archived.{Archived}
@@ -18,14 +17,12 @@ use Rattle.wu_core.specs.declared.workunit.Workunit.{Workunit}
 use Rattle.wu_core.specs.World.{World, Import, is_import}
 use Rattle.wu_rules.proofs.Lists.{any-map, enumerate_from-append}
 use Rattle.wu_store.specs.Answers.{has_name, was_archived}
-use Rattle.wu_store.specs.Reading.{AreVerdicts}
-use Rattle.sqlite.proofs.StateLemmas.{survives_then}
+use Rattle.wu_core.specs.Storable.{AreVerdicts}
 use Rattle.wu_feed.specs.declared.jobs.Job.{Job}
-use Rattle.wu_schema.specs.Calls.{IsBack}
-use Rattle.wu_schema.proofs.CallLemmas.{back_none}
-use Rattle.wu_passes.specs.Batches.{first_taken, is_one_of, job_names, taken_names}
-use Rattle.wu_passes.specs.Planning.{HasVerdicts}
-use Rattle.wu_store.specs.Loading.{IsRead, IsStoreFault, LoadsImport}
+use Rattle.wu_machine.specs.Batches.{first_taken, is_one_of, job_names, taken_names}
+use Rattle.wu_machine.specs.Sound.{HasVerdicts}
+pub use Rattle.wu_store.proofs.AskLemmas.{asks_done, asks_fault, asks_made, asks_none, asks_stands, asks_then}
+use Rattle.wu_store.specs.Loading.{IsStoreFault, LoadsImport}
 
 any_or : (a b c d : Bool) → a ≡ c → b ≡ d → (a || b) ≡ (c || d)
 any_or a b c d first second = rw (first, second) refl
@@ -62,28 +59,6 @@ found_in_range k name world verdicts = among world.imports verdicts
       | inl is ↦ rw is (subst (λ of. AreVerdicts of import.verdicts) (kind_is import.kind k (and_first _ (bytes_eq import.name name) is)) (All-head (λ (i : Import). AreVerdicts i.kind i.verdicts) import more all))
       | inr not ↦ rw not (among more (All-tail (λ (i : Import). AreVerdicts i.kind i.verdicts) import more all))
     ]
-
-pub read_none : (s : State) → IsRead s s
-read_none s = record {
-  survives = record { clean = omega arith; shield = λ h. h; counts = omega arith; limit = refl; closes = λ _ still. inl still; crash = λ _ db h. inl h };
-  back = λ _. back_none s;
-}
-
-pub back_then : (a b c : State) → IsBack a b → IsBack b c → IsBack a c
-back_then a b c one two = record {
-  was_open = λ is_open. one.was_open (two.was_open is_open);
-  now = λ is_open. elim (two.now is_open) [
-    | inl same ↦ elim (one.now (two.was_open is_open)) [ inl was ↦ inl (same ∙ was) | inr last ↦ inr (same ∙ last) ]
-    | inr last ↦ inr (last ∙ one.committed (two.was_open is_open))
-  ];
-  committed = λ is_open. two.committed is_open ∙ one.committed (two.was_open is_open);
-}
-
-pub read_then : (a b c : State) → IsRead a b → IsRead b c → IsRead a c
-read_then a b c one two = record {
-  survives = survives_then a b c _ _ (λ _. ⊥) (λ _ db none. none) (λ _ db none. none) one.survives two.survives;
-  back = λ clean. back_then a b c (one.back (omega (arith, two.survives.clean))) (two.back clean);
-}
 
 -- used by a workunit, an archived row or one of these jobs
 pub used_is : (world : World) (earlier : List Job) (name : List ℕ)
@@ -161,3 +136,10 @@ pub all_free : (world : World) (jobs : List Job) (i : ℕ) → length jobs ≤ i
 all_free world jobs i past free =
     let long : length (job_names jobs) ≤ i = omega (arith, past, length-map jobs (λ (job : Job). job.name)) in
     ap (λ names. find (is_used_at world jobs) (enumerate_from 0 names)) (sym (take_all _ _ long)) ∙ free
+
+-- ---- from question to question
+
+-- an answer that is this, or a fault of the store
+pub told_or : {T : Type 0} (r : Result T Fault) (P : T → Type 0) → IfOk r P → IfErr r IsStoreFault → MatchResult r P IsStoreFault
+told_or (Ok x) P is told = is
+told_or (Err fault) P is told = told

@@ -12,12 +12,14 @@ use Rattle.wu_store.specs.Changing.{AreRight, made_all}
 use Rattle.wu_store.specs.declared.changes.Change.TheVariants.{Replace}
 use Rattle.wu_store.proofs.WorldOnce.{once_named, once_number}
 use Rattle.wu_passes.specs.declared.imports.Plan.{Plan}
-use Rattle.wu_passes.specs.Imports.{Done}
-use Rattle.wu_passes.specs.Machine.{cancel_done, done}
-use Rattle.wu_passes.specs.Planning.{IsCancelled, IsPlan, IsProject, RefusesCancel, reply_of_answer}
-use Rattle.wu_passes.specs.Requests.{AskCancel, Cancelled, Reply}
+use Rattle.wu_machine.specs.Imports.{Done}
+use Rattle.wu_machine.specs.Machine.{cancel_done, done}
+use Rattle.wu_passes.specs.Planning.{IsCancelled, IsPlan, RefusesCancel}
+use Rattle.wu_machine.specs.Commands.{reply_of_answer}
+use Rattle.wu_machine.specs.Sound.{IsProject}
+use Rattle.wu_machine.specs.Requests.{AskCancel, Cancelled, Reply}
 use Rattle.wu_passes.specs.Touched.{AreImages, touched_named, with_touched}
-use Rattle.wu_passes.specs.Worlds.{workunit_named, with_named}
+use Rattle.wu_machine.specs.Worlds.{workunit_named, with_named}
 use Rattle.wu_passes.proofs.TouchedLemmas.{images_by_row, images_empty, images_loaded, left_by_row, loaded, loaded_found, name_found, replaced_all, touched_empty}
 
 module _ (db : Database) (world : World) (stands : StandsFor db world) (name : List ℕ) (w : Workunit) (present : workunit_named world name ≡ Some w) where

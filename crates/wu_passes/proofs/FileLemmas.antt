@@ -7,9 +7,9 @@ use Rattle.wu_core.specs.declared.workunit.Workunit.{Workunit}
 use Rattle.wu_core.specs.declared.fault.Fault.{Fault}
 use Rattle.wu_core.specs.World.{World}
 use Rattle.wu_store.proofs.WorldOnce.{NamesOnce}
-use Rattle.wu_passes.specs.FileRows.{KeepsIdentity, Rule, left_by, unknown}
+use Rattle.wu_machine.specs.FileRows.{KeepsIdentity, Rule, left_by, unknown}
 use Rattle.wu_passes.specs.Touched.{AreImages, HasAlso, IsLeft, IsTouched, LeavesBy, as_left, touched_named, with_touched}
-use Rattle.wu_passes.specs.Worlds.{workunit_named, with_named}
+use Rattle.wu_machine.specs.Worlds.{workunit_named, with_named}
 use Rattle.wu_passes.proofs.TouchedLemmas.{IsWith, after_found, changed_if, found_touched, found_unknown, images_by_row, images_loaded, left_by_row, loaded, loaded_found, more_left, name_found}
 
 -- ---- a workunit is among the touched, if it is present

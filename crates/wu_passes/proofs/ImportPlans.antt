@@ -16,11 +16,13 @@ use Rattle.wu_store.specs.declared.changes.Change.TheVariants.{Keep}
 use Rattle.wu_store.proofs.WorldOnce.{once_named, once_number}
 use Rattle.wu_passes.specs.declared.files.Left.{Left}
 use Rattle.wu_passes.specs.declared.imports.Plan.{Plan}
-use Rattle.wu_passes.specs.FileRows.{Rule, after_rows, row_verdicts}
-use Rattle.wu_passes.specs.Imports.{Done, Given, first_answer, has_content, import_of, imported, kept_import, keeping, newly_imported, reported_given, rows_read, sent_given}
-use Rattle.wu_passes.specs.Machine.{done}
-use Rattle.wu_passes.specs.Planning.{has_same_content, IsNewFile, IsPlan, IsProject, IsRepeated, KeepsImport, PlansRows, RefusesRepeat, reply_of_answer}
-use Rattle.wu_passes.specs.Requests.{AskReported, AskSent, Imported, Reply, Request}
+use Rattle.wu_machine.specs.FileRows.{Rule, after_rows, row_verdicts}
+use Rattle.wu_machine.specs.Imports.{Done, Given, first_answer, has_content, import_of, imported, kept_import, keeping, newly_imported, reported_given, rows_read, sent_given}
+use Rattle.wu_machine.specs.Machine.{done}
+use Rattle.wu_passes.specs.Planning.{has_same_content, IsNewFile, IsPlan, IsRepeated, KeepsImport, PlansRows, RefusesRepeat}
+use Rattle.wu_machine.specs.Commands.{reply_of_answer}
+use Rattle.wu_machine.specs.Sound.{IsProject}
+use Rattle.wu_machine.specs.Requests.{AskReported, AskSent, Imported, Reply, Request}
 use Rattle.wu_passes.specs.Touched.{IsLeft}
 use Rattle.wu_passes.proofs.AskLemmas.{kind_is}
 use Rattle.wu_passes.proofs.TouchedLemmas.{rows_then}

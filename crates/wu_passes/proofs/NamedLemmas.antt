@@ -15,7 +15,7 @@ use Rattle.std.proofs.Common.{Ordering, Less, Equal, Greater}
 use Rattle.std.specs.Ordering.{is_eq, nat_cmp}
 use Rattle.std.specs.String.{string_cmp}
 use Rattle.wu_core.specs.declared.workunit.Workunit.{Workunit}
-use Rattle.wu_passes.specs.FileRows.{Rule, left_by}
+use Rattle.wu_machine.specs.FileRows.{Rule, left_by}
 use Rattle.wu_passes.specs.Touched.{AreDistinct, HasAlso, IsUnderItsName, LeavesBy, touched_named}
 
 abbrev Entry : Type 0

@@ -13,20 +13,22 @@ use Rattle.wu_rules.specs.Validation as validation
 use Rattle.wu_schema.specs.StandsFor.{StandsFor}
 use Rattle.wu_store.specs.Changes.{IsNextPlace}
 use Rattle.wu_store.specs.Changing.{archived_from, AreRight, granted_from, made_all}
-use Rattle.wu_store.specs.Due.{chosen}
+use Rattle.wu_rules.specs.Due.{chosen}
 use Rattle.wu_store.specs.declared.changes.Change.{Change}
 use Rattle.wu_store.specs.declared.changes.Change.TheVariants.{Archive, Granted}
-use Rattle.wu_store.specs.declared.due.Pass.{Pass}
-use Rattle.wu_store.specs.declared.due.Pass.TheVariants.{Transition, Validate, Assimilate, Delete, Purge}
-use Rattle.wu_passes.specs.declared.command.Answer.TheVariants as answer
+use Rattle.wu_rules.specs.declared.due.Pass.{Pass}
+use Rattle.wu_rules.specs.declared.due.Pass.TheVariants.{Transition, Validate, Assimilate, Delete, Purge}
+use Rattle.wu_machine.specs.declared.command.Answer.TheVariants as answer
 use Rattle.wu_passes.specs.declared.passes.Ask.{Ask}
 use Rattle.wu_passes.specs.declared.passes.Handled.{Handled}
-use Rattle.wu_passes.specs.Machine.{is_limit_right}
-use Rattle.wu_passes.specs.Passes.{archives, granted, handled, passed}
+use Rattle.wu_machine.specs.Machine.{is_limit_right}
+use Rattle.wu_machine.specs.Passes.{archives, granted, handled, passed}
 use Rattle.wu_passes.specs.PassPlans.{asked, change_by, HandlesAll, HasGiven}
-use Rattle.wu_passes.specs.Planning.{IsProject, Plans}
-use Rattle.wu_passes.specs.Requests.{Passed}
-use Rattle.wu_passes.proofs.PassLemmas.{and_given, assimilated_of, emptied_of, pass_asked, pass_makes, pass_makes_right, purge_makes, purge_makes_right, transitioned_of, validated_of}
+use Rattle.wu_passes.specs.Planning.{Plans}
+use Rattle.wu_machine.specs.Sound.{IsProject}
+use Rattle.wu_machine.specs.Requests.{Passed}
+use Rattle.wu_passes.proofs.PassLemmas.{and_given, pass_makes, pass_makes_right, purge_makes, purge_makes_right}
+use Rattle.wu_machine.proofs.ImageLemmas.{assimilated_of, emptied_of, pass_asked, transitioned_of, validated_of}
 use Rattle.wu_passes.proofs.PlanLemmas.{enumerate_more}
 
 -- ---- one more at the next place

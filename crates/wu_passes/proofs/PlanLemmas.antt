@@ -5,18 +5,27 @@ use Rattle.std.proofs.lemmas.List.FromFn.{length-enumerate_from}
 use Rattle.std.specs.List.{enumerate_from}
 use Rattle.wu_core.specs.Parameters.{Parameters}
 use Rattle.wu_feed.specs.declared.jobs.Job.{Job}
-use Rattle.std.proofs.Common.{Vec, Global}
+use Rattle.std.proofs.Common.{Vec, Global, bytes_eq}
 use Rattle.wu_core.specs.Reads.{Gives}
 use Rattle.wu_core.specs.declared.import.ImportKind.TheVariants as kind
-use Rattle.wu_passes.specs.Batches.{new_workunit}
-use Rattle.wu_passes.specs.Imports.{Given, first_answer}
-use Rattle.wu_passes.specs.Requests.{Imported}
-use Rattle.wu_passes.specs.Planning.{additions, first_of, IsNewBatch, KeepsImport, reply_of_answer}
+use Rattle.wu_machine.specs.Batches.{new_workunit}
+use Rattle.wu_machine.specs.Imports.{Given, first_answer}
+use Rattle.wu_machine.specs.Requests.{Imported}
+use Rattle.wu_passes.specs.Planning.{additions, first_of, IsNewBatch, KeepsImport}
+use Rattle.wu_machine.specs.Commands.{reply_of_answer}
 use Rattle.wu_store.specs.declared.changes.Import.{Import as Kept}
-use Rattle.wu_passes.specs.declared.command.Answer.{Answer}
-use Rattle.wu_passes.specs.declared.command.Answer.TheVariants as reply
+use Rattle.wu_machine.specs.declared.command.Answer.{Answer}
+use Rattle.wu_machine.specs.declared.command.Answer.TheVariants as reply
 use Rattle.wu_store.specs.declared.changes.Change.{Change}
 use Rattle.wu_store.specs.declared.changes.Change.TheVariants.{Add, Next, Keep}
+use Rattle.wu_core.specs.declared.workunit.Workunit.{Workunit}
+use Rattle.wu_core.specs.World.{World}
+use Rattle.wu_core.specs.Storable.{AreStorable, IsStorable}
+use Rattle.wu_store.specs.Loading.{LoadsNamed}
+use Rattle.wu_machine.proofs.StorableLemmas.{found_is}
+
+pub named_loads : (world : World) → AreStorable world → (name : List ℕ) → LoadsNamed name world
+named_loads world storable name = found_is IsStorable (λ (w : Workunit). bytes_eq w.name name) world.workunits storable
 
 -- a job at a number as a change
 abbrev pub added : Parameters → ℕ × Job → Change

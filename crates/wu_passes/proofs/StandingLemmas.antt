@@ -1,24 +1,27 @@
 -- What stands of a session after each exit of a command.
-use Rattle.std.proofs.Common.{refl, ◌≡◌, ◌≢◌, ◌⊎◌, Bool, true, false, ◌<◌, ◌≤◌, ℕ, List, Option, None, Some, Result, Ok, Err, IfErr, OnOk, IsTrue, sym, ap, subst, ◌∙◌, inl, inr, arith}
+use Rattle.std.proofs.Common.{refl, ◌≡◌, ◌≢◌, ◌⊎◌, Bool, true, false, List, Result, Ok, Err, IfErr, IsTrue, sym, ap, subst, ◌∙◌, inl, inr}
 use Rattle.sqlite.specs.Effect.{Database}
-use Rattle.sqlite.specs.State.{State, HasCleanDisk, IsUnchanged, Survives}
+use Rattle.sqlite.specs.State.{State, HasCleanDisk, Survives}
 use Rattle.wu_core.specs.declared.fault.Fault.{Fault}
 use Rattle.wu_core.specs.declared.fault.Fault.TheVariants.{Broken, NotAProject}
-use Rattle.wu_schema.specs.Faults.{IsFailure, IsTold}
-use Rattle.wu_core.specs.World.{World, empty_world}
+use Rattle.wu_schema.specs.Faults.{IsFailure}
+use Rattle.wu_core.specs.World.{World}
+use Rattle.sqlite.specs.Held.{Held, state}
+use Rattle.sqlite.specs.Store.{Ghosts}
+use Rattle.wu_schema.specs.Asking.{IsAsBefore}
 use Rattle.wu_schema.specs.Calls.{LeavesOnly, IsBack, IsDone, IsMade, IsRefused, IsUndone}
-use Rattle.wu_schema.specs.Made.{MakesProject}
+use Rattle.wu_passes.specs.Adopting.{KeepsAll}
 use Rattle.wu_schema.specs.StandsFor.{StandsFor}
-use Rattle.wu_schema.specs.Versions.{HasProject, HasVersion, LacksProject}
 use Rattle.wu_store.specs.Changing.{AreRight, made_all, MakesWorlds}
 use Rattle.wu_passes.specs.Committing.{FoundAs}
-use Rattle.wu_passes.specs.Machine.{done, present_version, reply, reply_of, step, world_of}
-use Rattle.wu_passes.specs.Planning.{FailsToRead, IsPlan, Plans, reply_of_answer}
+use Rattle.wu_machine.specs.Machine.{done, reply, reply_of, step, world_of}
+use Rattle.wu_passes.specs.Planning.{IsPlan, Plans}
+use Rattle.wu_machine.specs.Commands.{reply_of_answer}
 use Rattle.wu_store.specs.Loading.{IsRead, IsStoreFault}
-use Rattle.wu_passes.specs.Requests.{Request}
-use Rattle.wu_passes.specs.Standing.{GoesOn, HasEnded, IsAdoptionFault, IsAnswered, IsCutBy, IsRefusal, KeepsAll, KeepsShown, LeavesAlso, Stands, StoresLater, TellsLater, WhyNot}
+use Rattle.wu_machine.specs.Requests.{Request}
+use Rattle.wu_passes.specs.Standing.{GoesOn, HasEnded, IsAnswered, IsCutBy, Stands, WhyNot}
 use Rattle.wu_passes.specs.declared.imports.Plan.{Plan}
-use Rattle.wu_passes.specs.declared.command.Answer.{Answer}
+use Rattle.wu_machine.specs.declared.command.Answer.{Answer}
 use Rattle.wu_store.specs.declared.changes.Change.{Change}
 
 -- a call that reads
@@ -33,7 +36,7 @@ goes_read old new world clean read goes = record {
 }
 
 pub goes_ended : (s : State) (world : World) (request : Request) → GoesOn s world → HasEnded s world request
-goes_ended s world request goes = record { stands = λ is_open. (goes.stands is_open).0; left = λ db may. inl (goes.left db may) }
+goes_ended s world request goes = record { stands = λ _. goes; left = λ db may. inl (goes.left db may) }
 
 -- the changes are done
 pub goes_done : (old new : State) (world : World) (changes : List Change) → StandsFor old.now world → AreRight changes world → IsDone (MakesWorlds changes) old new → GoesOn new (made_all changes world)
@@ -52,13 +55,22 @@ goes_refused old new world goes undone refused =
       left = λ db may. record { database = new.now; same = ap (λ (d : Database). d.trees) refused.now ∙ sym (refused.left.only db may); stands = stands };
     }
 
--- they were cut
+-- they were cut: while the connection is open, all is as before
+goes_undone : (old new : State) (world : World) → GoesOn old world → IsUndone old new → IsTrue new.is_open → GoesOn new world
+goes_undone old new world goes undone is_open =
+    let was = goes.stands (undone.was_open is_open) in
+    let (now, committed) = undone.now is_open in
+    let same : new.now ≡ old.now = now ∙ was.1 in
+    let stands : StandsFor new.now world = subst (λ (d : Database). StandsFor d world) (sym same) was.0 in
+    record {
+      stands = λ _. (stands, committed ∙ sym now);
+      left = λ db may. record { database = new.now; same = ap (λ (d : Database). d.trees) now ∙ sym ((undone.left is_open).only db may); stands = stands };
+    }
+
 pub ended_undone : (old new : State) (world : World) (request : Request) (changes : List Change) → HasCleanDisk new → StandsFor old.now world → GoesOn old world → AreRight changes world
     → step world request ≡ made_all changes world → IsUndone old new → Survives old new (IsMade (MakesWorlds changes) old.now) → HasEnded new world request
 ended_undone old new world request changes clean stands goes right is undone survives = record {
-  stands = λ is_open.
-      let was = goes.stands (undone.was_open is_open) in
-      subst (λ (d : Database). StandsFor d world) (sym ((undone.now is_open).0 ∙ was.1)) was.0;
+  stands = λ is_open. goes_undone old new world goes undone is_open;
   left = λ db may. elim (survives.crash clean db may) [ inl before ↦ inl (goes.left db before) | inr after ↦ inr (subst (λ w. FoundAs db w) (sym is) (record { database = after.0; same = after.1; stands = after.2 world stands right })) ];
 }
 
@@ -77,10 +89,12 @@ refused_is world request fault (inr store) = inr store
 pub error_is : (f g : Fault) → ◌≡◌ {A = Result Plan Fault} (Err f) (Err g) → f ≡ g
 error_is f g is = cc
 
-pub plan_refused : (old : State) (world : World) (request : Request) (result : Result Plan Fault) (fault : Fault) → result ≡ Err fault → GoesOn old world
-    → IsTrue old.is_open ⊎ FailsToRead result → (StandsFor old.now world → IsPlan world request (Err fault)) → (reply world request ≡ Err fault) ⊎ IsStoreFault fault
-plan_refused old world request result fault is goes (inl is_open) plan = refused_is world request fault (plan (goes.stands is_open).0)
-plan_refused old world request result fault is goes (inr fails) plan = inr (let same : fails.0 ≡ fault = error_is fails.0 fault (sym fails.1 ∙ is) in subst (λ f. IsStoreFault f) same fails.2)
+-- a fault of a plan over a connection that was open, or for want of memory or of the disk
+pub plan_refused : (old new : State) (world : World) (request : Request) (fault : Fault) → GoesOn old world → IsBack old new
+    → IsFailure fault ⊎ IsTrue new.is_open → (StandsFor old.now world → IsPlan world request (Err fault)) → (reply world request ≡ Err fault) ⊎ IsStoreFault fault
+plan_refused old new world request fault goes back (inl (inl memory)) plan = inr (inl memory)
+plan_refused old new world request fault goes back (inl (inr broken)) plan = inr (inr (inl broken))
+plan_refused old new world request fault goes back (inr still) plan = refused_is world request fault (plan (goes.stands (back.was_open still)).0)
 
 -- why a command was not done: its plan is there,
 pub cut_why : (ended : Bool) (world : World) (request : Request) (r : Result Answer Fault) → IsAnswered world request → IfErr r (IsCutBy ended) → IfErr r (WhyNot ended world request)
@@ -103,7 +117,7 @@ unplanned_why false world request fault ends broken served told = refused_why wo
 
 -- before a transaction all stands as it did, whether the session ends or not
 pub stands_read : (ended : Bool) (s : State) (world : World) (request : Request) → GoesOn s world → Stands ended s world request
-stands_read true s world request goes = record { stands = λ is_open. (goes.stands is_open).0; left = λ db may. inl (goes.left db may) }
+stands_read true s world request goes = goes_ended s world request goes
 stands_read false s world request goes = goes
 
 -- a read that is refused leaves the connection open
@@ -112,103 +126,33 @@ refused_open s fault is (inl (inl memory)) = absurd (let no = sym is ∙ memory 
 refused_open s fault is (inl (inr broken)) = absurd (let no = sym is ∙ broken in cc)
 refused_open s fault is (inr still) = still
 
--- a fresh project was made
-pub goes_created : (old new : State) → IsDone MakesProject old new → GoesOn new empty_world
-goes_created old new created =
-    let stands = created.makes.stands in
-    record { stands = λ is_open. (stands, created.committed); left = λ db may. record { database = new.now; same = sym (created.left.only db may); stands = stands } }
+-- ---- what is as it was
 
--- none was, or a stop came first
-pub leaves_fresh : (old mid new : State) → HasCleanDisk new → Survives old mid (λ _. ⊥) → Survives mid new (IsMade MakesProject mid.now) → LeavesAlso old new empty_world
-leaves_fresh old mid new clean read survives db may = elim (survives.crash clean db may) [
-  | inl before ↦ elim (read.crash (omega (arith, survives.clean)) db before) [ inl first ↦ inl first | inr none ↦ absurd none ]
-  | inr made ↦ inr (record { database = made.0; same = made.1; stands = made.2.stands })
-]
+pub keeps_self : (s : State) → KeepsAll s s
+keeps_self s = record { now = refl; committed = refl; left = λ db may. may }
 
-pub keeps_unchanged : (old new : State) → HasCleanDisk new → Survives old new (λ _. ⊥) → IsUnchanged old new → KeepsAll old new
-keeps_unchanged old new clean survives same = record {
+-- after a question that changed nothing
+pub keeps_as_before : {S : Type 0} (g : Ghosts S) (old new : Held S) → HasCleanDisk (state g new) → Survives (state g old) (state g new) (λ _. ⊥) → IsAsBefore g old new → KeepsAll (state g old) (state g new)
+keeps_as_before g old new clean survives (inl same) = subst (λ h. KeepsAll (state g old) (state g h)) (sym same) (record { now = refl; committed = refl; left = λ db may. may })
+keeps_as_before g old new clean survives (inr same) = record {
   now = same.0.now_is;
   committed = same.0.committed_is;
   left = λ db may. elim (survives.crash clean db may) [ inl before ↦ before | inr none ↦ absurd none ];
 }
 
-pub keeps_refused : (old mid new : State) → IsUnchanged old mid → old.committed ≡ old.now → HasCleanDisk mid → Survives old mid (λ _. ⊥) → LeavesOnly mid mid.committed.trees → IsRefused mid new → KeepsAll old new
-keeps_refused old mid new same whole clean survives only refused = record {
-  now = refused.now ∙ same.0.committed_is ∙ whole;
-  committed = refused.committed ∙ same.0.committed_is;
-  left = λ db may.
-      let is : mid.may_leave db = subst (λ t. mid.may_leave t) (sym (refused.left.only db may)) only.stays in
-      elim (survives.crash clean db is) [ inl before ↦ before | inr none ↦ absurd none ];
+-- after a plan that was refused
+pub plan_keeps : {S : Type 0} (g : Ghosts S) (old new : Held S) (fault : Fault) → HasCleanDisk (state g new) → Survives (state g old) (state g new) (λ _. ⊥) → IsFailure fault ⊎ IsAsBefore g old new
+    → IsFailure fault ⊎ KeepsAll (state g old) (state g new)
+plan_keeps g old new fault clean survives (inl failed) = inl failed
+plan_keeps g old new fault clean survives (inr same) = inr (keeps_as_before g old new clean survives same)
+
+pub keeps_then : (a b c : State) → KeepsAll a b → KeepsAll b c → KeepsAll a c
+keeps_then a b c one two = record { now = two.now ∙ one.now; committed = two.committed ∙ one.committed; left = λ db may. one.left db (two.left db may) }
+
+-- after changes that were refused, where all was committed
+pub changes_keep : (old new : State) → old.committed ≡ old.now → LeavesOnly old old.committed.trees → IsRefused old new → KeepsAll old new
+changes_keep old new whole only refused = record {
+  now = refused.now ∙ whole;
+  committed = refused.committed;
+  left = λ db may. subst (λ t. old.may_leave t) (sym (refused.left.only db may)) only.stays;
 }
-
--- a question leaves nothing more
-pub leaves_read : (old new : State) (world : World) → HasCleanDisk new → Survives old new (λ _. ⊥) → LeavesAlso old new world
-leaves_read old new world clean survives db may = elim (survives.crash clean db may) [ inl before ↦ inl before | inr none ↦ absurd none ]
-
--- a creation over a database that a question left as it was
-module _ (old mid new : State) (clean : HasCleanDisk new) (before : HasCleanDisk mid) (same : IsUnchanged old mid) (read : Survives old mid (λ _. ⊥)) where
-  pub created_is : (r : Result (Unit {0}) Fault) → OnOk r (IsDone MakesProject mid new) → OnOk r (GoesOn new empty_world)
-  created_is (Ok x) created = goes_created mid new created
-  created_is (Err e) created = tt
-
-  pub leaves_made : Survives mid new (IsMade MakesProject mid.now) → LeavesAlso old new empty_world
-  leaves_made survives = leaves_fresh old mid new clean read survives
-
-  pub refusal_is : (r : Result (Unit {0}) Fault) → old.committed ≡ old.now → LeavesOnly mid mid.committed.trees → IfErr r (λ fault. fault ≡ NotAProject → IsRefused mid new)
-      → IfErr r (λ fault. fault ≡ NotAProject → KeepsAll old new)
-  refusal_is (Ok x) whole only refused = tt
-  refusal_is (Err e) whole only refused = λ is. keeps_refused old mid new same whole before read only (refused is)
-
--- a version that was found in a table is known, or refused
-module _ (r : Result (Unit {0}) Fault) (db : Database) (found : Option ℕ) (answers : (has : HasProject db.schema) → (one : ℕ) × (found ≡ Some one) × HasVersion db has one) where
-  pub known_is : (version : ℕ) → found ≡ Some version → OnOk r (version ≤ present_version) → OnOk r ((has : HasProject db.schema) → (one : ℕ) × HasVersion db has one × (one ≤ present_version))
-  known_is version is known = go r known
-    where
-      go : (r : Result (Unit {0}) Fault) → OnOk r (version ≤ present_version) → OnOk r ((has : HasProject db.schema) → (one : ℕ) × HasVersion db has one × (one ≤ present_version))
-      go (Ok x) known = λ has.
-          let same : version ≡ (answers has).0 = let so = sym is ∙ (answers has).1 in cc in
-          ((answers has).0, (answers has).2, subst (λ n. n ≤ present_version) same known)
-      go (Err e) known = tt
-
-  -- and nothing is made there
-  pub none_known : found ≡ None → OnOk r ((has : HasProject db.schema) → (one : ℕ) × HasVersion db has one × (one ≤ present_version))
-  none_known is = go r
-    where
-      go : (r : Result (Unit {0}) Fault) → OnOk r ((has : HasProject db.schema) → (one : ℕ) × HasVersion db has one × (one ≤ present_version))
-      go (Ok x) = λ has. absurd (let so = sym is ∙ (answers has).1 in cc)
-      go (Err e) = tt
-
--- a question leaves a project alone
-pub keeps_back : (old new : State) → HasCleanDisk new → Survives old new (λ _. ⊥) → IsBack old new → KeepsShown old new
-keeps_back old new clean survives back = record { back = back; left = λ db may. elim (survives.crash clean db may) [ inl before ↦ before | inr none ↦ absurd none ] }
-
-pub keeps_same : (old new : State) → HasCleanDisk new → Survives old new (λ _. ⊥) → IsUnchanged old new → KeepsShown old new
-keeps_same old new clean survives same = keeps_back old new clean survives (record { was_open = λ _. same.0.was_open; now = λ _. inl same.0.now_is; committed = λ _. same.0.committed_is })
-
--- the version that was found is the stored one
-pub stored_later : (db : State) (found : Option ℕ) (version later : ℕ) → found ≡ Some version → later ≡ version → present_version < version → (LacksProject db.now.schema → found ≡ None)
-    → ((has : HasProject db.now.schema) → (one : ℕ) × (found ≡ Some one) × HasVersion db.now has one) → StoresLater db later
-stored_later db found version later is told high absent answers = record {
-  there = λ lacks. absurd (let no = sym is ∙ absent lacks in cc);
-  stored = λ has. let same : (answers has).0 ≡ later = let so = sym (answers has).1 ∙ is in cc in subst (λ n. HasVersion db.now has n) same (answers has).2;
-  later = subst (λ n. present_version < n) (sym told) high;
-}
-
--- a later version is the world's
-pub tells_worlds : (world : World) (found : Option ℕ) (version : ℕ) (r : Result (Unit {0}) Fault) → found ≡ Some version → found ≡ Some world.version → IfErr r (TellsLater version) → IfErr r (IsRefusal world)
-tells_worlds world found version (Ok x) is stored told = tt
-tells_worlds world found version (Err e) is stored told = let same : version ≡ world.version = let so = sym is ∙ stored in cc in inr (subst (λ n. TellsLater n e) same told)
-
--- which faults an adoption may come to
-pub adoption_fault : (fault : Fault) → IsTold fault → IsAdoptionFault fault
-adoption_fault fault (inl refused) = inl (inr (inr refused))
-adoption_fault fault (inr (inl wanted)) = inl (inl wanted)
-adoption_fault fault (inr (inr failed)) = inl (inr (inl failed))
-
-pub adoption_told : {T : Type 0} (r : Result T Fault) → IfErr r IsTold → IfErr r IsAdoptionFault
-adoption_told (Ok x) told = tt
-adoption_told (Err fault) told = adoption_fault fault told
-
-pub adoption_later : {T : Type 0} (version : ℕ) (r : Result T Fault) → IfErr r (TellsLater version) → IfErr r IsAdoptionFault
-adoption_later version (Ok x) later = tt
-adoption_later version (Err fault) later = inr (version, later)

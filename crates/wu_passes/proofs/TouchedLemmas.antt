@@ -12,9 +12,9 @@ use Rattle.wu_store.specs.Changes.{HasNumber, with_replaced}
 use Rattle.wu_store.specs.Changing.{AreRight, IsRight, made, made_all}
 use Rattle.wu_store.specs.declared.changes.Change.{Change}
 use Rattle.wu_store.specs.declared.changes.Change.TheVariants.{Replace}
-use Rattle.wu_passes.specs.FileRows.{Rule, after_row, after_rows, row_verdict, row_verdicts, unknown}
+use Rattle.wu_machine.specs.FileRows.{Rule, after_row, after_rows, row_verdict, row_verdicts, unknown}
 use Rattle.wu_passes.specs.Touched.{AreDistinct, AreImages, IsImage, IsLeft, as_left, touched_named, with_touched}
-use Rattle.wu_passes.specs.Worlds.{with_named, workunit_named}
+use Rattle.wu_machine.specs.Worlds.{with_named, workunit_named}
 use Rattle.wu_store.proofs.WorldOnce.{NamesOnce, NumbersOnce}
 
 -- ---- names

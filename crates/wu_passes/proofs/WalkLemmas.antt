@@ -5,7 +5,7 @@ use Rattle.sqlite.specs.Store.{Ghosts}
 use Rattle.wu_core.specs.World.{World}
 use Rattle.wu_store.specs.Loading.{IsRead}
 use Rattle.wu_passes.specs.declared.project.Project.{Project}
-use Rattle.wu_passes.proofs.AskLemmas.{read_none, read_then}
+use Rattle.wu_store.proofs.LoadLemmas.{read_none, read_then}
 use Rattle.wu_passes.proofs.StandingLemmas.{goes_read}
 use Rattle.wu_passes.specs.Projects.{state_of}
 use Rattle.wu_passes.specs.Standing.{GoesOn}

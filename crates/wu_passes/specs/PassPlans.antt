@@ -10,19 +10,20 @@ use Rattle.wu_rules.specs.Validation as validation
 use Rattle.wu_rules.specs.Assimilation.{assimilated, emptied}
 use Rattle.wu_store.specs.Changes.{IsNextPlace}
 use Rattle.wu_store.specs.Changing.{archived_from, granted_from}
-use Rattle.wu_store.specs.Due.{chosen}
+use Rattle.wu_rules.specs.Due.{chosen}
 use Rattle.wu_store.specs.declared.changes.Change.{Change}
 use Rattle.wu_store.specs.declared.changes.Change.TheVariants.{Remove, Replace}
-use Rattle.wu_store.specs.declared.due.Pass.{Pass}
-use Rattle.wu_store.specs.declared.due.Pass.TheVariants.{Transition, Validate, Assimilate, Delete, Purge}
+use Rattle.wu_rules.specs.declared.due.Pass.{Pass}
+use Rattle.wu_rules.specs.declared.due.Pass.TheVariants.{Transition, Validate, Assimilate, Delete, Purge}
 use Rattle.wu_passes.specs.declared.imports.Plan.{Plan}
 use Rattle.wu_passes.specs.declared.passes.Ask.{Ask}
 use Rattle.wu_passes.specs.declared.passes.Handled.{Handled}
 use Rattle.wu_passes.specs.declared.passes.Image.{Image}
-use Rattle.wu_passes.specs.Machine.{is_limit_right}
-use Rattle.wu_passes.specs.Passes.{archives, granted}
-use Rattle.wu_passes.specs.Planning.{IsPlan, IsProject}
-use Rattle.wu_passes.specs.Requests.{Request, AskPass}
+use Rattle.wu_machine.specs.Machine.{is_limit_right}
+use Rattle.wu_machine.specs.Passes.{archives, granted}
+use Rattle.wu_passes.specs.Planning.{IsPlan}
+use Rattle.wu_machine.specs.Sound.{IsProject}
+use Rattle.wu_machine.specs.Requests.{Request, AskPass}
 
 -- what is asked of the machine
 abbrev pub asked : Ask → Request

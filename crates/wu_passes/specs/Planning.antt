@@ -1,5 +1,5 @@
 -- The plan of a command: what it will answer and what it changes, before anything is changed.
-use Rattle.std.specs.Prelude.{◌≡◌, ◌≢◌, ◌⊎◌, ℕ, All, AllPairs, ◌+◌, ◌==◌, ◌&&◌, Bool, true, false, bytes_eq, if◌then◌else◌, List, [], ◌∷◌, ◌++◌, map, length, Some, None, Result, Ok, Err, find, IfErr, IfOk, IsTrue, MatchResult}
+use Rattle.std.specs.Prelude.{◌≡◌, ◌≢◌, ◌⊎◌, ℕ, ◌+◌, ◌==◌, ◌&&◌, Bool, true, false, bytes_eq, if◌then◌else◌, List, [], ◌∷◌, ◌++◌, map, length, Some, None, Result, Ok, Err, find, IfErr, IfOk, IsTrue, MatchResult}
 use Rattle.std.specs.List.{enumerate_from}
 use Rattle.sqlite.specs.Held.{Held, state}
 use Rattle.sqlite.specs.State.{HasCleanDisk}
@@ -16,10 +16,8 @@ use Rattle.wu_core.specs.declared.import.ImportKind.{ImportKind}
 use Rattle.wu_core.specs.declared.import.ImportKind.TheVariants as kind
 use Rattle.wu_feed.specs.Jobs.{jobs_of_file}
 use Rattle.wu_feed.specs.Templates.{template_of}
-use Rattle.wu_store.specs.Reading.{AreVerdicts}
-use Rattle.wu_store.specs.Changes.{IsAbove, with_import}
-use Rattle.wu_store.specs.Loading.{AreStorable, IsStoreFault, LoadsNext}
-use Rattle.wu_store.specs.declared.due.Pass.TheVariants as pass
+use Rattle.wu_store.specs.Changes.{with_import}
+use Rattle.wu_store.specs.Loading.{IsStoreFault}
 use Rattle.wu_store.specs.declared.rows.StoredImport.{StoredImport}
 use Rattle.wu_schema.specs.StandsFor.{StandsFor}
 use Rattle.wu_passes.specs.declared.imports.Plan.{Plan}
@@ -28,68 +26,22 @@ use Rattle.wu_passes.specs.declared.files.Left.{Left}
 use Rattle.wu_store.specs.declared.changes.Change.{Change}
 use Rattle.wu_store.specs.declared.changes.Change.TheVariants.{Add, Replace, Next, Keep}
 use Rattle.wu_store.specs.declared.changes.Import.{Import as Kept}
-use Rattle.wu_passes.specs.declared.command.Batch.{Batch}
-use Rattle.wu_passes.specs.declared.command.RowsFile.{RowsFile}
-use Rattle.wu_passes.specs.declared.command.Command.{Command}
-use Rattle.wu_passes.specs.declared.command.Command.TheVariants as command
-use Rattle.wu_passes.specs.Batches.{all_applied, first_taken, is_one_of, job_names, new_workunit, taken_names}
+use Rattle.wu_machine.specs.declared.command.Batch.{Batch}
+use Rattle.wu_machine.specs.Batches.{all_applied, first_taken, is_one_of, job_names, new_workunit, taken_names}
 use Rattle.wu_store.specs.Changing.{AreRight, import_of_change, made_all}
-use Rattle.wu_passes.specs.Imports.{Given, batch_given, first_answer, kept_import}
-use Rattle.wu_passes.specs.FileRows.{Rule, after_rows, row_verdicts}
-use Rattle.wu_passes.specs.Machine.{done, present_version}
+use Rattle.wu_machine.specs.Imports.{Given, first_answer, kept_import}
+use Rattle.wu_machine.specs.FileRows.{Rule, after_rows, row_verdicts}
+use Rattle.wu_machine.specs.Machine.{done}
 use Rattle.wu_passes.specs.Touched.{AreDistinct, IsLeft}
-use Rattle.wu_passes.specs.declared.command.Answer.{Answer}
-use Rattle.wu_passes.specs.declared.command.Answer.TheVariants as answer
-use Rattle.wu_passes.specs.Requests.{Request, AskBatch, AskCancel, AskPass, AskReported, AskSent, AskUpgrade, Reply, Cancelled, Imported, Passed, Upgraded}
-
--- what a batch is imported as, and what it asks of the machine
-abbrev pub batch_of : Batch → Given
-batch_of batch = batch_given batch.name batch.template batch.file
-
-abbrev pub request_of_batch : Batch → Request
-request_of_batch batch = AskBatch batch.name batch.template batch.file
-
--- what a file of rows of this kind is imported as: no template goes with it
-abbrev pub file_of : ImportKind → RowsFile → Given
-file_of kind file = record { kind = kind; name = file.name; template = []; content = file.file }
+use Rattle.wu_machine.specs.declared.command.Answer.{Answer}
+use Rattle.wu_machine.specs.declared.command.Answer.TheVariants as answer
+use Rattle.wu_machine.specs.Requests.{Request, Cancelled, Imported}
+use Rattle.wu_machine.specs.Commands.{request_of_batch, reply_of_answer}
+use Rattle.wu_machine.specs.Sound.{IsProject}
 
 -- what is imported of a source
 abbrev pub given_of : Source → Given
 given_of source = record { kind = source.kind; name = source.name.now; template = source.template.now; content = source.content.now }
-
--- what a command asks of the machine; a pass that needs no moment is asked at the first one
-abbrev pub request_of : Command → Request
-request_of (command.Batch batch) = request_of_batch batch
-request_of (command.Sent file) = AskSent file.name file.file
-request_of (command.Reported file) = AskReported file.name file.file
-request_of (command.Transition now limit) = AskPass pass.Transition now limit 0
-request_of (command.Validate limit) = AskPass pass.Validate 0 limit 0
-request_of (command.Assimilate now limit) = AskPass pass.Assimilate now limit 0
-request_of (command.Delete limit) = AskPass pass.Delete 0 limit 0
-request_of (command.Purge now limit min_age) = AskPass pass.Purge now limit min_age
-request_of (command.Cancel workunit) = AskCancel workunit
-request_of command.Upgrade = AskUpgrade
-
--- the reply that an answer stands for
-abbrev pub reply_of_answer : Answer → Reply
-reply_of_answer (answer.Imported kind name first verdicts) = Imported kind name first verdicts
-reply_of_answer (answer.Passed pass handled) = Passed pass handled
-reply_of_answer (answer.Cancelled workunit) = Cancelled workunit
-reply_of_answer (answer.Upgraded from to) = Upgraded from to
-
--- the verdicts of each import are numbers of verdicts on such a file
-abbrev pub HasVerdicts : World → Type 0
-HasVerdicts world = All (λ import. AreVerdicts import.kind import.verdicts) world.imports
-
--- A world at the present version, as each sound world is: workunits are below the next number, that and the verdicts of
--- imports are in range, each workunit can be read, and no two have one name.
-pub record IsProject (world : World) : Type 0 where
-  pub present : world.version ≡ present_version
-  pub above : IsAbove world.next_number world.workunits
-  pub next : LoadsNext world
-  pub verdicts : HasVerdicts world
-  pub storable : AreStorable world
-  pub names : AllPairs (λ one other. one.name ≢ other.name) world.workunits
 
 -- the plan that gives a workunit up: its image takes its place
 pub record IsCancelled (w : Workunit) (plan : Plan) : Type 0 where
@@ -112,10 +64,6 @@ NeverEnded result = IfErr result (λ fault. fault ≢ Ended)
 -- a workunit's name is used, or a fault of the store
 abbrev pub RefusesName : Fault → Type 0
 RefusesName fault = ((row : ℕ) × (fault ≡ WorkunitUsed row)) ⊎ IsStoreFault fault
-
--- a read failed
-abbrev pub FailsToRead : {T : Type 0} → Result T Fault → Type 0
-FailsToRead result = (fault : Fault) × (result ≡ Err fault) × IsStoreFault fault
 
 -- no batch had this name
 abbrev pub IsNew : World → List ℕ → Type 0
@@ -189,10 +137,6 @@ pub record IsFilePlan {Row : Type 0} (rule : Rule Row) (given : Given) (rows : L
 abbrev pub NeverRefused : {S T : Type 0} → Ghosts S → Held S → Held S → Result T Fault → Type 0
 NeverRefused g old new result =
     HasCleanDisk (state g new) → (world : World) → StandsFor (state g old).now world → old.step_limit ≡ None → IfErr result (λ fault. fault ≢ NotAProject)
-
--- it was open, or the read failed
-abbrev pub OpenOrFails : {S T : Type 0} → Ghosts S → Held S → Held S → Result T Fault → Type 0
-OpenOrFails g old new result = HasCleanDisk (state g new) → IsTrue (state g old).is_open ⊎ FailsToRead result
 
 -- whether the name is taken by a workunit or an archived row
 abbrev pub KnowsTaken : List ℕ → Result Bool Fault → World → Type 0

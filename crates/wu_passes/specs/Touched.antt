@@ -6,8 +6,8 @@ use Rattle.std.specs.Option.{option_map, unwrap_or}
 use Rattle.wu_core.specs.declared.fault.Fault.{Fault}
 use Rattle.wu_core.specs.declared.workunit.Workunit.{Workunit}
 use Rattle.wu_core.specs.World.{World}
-use Rattle.wu_passes.specs.FileRows.{Rule, after_rows, left_by, row_verdicts}
-use Rattle.wu_passes.specs.Worlds.{workunit_named}
+use Rattle.wu_machine.specs.FileRows.{Rule, after_rows, left_by, row_verdicts}
+use Rattle.wu_machine.specs.Worlds.{workunit_named}
 
 -- the one of this name, if it was touched
 abbrev pub touched_named : List Workunit → List ℕ → Option Workunit

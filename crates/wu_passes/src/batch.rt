@@ -1,17 +1,17 @@
 //! A batch: what it answers and what it changes, before anything is changed.
 
-ghost use Rattle.std.specs.Prelude.{◌≡◌, false, ◌+◌, ◌≤◌, ◌==◌, All, bytes_eq, length, replicate, if◌then◌else◌, Ok, IfOk, IfErr};
+ghost use Rattle.std.specs.Prelude.{◌≡◌, ◌+◌, ◌≤◌, ◌==◌, bytes_eq, length, replicate, if◌then◌else◌, Ok, IfOk, IfErr};
 ghost use Rattle.std.specs.List.{list_any};
-ghost use Rattle.sqlite.specs.Held.{state};
 ghost use Rattle.wu_core.specs.declared.fault.Fault.TheVariants.{Memory};
 ghost use Rattle.wu_core.specs.Limits.{most_workunits};
 ghost use Rattle.wu_core.specs.Reads.{Gives};
 ghost use Rattle.wu_feed.specs.Limits.{most_rows};
-ghost use Rattle.wu_passes.specs.Batches.{new_workunit};
-ghost use Rattle.wu_passes.specs.Planning.{additions, batch_of, FindsFree, HasVerdicts, IsNewBatch, IsProject, KnowsTaken, KnowsUsed, NeverEnded, NeverRefused, OpenOrFails, PlansBatch, PlansJobs, PlansNew, RefusesName};
-ghost use Rattle.wu_store.specs.Loading.{FindsEarlier, IsRead, IsStoreFault, KeepsTables, KnowsNext, NotRefusedIn, OverWorlds, ServesUnlessFailed, StaysUnlessFailed, WasOpen};
+ghost use Rattle.wu_machine.specs.Batches.{new_workunit};
+ghost use Rattle.wu_passes.specs.Planning.{additions, FindsFree, IsNewBatch, KnowsTaken, KnowsUsed, NeverEnded, NeverRefused, PlansBatch, PlansJobs, PlansNew, RefusesName};
+ghost use Rattle.wu_machine.specs.Commands.{batch_of};
+ghost use Rattle.wu_machine.specs.Sound.{IsProject};
+ghost use Rattle.wu_store.specs.Loading.{Asks, IsStoreFault, NotRefusedIn, OverWorlds, ServesUnlessFailed};
 
-use crate::command::Batch;
 use crate::imports::{Plan, batch_source, imported, kept, repeated};
 use sqlite::{Alter, Connection};
 use std::alloc::Global;
@@ -20,14 +20,12 @@ use wu_core::{
     Params, Workunit,
 };
 use wu_feed::{Job, Jobs, read_jobs, read_template};
-use wu_schema::fault_of;
+use wu_machine::Batch;
 use wu_store::{Change, has_archived, has_workunit, import_of, next_number};
 
 /// Whether the name belongs to a workunit that is present, or that was archived.
 fn is_taken<S: Alter>(conn: &mut Connection<S>, name: &Name) -> Result<bool, Fault>
-    ensures mode { conn.old.in_transaction ≡ false → conn.new.in_transaction ≡ false }
-    ensures read { IsRead (state S.Store conn.old) (state S.Store conn.new) }
-    ensures same { KeepsTables S.Store conn.old conn.new result }
+    ensures asks { Asks S.Store conn.old conn.new result }
     ensures opens { ServesUnlessFailed S.Store conn.new result }
     ensures fault { IfErr result IsStoreFault }
     ensures unrefused { NeverRefused S.Store conn.old conn.new result }
@@ -36,12 +34,9 @@ fn is_taken<S: Alter>(conn: &mut Connection<S>, name: &Name) -> Result<bool, Fau
     match has_workunit(conn, name) {
         Ok(true) => return Ok(true),
         Ok(false) => {}
-        Err(error) => return Err(fault_of(&error)),
+        Err(fault) => return Err(fault),
     }
-    match has_archived(conn, name) {
-        Ok(was_archived) => Ok(was_archived),
-        Err(error) => Err(fault_of(&error)),
-    }
+    has_archived(conn, name)
 }
 
 fn has_job(jobs: &[Job], name: &Name) -> bool
@@ -52,10 +47,7 @@ fn has_job(jobs: &[Job], name: &Name) -> bool
 
 /// Whether the name belongs to a workunit, an archived row or one of these jobs.
 fn is_used<S: Alter>(conn: &mut Connection<S>, earlier: &[Job], name: &Name) -> Result<bool, Fault>
-    ensures mode { conn.old.in_transaction ≡ false → conn.new.in_transaction ≡ false }
-    ensures read { IsRead (state S.Store conn.old) (state S.Store conn.new) }
-    ensures same { KeepsTables S.Store conn.old conn.new result }
-    ensures opens { StaysUnlessFailed S.Store conn.old conn.new result }
+    ensures asks { Asks S.Store conn.old conn.new result }
     ensures fault { IfErr result IsStoreFault }
     ensures unrefused { NeverRefused S.Store conn.old conn.new result }
     ensures used { OverWorlds S.Store conn.old conn.new (KnowsUsed earlier.now name.now result) }
@@ -69,10 +61,7 @@ fn is_used<S: Alter>(conn: &mut Connection<S>, earlier: &[Job], name: &Name) -> 
 /// Refuses the first job whose name is that of a workunit, an archived row or an earlier job.
 fn check_names<S: Alter>(conn: &mut Connection<S>, jobs: &[Job]) -> Result<(), Fault>
     requires { length jobs.now ≤ most_rows }
-    ensures mode { conn.old.in_transaction ≡ false → conn.new.in_transaction ≡ false }
-    ensures read { IsRead (state S.Store conn.old) (state S.Store conn.new) }
-    ensures same { KeepsTables S.Store conn.old conn.new result }
-    ensures opens { StaysUnlessFailed S.Store conn.old conn.new result }
+    ensures asks { Asks S.Store conn.old conn.new result }
     ensures fault { IfErr result RefusesName }
     ensures unrefused { NeverRefused S.Store conn.old conn.new result }
     ensures free { OverWorlds S.Store conn.old conn.new (FindsFree jobs.now result) }
@@ -182,10 +171,7 @@ fn plan_jobs<'a, S: Alter>(
     jobs: Jobs,
 ) -> Result<Plan<'a>, Fault>
     requires { length jobs ≤ most_rows }
-    ensures mode { conn.old.in_transaction ≡ false → conn.new.in_transaction ≡ false }
-    ensures read { IsRead (state S.Store conn.old) (state S.Store conn.new) }
-    ensures same { KeepsTables S.Store conn.old conn.new result }
-    ensures opens { StaysUnlessFailed S.Store conn.old conn.new result }
+    ensures asks { Asks S.Store conn.old conn.new result }
     ensures never { NeverEnded result }
     ensures unrefused { NotRefusedIn S.Store conn.old conn.new result IsProject }
     ensures plan { OverWorlds S.Store conn.old conn.new (PlansJobs batch.now params jobs result) }
@@ -210,10 +196,7 @@ fn plan_new<'a, S: Alter>(
     alloc: Global,
     batch: &'a Batch,
 ) -> Result<Plan<'a>, Fault>
-    ensures mode { conn.old.in_transaction ≡ false → conn.new.in_transaction ≡ false }
-    ensures read { IsRead (state S.Store conn.old) (state S.Store conn.new) }
-    ensures same { KeepsTables S.Store conn.old conn.new result }
-    ensures opens { StaysUnlessFailed S.Store conn.old conn.new result }
+    ensures asks { Asks S.Store conn.old conn.new result }
     ensures never { NeverEnded result }
     ensures unrefused { NotRefusedIn S.Store conn.old conn.new result IsProject }
     ensures plan { OverWorlds S.Store conn.old conn.new (PlansNew batch.now result) }
@@ -235,10 +218,7 @@ pub fn plan_batch<'a, S: Alter>(
     alloc: Global,
     batch: &'a Batch,
 ) -> Result<Plan<'a>, Fault>
-    ensures mode { conn.old.in_transaction ≡ false → conn.new.in_transaction ≡ false }
-    ensures read { IsRead (state S.Store conn.old) (state S.Store conn.new) }
-    ensures same { KeepsTables S.Store conn.old conn.new result }
-    ensures open { OpenOrFails S.Store conn.old conn.new result }
+    ensures asks { Asks S.Store conn.old conn.new result }
     ensures opens { ServesUnlessFailed S.Store conn.new result }
     ensures never { NeverEnded result }
     ensures unrefused { NotRefusedIn S.Store conn.old conn.new result IsProject }

@@ -1,16 +1,16 @@
 //! Giving a workunit up: what it answers and what it changes, before anything is changed.
 
-ghost use Rattle.std.specs.Prelude.{◌≡◌, false, IfErr, IfOk};
-ghost use Rattle.sqlite.specs.Held.{state};
-ghost use Rattle.wu_passes.specs.Planning.{IsCancelled, IsProject, NeverEnded, OpenOrFails, PlansFor, RefusesCancel};
-ghost use Rattle.wu_passes.specs.Requests.{AskCancel};
-ghost use Rattle.wu_store.specs.Loading.{IsRead, KeepsTables, NotRefusedIn, OverWorlds, ServesUnlessFailed};
+ghost use Rattle.std.specs.Prelude.{◌≡◌, IfErr, IfOk};
+ghost use Rattle.wu_passes.specs.Planning.{IsCancelled, NeverEnded, PlansFor, RefusesCancel};
+ghost use Rattle.wu_machine.specs.Sound.{IsProject};
+ghost use Rattle.wu_machine.specs.Requests.{AskCancel};
+ghost use Rattle.wu_store.specs.Loading.{Asks, NotRefusedIn, OverWorlds, ServesUnlessFailed};
 
-use crate::command::Answer;
 use crate::imports::Plan;
 use sqlite::{Alter, Connection};
 use std::alloc::Global;
 use wu_core::{Fault, Name, Workunit};
+use wu_machine::Answer;
 use wu_rules::cancel;
 use wu_store::{Change, load_named};
 
@@ -36,10 +36,7 @@ pub fn plan_cancel<'a, S: Alter>(
     alloc: Global,
     name: &Name,
 ) -> Result<Plan<'a>, Fault>
-    ensures mode { conn.old.in_transaction ≡ false → conn.new.in_transaction ≡ false }
-    ensures read { IsRead (state S.Store conn.old) (state S.Store conn.new) }
-    ensures same { KeepsTables S.Store conn.old conn.new result }
-    ensures open { OpenOrFails S.Store conn.old conn.new result }
+    ensures asks { Asks S.Store conn.old conn.new result }
     ensures opens { ServesUnlessFailed S.Store conn.new result }
     ensures never { NeverEnded result }
     ensures unrefused { NotRefusedIn S.Store conn.old conn.new result IsProject }

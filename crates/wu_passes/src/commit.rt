@@ -2,7 +2,7 @@
 
 ghost use Rattle.std.specs.Prelude.{◌≡◌, false, IfErr};
 ghost use Rattle.wu_schema.specs.Calls.{Commits, MayMake, Refuses, Undoes};
-ghost use Rattle.wu_schema.specs.Faults.{IsTold};
+ghost use Rattle.wu_schema.specs.Faults.{IsStoreFault};
 ghost use Rattle.wu_store.specs.Changing.{MakesWorlds};
 
 use sqlite::{Alter, Connection, Error, Transaction};
@@ -31,7 +31,7 @@ pub fn change_all<S: Alter>(conn: &mut Connection<S>, changes: &[Change<'_>]) ->
     ensures mode { conn.new.in_transaction ≡ false }
     ensures done { Commits S.Store conn.old conn.new result (MakesWorlds changes.now) }
     ensures refused { Refuses S.Store conn.old conn.new result }
-    ensures told { IfErr result IsTold }
+    ensures told { IfErr result IsStoreFault }
     ensures undone { Undoes S.Store conn.old conn.new result }
     ensures crash { MayMake S.Store conn.old conn.new (MakesWorlds changes.now) }
 {

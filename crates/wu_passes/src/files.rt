@@ -1,21 +1,22 @@
 //! A file of sends or of reports: what its rows leave, what it answers and what it changes, before anything is changed.
 
-ghost use Rattle.std.specs.Prelude.{◌≡◌, ◌≤◌, false, All, IfOk, IfErr};
-ghost use Rattle.sqlite.specs.Held.{state};
+ghost use Rattle.std.specs.Prelude.{◌≡◌, ◌≤◌, All, IfOk, IfErr};
 ghost use Rattle.wu_core.specs.declared.fault.Fault.TheVariants.{Memory};
 ghost use Rattle.wu_core.specs.declared.import.ImportKind.TheVariants as kind;
-ghost use Rattle.wu_passes.specs.Planning.{given_of, IsNewFile, IsProject, LeavesRows, NeverEnded, OpenOrFails, PlansFor, PlansRows};
-ghost use Rattle.wu_passes.specs.Requests.{AskReported, AskSent};
+ghost use Rattle.wu_passes.specs.Planning.{given_of, IsNewFile, LeavesRows, NeverEnded, PlansFor, PlansRows};
+ghost use Rattle.wu_machine.specs.Sound.{IsProject};
+ghost use Rattle.wu_machine.specs.Requests.{AskReported, AskSent};
 ghost use Rattle.wu_passes.specs.Touched.{LeavesRow, TouchesNamed};
-ghost use Rattle.wu_store.specs.Loading.{AreStorable, IsRead, IsStoreFault, KeepsTables, LoadsNamed, NotRefusedIn, OverWorlds, ServesUnlessFailed, StaysUnlessFailed};
+ghost use Rattle.wu_store.specs.Loading.{Asks, IsStoreFault, LoadsNamed, NotRefusedIn, OverWorlds, ServesUnlessFailed};
+ghost use Rattle.wu_core.specs.Storable.{AreStorable};
 
-use crate::command::RowsFile;
 use crate::imports::{Plan, Source, file_source, imported, kept, repeated};
 use crate::touched::{FileRow, Touched};
 use sqlite::{Alter, Connection};
 use std::alloc::Global;
 use wu_core::{Bytes, Fault, ImportKind, Name};
 use wu_feed::{Rows, read_reports, read_sends};
+use wu_machine::RowsFile;
 use wu_store::{Change, import_of, load_named};
 
 /// What the rows of a file left: the workunits that they spoke of, and the number of a verdict for each row.
@@ -32,10 +33,7 @@ fn touch<S: Alter>(
     touched: &mut Touched,
     name: &Name,
 ) -> Result<(), Fault>
-    ensures mode { conn.old.in_transaction ≡ false → conn.new.in_transaction ≡ false }
-    ensures read { IsRead (state S.Store conn.old) (state S.Store conn.new) }
-    ensures same { KeepsTables S.Store conn.old conn.new result }
-    ensures opens { StaysUnlessFailed S.Store conn.old conn.new result }
+    ensures asks { Asks S.Store conn.old conn.new result }
     ensures fault { IfErr result IsStoreFault }
     ensures unrefused { NotRefusedIn S.Store conn.old conn.new result (LoadsNamed name.now) }
     ensures touches { OverWorlds S.Store conn.old conn.new
@@ -58,10 +56,7 @@ fn apply_row<R: FileRow, S: Alter>(
     touched: &mut Touched,
     row: R,
 ) -> Result<u8, Fault>
-    ensures mode { conn.old.in_transaction ≡ false → conn.new.in_transaction ≡ false }
-    ensures read { IsRead (state S.Store conn.old) (state S.Store conn.new) }
-    ensures same { KeepsTables S.Store conn.old conn.new result }
-    ensures opens { StaysUnlessFailed S.Store conn.old conn.new result }
+    ensures asks { Asks S.Store conn.old conn.new result }
     ensures fault { IfErr result IsStoreFault }
     ensures unrefused { NotRefusedIn S.Store conn.old conn.new result AreStorable }
     ensures digit { IfOk result (λ verdict. verdict ≤ 9) }
@@ -80,10 +75,7 @@ fn apply_rows<R: FileRow, S: Alter>(
     alloc: Global,
     rows: Rows<R>,
 ) -> Result<Left, Fault>
-    ensures mode { conn.old.in_transaction ≡ false → conn.new.in_transaction ≡ false }
-    ensures read { IsRead (state S.Store conn.old) (state S.Store conn.new) }
-    ensures same { KeepsTables S.Store conn.old conn.new result }
-    ensures opens { StaysUnlessFailed S.Store conn.old conn.new result }
+    ensures asks { Asks S.Store conn.old conn.new result }
     ensures fault { IfErr result IsStoreFault }
     ensures unrefused { NotRefusedIn S.Store conn.old conn.new result AreStorable }
     ensures digits { IfOk result (λ left. All (λ verdict. verdict ≤ 9) left.verdicts.items) }
@@ -123,10 +115,7 @@ fn plan_rows<'a, R: FileRow, S: Alter>(
     source: &Source<'a>,
     rows: Rows<R>,
 ) -> Result<Plan<'a>, Fault>
-    ensures mode { conn.old.in_transaction ≡ false → conn.new.in_transaction ≡ false }
-    ensures read { IsRead (state S.Store conn.old) (state S.Store conn.new) }
-    ensures same { KeepsTables S.Store conn.old conn.new result }
-    ensures opens { StaysUnlessFailed S.Store conn.old conn.new result }
+    ensures asks { Asks S.Store conn.old conn.new result }
     ensures fault { IfErr result IsStoreFault }
     ensures unrefused { NotRefusedIn S.Store conn.old conn.new result AreStorable }
     ensures plan { OverWorlds S.Store conn.old conn.new
@@ -144,10 +133,7 @@ pub fn plan_sent<'a, S: Alter>(
     alloc: Global,
     file: &'a RowsFile,
 ) -> Result<Plan<'a>, Fault>
-    ensures mode { conn.old.in_transaction ≡ false → conn.new.in_transaction ≡ false }
-    ensures read { IsRead (state S.Store conn.old) (state S.Store conn.new) }
-    ensures same { KeepsTables S.Store conn.old conn.new result }
-    ensures open { OpenOrFails S.Store conn.old conn.new result }
+    ensures asks { Asks S.Store conn.old conn.new result }
     ensures opens { ServesUnlessFailed S.Store conn.new result }
     ensures never { NeverEnded result }
     ensures unrefused { NotRefusedIn S.Store conn.old conn.new result IsProject }
@@ -171,10 +157,7 @@ pub fn plan_reported<'a, S: Alter>(
     alloc: Global,
     file: &'a RowsFile,
 ) -> Result<Plan<'a>, Fault>
-    ensures mode { conn.old.in_transaction ≡ false → conn.new.in_transaction ≡ false }
-    ensures read { IsRead (state S.Store conn.old) (state S.Store conn.new) }
-    ensures same { KeepsTables S.Store conn.old conn.new result }
-    ensures open { OpenOrFails S.Store conn.old conn.new result }
+    ensures asks { Asks S.Store conn.old conn.new result }
     ensures opens { ServesUnlessFailed S.Store conn.new result }
     ensures never { NeverEnded result }
     ensures unrefused { NotRefusedIn S.Store conn.old conn.new result IsProject }

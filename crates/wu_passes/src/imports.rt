@@ -3,11 +3,12 @@
 ghost use Rattle.std.specs.Prelude.{◌≡◌, ◌≤◌, All, Ok, IfOk, IfErr};
 ghost use Rattle.wu_core.specs.declared.fault.Fault.TheVariants.{Memory};
 ghost use Rattle.wu_core.specs.Reads.{Gives};
-ghost use Rattle.wu_passes.specs.Planning.{batch_of, file_of, given_of, IsRepeated, KeepsImport, RefusesRepeat};
+ghost use Rattle.wu_passes.specs.Planning.{given_of, IsRepeated, KeepsImport, RefusesRepeat};
+ghost use Rattle.wu_machine.specs.Commands.{batch_of, file_of};
 
-use crate::command::{Answer, Batch, RowsFile};
 use std::alloc::Global;
 use wu_core::{Bytes, Fault, ImportKind, Name};
+use wu_machine::{Answer, Batch, RowsFile};
 use wu_store::{Change, Import, StoredImport, Verdicts};
 
 /// What a command will answer, and what it changes.

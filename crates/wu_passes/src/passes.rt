@@ -1,24 +1,24 @@
 //! A pass: what it makes of the workunits that it takes, what it answers and what it changes, before anything is changed.
 
-ghost use Rattle.std.specs.Prelude.{◌≡◌, ◌+◌, ◌≤◌, ◌^◌, ◌++◌, [], false, true, length, None, IfErr, IfOk};
-ghost use Rattle.sqlite.specs.Held.{state};
+ghost use Rattle.std.specs.Prelude.{◌≡◌, ◌+◌, ◌≤◌, ◌^◌, ◌++◌, [], true, length, None, IfErr, IfOk};
 ghost use Rattle.wu_core.specs.declared.fault.Fault.TheVariants.{Memory};
 ghost use Rattle.wu_core.specs.Limits.{longest_age};
-ghost use Rattle.wu_passes.specs.Machine.{is_limit_right};
+ghost use Rattle.wu_machine.specs.Machine.{is_limit_right};
 ghost use Rattle.wu_passes.specs.PassPlans.{asked, AddsArchivedRows, AddsGrants, AddsGiven, HandlesAll, HandlesAlso, IsImageOf, PlansTaken};
-ghost use Rattle.wu_passes.specs.Planning.{IsProject, NeverEnded, NeverRefused, OpenOrFails, PlansFor};
-ghost use Rattle.wu_passes.specs.Requests.{AskPass};
+ghost use Rattle.wu_passes.specs.Planning.{NeverEnded, NeverRefused, PlansFor};
+ghost use Rattle.wu_machine.specs.Sound.{IsProject};
+ghost use Rattle.wu_machine.specs.Requests.{AskPass};
 ghost use Rattle.wu_store.specs.Changing.{archived_from, granted_from};
-ghost use Rattle.wu_store.specs.Loading.{IsRead, IsStoreFault, KeepsTables, NotRefusedIn, OverWorlds, ServesUnlessFailed, StaysUnlessFailed};
-ghost use Rattle.wu_store.specs.declared.due.Pass.TheVariants as pass;
+ghost use Rattle.wu_store.specs.Loading.{Asks, IsStoreFault, NotRefusedIn, OverWorlds, ServesUnlessFailed};
+ghost use Rattle.wu_rules.specs.declared.due.Pass.TheVariants as pass;
 
-use crate::command::Answer;
 use crate::imports::Plan;
 use sqlite::{Alter, Connection};
 use std::alloc::Global;
 use wu_core::{Archived, Fault, Grant, LONGEST_AGE, Moment, Workunit};
-use wu_rules::{assimilate, delete_files, transition, validate};
-use wu_store::{Change, Pass, load_due, next_archived_place, next_grant_place};
+use wu_machine::Answer;
+use wu_rules::{Pass, assimilate, delete_files, transition, validate};
+use wu_store::{Change, load_due, next_archived_place, next_grant_place};
 
 /// The most workunits that one pass may be asked to change.
 const HIGHEST_LIMIT: u64 = 1000;
@@ -255,10 +255,7 @@ fn and_grants<S: Alter>(
     changes: &mut Vec<Change<'_>>,
     grants: Vec<Grant>,
 ) -> Result<(), Fault>
-    ensures mode { conn.old.in_transaction ≡ false → conn.new.in_transaction ≡ false }
-    ensures read { IsRead (state S.Store conn.old) (state S.Store conn.new) }
-    ensures same { KeepsTables S.Store conn.old conn.new result }
-    ensures opens { StaysUnlessFailed S.Store conn.old conn.new result }
+    ensures asks { Asks S.Store conn.old conn.new result }
     ensures fault { IfErr result IsStoreFault }
     ensures unrefused { NeverRefused S.Store conn.old conn.new result }
     ensures added { OverWorlds S.Store conn.old conn.new
@@ -279,10 +276,7 @@ fn and_archived<S: Alter>(
     changes: &mut Vec<Change<'_>>,
     archived: Vec<Archived>,
 ) -> Result<(), Fault>
-    ensures mode { conn.old.in_transaction ≡ false → conn.new.in_transaction ≡ false }
-    ensures read { IsRead (state S.Store conn.old) (state S.Store conn.new) }
-    ensures same { KeepsTables S.Store conn.old conn.new result }
-    ensures opens { StaysUnlessFailed S.Store conn.old conn.new result }
+    ensures asks { Asks S.Store conn.old conn.new result }
     ensures fault { IfErr result IsStoreFault }
     ensures unrefused { NeverRefused S.Store conn.old conn.new result }
     ensures added { OverWorlds S.Store conn.old conn.new
@@ -302,10 +296,7 @@ fn changes_of<'a, S: Alter>(
     conn: &mut Connection<S>,
     handled: Handled<'a>,
 ) -> Result<Vec<Change<'a>>, Fault>
-    ensures mode { conn.old.in_transaction ≡ false → conn.new.in_transaction ≡ false }
-    ensures read { IsRead (state S.Store conn.old) (state S.Store conn.new) }
-    ensures same { KeepsTables S.Store conn.old conn.new result }
-    ensures opens { StaysUnlessFailed S.Store conn.old conn.new result }
+    ensures asks { Asks S.Store conn.old conn.new result }
     ensures fault { IfErr result IsStoreFault }
     ensures unrefused { NeverRefused S.Store conn.old conn.new result }
     ensures added { OverWorlds S.Store conn.old conn.new (AddsGiven handled.entry result) }
@@ -333,10 +324,7 @@ fn plan_taken<'a, S: Alter>(
     taken: Vec<Workunit>,
 ) -> Result<Plan<'a>, Fault>
     requires { length taken.items ≤ 1000 }
-    ensures mode { conn.old.in_transaction ≡ false → conn.new.in_transaction ≡ false }
-    ensures read { IsRead (state S.Store conn.old) (state S.Store conn.new) }
-    ensures same { KeepsTables S.Store conn.old conn.new result }
-    ensures opens { StaysUnlessFailed S.Store conn.old conn.new result }
+    ensures asks { Asks S.Store conn.old conn.new result }
     ensures fault { IfErr result IsStoreFault }
     ensures unrefused { NeverRefused S.Store conn.old conn.new result }
     ensures plan { OverWorlds S.Store conn.old conn.new (PlansTaken ask.now taken.items result) }
@@ -364,10 +352,7 @@ pub fn plan_pass<'a, S: Alter>(
 ) -> Result<Plan<'a>, Fault>
     requires right { is_limit_right ask.now.pass ask.now.limit ask.now.min_age ≡ true }
     requires age { ask.now.min_age ≤ longest_age }
-    ensures mode { conn.old.in_transaction ≡ false → conn.new.in_transaction ≡ false }
-    ensures read { IsRead (state S.Store conn.old) (state S.Store conn.new) }
-    ensures same { KeepsTables S.Store conn.old conn.new result }
-    ensures open { OpenOrFails S.Store conn.old conn.new result }
+    ensures asks { Asks S.Store conn.old conn.new result }
     ensures opens { ServesUnlessFailed S.Store conn.new result }
     ensures never { NeverEnded result }
     ensures unrefused { NotRefusedIn S.Store conn.old conn.new result IsProject }

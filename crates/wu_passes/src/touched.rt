@@ -3,7 +3,7 @@
 ghost use Rattle.std.specs.Prelude.{◌≡◌, ◌≢◌, ◌≤◌, [], IfErr, IfOk, IfSome, OnOk, is_some, map};
 ghost use Rattle.std.specs.Option.{option_map_or};
 ghost use Rattle.wu_core.specs.declared.fault.Fault.TheVariants.{Memory};
-ghost use Rattle.wu_passes.specs.FileRows.{KeepsIdentity, left_by, unknown};
+ghost use Rattle.wu_machine.specs.FileRows.{KeepsIdentity, left_by, unknown};
 ghost use Rattle.wu_store.specs.declared.changes.Change.TheVariants.{Replace};
 ghost use Rattle.wu_passes.specs.Touched.{AreDistinct, HasAlso, LeavesBy, touched_named};
 
@@ -21,7 +21,7 @@ const UNKNOWN: u8 = 1;
 /// A row of a file that speaks of an instance of one workunit.
 pub trait FileRow: Drop {
     ghost use Rattle.std.specs.Prelude.{◌≡◌, ◌≢◌, ◌≤◌};
-    ghost use Rattle.wu_passes.specs.FileRows.{KeepsIdentity, Rule};
+    ghost use Rattle.wu_machine.specs.FileRows.{KeepsIdentity, Rule};
 
     /// The verdict on such a row, and what it makes of its workunit.
     ghost rule: { Rule Self };
@@ -40,7 +40,7 @@ pub trait FileRow: Drop {
 }
 
 impl FileRow for SendRow {
-    ghost use Rattle.wu_passes.specs.FileRows.{send_rule};
+    ghost use Rattle.wu_machine.specs.FileRows.{send_rule};
 
     ghost rule = { send_rule };
 
@@ -54,7 +54,7 @@ impl FileRow for SendRow {
 }
 
 impl FileRow for ReportRow {
-    ghost use Rattle.wu_passes.specs.FileRows.{report_rule};
+    ghost use Rattle.wu_machine.specs.FileRows.{report_rule};
 
     ghost rule = { report_rule };
 

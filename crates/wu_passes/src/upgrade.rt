@@ -1,18 +1,18 @@
 //! The version of a project's schema: whether this program knows it, and what bringing it to the present one answers.
 
-ghost use Rattle.std.specs.Prelude.{◌≡◌, ◌≤◌, false, IfErr, OnOk};
-ghost use Rattle.sqlite.specs.Held.{state};
-ghost use Rattle.wu_passes.specs.Machine.{present_version};
-ghost use Rattle.wu_passes.specs.Planning.{IsProject, NeverEnded, OpenOrFails, PlansFor};
-ghost use Rattle.wu_passes.specs.Requests.{AskUpgrade};
+ghost use Rattle.std.specs.Prelude.{◌≡◌, ◌≤◌, IfErr, OnOk};
+ghost use Rattle.wu_machine.specs.Machine.{present_version};
+ghost use Rattle.wu_passes.specs.Planning.{NeverEnded, PlansFor};
+ghost use Rattle.wu_machine.specs.Sound.{IsProject};
+ghost use Rattle.wu_machine.specs.Requests.{AskUpgrade};
 ghost use Rattle.wu_passes.specs.Standing.{TellsLater};
-ghost use Rattle.wu_store.specs.Loading.{IsRead, KeepsTables, NotRefusedIn, OverWorlds, ServesUnlessFailed};
+ghost use Rattle.wu_store.specs.Loading.{Asks, NotRefusedIn, OverWorlds, ServesUnlessFailed};
 
-use crate::command::Answer;
 use crate::imports::Plan;
 use sqlite::{Alter, Connection};
 use std::alloc::Global;
 use wu_core::Fault;
+use wu_machine::Answer;
 use wu_schema::{PRESENT_VERSION, version_of};
 
 /// Whether the project is of a version that this program knows.
@@ -35,10 +35,7 @@ pub fn plan_upgrade<'a, S: Alter>(
     conn: &mut Connection<S>,
     alloc: Global,
 ) -> Result<Plan<'a>, Fault>
-    ensures mode { conn.old.in_transaction ≡ false → conn.new.in_transaction ≡ false }
-    ensures read { IsRead (state S.Store conn.old) (state S.Store conn.new) }
-    ensures same { KeepsTables S.Store conn.old conn.new result }
-    ensures open { OpenOrFails S.Store conn.old conn.new result }
+    ensures asks { Asks S.Store conn.old conn.new result }
     ensures opens { ServesUnlessFailed S.Store conn.new result }
     ensures never { NeverEnded result }
     ensures unrefused { NotRefusedIn S.Store conn.old conn.new result IsProject }

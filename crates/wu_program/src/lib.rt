@@ -1,23 +1,28 @@
 //! What the program does with a process's words, files and outputs: a line or a script of an operator over a project in a
-//! database file, or with no word after its name the demonstration in memory.
+//! database file, or with no word after its name the demonstration in memory. What is decided of them, and what is done
+//! over an open database, has its clauses in `wu_words` and `wu_cli`; here files are opened, and no clause can say what
+//! they or the outputs are.
 #![tactic(auto)]
 
+ghost use Rattle.std.specs.Prelude.{Result};
+ghost use Rattle.wu_cli.specs.Troubles.{EndsWith};
+ghost use Rattle.wu_cli.specs.declared.trouble.Trouble.{Trouble};
+
 mod contents;
-mod trouble;
 mod work;
 
-use sqlite::{Connection, Error, FileStore};
+use sqlite::{Connection, FileStore};
 use sqlite_disk::{Disk, Wary};
 use std::env;
-use std::io::{self, BufWriter, ErrorKind, Write};
-use trouble::Trouble;
-use work::{Work, work_of_line, work_of_script};
-use wu_cli::{Line, Order, ScriptFile, Usage, Word, read_words};
+use std::io::{self, BufWriter, Write};
+use work::{work_of_line, work_of_script};
+use wu_cli::{
+    Line, Order, ScriptFile, Start, Trouble, Work, end_with, read_words, start_of, unopened,
+};
 use wu_core::Fault;
 use wu_drive::demo;
-use wu_schema::fault_of;
 
-/// Does the work over an open database, and closes it.
+/// Does the work over an open database, as `Work::perform_over`, and closes it.
 fn perform_and_close<D: Disk + Drop, O: Write>(
     rt: &HostRuntime,
     conn: Connection<FileStore<D>>,
@@ -29,16 +34,7 @@ fn perform_and_close<D: Disk + Drop, O: Write>(
     done
 }
 
-/// Why a database can't be opened: want of memory, or another cause, which is not told.
-fn unopened(error: &Error) -> Trouble {
-    if fault_of(error) == Fault::Memory {
-        Trouble::Fault(Fault::Memory)
-    } else {
-        Trouble::Unopened
-    }
-}
-
-/// Opens the database, and does the work over it.
+/// Opens the database, and does the work over it. The work has what the files hold, so these are read before.
 fn open_and_perform<O: Write>(
     rt: &HostRuntime,
     database: &str,
@@ -71,31 +67,21 @@ fn run_words<O: Write>(rt: &HostRuntime, words: &[String], out: &mut O) -> Resul
     }
 }
 
-/// Tells of a trouble, and answers the status to end with.
-fn tell<E: Write>(trouble: &Trouble, err: &mut E) -> u8 {
-    let _ = trouble.write(err);
-    trouble.status()
-}
-
 /// Does what the words ask for, of which the first is the program's name, and answers the status to end with. What is
-/// printed goes to the one writer, and the text of a fault to the other.
-pub fn obey<O: Write, E: Write>(
-    rt: &HostRuntime,
-    words: &[String],
-    out: &mut O,
-    err: &mut E,
-) -> u8 {
-    match run_words(rt, words, out) {
-        Ok(()) => 0,
-        Err(trouble) => tell(&trouble, err),
-    }
+/// printed goes to the one writer, and the text of a trouble, with its status, to the other.
+pub fn obey<O: Write, E: Write>(rt: &HostRuntime, words: &[String], out: &mut O, err: &mut E) -> u8
+    ensures { (done : Result (Unit {0}) Trouble)
+        × EndsWith E.contents err.old err.new done result }
+{
+    let done = run_words(rt, words, out);
+    end_with(done, err)
 }
 
 /// Does what the words ask for, with the outputs of the process.
 fn obey_here(rt: &HostRuntime, words: &[String]) -> u8 {
     match BufWriter::new(rt.alloc(), rt.stdout()) {
         Ok(mut out) => obey(rt, words, &mut out, &mut rt.stderr()),
-        Err(_) => tell(&Trouble::Fault(Fault::Memory), &mut rt.stderr()),
+        Err(_) => end_with(Err(Trouble::Fault(Fault::Memory)), &mut rt.stderr()),
     }
 }
 
@@ -107,28 +93,17 @@ fn demonstrate(rt: &HostRuntime) -> u8 {
     }
 }
 
-/// Why the words of the command line could not be had.
-fn trouble_of(rt: &HostRuntime, error: &io::Error) -> Trouble {
-    if error.kind() == ErrorKind::OutOfMemory {
-        return Trouble::Fault(Fault::Memory);
-    }
-    match Word::from_text(rt.alloc(), "the words are no UTF-8 text\n") {
-        Ok(text) => Trouble::Usage(Usage::Refused(text)),
-        Err(_) => Trouble::Fault(Fault::Memory),
-    }
-}
-
 /// The words of the command line.
 fn words(rt: &HostRuntime) -> io::Result<Vec<String>> {
     Ok(env::args(rt)?.collect(rt.alloc())?)
 }
 
 /// Does what the words of the command line ask for, and answers the status to end with. With no word after the program's
-/// name it is the demonstration. The text of a fault goes to standard error.
+/// name it is the demonstration. The text of a trouble goes to standard error.
 pub fn run(rt: &HostRuntime) -> u8 {
-    match words(rt) {
-        Ok(words) if words.len() <= 1 => demonstrate(rt),
-        Ok(words) => obey_here(rt, words.as_slice()),
-        Err(error) => tell(&trouble_of(rt, &error), &mut rt.stderr()),
+    match start_of(rt.alloc(), words(rt)) {
+        Ok(Start::Demonstration) => demonstrate(rt),
+        Ok(Start::Words(words)) => obey_here(rt, words.as_slice()),
+        Err(trouble) => end_with(Err(trouble), &mut rt.stderr()),
     }
 }

@@ -1,6 +1,6 @@
 -- The hex text of bytes is that of each byte, one after another.
-use Rattle.std.proofs.Common.{◌≡◌, ℕ, List, [], ◌∷◌, ◌++◌, flat_map, refl, ap, ◌∙◌}
-use Rattle.hex.specs.Hex.{encode_lower, encode_with, lower_digits}
+use Rattle.std.proofs.Common.{◌≡◌, ℕ, List, [], ◌∷◌, ◌++◌, flat_map, refl, ap}
+use Rattle.hex.specs.Hex.{encode_lower, encode_with}
 
 abbrev pub byte_digits : ℕ → List ℕ
 byte_digits byte = encode_lower (byte ∷ [])

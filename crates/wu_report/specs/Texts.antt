@@ -13,8 +13,8 @@ use Rattle.wu_store.specs.declared.lines.ResultLine.{ResultLine}
 use Rattle.wu_store.specs.declared.lines.Summary.{Summary}
 use Rattle.wu_store.specs.declared.lines.WorkunitLine.{WorkunitLine}
 use Rattle.wu_store.specs.Lines.{archived_lines, host_lines, result_lines, summary_of, workunit_lines}
-use Rattle.wu_report.specs.declared.views.View.{View}
-use Rattle.wu_report.specs.declared.views.View.TheVariants as view
+use Rattle.wu_machine.specs.declared.view.View.{View}
+use Rattle.wu_machine.specs.declared.view.View.TheVariants as view
 
 abbrev pub line_end : List ℕ
 line_end = 10 ∷ []

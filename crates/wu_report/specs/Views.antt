@@ -6,16 +6,17 @@ use Rattle.sqlite_trees.specs.declared.store.Store.{Ghosts}
 use Rattle.wu_core.specs.declared.fault.Fault.{Fault}
 use Rattle.wu_core.specs.declared.fault.Fault.TheVariants.{Ended, NotAProject, Output}
 use Rattle.wu_core.specs.World.{World}
-use Rattle.wu_store.specs.Lines.{AreHostsNamed, IsArchiveStorable}
-use Rattle.wu_store.specs.Loading.{AreStorable, IsStoreFault}
+use Rattle.wu_store.specs.Lines.{AreHostsNamed}
+use Rattle.wu_store.specs.Loading.{IsStoreFault}
+use Rattle.wu_core.specs.Storable.{AreStorable, IsArchiveStorable}
 use Rattle.wu_store.specs.Summaries.{IsCountable}
 use Rattle.wu_passes.specs.Standing.{GoesOn}
 use Rattle.wu_passes.specs.declared.project.Project.{Project}
 use Rattle.wu_passes.specs.declared.project.walk.LineWalk.{LineWalk}
 use Rattle.wu_passes.specs.Projects.{GoesStill, IsOver, IsUnlimited, state_of}
 use Rattle.wu_passes.specs.Walks.{HasLeft, walked}
-use Rattle.wu_report.specs.declared.views.View.{View}
-use Rattle.wu_report.specs.declared.views.View.TheVariants as view
+use Rattle.wu_machine.specs.declared.view.View.{View}
+use Rattle.wu_machine.specs.declared.view.View.TheVariants as view
 use Rattle.wu_report.specs.Texts.{view_text}
 use Rattle.wu_report.specs.Writing.{WritesTo}
 

@@ -5,7 +5,7 @@ ghost use Rattle.wu_core.specs.declared.states.ValidateState.TheVariants.{Invali
 ghost use Rattle.wu_core.specs.World.{empty_world};
 ghost use Rattle.wu_core.specs.Workunit.{fresh};
 ghost use Rattle.wu_rules.specs.Examples.{h1, out, success};
-ghost use Rattle.wu_report.specs.declared.views.View.TheVariants.{Archive, Hosts, Results, Summary, Workunits};
+ghost use Rattle.wu_machine.specs.declared.view.View.TheVariants.{Archive, Hosts, Results, Summary, Workunits};
 ghost use Rattle.wu_report.specs.Examples.{after_a_batch, decided, given_up, holding, job_of, keeping, new_job, three_grants};
 ghost use Rattle.wu_report.specs.Texts.{moment_text, view_text};
 

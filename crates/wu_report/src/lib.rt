@@ -7,4 +7,5 @@ mod output;
 mod views;
 
 pub use output::{Piece, flush, write_pieces};
-pub use views::{View, show};
+pub use views::show;
+pub use wu_machine::View;

@@ -14,22 +14,8 @@ use sqlite::Alter;
 use std::alloc::Global;
 use std::io::Write;
 use wu_core::Fault;
+use wu_machine::View;
 use wu_passes::{Project, Walk};
-
-/// A view of a project.
-#[derive(Clone, Copy, Debug, PartialEq, Eq)]
-pub enum View {
-    /// A line for each workunit, in order of number.
-    Workunits,
-    /// A line for each instance, in order of its workunit's number and of its own.
-    Results,
-    /// A line for each host that was granted credit, in order of the bytes of its name.
-    Hosts,
-    /// A line for each archived workunit, in order of its assimilation.
-    Archive,
-    /// Eleven lines: the version, the next number, and how much there is of what.
-    Summary,
-}
 
 /// Writes the lines that a walk has left.
 fn write_lines<S: Alter, T: Line, W: Write>(
@@ -117,7 +103,7 @@ fn write_archive<S: Alter, W: Write>(
     write_lines(&mut walk, out)
 }
 
-/// Writes the lines of the summary. A failure of the disk ends the session.
+/// Writes the lines of the summary. `Broken` ends the session.
 fn write_counts<S: Alter, W: Write>(project: &mut Project<S>, out: &mut W) -> Result<(), Fault>
     ensures ended { RefusesEnded W.contents project.old project.new out.old out.new result }
     ensures reads { IsRead (state_of project.old) (state_of project.new) }
@@ -157,7 +143,7 @@ fn write_view<S: Alter, W: Write>(
     }
 }
 
-/// Writes the lines of a view, and flushes once. It changes no table; a failure of the disk ends the session.
+/// Writes the lines of a view, and flushes once. It changes no table; `Broken` ends the session.
 ///
 /// With a fault, what was written is a beginning of the text.
 pub fn show<S: Alter, W: Write>(

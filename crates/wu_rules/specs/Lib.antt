@@ -1,6 +1,8 @@
 pub mod Assimilation
 pub mod Cancelling
+pub mod Consistent
 pub mod Counts
+pub mod Due
 pub mod Examples
 pub mod Instances
 pub mod Reporting

@@ -21,7 +21,7 @@ use Rattle.wu_rules.specs.Reporting.{reported_as}
 use Rattle.wu_rules.specs.Sending.{due_at}
 use Rattle.wu_rules.specs.Validation.{doubted, doubted_or_closed, judged_by, judged_late_by, verdict}
 use Rattle.wu_rules.proofs.Timing.{and_left as overdue_left, not_over}
-use Rattle.wu_rules_laws.specs.Consistent.{IsPossible, host_at, is_valid_at, is_valid_verdict}
+use Rattle.wu_rules.specs.Consistent.{IsPossible, host_at, is_valid_at, is_valid_verdict}
 use Rattle.wu_rules_laws.proofs.Changed.{or_false, placed}
 use Rattle.wu_rules_laws.proofs.Spent.{and_left, and_right}
 

@@ -52,10 +52,10 @@ validated_keeps w n chosen = by (is_to_validate w)
 
 -- ---- the transitioner
 
-settled_keeps : (w : Workunit) → (settled w).canonical ≡ w.canonical
+pub settled_keeps : (w : Workunit) → (settled w).canonical ≡ w.canonical
 settled_keeps w = either (is_clear w.error_mask) w (ended w) w.canonical refl refl
 
-readied_keeps : (w : Workunit) → (readied w).canonical ≡ w.canonical
+pub readied_keeps : (w : Workunit) → (readied w).canonical ≡ w.canonical
 readied_keeps w = either (is_done_assimilate w.assimilate) (with_files_readied w) w w.canonical refl refl
 
 transitioned_keeps : (w : Workunit) (now : ℕ) → (transitioned w now).canonical ≡ w.canonical

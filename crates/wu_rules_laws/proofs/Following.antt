@@ -24,7 +24,7 @@ use Rattle.wu_rules.specs.Transition.{added, ended, extended, is_all_over, is_fi
 use Rattle.wu_rules.specs.Validation.{doubted, doubted_or_closed, left_open, raised_target}
 use Rattle.wu_rules.proofs.Lists.{any-map}
 use Rattle.wu_rules.proofs.Timing.{not_unsent, same_timed}
-use Rattle.wu_rules_laws.specs.Consistent.{IsPossible, KeepsVerdicts, host_at, is_done, is_valid_at, is_valid_verdict}
+use Rattle.wu_rules.specs.Consistent.{IsPossible, KeepsVerdicts, host_at, is_done, is_valid_at, is_valid_verdict}
 use Rattle.wu_rules_laws.proofs.Becoming.{AllBecome, all_become, all_become-more, all_become-placed, all_possible, all_stay, becomes_closed, becomes_doubted, becomes_doubted_or_closed, becomes_given_up, becomes_readied, becomes_timed_out, becomes_without_output, final_at, none_made, readied_right, same_host, valid_at, verdict_at}
 use Rattle.wu_rules_laws.proofs.Changed.{and_false, any-placed, any_false-map, cond_keeps, or_from, or_left, or_right}
 use Rattle.wu_rules_laws.proofs.Hosted.{Apart, StayHosted, all_set, apart_same, at_other, at_set, stay_apart, stay_hosted}

@@ -14,7 +14,7 @@ use Rattle.wu_core.specs.declared.states.ServerState.{ServerState}
 use Rattle.wu_core.specs.declared.states.ServerState.TheVariants as server
 use Rattle.wu_rules.specs.Instances.{is_open_verdict, is_over_state, is_success, is_success_outcome, is_viable}
 use Rattle.wu_rules.specs.Validation.{grant_of, granted_to, grants_by, is_judged}
-use Rattle.wu_rules_laws.specs.Consistent.{GrantsToTheNew, IsGrantFor, is_valid_at, is_valid_verdict, one_if}
+use Rattle.wu_rules.specs.Consistent.{GrantsToTheNew, IsGrantFor, is_valid_at, is_valid_verdict, one_if}
 use Rattle.wu_rules_laws.specs.Laws.{IsRightGrantIn}
 use Rattle.wu_rules_laws.proofs.Becoming.{AllBecome, open_not_valid, same_host, valid_at}
 use Rattle.wu_rules_laws.proofs.Granting.{granted_number, names}

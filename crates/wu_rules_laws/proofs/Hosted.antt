@@ -13,7 +13,7 @@ use Rattle.wu_core.specs.declared.workunit.Workunit.{Workunit}
 use Rattle.wu_rules.specs.Counts.{agreeing, viable}
 use Rattle.wu_rules.specs.Instances.{is_open_verdict, is_success, is_viable}
 use Rattle.wu_rules.specs.Sending.{is_of}
-use Rattle.wu_rules_laws.specs.Consistent.{HostsApart, host_at}
+use Rattle.wu_rules.specs.Consistent.{HostsApart, host_at}
 use Rattle.wu_rules_laws.specs.Laws.{HaveDifferentHosts}
 use Rattle.wu_rules_laws.proofs.Granted.{success_host}
 use Rattle.wu_rules_laws.proofs.Spent.{and_left}

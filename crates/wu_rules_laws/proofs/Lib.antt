@@ -1,18 +1,25 @@
 pub mod Awake
 mod Becoming
 mod Changed
+pub mod Cancels
 mod Choosing
 mod Deciding
+mod Ending
 mod Following
 mod Granted
+mod GivingUp
 mod Granting
 mod Hosted
 pub mod Judged
 mod Kept
+pub mod Making
+mod Naming
 mod Planned
 mod Progress
 pub mod Rewriting
 mod Settled
 pub mod Spent
+pub mod Told
+mod Unagreed
 mod Unsent
 pub mod Verdicts

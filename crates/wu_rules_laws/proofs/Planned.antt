@@ -69,17 +69,17 @@ total_planned-readied w =
 abbrev pub grown : Workunit → ℕ → Workunit
 grown w n = record w { instances = w.instances ++ replicate n fresh }
 
-count-grown-none : (p : Instance → Bool) → p fresh ≡ false → (w : Workunit) (n : ℕ) → length (filter p (w.instances ++ replicate n fresh)) ≡ length (filter p w.instances)
+pub count-grown-none : (p : Instance → Bool) → p fresh ≡ false → (w : Workunit) (n : ℕ) → length (filter p (w.instances ++ replicate n fresh)) ≡ length (filter p w.instances)
 count-grown-none p e w n =
     let r = count-replicate-none p fresh e n in
     ap length (filter-append p w.instances (replicate n fresh)) ∙ (length-append (filter p w.instances) (filter p (replicate n fresh)) ∙ omega arith)
 
-count-grown-all : (p : Instance → Bool) → p fresh ≡ true → (w : Workunit) (n : ℕ) → length (filter p (w.instances ++ replicate n fresh)) ≡ length (filter p w.instances) + n
+pub count-grown-all : (p : Instance → Bool) → p fresh ≡ true → (w : Workunit) (n : ℕ) → length (filter p (w.instances ++ replicate n fresh)) ≡ length (filter p w.instances) + n
 count-grown-all p e w n =
     let r = count-replicate-all p fresh e n in
     ap length (filter-append p w.instances (replicate n fresh)) ∙ (length-append (filter p w.instances) (filter p (replicate n fresh)) ∙ omega arith)
 
-length-grown : (w : Workunit) (n : ℕ) → length (w.instances ++ replicate n fresh) ≡ length w.instances + n
+pub length-grown : (w : Workunit) (n : ℕ) → length (w.instances ++ replicate n fresh) ≡ length w.instances + n
 length-grown w n = length-append w.instances (replicate n fresh) ∙ ap (λ k. length w.instances + k) (length-replicate n fresh)
 
 pub errors_planned-grown : (w : Workunit) (n : ℕ) → has_too_many_errors (grown w n) ≡ has_too_many_errors w
@@ -114,7 +114,7 @@ total_planned-grown w (suc n) h =
 
 -- ---- the new bits
 
-no_bit : (b : Bool) → bit_value b ≡ 0 → b ≡ false
+pub no_bit : (b : Bool) → bit_value b ≡ 0 → b ≡ false
 no_bit true e = absurd (omega arith)
 no_bit false e = refl
 

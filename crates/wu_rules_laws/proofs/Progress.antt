@@ -16,7 +16,7 @@ use Rattle.wu_rules_laws.proofs.Deciding.{decides}
 use Rattle.wu_rules_laws.proofs.Judged.{judges-all, none_new_left}
 
 -- where none passes a test, the one at a place does not
-fails_at : {A : Type 0} (p : A → Bool) (xs : List A) (n : ℕ) (x : A) → list_any p xs ≡ false → slice_get xs n ≡ Some x → p x ≡ false
+pub fails_at : {A : Type 0} (p : A → Bool) (xs : List A) (n : ℕ) (x : A) → list_any p xs ≡ false → slice_get xs n ≡ Some x → p x ≡ false
 fails_at p [] n x none e = cc
 fails_at p (y ∷ ys) zero x none e = let first : p y ≡ false = or_left (p y) (list_any p ys) none in cc
 fails_at p (y ∷ ys) (suc n) x none e = fails_at p ys n x (or_right (p y) (list_any p ys) none) e

@@ -29,7 +29,8 @@ use Rattle.wu_rules.specs.Transition.{transitioned}
 use Rattle.wu_rules.specs.Validation.{agreed_on, decided, granted_by, grants, grants_by, grants_decided, is_deleted_at, is_judged, is_to_validate, judged_by, judged_late_by, left_open, output_at, validated, validated_by, verdict}
 use Rattle.wu_rules.specs.declared.verdicts.ReportVerdict.TheVariants as report
 use Rattle.wu_rules.specs.declared.verdicts.SendVerdict.TheVariants as send
-use Rattle.wu_rules_laws.specs.Consistent.{ArchivesTheNew, GrantsToTheNew, IsConsistent, IsPossible, IsRowOf, Rewrites, RulesRewrite, host_at, is_done, is_valid_at, is_valid_verdict, one_if}
+use Rattle.wu_rules_laws.specs.Consistent.{RulesRewrite}
+use Rattle.wu_rules.specs.Consistent.{ArchivesTheNew, GrantsToTheNew, IsConsistent, IsPossible, IsRowOf, Rewrites, host_at, is_done, is_valid_at, is_valid_verdict, one_if}
 use Rattle.wu_rules_laws.specs.Laws.{IsChosen, IsRightGrantIn}
 use Rattle.wu_rules_laws.proofs.Becoming.{AllBecome, Becomes, all_become, all_become-set, all_possible, becomes_judged_by, becomes_judged_late_by, becomes_reported, becomes_too_late, final_at, init_not_valid, is_valid, new_is_viable, none_made, possible_sent, same_host, unsent_no_success, valid_at}
 use Rattle.wu_rules_laws.proofs.Changed.{and_false, any_false-map}
@@ -240,7 +241,7 @@ was_unsent w host i e = by_case (is_unsent i) e
     by_case false f = cc
 
 -- and the host had none of the instances
-had_none : (w : Workunit) (host : List ℕ) (i : Instance) → send_verdict_of w host i ≡ send.Applied → list_any (is_of host) w.instances ≡ false
+pub had_none : (w : Workunit) (host : List ℕ) (i : Instance) → send_verdict_of w host i ≡ send.Applied → list_any (is_of host) w.instances ≡ false
 had_none w host i e = by_case (is_unsent i) (list_any (is_of host) w.instances) e
   where
     by_case : (b c : Bool) → cond (not b) send.NotUnsent (cond c send.SameHost send.Applied) ≡ send.Applied → c ≡ false

@@ -8,7 +8,7 @@ use Rattle.wu_rules.specs.Counts.{is_clear, is_undecided}
 use Rattle.wu_rules.specs.Instances.{is_unsent}
 use Rattle.wu_rules.specs.Sending.{send_verdict_in, send_verdict_of}
 use Rattle.wu_rules.specs.declared.verdicts.SendVerdict.TheVariants as send
-use Rattle.wu_rules_laws.specs.Consistent.{IsConsistent}
+use Rattle.wu_rules.specs.Consistent.{IsConsistent}
 use Rattle.wu_rules_laws.proofs.Rewriting.{was_unsent}
 use Rattle.wu_rules_laws.proofs.Changed.{or_left, or_right}
 

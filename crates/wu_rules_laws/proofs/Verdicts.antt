@@ -13,7 +13,8 @@ use Rattle.wu_rules.specs.Reporting.{report_verdict_in, report_verdict_of, repor
 use Rattle.wu_rules.specs.Sending.{sent_in, sent_to}
 use Rattle.wu_rules.specs.Transition.{transitioned}
 use Rattle.wu_rules.specs.declared.verdicts.ReportVerdict.TheVariants as report
-use Rattle.wu_rules_laws.specs.Consistent.{IsConsistent, IsPossible, KeepsVerdicts, RulesKeepVerdicts}
+use Rattle.wu_rules_laws.specs.Consistent.{RulesKeepVerdicts}
+use Rattle.wu_rules.specs.Consistent.{IsConsistent, IsPossible, KeepsVerdicts}
 use Rattle.wu_rules_laws.proofs.Becoming.{all_become-set, becomes_reported, final_at, none_made, verdict_at}
 use Rattle.wu_rules_laws.proofs.Following.{Follows, follows_cancelled, quietly_emptied, quietly_transitioned, verdicts_kept}
 use Rattle.wu_rules_laws.proofs.Hosted.{at_set}

@@ -1,130 +1,18 @@
--- When the states and verdicts of a workunit agree, and what a rule makes of one: its image, its grants and its archived
--- rows, so that they go on agreeing.
-use Rattle.std.specs.Prelude.{◌≡◌, ◌≢◌, ℕ, ◌==◌, Bool, true, false, not, ◌&&◌, if◌then◌else◌, List, [], filter, length, All, IfSome, is_none, slice_get, option_map, option_to_list, Option, Some, None}
-use Rattle.std.specs.List.{list_any}
-use Rattle.std.specs.Option.{option_map_or}
-use Rattle.wu_core.specs.declared.workunit.Archived.{Archived}
-use Rattle.wu_core.specs.declared.workunit.Grant.{Grant}
-use Rattle.wu_core.specs.declared.workunit.Instance.{Instance}
+-- Each rule keeps a workunit consistent, and no final verdict changes.
+use Rattle.std.specs.Prelude.{◌≡◌, ℕ, true, List, [], option_to_list}
 use Rattle.wu_core.specs.declared.workunit.Workunit.{Workunit}
-use Rattle.wu_core.specs.declared.states.Assimilate.TheVariants as assimilate
-use Rattle.wu_core.specs.declared.states.FileDelete.TheVariants as file_delete
-use Rattle.wu_core.specs.declared.states.Outcome.TheVariants as outcome
-use Rattle.wu_core.specs.declared.states.ServerState.TheVariants as server
 use Rattle.wu_core.specs.declared.states.Status.{Status}
-use Rattle.wu_core.specs.declared.states.ValidateState.{ValidateState}
-use Rattle.wu_core.specs.declared.states.ValidateState.TheVariants as validate
 use Rattle.wu_core.specs.Formed.{IsWorkunit}
 use Rattle.wu_rules.specs.declared.verdicts.ReportVerdict.TheVariants as report
 use Rattle.wu_rules.specs.declared.verdicts.SendVerdict.TheVariants as send
 use Rattle.wu_rules.specs.Assimilation.{assimilated, archived, emptied}
 use Rattle.wu_rules.specs.Cancelling.{cancelled}
-use Rattle.wu_rules.specs.Counts.{is_clear, is_undecided}
-use Rattle.wu_rules.specs.Instances.{is_done_assimilate, is_open_verdict, is_success, is_unsent}
+use Rattle.wu_rules.specs.Counts.{is_undecided}
 use Rattle.wu_rules.specs.Reporting.{report_verdict_in, reported_in}
 use Rattle.wu_rules.specs.Sending.{send_verdict_in, sent_in}
 use Rattle.wu_rules.specs.Transition.{transitioned}
 use Rattle.wu_rules.specs.Validation.{validated, grants}
-
--- no state stands that this project never sets, and only a success has a verdict
-pub record IsPossible (i : Instance) : Type 0 where
-  pub active : i.server_state ≢ server.Inactive
-  pub sendable : i.outcome ≢ outcome.CouldntSend
-  pub checked : i.outcome ≢ outcome.ValidateError
-  pub deletable : i.file_delete ≢ file_delete.Error
-  pub judged : is_success i ≡ false → i.validate_state ≡ validate.Init
-
--- A workunit is undecided, given up or decided, and not two of them.
-pub record IsConsistent (w : Workunit) : Type 0 where
-  pub instances : All IsPossible w.instances
-  pub deletable : w.file_delete ≢ file_delete.Error
-  pub sendable : w.error_mask.couldnt_send_result ≡ false
-  pub decidable : w.error_mask.no_canonical_result ≡ false
-  pub given_up_or_decided : is_clear w.error_mask ≡ false → is_none w.canonical ≡ true
-  pub nothing_unsent : (is_clear w.error_mask && is_none w.canonical) ≡ false
-      → list_any is_unsent w.instances ≡ false
-  pub undecided : (is_clear w.error_mask && is_none w.canonical) ≡ true → w.assimilate ≡ assimilate.Init
-  pub canonical : IfSome w.canonical (λ n. IfSome (slice_get w.instances n)
-      (λ i. (is_success i ≡ true) × (i.validate_state ≡ validate.Valid)))
-
-abbrev pub is_valid_verdict : ValidateState → Bool
-is_valid_verdict validate.Valid = true
-is_valid_verdict _ = false
-
--- the instance of this number is there, and VALID
-abbrev pub is_valid_at : List Instance → ℕ → Bool
-is_valid_at instances n = option_map_or (λ i. is_valid_verdict i.validate_state) (slice_get instances n) false
-
--- the host of the instance of this number, if there is one
-abbrev pub host_at : List Instance → ℕ → Option (List ℕ)
-host_at instances n = option_map_or (λ i. i.host) (slice_get instances n) None
-
-abbrev pub is_done : Workunit → Bool
-is_done w = is_done_assimilate w.assimilate
-
--- one where it is so, and else none
-abbrev pub one_if : Bool → ℕ
-one_if b = if b then 1 else 0
-
--- a grant is for the host of its instance, with its workunit's credit
-pub record IsGrantFor (w : Workunit) (grant : Grant) : Type 0 where
-  pub host : host_at w.instances grant.n ≡ Some grant.host
-  pub credit : grant.credit ≡ w.params.credit
-
--- an instance has one grant exactly where it is made VALID
-pub record GrantsToTheNew (old new : Workunit) (grants : List Grant) : Type 0 where
-  pub workunit : All (λ grant. grant.workunit ≡ old.number) grants
-  pub each : (n : ℕ) → length (filter (λ grant. grant.n == n) grants)
-      ≡ one_if (is_valid_at new.instances n && not (is_valid_at old.instances n))
-  pub own : All (IsGrantFor new) grants
-
--- an archived row has the canonical number, the error mask and the moment of its workunit
-abbrev pub IsRowOf : Workunit → Archived → Type 0
-IsRowOf w row = (row.canonical ≡ w.canonical) × (row.error_mask ≡ w.error_mask) × (w.done_at ≡ Some row.done_at)
-
--- a workunit has one archived row exactly where it is made DONE, of its number and its name, as it is then
-pub record ArchivesTheNew (old new : Workunit) (archived : List Archived) : Type 0 where
-  pub once : length archived ≡ one_if (is_done new && not (is_done old))
-  pub own : All (λ row. (row.number ≡ old.number) × (row.name ≡ old.name) × IsRowOf new row) archived
-
--- the final verdicts of the old instances are those of the new ones at their places
-abbrev pub KeepsVerdicts : Workunit → Workunit → Type 0
-KeepsVerdicts old new =
-    (n : ℕ) (i : Instance) → slice_get old.instances n ≡ Some i → is_open_verdict i.validate_state ≡ false
-    → option_map (λ j. j.validate_state) (slice_get new.instances n) ≡ Some i.validate_state
-
--- a host has at most one instance of the workunit
-abbrev pub HostsApart : Workunit → Type 0
-HostsApart w =
-    (m n : ℕ) (host : List ℕ) → host_at w.instances m ≡ Some host → host_at w.instances n ≡ Some host
-    → m ≡ n
-
--- an instance that was sent stays with its host
-abbrev pub KeepsHosts : Workunit → Workunit → Type 0
-KeepsHosts old new =
-    (n : ℕ) (host : List ℕ) → host_at old.instances n ≡ Some host
-    → host_at new.instances n ≡ Some host
-
--- What a rule makes of a consistent workunit, with what it grants and archives. What was decided stays: who is VALID,
--- with its host, each final verdict, the canonical result, that it was given up, and that it is DONE, with its mask and
--- its moment. What was sent stays with its host, and a host that has an instance gets no second one.
-pub record Rewrites (old new : Workunit) (grants : List Grant) (archived : List Archived) : Type 0 where
-  pub number : new.number ≡ old.number
-  pub name : new.name ≡ old.name
-  pub credit : new.params.credit ≡ old.params.credit
-  pub formed : IsWorkunit new
-  pub consistent : IsConsistent new
-  pub valid : (n : ℕ) → is_valid_at old.instances n ≡ true
-      → (is_valid_at new.instances n ≡ true) × (host_at new.instances n ≡ host_at old.instances n)
-  pub canonical : (n : ℕ) → old.canonical ≡ Some n → new.canonical ≡ Some n
-  pub verdicts : KeepsVerdicts old new
-  pub hosts : KeepsHosts old new
-  pub apart : HostsApart old → HostsApart new
-  pub given_up : is_clear old.error_mask ≡ false → is_clear new.error_mask ≡ false
-  pub done : is_done old ≡ true → is_done new ≡ true
-  pub stays : is_done old ≡ true → (new.error_mask ≡ old.error_mask) × (new.done_at ≡ old.done_at)
-  pub granted : GrantsToTheNew old new grants
-  pub archives : ArchivesTheNew old new archived
+use Rattle.wu_rules.specs.Consistent.{IsConsistent, KeepsVerdicts, Rewrites}
 
 -- each rule rewrites, a cancel where the workunit is undecided, a send and a report where they are applied
 pub record RulesRewrite (w : Workunit) : Type 0 where

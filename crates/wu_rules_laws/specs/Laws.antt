@@ -1,16 +1,17 @@
 -- What the rules mean, in the words of the field.
-use Rattle.std.specs.Prelude.{◌≡◌, ◌≢◌, ◌↔◌, ℕ, ◌+◌, ◌/◌, ◌<◌, ◌≤◌, length, true, false, if◌then◌else◌, [], List, map, Option, Some, None, option_map, slice_get, is_some, IsSomeAnd, IfSome, bytes_eq}
+use Rattle.std.specs.Prelude.{◌≡◌, ◌≢◌, ◌↔◌, ◌⊎◌, ℕ, ◌+◌, ◌/◌, ◌<◌, ◌≤◌, length, true, false, if◌then◌else◌, [], List, map, Option, Some, None, option_map, slice_get, is_some, IsSomeAnd, IfSome, bytes_eq}
 use Rattle.std.specs.List.{enumerate_from, All, AllPairs}
 use Rattle.wu_core.specs.declared.workunit.Workunit.{Workunit}
 use Rattle.wu_core.specs.Formed.{IsWorkunit}
 use Rattle.wu_core.specs.declared.workunit.Grant.{Grant}
 use Rattle.wu_core.specs.declared.workunit.Instance.{Instance}
+use Rattle.wu_core.specs.declared.states.Outcome.TheVariants as outcome
 use Rattle.wu_core.specs.declared.states.ServerState.TheVariants as server
 use Rattle.wu_core.specs.declared.states.Status.{Status}
 use Rattle.wu_core.specs.declared.states.ValidateState.{ValidateState}
 use Rattle.wu_core.specs.declared.states.ValidateState.TheVariants as validate
 use Rattle.wu_rules.specs.declared.verdicts.ReportVerdict.TheVariants as report
-use Rattle.wu_rules.specs.Instances.{is_new, is_viable, is_open_verdict, is_ready_assimilate, is_ready_file}
+use Rattle.wu_rules.specs.Instances.{is_new, is_unsent, is_viable, is_open_verdict, is_ready_assimilate, is_ready_file}
 use Rattle.wu_rules.specs.Assimilation.{assimilated, archived, emptied, is_to_delete, is_purgeable}
 use Rattle.wu_rules.specs.Cancelling.{cancelled}
 use Rattle.wu_rules.specs.Counts.{viable, agreeing, is_agreed, is_clear, is_undecided, has_new_success, consensus}
@@ -19,7 +20,7 @@ use Rattle.wu_rules.specs.Sending.{sent_in}
 use Rattle.wu_rules.specs.Transition.{transitioned}
 use Rattle.wu_rules.specs.Validation.{grants, is_deleted_at, is_to_validate, output_at, validated, verdict}
 use Rattle.wu_rules.specs.Waking.{wake}
-use Rattle.wu_rules_laws.specs.Consistent.{HostsApart}
+use Rattle.wu_rules.specs.Consistent.{HostsApart}
 
 -- a second transition at the same moment changes nothing
 abbrev pub TransitionsOnce : Type 0
@@ -201,3 +202,41 @@ pub record KeepsFormed (w : Workunit) : Type 0 where
 
 abbrev pub KeepsWorkunitsFormed : Type 0
 KeepsWorkunitsFormed = (w : Workunit) → IsWorkunit w → KeepsFormed w
+
+-- a cancelled workunit has that bit of its mask, none of its instances waits to be sent, and all else stays
+pub record IsCancelled (w new : Workunit) : Type 0 where
+  pub given_up : new.error_mask ≡ record w.error_mask { cancelled = true }
+  pub closed : (n : ℕ) (i : Instance) → slice_get w.instances n ≡ Some i → is_unsent i ≡ true
+      → slice_get new.instances n ≡ Some (record i { server_state = server.Over; outcome = outcome.DidntNeed })
+  pub others : (n : ℕ) (i : Instance) → slice_get w.instances n ≡ Some i → is_unsent i ≡ false
+      → slice_get new.instances n ≡ Some i
+  pub none_more : length new.instances ≡ length w.instances
+  pub rest : new ≡ record w { error_mask = new.error_mask; instances = new.instances }
+
+abbrev pub CancelsWhatIsUnsent : Type 0
+CancelsWhatIsUnsent = (w : Workunit) → IsCancelled w (cancelled w)
+
+-- the validator looks, nothing is chosen yet, and there is no consensus
+pub record IsUnagreed (w : Workunit) : Type 0 where
+  pub looked_at : is_to_validate w ≡ true
+  pub undecided : w.canonical ≡ None
+  pub no_consensus : consensus w ≡ None
+
+-- Without a consensus a workunit with more viable successes than it bears is given up; of another one a target that they
+-- have reached is raised to one more than they are. No other parameter changes, and no other bit; neither where there is
+-- a canonical result then.
+pub record AsksForMore (w : Workunit) : Type 0 where
+  pub given_up : IsUnagreed w
+      → ((validated w).error_mask.too_many_success_results ≡ true) ↔ (w.params.max_success_results < length (viable w))
+  pub raised : IsUnagreed w → length (viable w) ≤ w.params.max_success_results → w.params.target_nresults ≤ length (viable w)
+      → (validated w).params.target_nresults ≡ length (viable w) + 1
+  pub not_raised : IsUnagreed w → (w.params.max_success_results < length (viable w)) ⊎ (length (viable w) < w.params.target_nresults)
+      → (validated w).params.target_nresults ≡ w.params.target_nresults
+  pub other_params : (validated w).params ≡ record w.params { target_nresults = (validated w).params.target_nresults }
+  pub other_bits : (validated w).error_mask
+      ≡ record w.error_mask { too_many_success_results = (validated w).error_mask.too_many_success_results }
+  pub decided : (n : ℕ) → (validated w).canonical ≡ Some n
+      → ((validated w).params ≡ w.params) × ((validated w).error_mask ≡ w.error_mask)
+
+abbrev pub AsksForMoreOrGivesUp : Type 0
+AsksForMoreOrGivesUp = (w : Workunit) → AsksForMore w

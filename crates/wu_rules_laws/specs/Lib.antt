@@ -1,2 +1,4 @@
 pub mod Laws
 pub mod Consistent
+pub mod Transitions
+pub mod Rows

@@ -1,7 +1,7 @@
 //! Laws of the rules: each function's contract is one, for every workunit and every moment.
 
 ghost use Rattle.wu_core.specs.declared.workunit.Workunit.{Workunit};
-ghost use Rattle.wu_rules_laws.specs.Laws.{TransitionsOnce, TimesOutWhatIsLate, WakesInTime, LooksWhereItChanges, KeepsFinalVerdicts, AssimilatesWhatIsReady, ArchivesWhatWasRead, DeletesWhereItChanges, HoldsNothingReady, PurgesWhatIsThrough, StaysPurgeable, ChoosesByAgreement, ChoosesOnlyByQuorum, ChoosesWithoutHosts, AgreeFromDifferentHosts, DecidesByConsensus, DecidesWithItsQuorum, JudgesWhatComesLate, GrantsToTheValid, GrantsOnce, KeepsWorkunitsFormed};
+ghost use Rattle.wu_rules_laws.specs.Laws.{TransitionsOnce, TimesOutWhatIsLate, WakesInTime, LooksWhereItChanges, KeepsFinalVerdicts, AssimilatesWhatIsReady, ArchivesWhatWasRead, DeletesWhereItChanges, HoldsNothingReady, PurgesWhatIsThrough, StaysPurgeable, ChoosesByAgreement, ChoosesOnlyByQuorum, ChoosesWithoutHosts, AgreeFromDifferentHosts, DecidesByConsensus, DecidesWithItsQuorum, JudgesWhatComesLate, GrantsToTheValid, GrantsOnce, KeepsWorkunitsFormed, CancelsWhatIsUnsent, AsksForMoreOrGivesUp};
 
 /// A second transition at the same moment changes nothing.
 pub fn transitions_once()
@@ -111,4 +111,15 @@ pub fn grants_once()
 /// Each rule makes a well-formed workunit of a well-formed one.
 pub fn keeps_workunits_formed()
     ensures { KeepsWorkunitsFormed }
+{}
+
+/// A cancel sets its bit of the mask and closes the instances that wait to be sent, and changes nothing else.
+pub fn cancels_what_is_unsent()
+    ensures { CancelsWhatIsUnsent }
+{}
+
+/// Without a consensus the target is raised to one more than the successes that reached it, and more of them than are borne
+/// give the workunit up; nothing else of the parameters and of the mask changes.
+pub fn asks_for_more_or_gives_up()
+    ensures { AsksForMoreOrGivesUp }
 {}

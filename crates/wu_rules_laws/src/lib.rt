@@ -4,3 +4,5 @@
 pub mod consistent;
 pub mod examples;
 pub mod laws;
+pub mod rows;
+pub mod transitions;

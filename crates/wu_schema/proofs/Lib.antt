@@ -26,3 +26,4 @@ pub mod VersionLemmas
 pub mod StandsOver
 pub mod IndexEffect
 pub mod OneLemmas
+pub mod AskingLemmas

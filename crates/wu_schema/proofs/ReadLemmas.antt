@@ -1,16 +1,9 @@
 -- What a SELECT does to a connection, whatever the schema.
 use Rattle.wu_schema.proofs.Words.{Bool, Checked, Command, CommitsShowing, CompileError, Compiled, Err, Error, FailsToQuery, FailsToShow, Ghosts, HasCleanDisk, Held, IfErr, IfOk, IsBack, IsSome, IsUnchanged, List, Name, NoSuchTable, None, Ok, OnOk, Parsed, QueriesRow, Reads, Result, Row, Schema, Select, Shown, State, Survives, Vec, [], and_then, ap, cases_Bool, compiled, false, first, if_select, if◌then◌else◌, inl, inr, is_select, meaning, planned, reads_listing, returning, state, subst, sym, true, understood, with_command, ℕ, ◌≡◌}
-use Rattle.sqlite_ast.specs.declared.Statement.TheVariants as written
+pub use Rattle.wu_schema.specs.Asking.{IsSelect}
 use Rattle.sqlite.specs.Clock.{timed}
 use Rattle.sqlite.specs.State.{ShowsRows}
 use Rattle.wu_schema.proofs.CallLemmas.{back_not_run, back_unchanged, err_on}
-
--- the text is a SELECT
-pub record IsSelect (text : List ℕ) : Type 0 where
-  pub parsed : Parsed
-  pub select : Select
-  pub read : first text ≡ Ok parsed
-  pub is : parsed.statement ≡ written.Select select
 
 same_ok : {X E : Type 0} {a b : X} → ◌≡◌ {A = Result X E} (Ok a) (Ok b) → a ≡ b
 same_ok e = cc

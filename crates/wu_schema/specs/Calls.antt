@@ -63,9 +63,6 @@ OnFault g old new result Is = HasCleanDisk (state g new) → IfErr result (Is (s
 abbrev pub Serves : {S : Type 0} → Ghosts S → Held S → Held S → Fault → Type 0
 Serves g old new fault = HasCleanDisk (state g new) → fault ≡ NotAProject → IsUnchanged (state g old) (state g new)
 
-abbrev pub ServesOn : {S T : Type 0} → Ghosts S → Held S → Held S → Result T Fault → Type 0
-ServesOn g old new result = HasCleanDisk (state g new) → IfErr result (λ fault. fault ≡ NotAProject → IsUnchanged (state g old) (state g new))
-
 -- the disk failed in this call, or the connection was not open
 abbrev pub HasBroken : {S : Type 0} → Ghosts S → Held S → Held S → Type 0
 HasBroken g old new = MoreFaults (state g old).faults (state g new).faults ⊎ ((state g old).is_open ≡ false)
@@ -74,14 +71,13 @@ HasBroken g old new = MoreFaults (state g old).faults (state g new).faults ⊎ (
 abbrev pub BreaksTruly : {S : Type 0} → Ghosts S → Held S → Held S → Fault → Type 0
 BreaksTruly g old new fault = HasCleanDisk (state g new) → fault ≡ Broken → HasBroken g old new
 
+-- so does an error that would be told as `Broken`
+abbrev pub BreaksAfter : {S T : Type 0} → Ghosts S → Held S → Held S → Result T Error → Type 0
+BreaksAfter g old new result = HasCleanDisk (state g new) → IfErr result (λ e. fault_of e ≡ Broken → HasBroken g old new)
+
 -- the same of an error that would be told so
 abbrev pub ServesAfter : {S T : Type 0} → Ghosts S → Held S → Held S → Result T Error → Type 0
 ServesAfter g old new result = HasCleanDisk (state g new) → IfErr result (λ e. fault_of e ≡ NotAProject → IsUnchanged (state g old) (state g new))
-
--- such an error leaves an open connection open
-abbrev pub StaysAfter : {S T : Type 0} → Ghosts S → Held S → Held S → Result T Error → Type 0
-StaysAfter g old new result =
-    IsTrue (state g old).is_open → HasCleanDisk (state g new) → IfErr result (λ e. fault_of e ≡ NotAProject → IsTrue (state g new).is_open)
 
 -- while the connection is open, it shows what it showed, or the last commit
 abbrev pub GoesBack : {S : Type 0} → Ghosts S → Held S → Held S → Type 0
@@ -96,16 +92,12 @@ abbrev pub Tells : {S T E : Type 0} → Ghosts S → Held S → Held S → Resul
 Tells g old new result Is = HasCleanDisk (state g new) → IfOk result (λ found. (world : World) → StandsFor (state g old).now world → Is found world)
 
 -- the answer is what such a world has
-abbrev pub Answers : {S T : Type 0} → Ghosts S → Held S → Held S → Result T Error → (World → T) → Type 0
+abbrev pub Answers : {S T : Type 0} → Ghosts S → Held S → Held S → Result T Fault → (World → T) → Type 0
 Answers g old new result answer = Tells g old new result (λ found world. found ≡ answer world)
 
 -- the rows of the answer are those that such a world has
-abbrev pub AnswersRows : {S A : Type 0} → Ghosts S → Held S → Held S → Result (Vec Row A) Error → (World → List Row) → Type 0
+abbrev pub AnswersRows : {S A : Type 0} → Ghosts S → Held S → Held S → Result (Vec Row A) Fault → (World → List Row) → Type 0
 AnswersRows g old new result answer = Tells g old new result (λ found world. found.items ≡ answer world)
-
--- where the tables stand for a world and steps have no limit, only memory, the disk or size may fail
-abbrev pub OnlyFails : {S T : Type 0} → Ghosts S → Held S → Held S → Result T Error → Type 0
-OnlyFails g old new result = HasCleanDisk (state g new) → IfErr result (λ e. (world : World) → StandsFor (state g old).now world → old.step_limit ≡ None → IsFailure (fault_of e))
 
 -- What a statement inside a transaction does to it, whatever it answers.
 pub record Writes {S T E : Type 0} (g : Ghosts S) (old new : Transaction S) (result : Result T E) : Type 0 where

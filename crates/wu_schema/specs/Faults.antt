@@ -28,9 +28,9 @@ unless_known fault = fault
 abbrev pub commit_fault_of : Error → Fault
 commit_fault_of error = unless_known (fault_of error)
 
--- an error of the store is told as one of these three
-abbrev pub IsTold : Fault → Type 0
-IsTold fault = (fault ≡ NotAProject) ⊎ ((fault ≡ Memory) ⊎ (fault ≡ Broken))
+-- a fault of the store: of memory, of the disk or of size, or of a statement or a row
+abbrev pub IsStoreFault : Fault → Type 0
+IsStoreFault fault = (fault ≡ Memory) ⊎ ((fault ≡ Broken) ⊎ (fault ≡ NotAProject))
 
 -- memory, disk or size failed
 abbrev pub IsFailure : Fault → Type 0

@@ -5,6 +5,7 @@ pub mod Tables
 pub mod StandsFor
 pub mod Calm
 pub mod Calls
+pub mod Asking
 pub mod Made
 pub mod Versions
 pub mod Indexes

@@ -4,7 +4,7 @@ ghost use Rattle.std.specs.Prelude.{◌≡◌, false, codes, IfErr};
 ghost use Rattle.wu_schema.specs.Tables.{project_at, workunit_at, result_at, grant_at, host_at, archived_at, import_at};
 ghost use Rattle.wu_schema.specs.Made.{MakesTable, MakesTables, MakesProject, PutsProject, work_tables, record_tables};
 ghost use Rattle.wu_schema.specs.Calls.{Writes, Does, Commits, MayMake, Refuses, Undoes};
-ghost use Rattle.wu_schema.specs.Faults.{IsTold};
+ghost use Rattle.wu_schema.specs.Faults.{IsStoreFault};
 
 use crate::texts::{
     CREATE_ARCHIVED, CREATE_CREDIT_GRANT, CREATE_HOST, CREATE_IMPORT, CREATE_PROJECT,
@@ -126,7 +126,7 @@ pub fn create<S: Alter>(conn: &mut Connection<S>) -> Result<(), Fault>
     ensures refused { Refuses S.Store conn.old conn.new result }
     ensures undone { Undoes S.Store conn.old conn.new result }
     ensures crash { MayMake S.Store conn.old conn.new MakesProject }
-    ensures told { IfErr result IsTold }
+    ensures told { IfErr result IsStoreFault }
 {
     transact(conn, &Creation)
 }

@@ -1,7 +1,7 @@
 //! An error of the store as a fault.
 
 ghost use Rattle.std.specs.Prelude.{◌≡◌, false};
-ghost use Rattle.wu_schema.specs.Faults.{fault_of, commit_fault_of, IsFailure, IsTold};
+ghost use Rattle.wu_schema.specs.Faults.{fault_of, commit_fault_of, IsFailure, IsStoreFault};
 ghost use Rattle.wu_schema.specs.Calls.{BreaksTruly, CommitsNothing, GoesBack, Serves};
 
 use sqlite::{Alter, Connection, Error, ErrorCode};
@@ -43,7 +43,7 @@ pub fn commit_fault_of(error: &Error) -> Fault
 /// or that the connection was not open.
 fn probe<S: Alter>(conn: &mut Connection<S>) -> Fault
     ensures mode { conn.old.in_transaction ≡ false → conn.new.in_transaction ≡ false }
-    ensures kind { IsTold result }
+    ensures kind { IsStoreFault result }
     ensures serves { Serves S.Store conn.old conn.new result }
     ensures breaks { BreaksTruly S.Store conn.old conn.new result }
     ensures back { GoesBack S.Store conn.old conn.new }
@@ -66,7 +66,7 @@ pub fn fault_after<S: Alter>(conn: &mut Connection<S>, error: &Error) -> Fault
     ensures failed { IsFailure (fault_of error.now) → result ≡ fault_of error.now }
     ensures refused { fault_of error.now ≡ Fault.NotAProject
         → BreaksTruly S.Store conn.old conn.new result }
-    ensures told { IsTold result }
+    ensures told { IsStoreFault result }
     ensures serves { Serves S.Store conn.old conn.new result }
     ensures back { GoesBack S.Store conn.old conn.new }
     ensures crash { CommitsNothing S.Store conn.old conn.new }

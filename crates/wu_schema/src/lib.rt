@@ -2,6 +2,7 @@
 //! one transaction.
 #![tactic(auto)]
 
+mod asking;
 mod columns;
 mod creation;
 mod fault;
@@ -10,6 +11,7 @@ mod texts;
 mod transaction;
 mod version;
 
+pub use asking::query;
 pub use columns::{number_at, read_column};
 pub use creation::create;
 pub use fault::{commit_fault_of, fault_after, fault_of};

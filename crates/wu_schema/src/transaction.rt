@@ -4,7 +4,7 @@ ghost use Rattle.std.specs.Prelude.{◌≡◌, false, IfErr};
 ghost use Rattle.sqlite.specs.Values.{bound};
 ghost use Rattle.sqlite.specs.Effect.{Database};
 ghost use Rattle.wu_schema.specs.Calls.{Writes, Works, Does, Runs, Commits, MayMake, Refuses, Undoes};
-ghost use Rattle.wu_schema.specs.Faults.{IsTold};
+ghost use Rattle.wu_schema.specs.Faults.{IsStoreFault};
 
 use crate::fault::{commit_fault_of, fault_after};
 use sqlite::{Alter, Connection, Error, Transaction};
@@ -67,7 +67,7 @@ pub fn transact<S: Alter, W: Work>(conn: &mut Connection<S>, work: &W) -> Result
     ensures done { Commits S.Store conn.old conn.new result (W.makes work.now) }
     ensures refused { Refuses S.Store conn.old conn.new result }
     ensures undone { Undoes S.Store conn.old conn.new result }
-    ensures told { IfErr result IsTold }
+    ensures told { IfErr result IsStoreFault }
     ensures crash { MayMake S.Store conn.old conn.new (W.makes work.now) }
 {
     match run_and_commit(conn, work) {

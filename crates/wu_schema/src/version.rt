@@ -2,8 +2,9 @@
 
 ghost use Rattle.std.specs.Prelude.{◌≡◌, ◌⊎◌, ◌≤◌, ℕ, None, Some, Ok, IfSome, IfOk, IfErr};
 ghost use Rattle.wu_core.specs.declared.fault.Fault.TheVariants.{Memory, NotAProject};
-ghost use Rattle.wu_schema.specs.Calls.{Reads, OnAnswer, OnFault, ServesAfter, ServesOn, Tells};
-ghost use Rattle.wu_schema.specs.Faults.{fault_of, IsTold};
+ghost use Rattle.wu_schema.specs.Asking.{Asks, ServesUnlessFailed};
+ghost use Rattle.wu_schema.specs.Calls.{BreaksAfter, Reads, OnAnswer, OnFault, ServesAfter, Tells};
+ghost use Rattle.wu_schema.specs.Faults.{fault_of, IsStoreFault};
 ghost use Rattle.wu_schema.specs.Versions.{FailsOnVersion, FailsOnWorld, FailsToAsk, FailsWithout, IsMissingOnly, IsNoneOnlyWithout, IsNoneWithout, IsOtherFault, IsVersion, IsVersionIn, IsVersionOf, LacksProject, ReadsVersion, ShowsProject, TellsAbsence, TellsMissing};
 
 use crate::columns::version_from;
@@ -24,6 +25,7 @@ fn project_rows<S: Alter>(conn: &mut Connection<S>) -> Result<Vec<Row>, Error>
     ensures there { OnAnswer S.Store conn.old conn.new result (λ db _. ¬ LacksProject db.schema) }
     ensures absent { OnFault S.Store conn.old conn.new result TellsAbsence }
     ensures missing { OnFault S.Store conn.old conn.new result IsMissingOnly }
+    ensures breaks { BreaksAfter S.Store conn.old conn.new result }
 {
     conn.query_all("SELECT one, version, next_number FROM project", &[])
 }
@@ -55,9 +57,9 @@ fn version_after(error: &Error) -> Result<Option<u64>, Fault>
 ///
 /// A table of that form with other than one row, or with a row of no project, is `NotAProject`.
 pub fn version_of<S: Alter>(conn: &mut Connection<S>) -> Result<Option<u64>, Fault>
-    ensures reads { Reads S.Store conn.old conn.new result }
-    ensures serves { ServesOn S.Store conn.old conn.new result }
-    ensures told { IfErr result IsTold }
+    ensures asks { Asks S.Store conn.old conn.new result }
+    ensures opens { ServesUnlessFailed S.Store conn.new result }
+    ensures told { IfErr result IsStoreFault }
     ensures positive { IfOk result (λ found. IfSome found (λ version. 1 ≤ version)) }
     ensures answers { OnAnswer S.Store conn.old conn.new result IsVersion }
     ensures taken { OnFault S.Store conn.old conn.new result (FailsOnVersion conn.old.step_limit) }

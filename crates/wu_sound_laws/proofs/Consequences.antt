@@ -6,17 +6,17 @@ use Rattle.std.specs.List.{All, AllByRecursion}
 use Rattle.std.specs.Prelude.{option_map, option_to_list}
 use Rattle.wu_core.specs.Limits.{most_credit, most_instances, most_workunits}
 use Rattle.wu_core.specs.World.{World}
-use Rattle.wu_store.specs.Reading.{IsName}
-use Rattle.wu_passes.specs.declared.command.Command.{Command}
-use Rattle.wu_passes.specs.Machine.{fold_steps, HasValues, present_version}
-use Rattle.wu_passes.specs.Planning.{request_of}
-use Rattle.wu_passes.specs.Requests.{Request}
-use Rattle.wu_passes.specs.Sessions.{Lived, Session, accepted, world_lived, world_of_life}
-use Rattle.wu_passes_laws.specs.Sound.{IsSound}
-use Rattle.wu_passes_laws.proofs.SoundSteps.{sound_steps}
+use Rattle.wu_core.specs.Storable.{IsName}
+use Rattle.wu_machine.specs.declared.command.Command.{Command}
+use Rattle.wu_machine.specs.Machine.{fold_steps, HasValues, present_version}
+use Rattle.wu_machine.specs.Commands.{request_of}
+use Rattle.wu_machine.specs.Requests.{Request}
+use Rattle.wu_machine.specs.Sessions.{Lived, Session, accepted, world_lived, world_of_life}
+use Rattle.wu_machine.specs.Sound.{IsSound}
+use Rattle.wu_machine_laws.proofs.SoundSteps.{sound_steps}
 use Rattle.wu_report.specs.Views.{CanBeShown}
-use Rattle.wu_report.specs.declared.views.View.{View}
-use Rattle.wu_report.specs.declared.views.View.TheVariants as view
+use Rattle.wu_machine.specs.declared.view.View.{View}
+use Rattle.wu_machine.specs.declared.view.View.TheVariants as view
 use Rattle.wu_drive.specs.Driving.{session_of, world_after}
 use Rattle.wu_drive.specs.declared.runs.Run.{Run}
 use Rattle.wu_sound_laws.proofs.NamedHosts.{hosts_have}

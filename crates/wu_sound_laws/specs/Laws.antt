@@ -4,15 +4,15 @@ use Rattle.wu_core.specs.Hosts.{credit_of}
 use Rattle.wu_core.specs.Limits.{most_credit, most_instances, most_workunits}
 use Rattle.wu_core.specs.World.{World}
 use Rattle.wu_store.specs.Summaries.{credit_sum}
-use Rattle.wu_passes.specs.declared.command.Command.{Command}
-use Rattle.wu_passes.specs.Machine.{HasValues, present_version}
-use Rattle.wu_passes.specs.Planning.{request_of}
-use Rattle.wu_passes.specs.Sessions.{Lived, accepted, world_of_life}
-use Rattle.wu_passes_laws.specs.Sound.{IsSound}
+use Rattle.wu_machine.specs.declared.command.Command.{Command}
+use Rattle.wu_machine.specs.Machine.{HasValues, present_version}
+use Rattle.wu_machine.specs.Commands.{request_of}
+use Rattle.wu_machine.specs.Sessions.{Lived, accepted, world_of_life}
+use Rattle.wu_machine.specs.Sound.{IsSound}
 use Rattle.wu_report.specs.Views.{CanBeShown}
 use Rattle.wu_drive.specs.Driving.{session_of, world_after}
 use Rattle.wu_drive.specs.declared.runs.Run.{Run}
-use Rattle.wu_report.specs.declared.views.View.{View}
+use Rattle.wu_machine.specs.declared.view.View.{View}
 
 -- the most credit that can ever be granted: 10^17
 abbrev pub most_total : ℕ

@@ -3,7 +3,7 @@
 ghost use Rattle.wu_sound_laws.specs.Laws.{BeginningsStaySound, BoundsTotals, CanAllBeShown, HaveValues, LivesStaySound, SessionsHaveValues};
 
 use wu_drive::Command;
-use wu_passes::laws::has_values;
+use wu_machine::laws::has_values;
 
 /// All credit, and the total of each host, is at most 10^17.
 pub fn bounds_totals()

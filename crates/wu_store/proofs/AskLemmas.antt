@@ -1,19 +1,27 @@
--- A SELECT of ours, whole: what it does to the connection, what it answers and which errors it tells.
-use Rattle.wu_schema.proofs.Words.{Bool, CommitsShowing, Err, Error, FailsToQuery, Ghosts, HasCleanDisk, Held, IfErr, IfOk, IsErrAnd, IsFailure, IsSome, IsUnchanged, List, None, NotAProject, Ok, Option, QueriesRow, Reads, Result, Row, Shown, Some, StandsFor, State, Survives, Vec, World, [], arith, false, fault_of, inl, inr, length, not, option_to_list, refl, state, subst, sym, ℕ, ⊤, ◌++◌, ◌<◌, ◌==◌, ◌∙◌, ◌∷◌, ◌≡◌}
-use Rattle.wu_schema.specs.Calls.{Tells, OnlyFails, ServesAfter}
-use Rattle.wu_schema.proofs.CallLemmas.{err_on}
-use Rattle.wu_schema.proofs.ReadLemmas.{IsSelect, all_read, row_unchanged, row_failed_back, reads_survive, row_ok, shown_unchanged, row_err, if_ok, if_err, on_ok}
+-- A SELECT of ours, whole: what it does to the connection, what it answers, and that it is not refused.
+use Rattle.wu_schema.proofs.Words.{Bool, Err, Error, FailsToQuery, Fault, Ghosts, HasCleanDisk, Held, IfErr, IfOk, IsErrAnd, IsFailure, IsSome, IsTrue, List, None, NotAProject, Ok, Option, Result, Row, Shown, Some, StandsFor, State, Vec, World, [], arith, false, fault_of, inl, inr, length, not, option_to_list, refl, state, subst, sym, ℕ, ⊤, ◌++◌, ◌<◌, ◌==◌, ◌∙◌, ◌∷◌, ◌≡◌, ◌≢◌, ◌⊎◌}
+use Rattle.wu_schema.specs.Asking.{Asks, FailsAll, IsSelect, ServesUnlessFailed, ShowsAll, TellsQuery}
+use Rattle.wu_schema.specs.Calls.{Tells}
+use Rattle.wu_schema.proofs.ReadLemmas.{if_ok, if_err}
 use Rattle.wu_schema.proofs.SelectLemmas.{Asked, Fits, IsTyped, parsed_of, select_of}
 use Rattle.wu_schema.proofs.ToldLemmas.{asked_told}
-use Rattle.wu_schema.proofs.VersionLemmas.{query_serves}
 use Rattle.wu_schema.proofs.Parts.{Part, IsIn, table_in, name_of, parts_there}
+use Rattle.wu_core.specs.declared.fault.Fault.TheVariants.{Broken, Memory}
+pub use Rattle.wu_schema.proofs.AskingLemmas.{asks_fault, asks_made, asks_none, asks_stands, asks_then}
+use Rattle.wu_store.specs.Loading.{IsStoreFault, NotRefusedIn}
 
--- what a question does, answers and tells
-pub record HasAsked {S T : Type 0} (g : Ghosts S) (old new : Held S) (result : Result T Error) (Is : T → World → Type 0) : Type 0 where
-  pub reads : Reads g old new result
+-- a failure is no refusal
+pub never_refused : (fault : Fault) → IsFailure fault → fault ≢ NotAProject
+never_refused fault (inl memory) refused = cc
+never_refused fault (inr broken) refused = cc
+
+-- what a question does and answers, and that it is not refused
+pub record HasAsked {S T : Type 0} (g : Ghosts S) (old new : Held S) (result : Result T Fault) (Is : T → World → Type 0) : Type 0 where
+  pub asks : Asks g old new result
+  pub opens : ServesUnlessFailed g new result
   pub answers : Tells g old new result Is
-  pub told : OnlyFails g old new result
-  pub serves : ServesAfter g old new result
+  pub fault : IfErr result IsStoreFault
+  pub unrefused : NotRefusedIn g old new result (λ _. ⊤)
 
 -- what is taken from the end of at most one
 pub only_taken : {X : Type 0} (found rest : List X) (o taken : Option X) → found ≡ option_to_list o → found ≡ rest ++ option_to_list taken → (0 < length found → IsSome taken) → taken ≡ o
@@ -25,25 +33,27 @@ only_taken found [] (Some x) (Some y) is parts some = let e = sym is ∙ parts i
 only_taken found (z ∷ []) (Some x) (Some y) is parts some = absurd (let e = sym is ∙ parts in cc)
 only_taken found (z ∷ y2 ∷ rest) (Some x) (Some y) is parts some = absurd (let e = sym is ∙ parts in cc)
 
--- ---- what is made of an answer, and an error that is handed on
+-- ---- what is made of an answer, and a fault that is handed on
 
 module _ {S T U : Type 0} (g : Ghosts S) (old new : Held S) (Is : T → World → Type 0) (Then : U → World → Type 0) where
   pub asked_ok : (x : T) (y : U) → ((world : World) → Is x world → Then y world) → HasAsked g old new (Ok x) Is → HasAsked g old new (Ok y) Then
   asked_ok x y made it = record {
-    reads = record { mode = it.reads.mode; unchanged = it.reads.unchanged; back = λ clean. tt; crash = it.reads.crash };
+    asks = asks_made g old new x (Ok y) (λ is. absurd cc) it.asks;
+    opens = it.opens;
     answers = λ clean world s. made world (it.answers clean world s);
-    told = λ clean. tt;
-    serves = λ clean. tt;
+    fault = tt;
+    unrefused = λ clean world s any limit. tt;
   }
 
-  pub asked_err : (e : Error) (r : Result U Error) → IsErrAnd r (λ d. d ≡ e) → HasAsked g old new (Err e) Is → HasAsked g old new r Then
-  asked_err e (Ok y) same it = absurd same
-  asked_err e (Err d) same it = record {
-    reads = record { mode = it.reads.mode; unchanged = λ clean. tt; back = it.reads.back; crash = it.reads.crash };
+  pub asked_err : (fault : Fault) (r : Result U Fault) → IsErrAnd r (λ other. other ≡ fault) → HasAsked g old new (Err fault) Is → HasAsked g old new r Then
+  asked_err fault (Ok y) same it = absurd same
+  asked_err fault (Err other) same it = subst (λ f. HasAsked g old new (Err f) Then) (sym same) (record {
+    asks = asks_fault g old new fault it.asks;
+    opens = it.opens;
     answers = λ clean. tt;
-    told = λ clean. subst (λ x. (world : World) → StandsFor (state g old).now world → old.step_limit ≡ None → IsFailure (fault_of x)) (sym same) (it.told clean);
-    serves = λ clean. subst (λ x. fault_of x ≡ NotAProject → IsUnchanged (state g old) (state g new)) (sym same) (it.serves clean);
-  }
+    fault = it.fault;
+    unrefused = it.unrefused;
+  })
 
 -- a SELECT with these parameters, which only memory, the disk or size may fail where the tables stand for a world
 pub record IsQuestion (text : List ℕ) (params : Row) : Type 1 where
@@ -59,69 +69,76 @@ question p in_p q fits params few typed = record {
       asked_told (name_of p) has.0 _ q (fits _) old new has.1 params e few (typed _) unlimited h;
 }
 
-module _ {S : Type 0} {text : List ℕ} {params : Row} (g : Ghosts S) (asks : IsQuestion text params) (old new : Held S) (given : Row) (same : given ≡ params) (mode : old.in_transaction ≡ false → new.in_transaction ≡ false)
-    (survives : Survives (state g old) (state g new) (CommitsShowing text given (state g old))) where
+module _ {S : Type 0} {text : List ℕ} {params : Row} (g : Ghosts S) (it : IsQuestion text params) (old new : Held S) (given : Row) (same : given ≡ params) where
   abbrev before : State
   before = state g old
 
   abbrev after : State
   after = state g new
 
-  selects : IsSelect text
-  selects = asks.select
-
-  fails_told : (e : Error) → FailsToQuery text given before after e → (world : World) → StandsFor before.now world → before.step_limit ≡ None → IsFailure (fault_of e)
-  fails_told e h = asks.told before after e (subst (λ ps. FailsToQuery text ps before after e) same h)
+  never_told : (fault : Fault) → TellsQuery text given before after fault → (world : World) → StandsFor before.now world → before.step_limit ≡ None → fault ≢ NotAProject
+  never_told fault h world s limit is =
+      never_refused (fault_of h.0) (it.told before after h.0 (subst (λ ps. FailsToQuery text ps before after h.0) same h.2) world s limit) (sym h.1 ∙ is)
 
   -- all its rows
-  pub asked_all : {A : Type 0} (Is : List Row → World → Type 0) → ((rows : List Row) → Shown text params before after rows → (world : World) → StandsFor before.now world → Is rows world) → (r : Result (Vec Row A) Error)
-      → (HasCleanDisk after → IfOk r (λ rows. Shown text given before after rows.items)) → (HasCleanDisk after → IfErr r (FailsToQuery text given before after)) → HasAsked g old new r (λ rows. Is rows.items)
-  asked_all Is found r ok err = record {
-    reads = all_read g text selects given old new mode survives r ok err;
-    answers = λ clean. if_ok r _ _ (λ rows h. found rows.items (subst (λ ps. Shown text ps before after rows.items) same h)) (ok clean);
-    told = λ clean. if_err r _ _ fails_told (err clean);
-    serves = λ clean. if_err r _ _ (λ e h is. query_serves text selects given before after e h is) (err clean);
-  }
-
-  none_told : ((world : World) → StandsFor before.now world → ¬ Shown text params before after []) → (e : Error) → QueriesRow text given before after (Err e) → (world : World) → StandsFor before.now world → before.step_limit ≡ None → IsFailure (fault_of e)
-  unfolding QueriesRow
-  none_told there e (inl failed) = fails_told e failed
-  none_told there e (inr none) = λ world s unlimited. absurd (there world s (subst (λ ps. Shown text ps before after []) same none.1))
-
-  row_serves : (e : Error) → QueriesRow text given before after (Err e) → fault_of e ≡ NotAProject → IsUnchanged before after
-  unfolding QueriesRow
-  row_serves e (inl failed) is = query_serves text selects given before after e failed is
-  row_serves e (inr none) is = shown_unchanged text selects given before after [] none.1
-
-  -- its first row, where there is one
-  pub asked_row : (Is : Row → World → Type 0) → ((row : Row) → QueriesRow text params before after (Ok row) → (world : World) → StandsFor before.now world → Is row world) → ((world : World) → StandsFor before.now world → ¬ Shown text params before after [])
-      → (r : Result Row Error) → (HasCleanDisk after → QueriesRow text given before after r) → HasAsked g old new r Is
-  asked_row Is found there r row = record {
-    reads = record {
-      mode = mode;
-      unchanged = λ clean. on_ok r _ _ (λ x h. row_unchanged text selects given before after x h) (row_ok text given before after r _ (λ x h. h) (row clean));
-      back = λ clean. err_on r _ _ (λ e h. row_failed_back text selects given before after e h) (row_err text given before after r _ (λ e h. h) (row clean));
-      crash = reads_survive text selects given before after survives;
-    };
-    answers = λ clean. row_ok text given before after r _ (λ x h. found x (subst (λ ps. QueriesRow text ps before after (Ok x)) same h)) (row clean);
-    told = λ clean. row_err text given before after r _ (none_told there) (row clean);
-    serves = λ clean. row_err text given before after r _ row_serves (row clean);
+  pub asked_all : {A : Type 0} (Is : List Row → World → Type 0) → ((rows : List Row) → Shown text params before after rows → (world : World) → StandsFor before.now world → Is rows world) → (r : Result (Vec Row A) Fault)
+      → (IsSelect text → Asks g old new r) → (IsSelect text → ServesUnlessFailed g new r) → ShowsAll g old new r text given → FailsAll g old new r text given → IfErr r IsStoreFault → HasAsked g old new r (λ rows. Is rows.items)
+  asked_all Is found r asks opens shows fails told = record {
+    asks = asks it.select;
+    opens = opens it.select;
+    answers = λ clean. if_ok r _ _ (λ rows h. found rows.items (subst (λ ps. Shown text ps before after rows.items) same h)) (shows clean);
+    fault = told;
+    unrefused = λ clean world s any limit. if_err r _ _ (λ fault h. never_told fault h world s limit) (fails clean);
   }
 
   -- whether there is a row
-  pub asked_any : {A : Type 0} (any : World → Bool) → ((rows : List Row) → Shown text params before after rows → (world : World) → StandsFor (state g old).now world → not (length rows == 0) ≡ any world)
-      → (rows : Vec Row A) → (HasCleanDisk (state g new) → Shown text given (state g old) (state g new) rows.items) → (found : Bool) → found ≡ not (length rows.items == 0) → HasAsked g old new (Ok found) (λ it world. it ≡ any world)
-  asked_any {A} any answer rows ok found is =
+  pub asked_any : {A : Type 0} (any : World → Bool) → ((rows : List Row) → Shown text params before after rows → (world : World) → StandsFor before.now world → not (length rows == 0) ≡ any world)
+      → (rows : Vec Row A) → (IsSelect text → Asks g old new (Ok rows)) → (IsSelect text → ServesUnlessFailed g new (Ok rows)) → ShowsAll g old new (Ok rows) text given → (found : Bool) → found ≡ not (length rows.items == 0) → HasAsked g old new (Ok found) (λ it world. it ≡ any world)
+  asked_any {A} any answer rows asks opens shows found is =
       asked_ok g old new (λ (rows : Vec Row A) world. not (length rows.items == 0) ≡ any world) (λ it world. it ≡ any world) rows found (λ world h. is ∙ h)
-      (asked_all (λ rows world. not (length rows == 0) ≡ any world) answer (Ok rows) ok (λ clean. tt))
+      (asked_all (λ rows world. not (length rows == 0) ≡ any world) answer (Ok rows) asks opens shows (λ clean. tt) tt)
 
-  pub any_err : {T : Type 0} (answer : World → T) (e : Error) → (HasCleanDisk (state g new) → FailsToQuery text given (state g old) (state g new) e) → (r : Result T Error) → IsErrAnd r (λ d. d ≡ e) → HasAsked g old new r (λ it world. it ≡ answer world)
-  any_err answer e err r is =
-      asked_err g old new (λ (rows : Vec Row (Unit {0})) world. ⊤) (λ it world. it ≡ answer world) e r is (asked_all (λ rows world. ⊤) (λ rows h world s. tt) (Err e) (λ clean. tt) err)
+  -- the fault of one
+  pub any_err : {A T : Type 0} (answer : World → T) (fault : Fault) → (IsSelect text → Asks {T = Vec Row A} g old new (Err fault)) → (IsSelect text → ServesUnlessFailed {T = Vec Row A} g new (Err fault)) → FailsAll {T = Vec Row A} g old new (Err fault) text given → IsStoreFault fault
+      → (r : Result T Fault) → IsErrAnd r (λ other. other ≡ fault) → HasAsked g old new r (λ it world. it ≡ answer world)
+  any_err {A} answer fault asks opens fails told r is =
+      asked_err g old new (λ (rows : Vec Row A) world. ⊤) (λ it world. it ≡ answer world) fault r is (asked_all (λ rows world. ⊤) (λ rows h world s. tt) (Err fault) asks opens (λ clean. tt) fails told)
 
   -- the one row, where there is one
   pub asked_first : {A : Type 0} (row : World → Option Row) → ((rows : List Row) → Shown text params before after rows → (world : World) → StandsFor before.now world → rows ≡ option_to_list (row world))
-      → (rows : Vec Row A) → (HasCleanDisk after → Shown text given before after rows.items) → (rest : List Row) (taken : Option Row) → rows.items ≡ rest ++ option_to_list taken → (0 < length rows.items → IsSome taken) → HasAsked g old new (Ok taken) (λ it world. it ≡ row world)
-  asked_first {A} row answer rows ok rest taken parts some =
+      → (rows : Vec Row A) → (IsSelect text → Asks g old new (Ok rows)) → (IsSelect text → ServesUnlessFailed g new (Ok rows)) → ShowsAll g old new (Ok rows) text given → (rest : List Row) (taken : Option Row) → rows.items ≡ rest ++ option_to_list taken → (0 < length rows.items → IsSome taken) → HasAsked g old new (Ok taken) (λ it world. it ≡ row world)
+  asked_first {A} row answer rows asks opens shows rest taken parts some =
       asked_ok g old new (λ (rows : Vec Row A) world. rows.items ≡ option_to_list (row world)) (λ it world. it ≡ row world) rows taken (λ world h. only_taken rows.items rest (row world) taken h parts some)
-      (asked_all (λ rows world. rows ≡ option_to_list (row world)) answer (Ok rows) ok (λ clean. tt))
+      (asked_all (λ rows world. rows ≡ option_to_list (row world)) answer (Ok rows) asks opens shows (λ clean. tt) tt)
+
+-- ---- a fault that `?` hands on
+
+pub handed_on : {U : Type 0} (r : Result U Fault) (fault : Fault) → IsErrAnd r (λ other. other ≡ fault) → fault ≢ NotAProject → IfErr r (λ other. other ≢ NotAProject)
+handed_on (Ok y) fault same never = tt
+handed_on (Err other) fault same never = λ is. never (sym same ∙ is)
+
+pub asks_handed : {S T U : Type 0} (g : Ghosts S) (old new : Held S) (r : Result U Fault) (fault : Fault) → IsErrAnd r (λ other. other ≡ fault) → Asks {T = T} g old new (Err fault) → Asks g old new r
+asks_handed g old new (Ok y) fault same it = absurd same
+asks_handed {S} {T} {U} g old new (Err other) fault same it = subst (λ f. Asks {T = U} g old new (Err f)) (sym same) (asks_fault {T = T} {U = U} g old new fault it)
+
+-- one that is no failure of the disk
+pub never_broken : {U : Type 0} (r : Result U Fault) → IfErr r (λ fault. (fault ≡ Memory) ⊎ (fault ≡ NotAProject)) → r ≢ Err Broken
+never_broken (Ok y) told is = absurd cc
+never_broken (Err fault) (inl memory) is = absurd (let same = is in cc)
+never_broken (Err fault) (inr refused) is = absurd (let same = is in cc)
+
+pub handed_unbroken : {U : Type 0} (r : Result U Fault) (fault : Fault) → IsErrAnd r (λ other. other ≡ fault) → (fault ≡ Memory) ⊎ (fault ≡ NotAProject) → r ≢ Err Broken
+handed_unbroken (Ok y) fault same told is = absurd same
+handed_unbroken (Err other) fault same (inl memory) is = absurd (let no : Memory ≡ Broken = sym memory ∙ sym same ∙ (let broke = is in cc) in cc)
+handed_unbroken (Err other) fault same (inr refused) is = absurd (let no : NotAProject ≡ Broken = sym refused ∙ sym same ∙ (let broke = is in cc) in cc)
+
+-- an open connection is open after an answer
+pub still_open : {S T : Type 0} (g : Ghosts S) (old new : Held S) (x : T) → Asks g old new (Ok x) → HasCleanDisk (state g new) → IsTrue (state g old).is_open → IsTrue (state g new).is_open
+still_open g old new x it clean was = elim (it.answered clean) [ inl same ↦ subst (λ h. IsTrue (state g h).is_open) (sym same) was | inr same ↦ same.0.is_open ]
+
+never_err : {T : Type 0} (x : T) → ◌≢◌ {A = Result T Fault} (Ok x) (Err Broken)
+never_err x is = absurd cc
+
+-- what was asked so far was answered
+pub asks_done : {S T : Type 0} (g : Ghosts S) (old new : Held S) (x : T) → Asks g old new (Ok x) → Asks {T = Unit {0}} g old new (Ok tt)
+asks_done g old new x it = asks_made {U = Unit {0}} g old new x (Ok tt) (never_err tt) it

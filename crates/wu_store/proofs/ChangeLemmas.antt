@@ -1,6 +1,7 @@
 -- What the statements that change a project do to the world that it stands for.
 use Rattle.wu_schema.proofs.Words.{Archived, ap, Executes, Grant, Import, Instance, Int, Integer, List, None, Null, Ok, Option, Some, StandsFor, PutsOne, State, Text, Workunit, World, [], archived_at, archived_cells, arith, bound_value, cast, cast_row, codes, grant_at, grant_cells, import_at, import_cells, instance_cells, map, number, number_or_null, of_z, option_map, pos, refl, result_at, stored_archived, stored_grant, stored_workunit, text_or_null, to_z, to_z-of_z, Value, value_rows, w64, workunit_at, workunit_row, ℕ, ℤ, ◌<◌, ◌^◌, ◌∙◌, ◌∷◌, ◌≡◌}
-use Rattle.wu_store.specs.Changes.{HasInstances, IsNextPlace, LacksNumber, PutsGrant, bare, with_archived, with_import, with_instance, with_next, with_placed}
+use Rattle.wu_store.specs.Changes.{HasInstances, IsNextPlace, LacksNumber, PutsGrant, with_archived, with_import, with_instance, with_next, with_placed}
+use Rattle.wu_core.specs.Storable.{bare}
 use Rattle.std.proofs.lemmas.Int.{fits_signed_from_abs}
 use Rattle.sqlite.specs.Values as values
 use Rattle.sqlite.specs.Kind.TheVariants.{Text as KindText}

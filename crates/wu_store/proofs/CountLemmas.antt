@@ -47,7 +47,7 @@ module _ (rows : List Row) (i : ℕ) (d row : Row) (low : i < length rows) (at :
   credit_unread f unread = record {
     value = λ grants same. tt;
     found = λ grants same small. let it = next_credit grants same in never_unread number (λ _. ⊤) (column row 0) (Err f) it.0.credit unread tt it.1;
-    refused = elim unread.refused [ inl memory ↦ inl memory | inr other ↦ inr (inr other) ];
+    refused = unread.refused;
   }
 
   module _ (sum credit : ℕ) (so_far : (grants : List Grant) → rows ≡ credits_of grants → sum ≡ credit_sum (take i grants)) (is : column row 0 ≡ number credit) where
@@ -63,7 +63,7 @@ module _ (rows : List Row) (i : ℕ) (d row : Row) (low : i < length rows) (at :
     sum_past past = record {
       value = λ grants same. tt;
       found = λ grants same small. absurd (omega (arith, past, small, sum_on grants same, front_less (i + 1) grants));
-      refused = inr (inr refl);
+      refused = inr refl;
     }
 
 -- ---- states

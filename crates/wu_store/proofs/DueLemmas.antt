@@ -7,9 +7,10 @@ use Rattle.std.proofs.lemmas.List.{append-nil, take_all}
 use Rattle.std.proofs.lemmas.List.Elements.{All-head, All-tail, filter-append}
 use Rattle.sqlite_rules.proofs.ListLemmas.{has_found}
 use Rattle.wu_store.specs.Answers.{first_above, numbered}
-use Rattle.wu_store.specs.Due.{changes, chosen}
-use Rattle.wu_store.specs.declared.due.Pass.{Pass}
-use Rattle.wu_store.specs.Loading.{AreStorable, IsStorable, LoadsAbove, LoadsNumbered}
+use Rattle.wu_rules.specs.Due.{changes, chosen}
+use Rattle.wu_rules.specs.declared.due.Pass.{Pass}
+use Rattle.wu_store.specs.Loading.{LoadsAbove, LoadsNumbered}
+use Rattle.wu_core.specs.Storable.{AreStorable, IsStorable}
 use Rattle.wu_store.proofs.AboveLemmas.{above_next}
 use Rattle.wu_store.proofs.PlacedLemmas.{Rises, world_rises}
 

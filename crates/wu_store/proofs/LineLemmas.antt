@@ -21,10 +21,8 @@ use Rattle.wu_schema.specs.Stored.{number_or_null, workunit_row}
 use Rattle.wu_schema.specs.Restoring.{Restores}
 use Rattle.wu_store.proofs.LoadLemmas.{never_unread}
 use Rattle.wu_store.specs.Answers.{all_rows}
-use Rattle.wu_store.specs.Changes.{bare}
 use Rattle.wu_store.specs.Lines.{FindsLines, line_of, ReadsLine, ReadsLines, workunit_lines}
-use Rattle.wu_store.specs.Loading.{AreStorable}
-use Rattle.wu_store.specs.Reading.{IsStoredWorkunit}
+use Rattle.wu_core.specs.Storable.{IsStoredWorkunit, AreStorable, bare}
 use Rattle.wu_store.specs.declared.lines.WorkunitLine.{WorkunitLine}
 
 same_number : (a b : Option ℕ) → number_or_null a ≡ number_or_null b → a ≡ b
@@ -102,7 +100,7 @@ pub line_unread : (row : Row) (f : Fault) → Restores workunit_row IsStoredWork
 line_unread row f reads = record {
   value = tt;
   found = λ w can is. never_unread workunit_row IsStoredWorkunit row (Err f) (bare w) reads can is;
-  refused = elim reads.refused [ inl memory ↦ inl memory | inr other ↦ inr (inr other) ];
+  refused = reads.refused;
 }
 
 -- one more row is one more workunit

@@ -22,8 +22,8 @@ use Rattle.wu_schema.specs.StandsFor.{StandsFor}
 use Rattle.wu_schema.specs.Stored.{archived_cells}
 use Rattle.wu_store.specs.Answers.{all_hosts, first_above}
 use Rattle.wu_store.specs.Lines.{AreHostsNamed, host_line_of, host_lines, ReadsAll, result_line_of, result_lines, result_lines_of}
-use Rattle.wu_store.specs.Loading.{AreStorable, IsStorable}
-use Rattle.wu_store.specs.Reading.{host_row, IsName, IsStoredHost}
+use Rattle.wu_store.specs.Reading.{host_row, IsStoredHost}
+use Rattle.wu_core.specs.Storable.{IsName, AreStorable, IsStorable}
 use Rattle.wu_store.specs.declared.lines.HostLine.{HostLine}
 use Rattle.wu_store.specs.declared.lines.ResultLine.{ResultLine}
 use Rattle.wu_store.proofs.AboveLemmas.{above_next}
@@ -52,7 +52,7 @@ module _ {T : Type 0} (stored_as : T → Row) where
     all_unread rows i d row f low at unread = record {
       value = tt;
       found = found;
-      refused = elim unread.refused [ inl memory ↦ inl memory | inr other ↦ inr (inr other) ];
+      refused = unread.refused;
     }
       where
         found : (values : List T) → All IsValue values → rows ≡ map stored_as values → f ≢ NotAProject

@@ -2,19 +2,21 @@
 use Rattle.wu_schema.proofs.Words.{Bool, Database, Err, Error, Fault, Ghosts, Gives, HasCleanDisk, Held, IfErr, Import, ImportKind, Instance, IsFailure, List, None, NotAProject, Ok, Option, Reads, Result, Row, Some, StandsFor, State, Workunit, World, [], ap, arith, cases_Bool, filter, find, if◌then◌else◌, inl, inr, instance_row, is_import, length, length-map, map, map-append, number, option_map, refl, slice_get, state, subst, sym, take, verdict_digits, workunit_row, ℕ, ◌++◌, ◌+◌, ◌-◌, ◌<◌, ◌==◌, ◌∙◌, ◌∷◌, ◌≡◌, ◌≢◌, ◌≤◌}
 use Rattle.std.specs.Prelude.{All, IfSome, MatchResult, get_or}
 use Rattle.std.specs.Option.{option_map_or}
-use Rattle.sqlite.proofs.StateLemmas.{survives_then}
 use Rattle.sqlite_rules.proofs.ListLemmas.{has_found}
-use Rattle.wu_schema.proofs.CallLemmas.{back_none}
 use Rattle.wu_schema.proofs.QuietLemmas.{same_some}
 use Rattle.std.proofs.lemmas.List.{get_or-map, take_more}
 use Rattle.wu_core.specs.Limits.{most_instances}
-use Rattle.wu_schema.specs.Calls.{Answers, IsBack}
+use Rattle.wu_schema.specs.Calls.{Answers}
+use Rattle.sqlite.proofs.StateLemmas.{survives_then}
+use Rattle.wu_schema.proofs.CallLemmas.{back_none}
+use Rattle.wu_schema.proofs.AskingLemmas.{asks_stands, back_then, survives_none}
 use Rattle.wu_schema.specs.Restoring.{Restores}
 use Rattle.wu_schema.specs.Stored.{kept_cells}
 use Rattle.wu_store.specs.Answers.{instance_rows_of, kept_of, last_of, last_place, numbered}
-use Rattle.wu_store.specs.Changes.{bare}
-use Rattle.wu_store.specs.Loading.{Finds, FindsInstances, FindsOfRow, LoadsInstances, LoadsImport, IsEarlier, IsLoadable, IsLoadableRow, IsRead, IsRowOf, IsStoreFault, NotRefusedIn, OverWorlds, instances_at}
-use Rattle.wu_store.specs.Reading.{AreStoredInstances, IsNextNumber, IsStoredImport, IsStoredInstance, IsStoredWorkunit, row_before, stored_import_row}
+use Rattle.wu_store.specs.Loading.{Asks, FindsInstances, FindsOfRow, LoadsInstances, LoadsImport, IsEarlier, IsLoadable, IsLoadableRow, IsRead, IsRowOfPresent, IsStoreFault, NotRefusedIn, OverWorlds, instances_at}
+pub use Rattle.wu_store.proofs.AskLemmas.{never_refused}
+use Rattle.wu_store.specs.Reading.{IsStoredImport, row_before, stored_import_row}
+use Rattle.wu_core.specs.Storable.{AreStoredInstances, IsNextNumber, IsStoredInstance, IsStorable, IsStoredWorkunit, bare}
 use Rattle.wu_store.specs.declared.rows.StoredImport.{StoredImport}
 use Rattle.wu_store.proofs.ReadingLemmas.{not_ok, same_verdicts}
 use Rattle.wu_store.proofs.PlacedLemmas.{Rises, world_rises}
@@ -23,20 +25,7 @@ use Rattle.wu_store.proofs.SameWorld.{only_one, same_instances, same_workunit}
 -- ---- from one read to the next
 
 pub read_none : (s : State) → IsRead s s
-read_none s = record {
-  survives = record { clean = omega arith; shield = λ h. h; counts = omega arith; limit = refl; closes = λ _ still. inl still; crash = λ _ db h. inl h };
-  back = λ _. back_none s;
-}
-
-back_then : (a b c : State) → IsBack a b → IsBack b c → IsBack a c
-back_then a b c one two = record {
-  was_open = λ is_open. one.was_open (two.was_open is_open);
-  now = λ is_open. elim (two.now is_open) [
-    | inl same ↦ elim (one.now (two.was_open is_open)) [ inl was ↦ inl (same ∙ was) | inr last ↦ inr (same ∙ last) ]
-    | inr last ↦ inr (last ∙ one.committed (two.was_open is_open))
-  ];
-  committed = λ is_open. two.committed is_open ∙ one.committed (two.was_open is_open);
-}
+read_none s = record { survives = survives_none s; back = λ _. back_none s }
 
 pub read_then : (a b c : State) → IsRead a b → IsRead b c → IsRead a c
 read_then a b c one two = record {
@@ -44,12 +33,11 @@ read_then a b c one two = record {
   back = λ clean. back_then a b c (one.back (omega (arith, two.survives.clean))) (two.back clean);
 }
 
--- ---- what is refused
+-- what any number of questions do is a read
+pub asks_read : {S T : Type 0} (g : Ghosts S) (old new : Held S) (r : Result T Fault) → Asks g old new r → IsRead (state g old) (state g new)
+asks_read g old new r it = record { survives = it.crash; back = it.back }
 
--- a failure is no refusal
-pub never_refused : (fault : Fault) → IsFailure fault → fault ≢ NotAProject
-never_refused fault (inl memory) refused = cc
-never_refused fault (inr broken) refused = cc
+-- ---- what is refused
 
 -- what is stored of a value is read
 pub never_unread : {T C : Type 0} (stored_as : T → C) (IsValue : T → Type 0) (stored : C) (r : Result T Fault) (value : T) → Restores stored_as IsValue stored r → IsValue value → stored ≡ stored_as value → IfErr r (λ fault. fault ≢ NotAProject)
@@ -69,6 +57,18 @@ pub place_read : {X : Type 0} (xs : List X) (last : Option Row) (r : Result ℕ 
 place_read xs last r is reads =
     let e : length xs ≡ length xs + 1 - 1 = omega arith in
     never_unread row_before (λ place. 1 ≤ place) last r (length xs + 1) reads (omega arith) (is ∙ ap last_of e)
+
+-- and the place behind it is known
+pub place_known : {X : Type 0} (xs : List X) (last : Option Row) (r : Result ℕ Fault) → last ≡ last_place xs → Restores row_before (λ place. 1 ≤ place) last r → MatchResult r (λ place. place ≡ length xs + 1) IsStoreFault
+place_known xs last r is reads =
+    let e : length xs ≡ length xs + 1 - 1 = omega arith in
+    known r (reads.found (length xs + 1) (omega arith) (is ∙ ap last_of e))
+  where
+    known : (r : Result ℕ Fault) → Gives r (Ok (length xs + 1)) → MatchResult r (λ place. place ≡ length xs + 1) IsStoreFault
+    known (Ok place) (inl is) = let same = is in cc
+    known (Ok place) (inr memory) = absurd cc
+    known (Err fault) (inl is) = absurd cc
+    known (Err fault) (inr memory) = inl (let same = memory in cc)
 
 -- ---- the first of what passes a test
 
@@ -180,55 +180,69 @@ module _ (n : ℕ) (world : World) (rows : List Row) (are : rows ≡ instance_ro
 at_present : (w : Workunit) (world : World) → numbered w.number world ≡ Some w → instances_at w.number world ≡ w.instances
 at_present w world is = ap (λ o. option_map_or (λ (v : Workunit). v.instances) o []) is
 
--- no row is that of none
-pub none_found : (world : World) (found : Option Workunit) → IsRowOf None found world → None ≡ found
-none_found world None of = refl
-none_found world (Some w) of = absurd (let e = of.row_is in cc)
-
-module _ (row : Row) (world : World) where
+module _ (row : Row) (world : World) (w : Workunit) (of : IsRowOfPresent row w world) where
   -- a row that was read, and its instances
-  pub whole_found : (v : Workunit) (are : List Instance) (found : Option Workunit) → Restores workunit_row IsStoredWorkunit row (Ok v) → are ≡ instances_at v.number world → IsRowOf (Some row) found world → Some (record v { instances = are }) ≡ found
-  whole_found v are None reads is of = absurd (let e = of.row_is in cc)
-  whole_found v are (Some w) reads is of =
-      let same = same_workunit v w (sym reads.value.0 ∙ same_some of.row_is) in
+  pub whole_found : (v : Workunit) (are : List Instance) → Restores workunit_row IsStoredWorkunit row (Ok v) → are ≡ instances_at v.number world → record v { instances = are } ≡ w
+  whole_found v are reads is =
+      let same = same_workunit v w (sym reads.value.0 ∙ of.row_is) in
       let instances : are ≡ w.instances = is ∙ ap (λ (u : Workunit). instances_at u.number world) same ∙ at_present w world of.present in
-      λ i. Some (record (same i) { instances = instances i })
+      λ i. record (same i) { instances = instances i }
 
   -- the row of a workunit that can be read is read,
-  pub row_read : (r : Result Workunit Fault) (found : Option Workunit) → Restores workunit_row IsStoredWorkunit row r → IsRowOf (Some row) found world → IsLoadable found → IfErr r (λ fault. fault ≢ NotAProject)
-  row_read r None reads of can = absurd (let e = of.row_is in cc)
-  row_read r (Some w) reads of can = never_unread workunit_row IsStoredWorkunit row r (bare w) reads can.row (same_some of.row_is)
+  pub row_read : (r : Result Workunit Fault) → Restores workunit_row IsStoredWorkunit row r → IsStorable w → IfErr r (λ fault. fault ≢ NotAProject)
+  row_read r reads can = never_unread workunit_row IsStoredWorkunit row r (bare w) reads can.row of.row_is
 
   -- and so are its instances
-  pub instances_can : (v : Workunit) (found : Option Workunit) → Restores workunit_row IsStoredWorkunit row (Ok v) → IsRowOf (Some row) found world → IsLoadable found → LoadsInstances v.number world
-  instances_can v None reads of can = absurd (let e = of.row_is in cc)
-  instances_can v (Some w) reads of can =
-      let same : v.number ≡ w.number = ap (λ (u : Workunit). u.number) (same_workunit v w (sym reads.value.0 ∙ same_some of.row_is)) in
+  pub instances_can : (v : Workunit) → Restores workunit_row IsStoredWorkunit row (Ok v) → IsStorable w → LoadsInstances v.number world
+  instances_can v reads can =
+      let same : v.number ≡ w.number = ap (λ (u : Workunit). u.number) (same_workunit v w (sym reads.value.0 ∙ of.row_is)) in
       (omega (arith, same, can.number), subst (λ n. AreStoredInstances (instances_at n world)) (sym same) (subst AreStoredInstances (sym (at_present w world of.present)) can.instances))
 
--- the row of the first workunit that passes a test is that of the present one, since no two have one number
-row_of_first : (p : Workunit → Bool) (world : World) (row : Option Row) → Rises world.workunits → row ≡ option_map workunit_row (find p world.workunits) → IsRowOf row (find p world.workunits) world
-row_of_first p world row up is = record { present = go (find p world.workunits) refl; row_is = is }
+-- no row, no workunit that passes a test
+pub none_of_first : (p : Workunit → Bool) (world : World) → None ≡ option_map workunit_row (find p world.workunits) → None ≡ find p world.workunits
+none_of_first p world is = go (find p world.workunits) is
   where
-    go : (o : Option Workunit) → find p world.workunits ≡ o → IfSome o (λ w. numbered w.number world ≡ Some w)
-    go None found = tt
-    go (Some w) found = found_first (λ (v : Workunit). v.number == w.number) world.workunits w [] (only_one w world.workunits up (has_found p world.workunits w found).0)
+    go : (o : Option Workunit) → None ≡ option_map workunit_row o → None ≡ o
+    go None is = refl
+    go (Some w) is = absurd cc
+
+-- the row of the first workunit that passes a test is that of the present one, since no two have one number
+row_of_first : (p : Workunit → Bool) (world : World) (row : Row) → Rises world.workunits → Some row ≡ option_map workunit_row (find p world.workunits) → (w : Workunit) × (find p world.workunits ≡ Some w) × IsRowOfPresent row w world
+row_of_first p world row up is = go (find p world.workunits) refl is
+  where
+    go : (o : Option Workunit) → find p world.workunits ≡ o → Some row ≡ option_map workunit_row o → (w : Workunit) × (find p world.workunits ≡ Some w) × IsRowOfPresent row w world
+    go None found none = absurd cc
+    go (Some w) found some = (
+      w,
+      found,
+      record {
+        present = found_first (λ (v : Workunit). v.number == w.number) world.workunits w [] (only_one w world.workunits up (has_found p world.workunits w found).0);
+        row_is = same_some some;
+      },
+    )
 
 -- a row that was read, of the first workunit that passes a test, and then its instances
-module _ {S : Type 0} (g : Ghosts S) (old mid new : Held S) (p : Workunit → Bool) (row : Option Row) (result : Result (Option Workunit) Fault)
-    (reads : Reads {E = Error} g old mid (Ok row)) (answers : Answers g old mid (Ok row) (λ world. option_map workunit_row (find p world.workunits))) (read : IsRead (state g mid) (state g new)) where
+module _ {S : Type 0} (g : Ghosts S) (old mid new : Held S) (p : Workunit → Bool) (row : Row) (result : Result Workunit Fault)
+    (asks : Asks {T = Option Row} g old mid (Ok (Some row))) (answers : Answers g old mid (Ok (Some row)) (λ world. option_map workunit_row (find p world.workunits))) (next : Asks g mid new result) where
   mid_clean : HasCleanDisk (state g new) → HasCleanDisk (state g mid)
-  mid_clean clean = omega (arith, read.survives.clean)
+  mid_clean clean = omega (arith, next.crash.clean)
 
   still : HasCleanDisk (state g new) → (world : World) → StandsFor (state g old).now world → StandsFor (state g mid).now world
-  still clean world stands = subst (λ (d : Database). StandsFor d world) (sym (reads.unchanged (mid_clean clean)).0.now_is) stands
+  still clean world stands = asks_stands g old mid (Some row) asks (mid_clean clean) world stands
 
-  row_is : HasCleanDisk (state g new) → (world : World) → StandsFor (state g old).now world → IsRowOf row (find p world.workunits) world
-  row_is clean world stands = row_of_first p world row (world_rises (state g old).now world stands) (answers (mid_clean clean) world stands)
+  of_row : HasCleanDisk (state g new) → (world : World) → StandsFor (state g old).now world → (w : Workunit) × (find p world.workunits ≡ Some w) × IsRowOfPresent row w world
+  of_row clean world stands = row_of_first p world row (world_rises (state g old).now world stands) (answers (mid_clean clean) world stands)
 
-  pub load_found : OverWorlds g mid new (FindsOfRow row result) → OverWorlds g old new (λ world. Finds (find p world.workunits) result)
-  load_found found clean world stands = found clean world (still clean world stands) (find p world.workunits) (row_is clean world stands)
+  pub load_found : OverWorlds g mid new (FindsOfRow row result) → HasCleanDisk (state g new) → (world : World) → StandsFor (state g old).now world → MatchResult result (λ w. Some w ≡ find p world.workunits) IsStoreFault
+  load_found found clean world stands =
+      let it = of_row clean world stands in
+      if_found result it.0 (find p world.workunits) it.1 (found clean world (still clean world stands) it.0 it.2)
+    where
+      if_found : (r : Result Workunit Fault) (w : Workunit) (o : Option Workunit) → o ≡ Some w → MatchResult r (λ loaded. loaded ≡ w) IsStoreFault → MatchResult r (λ loaded. Some loaded ≡ o) IsStoreFault
+      if_found (Ok v) w o is same = ap Some same ∙ sym is
+      if_found (Err f) w o is told = told
 
   pub load_unrefused : NotRefusedIn g mid new result (IsLoadableRow row) → NotRefusedIn g old new result (λ world. IsLoadable (find p world.workunits))
   load_unrefused unrefused clean world stands can limit =
-      unrefused clean world (still clean world stands) (find p world.workunits, row_is clean world stands, can) (reads.crash.limit ∙ limit)
+      let it = of_row clean world stands in
+      unrefused clean world (still clean world stands) (it.0, it.2, subst IsLoadable it.1 can) (asks.crash.limit ∙ limit)

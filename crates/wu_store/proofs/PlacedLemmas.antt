@@ -3,9 +3,13 @@ use Rattle.wu_schema.proofs.Words.{AllByRecursion, Bool, None, Database, Equal, 
 use Rattle.wu_store.specs.Changes.{HasInstances, with_instance, with_placed, without_workunit, AddsInstance}
 use Rattle.std.proofs.Common.{append_assoc, length-take-le}
 use Rattle.std.proofs.lemmas.List.{take_more}
+use Rattle.std.proofs.lemmas.List.Elements.{All-from_recursion}
+use Rattle.std.proofs.lemmas.List.Kept.{AllPairs-cons}
+use Rattle.std.specs.List.{AllPairs}
 use Rattle.std.specs.Ordering.{nat_cmp, match_ordering}
 use Rattle.std.specs.Cmp.{nat_cmp_is}
-use Rattle.wu_store.specs.Changes.{IsAbove, HasNumber, LacksNumber, placed, with_replaced, with_workunit, and_instance}
+use Rattle.wu_store.specs.Changes.{HasNumber, LacksNumber, placed, with_replaced, with_workunit, and_instance}
+use Rattle.wu_core.specs.Storable.{IsAbove}
 use Rattle.std.proofs.lemmas.List.Sorted.{IsPermutation-append_comm, IsPermutation-append_left, IsPermutation-append_right}
 use Rattle.wu_store.proofs.EqualLemmas.{number_tied}
 use Rattle.wu_schema.proofs.StandsLemmas.{but_one, no_instances, cells_put, lists_still}
@@ -122,6 +126,12 @@ table_rises (v ∷ vs) up = (all_rise v vs up.0, table_rises vs up.1)
 
 pub world_rises : (db : Database) (world : World) → StandsFor db world → Rises world.workunits
 world_rises db world s = table_rises world.workunits (subst IsTable s.rows.workunits.same s.rows.workunits.shaped.0)
+
+-- where numbers rise from each to the next ones, each is below all after it
+pub rising_pairs : (ws : List Workunit) → Rises ws → AllPairs (λ (one other : Workunit). one.number < other.number) ws
+rising_pairs [] up = λ i j d order low. absurd (omega (arith, low))
+rising_pairs (w ∷ ws) up =
+    AllPairs-cons (λ (one other : Workunit). one.number < other.number) w ws (All-from_recursion (λ (v : Workunit). w.number < v.number) ws up.0) (rising_pairs ws up.1)
 
 -- one above all comes last
 pub placed_last : (w : Workunit) (ws : List Workunit) → IsAbove w.number ws → placed w ws ≡ ws ++ w ∷ []

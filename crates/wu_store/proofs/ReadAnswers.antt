@@ -86,15 +86,8 @@ module _ (old new : State) (world : World) (s : StandsFor old.now world) where
       let all = answers_are s.trees.project [] next_shows [] old.now rows s.tables.project.1.low h in
       one_permutation _ rows (subst (λ rs. IsPermutation (showing next_shows [] (meeting [] [] rs)) rows) s.rows.project all)
 
-  pub next_found : (row : Row) → QueriesRow next_asked.text [] old new (Ok row) → row ≡ next_row world
-  next_found row h =
-      let has = s.tables.project in
-      let it = row_answers next_asked.text [] old new _ _ _ (compiles old.now.schema (codes "project") has.0 (project_at s.trees.project) has.1 next_asked (next_fits s.trees.project)) row h in
-      let same = next_is (row ∷ it.0) it.1 in
-      cc
-
-  pub next_there : ¬ Shown next_asked.text [] old new []
-  next_there h = let same = next_is [] (asked_answers Project next_asked next_fits old new world s tt [] [] h) in absurd (cc)
+  pub next_found : (rows : List Row) → Shown next_asked.text [] old new rows → rows ≡ option_to_list (Some (next_row world))
+  next_found rows h = next_is rows (asked_answers Project next_asked next_fits old new world s tt [] rows h)
 
 -- ---- by name
 

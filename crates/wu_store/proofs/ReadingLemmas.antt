@@ -1,6 +1,6 @@
 -- How columns and rows read as values, step by step.
 use Rattle.wu_schema.proofs.Words.{Blob, Err, Fault, Gives, IfErr, IfOk, ImportKind, Instance, Int, List, None, NotAProject, Null, Ok, Option, Result, Row, Some, Text, Value, Workunit, [], add-one, ap, arith, column, drop, get_or, inl, inr, instance_row, last_skip, length, length-map, map, map-append, number, number_or_null, pos, refl, subst, suc, sym, take, text_or_null, verdict_digits, workunit_row, zero, ℕ, ⊤, ◌++◌, ◌+◌, ◌-◌, ◌<◌, ◌^◌, ◌∙◌, ◌∷◌, ◌≡◌, ◌≢◌, ◌≤◌, ◌⊎◌}
-use Rattle.wu_store.specs.Reading.{AreVerdicts}
+use Rattle.wu_core.specs.Storable.{AreVerdicts, IsHost, MayBeInstance, IsInput, IsName, IsPlace, IsStoredWorkunit, IsOutput, IsStoredArchived}
 use Rattle.wu_core.specs.declared.mask.ErrorMask.{ErrorMask}
 use Rattle.wu_core.specs.declared.workunit.Archived.{Archived}
 use Rattle.wu_store.specs.declared.lines.HostLine.{HostLine}
@@ -16,7 +16,7 @@ use Rattle.wu_store.specs.declared.rows.Progress.{Progress}
 use Rattle.wu_store.specs.declared.rows.States.{States}
 use Rattle.wu_schema.specs.Stored.{parameter_cells}
 use Rattle.wu_schema.specs.Restoring.{Restores}
-use Rattle.wu_store.specs.Reading.{AreMoments, IsHost, MayBeInstance, moment_cells, state_cells, columns, progress_cells, IsInput, IsName, IsPlace, IsProgress, IsStoredWorkunit, host_row, IsOutput, IsStoredArchived, IsStoredHost, mask_cell}
+use Rattle.wu_store.specs.Reading.{moment_cells, state_cells, columns, progress_cells, IsProgress, host_row, IsStoredHost, mask_cell, HasMoments}
 
 -- a value that can't be read is none that is stored so
 pub unread : {T C : Type 0} (stored_as : T → C) (IsValue : T → Type 0) (stored : C) (fault : Fault)
@@ -166,8 +166,8 @@ moments_of i = record { sent_at = i.sent_at; deadline = i.deadline; received_at 
 pub states_unread : (row : Row) (f : Fault) → Restores state_cells (λ _. ⊤) (columns row 0 4) (Err f) → Restores instance_row MayBeInstance row (Err f)
 states_unread row = part_unread states_of row 0 4 instance_row state_cells MayBeInstance (λ _. ⊤) (λ i is. tt) (λ i. refl)
 
-pub moments_unread : (row : Row) (f : Fault) → Restores moment_cells AreMoments (columns row 5 3) (Err f) → Restores instance_row MayBeInstance row (Err f)
-moments_unread row = part_unread moments_of row 5 3 instance_row moment_cells MayBeInstance AreMoments (λ i is. is.moments) (λ i. refl)
+pub moments_unread : (row : Row) (f : Fault) → Restores moment_cells HasMoments (columns row 5 3) (Err f) → Restores instance_row MayBeInstance row (Err f)
+moments_unread row = part_unread moments_of row 5 3 instance_row moment_cells MayBeInstance HasMoments (λ i is. is.moments) (λ i. refl)
 
 joined_four : (a b d e : Value) (ps qs rs ts : Row) → ps ≡ qs → a ≡ b → rs ≡ ts → d ≡ e → ps ++ (a ∷ rs ++ (d ∷ [])) ≡ qs ++ (b ∷ ts ++ (e ∷ []))
 joined_four a b d e ps qs rs ts first second third fourth = rw (first, second, third, fourth) refl
@@ -188,7 +188,7 @@ module _ (row : Row) (states : States) (host : Option (List ℕ)) (moments : Mom
 
   -- a row whose columns read as these is that of this instance alone
   pub instance_read : length row ≡ 9 → Restores state_cells (λ _. ⊤) (columns row 0 4) (Ok states) → Restores text_or_null IsHost (column row 4) (Ok host)
-      → Restores moment_cells AreMoments (columns row 5 3) (Ok moments) → Restores Blob (λ o. length o ≤ longest_output) (column row 8) (Ok output)
+      → Restores moment_cells HasMoments (columns row 5 3) (Ok moments) → Restores Blob (λ o. length o ≤ longest_output) (column row 8) (Ok output)
       → Restores instance_row MayBeInstance row (Ok read_instance)
   instance_read long states_are host_is moments_are output_is = record {
     value = (stored, record { host = host_is.value.1; moments = moments_are.value.1; output = output_is.value.1 });

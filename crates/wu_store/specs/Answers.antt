@@ -5,7 +5,7 @@ use Rattle.std.specs.Option.{option_map_or}
 use Rattle.sqlite.specs.Held.{Held}
 use Rattle.sqlite.specs.Order.{Row}
 use Rattle.sqlite.specs.Store.{Ghosts}
-use Rattle.sqlite.specs.declared.error.Error.{Error}
+use Rattle.wu_core.specs.declared.fault.Fault.{Fault}
 use Rattle.wu_core.specs.declared.workunit.Workunit.{Workunit}
 use Rattle.wu_core.specs.declared.workunit.Archived.{Archived}
 use Rattle.wu_core.specs.declared.workunit.Grant.{Grant}
@@ -120,5 +120,5 @@ abbrev pub import_count : World → ℕ
 import_count world = length world.imports
 
 -- the answer has as many rows as such a world has of these
-abbrev pub AnswersSoMany : {S A : Type 0} → Ghosts S → Held S → Held S → Result (Vec Row A) Error → (World → ℕ) → Type 0
+abbrev pub AnswersSoMany : {S A : Type 0} → Ghosts S → Held S → Held S → Result (Vec Row A) Fault → (World → ℕ) → Type 0
 AnswersSoMany g old new result count = Tells g old new result (λ rows world. length rows.items ≡ count world)

@@ -1,6 +1,6 @@
 -- What each change of version 1 makes of a world.
-use Rattle.std.specs.Prelude.{◌≡◌, ◌≢◌, ℕ, ◌+◌, ◌<◌, ◌==◌, true, false, not, List, [], ◌∷◌, ◌++◌, length, map, filter, find, Some, option_map, if◌then◌else◌}
-use Rattle.std.specs.List.{AllByRecursion, list_any}
+use Rattle.std.specs.Prelude.{◌≡◌, ◌≢◌, ℕ, ◌+◌, ◌==◌, true, false, not, List, [], ◌∷◌, ◌++◌, length, map, filter, find, Some, option_map, if◌then◌else◌}
+use Rattle.std.specs.List.{list_any}
 use Rattle.std.specs.Ordering.{nat_cmp, match_ordering}
 use Rattle.sqlite.specs.Order.{Row}
 use Rattle.sqlite.specs.Table.{Table}
@@ -18,14 +18,11 @@ use Rattle.wu_schema.specs.Tables.{ProjectTrees, HasTables}
 use Rattle.wu_schema.specs.StandsFor.{StandsFor, HoldsAll, host_of}
 use Rattle.wu_schema.specs.Made.{PutsOne}
 use Rattle.wu_schema.specs.Calm.{IsCalm}
+use Rattle.wu_core.specs.Storable.{bare}
 
 -- with a workunit more
 abbrev pub with_workunit : Workunit → World → World
 with_workunit w world = record world { workunits = world.workunits ++ w ∷ [] }
-
--- a workunit before it has instances
-abbrev pub bare : Workunit → Workunit
-bare w = record w { instances = [] }
 
 -- a workunit at its place in order of number, and in place of the one that has its number
 abbrev pub placed : Workunit → List Workunit → List Workunit
@@ -106,10 +103,6 @@ with_import import world = record world { imports = world.imports ++ import ∷ 
 -- with this number for the next workunit
 abbrev pub with_next : ℕ → World → World
 with_next next world = record world { next_number = next }
-
--- the number is above those of all workunits
-abbrev pub IsAbove : ℕ → List Workunit → Type 0
-IsAbove number = AllByRecursion (λ (w : Workunit). w.number < number)
 
 -- a list of hosts' rows has what these grants give
 abbrev pub HoldsHosts : List Row → List Grant → Type 0

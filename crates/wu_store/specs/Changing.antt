@@ -5,7 +5,8 @@ use Rattle.sqlite.specs.Effect.{Database}
 use Rattle.wu_core.specs.declared.workunit.Archived.{Archived}
 use Rattle.wu_core.specs.declared.workunit.Grant.{Grant}
 use Rattle.wu_core.specs.World.{World, Import}
-use Rattle.wu_store.specs.Changes.{with_workunit, with_replaced, without_workunit, with_grant, with_archived, with_import, with_next, HasNumber, IsAbove, IsNextPlace}
+use Rattle.wu_store.specs.Changes.{with_workunit, with_replaced, without_workunit, with_grant, with_archived, with_import, with_next, HasNumber, IsNextPlace}
+use Rattle.wu_core.specs.Storable.{IsAbove}
 use Rattle.wu_schema.specs.StandsFor.{StandsFor}
 use Rattle.wu_store.specs.declared.changes.Change.{Change}
 use Rattle.wu_store.specs.declared.changes.Change.TheVariants.{Add, Replace, Remove, Granted, Archive, Next, Keep}

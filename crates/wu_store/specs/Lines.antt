@@ -13,9 +13,8 @@ use Rattle.wu_core.specs.World.{World}
 use Rattle.wu_rules.specs.Instances.{is_in_progress, is_over, is_unsent}
 use Rattle.wu_schema.specs.Stored.{workunit_row}
 use Rattle.wu_store.specs.Answers.{all_instances}
-use Rattle.wu_store.specs.Changes.{bare}
-use Rattle.wu_store.specs.Loading.{IsStoreFault}
-use Rattle.wu_store.specs.Reading.{IsName, IsStoredArchived, IsStoredWorkunit}
+use Rattle.wu_store.specs.Reading.{IsReadFault}
+use Rattle.wu_core.specs.Storable.{IsName, IsStoredWorkunit, bare}
 use Rattle.wu_store.specs.declared.lines.HostLine.{HostLine}
 use Rattle.wu_store.specs.declared.lines.ResultLine.{ResultLine}
 use Rattle.wu_store.specs.declared.lines.Summary.{Summary}
@@ -111,14 +110,14 @@ pub record ReadsLine (row : Row) (result : Result WorkunitLine Fault) : Type 0 w
   pub value : IfOk result (λ line. (w : Workunit) × (row ≡ workunit_row w) × (line ≡ line_of w))
   -- that of each workunit that can be read is, want of memory aside
   pub found : (w : Workunit) → IsStoredWorkunit (bare w) → row ≡ workunit_row w → IfErr result (λ fault. fault ≢ NotAProject)
-  pub refused : IfErr result IsStoreFault
+  pub refused : IfErr result IsReadFault
 
 -- rows are read as the lines of the workunits that they stand for, in their order
 pub record ReadsLines {A : Type 0} (rows : List Row) (result : Result (Vec WorkunitLine A) Fault) : Type 0 where
   pub value : IfOk result (λ lines. (workunits : List Workunit) × (rows ≡ map workunit_row workunits) × (lines.items ≡ map line_of workunits))
   -- those of workunits that can be read are, want of memory aside
   pub found : (workunits : List Workunit) → All (λ w. IsStoredWorkunit (bare w)) workunits → rows ≡ map workunit_row workunits → IfErr result (λ fault. fault ≢ NotAProject)
-  pub refused : IfErr result IsStoreFault
+  pub refused : IfErr result IsReadFault
 
 -- these lines of this world are found
 abbrev pub FindsLines : {T A : Type 0} → (World → List T) → Result (Vec T A) Fault → World → Type 0
@@ -129,14 +128,10 @@ pub record ReadsAll {T A : Type 0} (stored_as : T → Row) (IsValue : T → Type
   pub value : IfOk result (λ values. rows ≡ map stored_as values.items)
   -- those of values that can be read are, want of memory aside
   pub found : (values : List T) → All IsValue values → rows ≡ map stored_as values → IfErr result (λ fault. fault ≢ NotAProject)
-  pub refused : IfErr result IsStoreFault
+  pub refused : IfErr result IsReadFault
 
 -- ---- what can be read
 
 -- the hosts of grants have names
 abbrev pub AreHostsNamed : World → Type 0
 AreHostsNamed world = All IsName (hosts_of world.grants)
-
--- the values of each archived row are in their ranges
-abbrev pub IsArchiveStorable : World → Type 0
-IsArchiveStorable world = All IsStoredArchived world.archived

@@ -1,6 +1,6 @@
 -- What is loaded of a project: the present workunit of a number or a name, or the first one above a number, with its
 -- instances; an import; the next number, and the next place of a grant or of an archived row.
-use Rattle.std.specs.Prelude.{◌≡◌, ◌≢◌, ◌⊎◌, ℕ, ◌<◌, ◌^◌, All, List, [], Option, Some, None, Result, find, option_map, IfErr, IfSome, IsTrue, OnOk, MatchResult}
+use Rattle.std.specs.Prelude.{◌≡◌, ◌≢◌, ◌⊎◌, ℕ, ◌<◌, ◌^◌, List, [], Option, Some, None, Result, find, option_map, IfErr, IfSome, IsTrue, OnOk, MatchResult}
 use Rattle.std.specs.Option.{option_map_or}
 use Rattle.sqlite.specs.Held.{Held, state}
 use Rattle.sqlite.specs.Order.{Row}
@@ -13,44 +13,23 @@ use Rattle.wu_core.specs.declared.workunit.Instance.{Instance}
 use Rattle.wu_core.specs.declared.workunit.Workunit.{Workunit}
 use Rattle.wu_core.specs.World.{World, Import, is_import}
 use Rattle.wu_schema.specs.Calls.{IsBack}
-use Rattle.wu_schema.specs.Faults.{IsFailure}
+pub use Rattle.wu_schema.specs.Asking.{Asks, ServesUnlessFailed}
+pub use Rattle.wu_schema.specs.Faults.{IsStoreFault}
 use Rattle.wu_schema.specs.StandsFor.{StandsFor}
 use Rattle.wu_schema.specs.Stored.{workunit_row}
 use Rattle.wu_store.specs.Answers.{first_above, named, numbered}
-use Rattle.wu_store.specs.Changes.{bare, IsNextPlace}
-use Rattle.wu_store.specs.Reading.{AreStoredInstances, AreVerdicts, IsNextNumber, IsStoredWorkunit}
+use Rattle.wu_store.specs.Changes.{IsNextPlace}
+use Rattle.wu_core.specs.Storable.{AreStoredInstances, AreVerdicts, IsStorable}
 use Rattle.wu_store.specs.declared.rows.StoredImport.{StoredImport}
 
 -- ---- what a call that reads says of the tables, and of each world that they stand for
 
--- a fault of memory, of the disk, or of a statement or a row
-abbrev pub IsStoreFault : Fault → Type 0
-IsStoreFault fault = (fault ≡ Memory) ⊎ ((fault ≡ Broken) ⊎ (fault ≡ NotAProject))
-
--- A call that reads leaves all as it was: nothing is committed, and an open connection shows the last commit.
+-- A call that reads commits nothing, and an open connection shows what it showed, or the last commit.
 pub record IsRead (old new : State) : Type 0 where
   pub survives : Survives old new (λ _. ⊥)
   pub back : HasCleanDisk new → IsBack old new
 
--- so it does where it succeeds
-abbrev pub StaysSame : State → State → Type 0
-StaysSame old new = new.now ≡ old.now
-
--- with Ok the tables are as they were
-abbrev pub KeepsTables : {S T E : Type 0} → Ghosts S → Held S → Held S → Result T E → Type 0
-KeepsTables g old new result = HasCleanDisk (state g new) → OnOk result (StaysSame (state g old) (state g new))
-
--- with Ok the connection was open
-abbrev pub WasOpen : {S T E : Type 0} → Ghosts S → Held S → Held S → Result T E → Type 0
-WasOpen g old new result = HasCleanDisk (state g new) → OnOk result (IsTrue (state g old).is_open)
-
--- after Ok, and after each fault but want of memory or of the disk, the connection is open
-abbrev pub ServesUnlessFailed : {S T : Type 0} → Ghosts S → Held S → Result T Fault → Type 0
-ServesUnlessFailed g new result =
-    HasCleanDisk (state g new)
-    → MatchResult result (λ _. IsTrue (state g new).is_open) (λ fault. IsFailure fault ⊎ IsTrue (state g new).is_open)
-
--- where it was open
+-- a connection that was open is open after Ok, and after each fault but want of memory or of the disk
 abbrev pub StaysUnlessFailed : {S T : Type 0} → Ghosts S → Held S → Held S → Result T Fault → Type 0
 StaysUnlessFailed g old new result = IsTrue (state g old).is_open → ServesUnlessFailed g new result
 
@@ -64,16 +43,6 @@ NotRefusedIn g old new result Is =
     HasCleanDisk (state g new) → (world : World) → StandsFor (state g old).now world → Is world → old.step_limit ≡ None → IfErr result (λ fault. fault ≢ NotAProject)
 
 -- ---- a workunit with its instances
-
--- the values of a workunit and of its instances are such as their rows are read as
-pub record IsStorable (w : Workunit) : Type 0 where
-  pub number : w.number < 2 ^ 63
-  pub row : IsStoredWorkunit (bare w)
-  pub instances : AreStoredInstances w.instances
-
--- each workunit that is present can be read
-abbrev pub AreStorable : World → Type 0
-AreStorable world = All IsStorable world.workunits
 
 -- if a workunit is found, it can be read
 abbrev pub IsLoadable : Option Workunit → Type 0
@@ -119,18 +88,18 @@ FindsInstances number result world = MatchResult result (λ instances. instances
 abbrev pub LoadsInstances : ℕ → World → Type 0
 LoadsInstances number world = (number < 2 ^ 63) × AreStoredInstances (instances_at number world)
 
--- the row is that of this workunit, which is present; no row is that of none
-pub record IsRowOf (row : Option Row) (found : Option Workunit) (world : World) : Type 0 where
-  pub present : IfSome found (λ w. numbered w.number world ≡ Some w)
-  pub row_is : row ≡ option_map workunit_row found
+-- the row is that of this workunit, which is present
+pub record IsRowOfPresent (row : Row) (w : Workunit) (world : World) : Type 0 where
+  pub present : numbered w.number world ≡ Some w
+  pub row_is : row ≡ workunit_row w
 
 -- the workunit of a row is found, with its instances
-abbrev pub FindsOfRow : Option Row → Result (Option Workunit) Fault → World → Type 0
-FindsOfRow row result world = (found : Option Workunit) → IsRowOf row found world → Finds found result
+abbrev pub FindsOfRow : Row → Result Workunit Fault → World → Type 0
+FindsOfRow row result world = (w : Workunit) → IsRowOfPresent row w world → MatchResult result (λ loaded. loaded ≡ w) IsStoreFault
 
 -- the row is that of a workunit that can be read
-abbrev pub IsLoadableRow : Option Row → World → Type 0
-IsLoadableRow row world = (found : Option Workunit) × IsRowOf row found world × IsLoadable found
+abbrev pub IsLoadableRow : Row → World → Type 0
+IsLoadableRow row world = (w : Workunit) × IsRowOfPresent row w world × IsStorable w
 
 -- ---- an import, the next number, and the next places
 
@@ -150,10 +119,6 @@ LoadsImport kind name world = IfSome (find (is_import kind name) world.imports) 
 -- the next number is found
 abbrev pub KnowsNext : Result ℕ Fault → World → Type 0
 KnowsNext result world = MatchResult result (λ next. next ≡ world.next_number) IsStoreFault
-
--- it is one that the next workunit may get
-abbrev pub LoadsNext : World → Type 0
-LoadsNext world = IsNextNumber world.next_number
 
 -- the place behind the world's grants is found
 abbrev pub KnowsGrantPlace : Result ℕ Fault → World → Type 0

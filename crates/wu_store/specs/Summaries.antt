@@ -7,7 +7,8 @@ use Rattle.wu_core.specs.declared.states.ServerState.TheVariants.{InProgress, Ov
 use Rattle.wu_core.specs.declared.workunit.Grant.{Grant}
 use Rattle.wu_core.specs.World.{World}
 use Rattle.wu_store.specs.Answers.{count_in, credits_of, import_count, result_count, workunit_count}
-use Rattle.wu_store.specs.Loading.{IsStoreFault, LoadsNext}
+use Rattle.wu_store.specs.Reading.{IsReadFault}
+use Rattle.wu_core.specs.Storable.{LoadsNext}
 use Rattle.wu_store.specs.declared.counts.Granted.{Granted}
 use Rattle.wu_store.specs.declared.counts.Numbers.{Numbers}
 use Rattle.wu_store.specs.declared.counts.Others.{Others}
@@ -44,7 +45,7 @@ pub record SumsCredit (rows : List Row) (result : Result ℕ Fault) : Type 0 whe
   pub value : (grants : List Grant) → rows ≡ credits_of grants → IfOk result (λ sum. sum ≡ credit_sum grants)
   -- it is where it is below 2^64
   pub found : (grants : List Grant) → rows ≡ credits_of grants → credit_sum grants < 2 ^ 64 → IfErr result (λ fault. fault ≢ NotAProject)
-  pub refused : IfErr result IsStoreFault
+  pub refused : IfErr result IsReadFault
 
 abbrev pub IsCreditCountable : World → Type 0
 IsCreditCountable world = credit_sum world.grants < 2 ^ 64

@@ -6,7 +6,7 @@ ghost use Rattle.wu_core.specs.declared.workunit.Archived.{Archived};
 ghost use Rattle.wu_core.specs.declared.workunit.Grant.{Grant};
 ghost use Rattle.wu_core.specs.declared.workunit.Instance.{Instance};
 ghost use Rattle.wu_core.specs.declared.workunit.Workunit.{Workunit};
-ghost use Rattle.wu_core.specs.World.{World};
+ghost use Rattle.wu_core.specs.World.{World, IsInOrder};
 ghost use Rattle.wu_schema.specs.StandsFor.{StandsFor};
 ghost use Rattle.wu_store.specs.Answers.{all_above, first_above, numbered};
 ghost use Rattle.wu_store.specs.Changes.{HasNumber, IsNextPlace, LacksNumber, and_instance, with_instance, with_placed, with_replaced, without_workunit};
@@ -16,6 +16,11 @@ ghost use Rattle.wu_store.specs.Worlds.{SameWorld};
 /// One database stands for one world, but for the order of its imports.
 pub fn one_database_is_one_world()
     ensures { (db : Database) (a b : World) → StandsFor db a → StandsFor db b → SameWorld a b }
+{}
+
+/// A world that tables stand for has its workunits in order of number.
+pub fn stored_worlds_are_in_order()
+    ensures { (db : Database) (world : World) → StandsFor db world → IsInOrder world }
 {}
 
 /// Instances that are added one by one come to the workunit with all of them.

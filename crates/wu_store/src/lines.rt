@@ -5,7 +5,8 @@ ghost use Rattle.wu_core.specs.declared.fault.Fault.TheVariants.{Memory};
 ghost use Rattle.wu_schema.specs.Restoring.{Restores};
 ghost use Rattle.wu_schema.specs.Stored.{archived_cells};
 ghost use Rattle.wu_store.specs.Lines.{ReadsAll, ReadsLines, result_lines_of};
-ghost use Rattle.wu_store.specs.Reading.{host_row, IsStoredArchived, IsStoredHost};
+ghost use Rattle.wu_store.specs.Reading.{host_row, IsStoredHost};
+ghost use Rattle.wu_core.specs.Storable.{IsStoredArchived};
 
 use crate::rows::{archived_from, name_at, workunit_from};
 use sqlite::Row;

@@ -1,9 +1,9 @@
 //! What is loaded of a project: a workunit with its instances, an import, the next number, and the next places.
 
-ghost use Rattle.std.specs.Prelude.{◌≡◌, ◌<◌, ◌^◌, ⊤, false, IfErr, IfOk};
-ghost use Rattle.sqlite.specs.Held.{state};
-ghost use Rattle.wu_store.specs.Loading.{FindsAbove, FindsEarlier, FindsInstances, FindsNamed, FindsNumbered, FindsOfRow, LoadsNext, LoadsInstances, LoadsImport, IsLoadableRow, IsRead, IsStoreFault, KeepsTables, KnowsArchivedPlace, KnowsGrantPlace, KnowsNext, LoadsAbove, LoadsNamed, LoadsNumbered, NotRefusedIn, OverWorlds, ServesUnlessFailed, StaysUnlessFailed, WasOpen};
-ghost use Rattle.wu_store.specs.Reading.{IsNextNumber, IsPlaceToGive};
+ghost use Rattle.std.specs.Prelude.{◌<◌, ◌^◌, ⊤, IfErr, IfOk};
+ghost use Rattle.wu_store.specs.Loading.{Asks, FindsAbove, FindsEarlier, FindsInstances, FindsNamed, FindsNumbered, FindsOfRow, LoadsInstances, LoadsImport, IsLoadableRow, IsStoreFault, KnowsArchivedPlace, KnowsGrantPlace, KnowsNext, LoadsAbove, LoadsNamed, LoadsNumbered, NotRefusedIn, OverWorlds, ServesUnlessFailed};
+ghost use Rattle.wu_store.specs.Reading.{IsPlaceToGive};
+ghost use Rattle.wu_core.specs.Storable.{IsNextNumber, LoadsNext};
 
 use crate::rows::{
     StoredImport, import_from, instances_from, next_number_from, place_behind, workunit_from,
@@ -15,7 +15,6 @@ use crate::statements::{
 use sqlite::{Alter, Connection, Row};
 use std::alloc::Global;
 use wu_core::{Fault, ImportKind, Instances, Name, Workunit};
-use wu_schema::fault_of;
 
 /// The instances of the workunit of this number, in their order; none where it is not there.
 fn instances_of<S: Alter>(
@@ -23,47 +22,29 @@ fn instances_of<S: Alter>(
     alloc: Global,
     workunit: u64,
 ) -> Result<Instances, Fault>
-    ensures mode { conn.old.in_transaction ≡ false → conn.new.in_transaction ≡ false }
-    ensures read { IsRead (state S.Store conn.old) (state S.Store conn.new) }
-    ensures same { KeepsTables S.Store conn.old conn.new result }
-    ensures open { WasOpen S.Store conn.old conn.new result }
-    ensures opens { StaysUnlessFailed S.Store conn.old conn.new result }
+    ensures asks { Asks S.Store conn.old conn.new result }
     ensures fault { IfErr result IsStoreFault }
     ensures found { OverWorlds S.Store conn.old conn.new (FindsInstances workunit result) }
     ensures unrefused { NotRefusedIn S.Store conn.old conn.new result (LoadsInstances workunit) }
 {
-    match instance_rows(conn, workunit) {
-        Ok(rows) => instances_from(alloc, &rows),
-        Err(error) => Err(fault_of(&error)),
-    }
+    let rows = instance_rows(conn, workunit)?;
+    instances_from(alloc, &rows)
 }
 
-/// The workunit of a row, with its instances; of no row none.
+/// The workunit of a row, with its instances.
 fn with_instances<S: Alter>(
     conn: &mut Connection<S>,
     alloc: Global,
-    row: Option<Row>,
-) -> Result<Option<Workunit>, Fault>
-    ensures mode { conn.old.in_transaction ≡ false → conn.new.in_transaction ≡ false }
-    ensures read { IsRead (state S.Store conn.old) (state S.Store conn.new) }
-    ensures same { KeepsTables S.Store conn.old conn.new result }
-    ensures opens { StaysUnlessFailed S.Store conn.old conn.new result }
+    row: &Row,
+) -> Result<Workunit, Fault>
+    ensures asks { Asks S.Store conn.old conn.new result }
     ensures fault { IfErr result IsStoreFault }
-    ensures found { OverWorlds S.Store conn.old conn.new (FindsOfRow row result) }
-    ensures unrefused { NotRefusedIn S.Store conn.old conn.new result (IsLoadableRow row) }
+    ensures found { OverWorlds S.Store conn.old conn.new (FindsOfRow row.now result) }
+    ensures unrefused { NotRefusedIn S.Store conn.old conn.new result (IsLoadableRow row.now) }
 {
-    let Some(row) = row else {
-        return Ok(None);
-    };
-    let mut workunit = match workunit_from(alloc, &row) {
-        Ok(workunit) => workunit,
-        Err(fault) => return Err(fault),
-    };
-    match instances_of(conn, alloc, workunit.number) {
-        Ok(instances) => workunit.instances = instances,
-        Err(fault) => return Err(fault),
-    }
-    Ok(Some(workunit))
+    let mut workunit = workunit_from(alloc, row)?;
+    workunit.instances = instances_of(conn, alloc, workunit.number)?;
+    Ok(workunit)
 }
 
 /// The present workunit of this number, with its instances, or none.
@@ -74,19 +55,15 @@ pub fn load<S: Alter>(
     alloc: Global,
     number: u64,
 ) -> Result<Option<Workunit>, Fault>
-    ensures mode { conn.old.in_transaction ≡ false → conn.new.in_transaction ≡ false }
-    ensures read { IsRead (state S.Store conn.old) (state S.Store conn.new) }
-    ensures same { KeepsTables S.Store conn.old conn.new result }
-    ensures open { WasOpen S.Store conn.old conn.new result }
-    ensures opens { StaysUnlessFailed S.Store conn.old conn.new result }
-    ensures serves { number < 2 ^ 63 → ServesUnlessFailed S.Store conn.new result }
+    ensures asks { Asks S.Store conn.old conn.new result }
+    ensures opens { number < 2 ^ 63 → ServesUnlessFailed S.Store conn.new result }
     ensures fault { IfErr result IsStoreFault }
     ensures found { OverWorlds S.Store conn.old conn.new (FindsNumbered number result) }
     ensures unrefused { NotRefusedIn S.Store conn.old conn.new result (LoadsNumbered number) }
 {
-    match workunit_row(conn, number) {
-        Ok(row) => with_instances(conn, alloc, row),
-        Err(error) => Err(fault_of(&error)),
+    match workunit_row(conn, number)? {
+        Some(row) => Ok(Some(with_instances(conn, alloc, &row)?)),
+        None => Ok(None),
     }
 }
 
@@ -98,19 +75,15 @@ pub fn load_above<S: Alter>(
     alloc: Global,
     number: u64,
 ) -> Result<Option<Workunit>, Fault>
-    ensures mode { conn.old.in_transaction ≡ false → conn.new.in_transaction ≡ false }
-    ensures read { IsRead (state S.Store conn.old) (state S.Store conn.new) }
-    ensures same { KeepsTables S.Store conn.old conn.new result }
-    ensures open { WasOpen S.Store conn.old conn.new result }
-    ensures opens { StaysUnlessFailed S.Store conn.old conn.new result }
-    ensures serves { number < 2 ^ 63 → ServesUnlessFailed S.Store conn.new result }
+    ensures asks { Asks S.Store conn.old conn.new result }
+    ensures opens { number < 2 ^ 63 → ServesUnlessFailed S.Store conn.new result }
     ensures fault { IfErr result IsStoreFault }
     ensures found { OverWorlds S.Store conn.old conn.new (FindsAbove number result) }
     ensures unrefused { NotRefusedIn S.Store conn.old conn.new result (LoadsAbove number) }
 {
-    match workunit_row_above(conn, number) {
-        Ok(row) => with_instances(conn, alloc, row),
-        Err(error) => Err(fault_of(&error)),
+    match workunit_row_above(conn, number)? {
+        Some(row) => Ok(Some(with_instances(conn, alloc, &row)?)),
+        None => Ok(None),
     }
 }
 
@@ -120,18 +93,15 @@ pub fn load_named<S: Alter>(
     alloc: Global,
     name: &Name,
 ) -> Result<Option<Workunit>, Fault>
-    ensures mode { conn.old.in_transaction ≡ false → conn.new.in_transaction ≡ false }
-    ensures read { IsRead (state S.Store conn.old) (state S.Store conn.new) }
-    ensures same { KeepsTables S.Store conn.old conn.new result }
-    ensures open { WasOpen S.Store conn.old conn.new result }
+    ensures asks { Asks S.Store conn.old conn.new result }
     ensures opens { ServesUnlessFailed S.Store conn.new result }
     ensures fault { IfErr result IsStoreFault }
     ensures found { OverWorlds S.Store conn.old conn.new (FindsNamed name.now result) }
     ensures unrefused { NotRefusedIn S.Store conn.old conn.new result (LoadsNamed name.now) }
 {
-    match workunit_row_named(conn, name) {
-        Ok(row) => with_instances(conn, alloc, row),
-        Err(error) => Err(fault_of(&error)),
+    match workunit_row_named(conn, name)? {
+        Some(row) => Ok(Some(with_instances(conn, alloc, &row)?)),
+        None => Ok(None),
     }
 }
 
@@ -142,24 +112,15 @@ pub fn import_of<S: Alter>(
     kind: ImportKind,
     name: &Name,
 ) -> Result<Option<StoredImport>, Fault>
-    ensures mode { conn.old.in_transaction ≡ false → conn.new.in_transaction ≡ false }
-    ensures read { IsRead (state S.Store conn.old) (state S.Store conn.new) }
-    ensures same { KeepsTables S.Store conn.old conn.new result }
-    ensures open { WasOpen S.Store conn.old conn.new result }
+    ensures asks { Asks S.Store conn.old conn.new result }
     ensures opens { ServesUnlessFailed S.Store conn.new result }
     ensures fault { IfErr result IsStoreFault }
     ensures found { OverWorlds S.Store conn.old conn.new (FindsEarlier kind name.now result) }
     ensures unrefused { NotRefusedIn S.Store conn.old conn.new result (LoadsImport kind name.now) }
 {
-    let rows = match import_rows(conn, kind, name) {
-        Ok(rows) => rows,
-        Err(error) => return Err(fault_of(&error)),
-    };
+    let rows = import_rows(conn, kind, name)?;
     match rows.first() {
-        Some(row) => match import_from(alloc, kind, row) {
-            Ok(import) => Ok(Some(import)),
-            Err(fault) => Err(fault),
-        },
+        Some(row) => Ok(Some(import_from(alloc, kind, row)?)),
         None => Ok(None),
     }
 }
@@ -167,53 +128,38 @@ pub fn import_of<S: Alter>(
 /// The number that the next workunit gets, from 1 to one past the last. `NotAProject` where its row has no such number.
 pub fn next_number<S: Alter>(conn: &mut Connection<S>) -> Result<u64, Fault>
     ensures within { IfOk result IsNextNumber }
-    ensures mode { conn.old.in_transaction ≡ false → conn.new.in_transaction ≡ false }
-    ensures read { IsRead (state S.Store conn.old) (state S.Store conn.new) }
-    ensures same { KeepsTables S.Store conn.old conn.new result }
-    ensures open { WasOpen S.Store conn.old conn.new result }
+    ensures asks { Asks S.Store conn.old conn.new result }
     ensures opens { ServesUnlessFailed S.Store conn.new result }
     ensures fault { IfErr result IsStoreFault }
     ensures next { OverWorlds S.Store conn.old conn.new (KnowsNext result) }
     ensures unrefused { NotRefusedIn S.Store conn.old conn.new result LoadsNext }
 {
-    match next_number_row(conn) {
-        Ok(row) => next_number_from(&row),
-        Err(error) => Err(fault_of(&error)),
+    match next_number_row(conn)? {
+        Some(row) => next_number_from(&row),
+        None => Err(Fault::NotAProject),
     }
 }
 
 /// The place that the next grant gets, from 1. `NotAProject` where the last row's is no place.
 pub fn next_grant_place<S: Alter>(conn: &mut Connection<S>) -> Result<u64, Fault>
     ensures within { IfOk result IsPlaceToGive }
-    ensures mode { conn.old.in_transaction ≡ false → conn.new.in_transaction ≡ false }
-    ensures read { IsRead (state S.Store conn.old) (state S.Store conn.new) }
-    ensures same { KeepsTables S.Store conn.old conn.new result }
-    ensures open { WasOpen S.Store conn.old conn.new result }
+    ensures asks { Asks S.Store conn.old conn.new result }
     ensures opens { ServesUnlessFailed S.Store conn.new result }
     ensures fault { IfErr result IsStoreFault }
     ensures place { OverWorlds S.Store conn.old conn.new (KnowsGrantPlace result) }
     ensures unrefused { NotRefusedIn S.Store conn.old conn.new result (λ _. ⊤) }
 {
-    match last_grant_row(conn) {
-        Ok(row) => place_behind(row),
-        Err(error) => Err(fault_of(&error)),
-    }
+    place_behind(last_grant_row(conn)?)
 }
 
 /// The place that the next archived workunit gets, from 1. `NotAProject` where the last row's is no place.
 pub fn next_archived_place<S: Alter>(conn: &mut Connection<S>) -> Result<u64, Fault>
     ensures within { IfOk result IsPlaceToGive }
-    ensures mode { conn.old.in_transaction ≡ false → conn.new.in_transaction ≡ false }
-    ensures read { IsRead (state S.Store conn.old) (state S.Store conn.new) }
-    ensures same { KeepsTables S.Store conn.old conn.new result }
-    ensures open { WasOpen S.Store conn.old conn.new result }
+    ensures asks { Asks S.Store conn.old conn.new result }
     ensures opens { ServesUnlessFailed S.Store conn.new result }
     ensures fault { IfErr result IsStoreFault }
     ensures place { OverWorlds S.Store conn.old conn.new (KnowsArchivedPlace result) }
     ensures unrefused { NotRefusedIn S.Store conn.old conn.new result (λ _. ⊤) }
 {
-    match last_archived_row(conn) {
-        Ok(row) => place_behind(row),
-        Err(error) => Err(fault_of(&error)),
-    }
+    place_behind(last_archived_row(conn)?)
 }

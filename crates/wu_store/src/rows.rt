@@ -11,7 +11,8 @@ ghost use Rattle.wu_core.specs.Parameters.{IsParameters};
 ghost use Rattle.wu_core.specs.World.{last_skip};
 ghost use Rattle.wu_schema.specs.Stored.{archived_cells, instance_row, number, number_or_null, text_or_null, parameter_cells, verdict_digits, workunit_row};
 ghost use Rattle.wu_schema.specs.Restoring.{Restores};
-ghost use Rattle.wu_store.specs.Reading.{assimilate_cell, file_delete_cell, mask_cell, outcome_cell, server_state_cell, validate_state_cell, verdicts_cell, IsOutput, columns, progress_cells, IsInput, IsMoment, IsName, IsPlace, IsProgress, IsStoredWorkunit, AreVerdicts, IsNextNumber, IsStoredImport, stored_import_row, AreMoments, AreStoredInstances, IsDeadline, IsHost, IsPlaceToGive, IsStoredArchived, IsStoredInstance, MayBeInstance, moment_cells, row_before, state_cells};
+ghost use Rattle.wu_store.specs.Reading.{assimilate_cell, file_delete_cell, mask_cell, outcome_cell, server_state_cell, validate_state_cell, verdicts_cell, columns, progress_cells, IsProgress, IsStoredImport, stored_import_row, IsPlaceToGive, moment_cells, row_before, state_cells, HasMoments};
+ghost use Rattle.wu_core.specs.Storable.{IsOutput, IsInput, IsMoment, IsName, IsPlace, IsStoredWorkunit, AreVerdicts, IsNextNumber, AreStoredInstances, IsDeadline, IsHost, IsStoredArchived, IsStoredInstance, MayBeInstance};
 
 use sqlite::Row;
 use sqlite::types::ValueRef;
@@ -234,7 +235,7 @@ fn deadline_at(row: &Row, at: usize) -> Result<Option<Deadline>, Fault>
 /// The moments in the three columns from the sixth on.
 fn moments_from(row: &Row) -> Result<Moments, Fault>
     requires { 9 ≤ length row.now }
-    ensures { Restores moment_cells AreMoments (columns row.now 5 3) result }
+    ensures { Restores moment_cells HasMoments (columns row.now 5 3) result }
 {
     Ok(Moments {
         sent_at: moment_at(row, 5)?,

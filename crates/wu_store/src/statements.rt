@@ -1,17 +1,21 @@
 //! The statements, each text in one function.
 
-ghost use Rattle.std.specs.Prelude.{◌≡◌, ◌<◌, ◌≤◌, ◌^◌, [], pos, option_map, IfOk, IfErr, OnOk};
+ghost use Rattle.std.specs.Prelude.{◌≡◌, ◌<◌, ◌≤◌, ◌^◌, ⊤, [], Some, pos, option_map, IfOk, IfErr, OnOk};
 ghost use Rattle.wu_store.specs.Changing.{import_of_change};
-ghost use Rattle.wu_store.specs.Changes.{bare, with_placed, without_workunit, with_import, with_next, AddsArchived, AddsGrant, AddsInstance, Credits, PutsGrant, WasFree};
-ghost use Rattle.wu_schema.specs.Calls.{Reads, Answers, AnswersRows, OnlyFails, ServesAfter, StaysAfter, Writes, Does, Changes};
+ghost use Rattle.wu_store.specs.Changes.{with_placed, without_workunit, with_import, with_next, AddsArchived, AddsGrant, AddsInstance, Credits, PutsGrant, WasFree};
+ghost use Rattle.wu_core.specs.Storable.{bare};
+ghost use Rattle.wu_core.specs.declared.fault.Fault.TheVariants.{NotAProject};
+ghost use Rattle.wu_schema.specs.Asking.{Asks};
+ghost use Rattle.wu_schema.specs.Calls.{Answers, AnswersRows, Writes, Does, Changes};
+ghost use Rattle.wu_store.specs.Loading.{IsStoreFault, NotRefusedIn, ServesUnlessFailed};
 ghost use Rattle.wu_store.specs.Answers.{all_archived, all_credit, all_hosts, all_rows, AnswersSoMany, count_in, has_name, import_count, instance_rows_of, kept_of, last_archived, last_grant, next_row, result_count, row_above, row_named, row_numbered, was_archived, workunit_count};
 
 use crate::changes::Import;
 use sqlite::{Alter, Connection, Error, Row, Transaction, params};
 use wu_core::{
-    Archived, Deadline, Grant, ImportKind, Instance, Moment, Name, ServerState, Workunit,
+    Archived, Deadline, Fault, Grant, ImportKind, Instance, Moment, Name, ServerState, Workunit,
 };
-use wu_schema::execute;
+use wu_schema::{execute, query};
 
 /// A number of the schema, none of which is above a signed 64-bit number's range.
 fn signed(number: u64) -> Result<i64, Error>
@@ -20,6 +24,16 @@ fn signed(number: u64) -> Result<i64, Error>
     ensures beyond { IfErr result (λ _. 2 ^ 63 ≤ number) }
 {
     i64::try_from(number).map_err(|_| Error::IntegralValueOutOfRange(0))
+}
+
+/// A number as a key of the schema. From 2^63 on it is `NotAProject`, as no row has it.
+fn key_of(number: u64) -> Result<i64, Fault>
+    ensures value { IfOk result (λ n. n ≡ pos number) }
+    ensures within { IfOk result (λ _. number < 2 ^ 63) }
+    ensures beyond { IfErr result (λ _. 2 ^ 63 ≤ number) }
+    ensures refused { IfErr result (λ fault. fault ≡ NotAProject) }
+{
+    i64::try_from(number).map_err(|_| Fault::NotAProject)
 }
 
 /// The seconds of a moment.
@@ -65,26 +79,30 @@ pub fn import_rows<S: Alter>(
     conn: &mut Connection<S>,
     kind: ImportKind,
     name: &Name,
-) -> Result<Vec<Row>, Error>
-    ensures reads { Reads S.Store conn.old conn.new result }
+) -> Result<Vec<Row>, Fault>
+    ensures asks { Asks S.Store conn.old conn.new result }
+    ensures opens { ServesUnlessFailed S.Store conn.new result }
     ensures answers { AnswersRows S.Store conn.old conn.new result (kept_of kind name.now) }
-    ensures told { OnlyFails S.Store conn.old conn.new result }
-    ensures serves { ServesAfter S.Store conn.old conn.new result }
+    ensures fault { IfErr result IsStoreFault }
+    ensures unrefused { NotRefusedIn S.Store conn.old conn.new result (λ _. ⊤) }
 {
-    conn.query_all(
+    query(
+        conn,
         "SELECT template, content, first_number, verdicts FROM import WHERE kind = ?1 AND name = ?2",
         params![kind.code(), name.as_str()],
     )
 }
 
 /// Whether a workunit of this name is present.
-pub fn has_workunit<S: Alter>(conn: &mut Connection<S>, name: &Name) -> Result<bool, Error>
-    ensures reads { Reads S.Store conn.old conn.new result }
+pub fn has_workunit<S: Alter>(conn: &mut Connection<S>, name: &Name) -> Result<bool, Fault>
+    ensures asks { Asks S.Store conn.old conn.new result }
+    ensures opens { ServesUnlessFailed S.Store conn.new result }
     ensures answers { Answers S.Store conn.old conn.new result (has_name name.now) }
-    ensures told { OnlyFails S.Store conn.old conn.new result }
-    ensures serves { ServesAfter S.Store conn.old conn.new result }
+    ensures fault { IfErr result IsStoreFault }
+    ensures unrefused { NotRefusedIn S.Store conn.old conn.new result (λ _. ⊤) }
 {
-    let rows = conn.query_all(
+    let rows = query(
+        conn,
         "SELECT number FROM workunit WHERE name = ?1",
         params![name.as_str()],
     )?;
@@ -92,132 +110,131 @@ pub fn has_workunit<S: Alter>(conn: &mut Connection<S>, name: &Name) -> Result<b
 }
 
 /// Whether a workunit of this name was archived.
-pub fn has_archived<S: Alter>(conn: &mut Connection<S>, name: &Name) -> Result<bool, Error>
-    ensures reads { Reads S.Store conn.old conn.new result }
+pub fn has_archived<S: Alter>(conn: &mut Connection<S>, name: &Name) -> Result<bool, Fault>
+    ensures asks { Asks S.Store conn.old conn.new result }
+    ensures opens { ServesUnlessFailed S.Store conn.new result }
     ensures answers { Answers S.Store conn.old conn.new result (was_archived name.now) }
-    ensures told { OnlyFails S.Store conn.old conn.new result }
-    ensures serves { ServesAfter S.Store conn.old conn.new result }
+    ensures fault { IfErr result IsStoreFault }
+    ensures unrefused { NotRefusedIn S.Store conn.old conn.new result (λ _. ⊤) }
 {
-    let rows = conn.query_all(
+    let rows = query(
+        conn,
         "SELECT number FROM archived WHERE name = ?1",
         params![name.as_str()],
     )?;
     Ok(!rows.is_empty())
 }
 
-/// The row of the project's next number.
-pub fn next_number_row<S: Alter>(conn: &mut Connection<S>) -> Result<Row, Error>
-    ensures reads { Reads S.Store conn.old conn.new result }
-    ensures answers { Answers S.Store conn.old conn.new result next_row }
-    ensures told { OnlyFails S.Store conn.old conn.new result }
-    ensures serves { ServesAfter S.Store conn.old conn.new result }
+/// The row of the project's next number, or none where the table has no row.
+pub fn next_number_row<S: Alter>(conn: &mut Connection<S>) -> Result<Option<Row>, Fault>
+    ensures asks { Asks S.Store conn.old conn.new result }
+    ensures opens { ServesUnlessFailed S.Store conn.new result }
+    ensures answers { Answers S.Store conn.old conn.new result (λ world. Some (next_row world)) }
+    ensures fault { IfErr result IsStoreFault }
+    ensures unrefused { NotRefusedIn S.Store conn.old conn.new result (λ _. ⊤) }
 {
-    conn.query_row("SELECT next_number FROM project", &[])
+    let mut rows = query(conn, "SELECT next_number FROM project", &[])?;
+    Ok(rows.pop())
 }
 
 /// The rows of all workunits, in order of number.
-pub fn workunit_rows<S: Alter>(conn: &mut Connection<S>) -> Result<Vec<Row>, Error>
-    ensures reads { Reads S.Store conn.old conn.new result }
+pub fn workunit_rows<S: Alter>(conn: &mut Connection<S>) -> Result<Vec<Row>, Fault>
+    ensures asks { Asks S.Store conn.old conn.new result }
+    ensures opens { ServesUnlessFailed S.Store conn.new result }
     ensures answers { AnswersRows S.Store conn.old conn.new result all_rows }
-    ensures told { OnlyFails S.Store conn.old conn.new result }
-    ensures serves { ServesAfter S.Store conn.old conn.new result }
+    ensures fault { IfErr result IsStoreFault }
+    ensures unrefused { NotRefusedIn S.Store conn.old conn.new result (λ _. ⊤) }
 {
-    conn.query_all(
+    query(
+        conn,
         "SELECT number, name, min_quorum, target_nresults, max_error_results, max_total_results, max_success_results, delay_bound, credit, input, error_mask, canonical, assimilate, file_delete, done_at FROM workunit ORDER BY number",
         &[],
     )
 }
 
-/// The row of the workunit of this number, or none. A number from 2^63 on is an error.
-pub fn workunit_row<S: Alter>(conn: &mut Connection<S>, number: u64) -> Result<Option<Row>, Error>
-    ensures reads { Reads S.Store conn.old conn.new result }
+/// The row of the workunit of this number, or none. A number from 2^63 on is `NotAProject`.
+pub fn workunit_row<S: Alter>(conn: &mut Connection<S>, number: u64) -> Result<Option<Row>, Fault>
+    ensures asks { Asks S.Store conn.old conn.new result }
+    ensures opens { number < 2 ^ 63 → ServesUnlessFailed S.Store conn.new result }
     ensures answers { Answers S.Store conn.old conn.new result (row_numbered number) }
-    ensures told { number < 2 ^ 63 → OnlyFails S.Store conn.old conn.new result }
-    ensures serves { StaysAfter S.Store conn.old conn.new result }
-    ensures asked { number < 2 ^ 63 → ServesAfter S.Store conn.old conn.new result }
+    ensures fault { IfErr result IsStoreFault }
+    ensures unrefused { NotRefusedIn S.Store conn.old conn.new result (λ _. number < 2 ^ 63) }
 {
-    let number = match signed(number) {
-        Ok(number) => number,
-        Err(error) => return Err(error),
-    };
-    let found = conn.query_all(
+    let number = key_of(number)?;
+    let mut rows = query(
+        conn,
         "SELECT number, name, min_quorum, target_nresults, max_error_results, max_total_results, max_success_results, delay_bound, credit, input, error_mask, canonical, assimilate, file_delete, done_at FROM workunit WHERE number = ?1",
         params![number],
-    );
-    match found {
-        Ok(mut rows) => Ok(rows.pop()),
-        Err(error) => Err(error),
-    }
+    )?;
+    Ok(rows.pop())
 }
 
 /// The row of the workunit of this name, or none.
 pub fn workunit_row_named<S: Alter>(
     conn: &mut Connection<S>,
     name: &Name,
-) -> Result<Option<Row>, Error>
-    ensures reads { Reads S.Store conn.old conn.new result }
+) -> Result<Option<Row>, Fault>
+    ensures asks { Asks S.Store conn.old conn.new result }
+    ensures opens { ServesUnlessFailed S.Store conn.new result }
     ensures answers { Answers S.Store conn.old conn.new result (row_named name.now) }
-    ensures told { OnlyFails S.Store conn.old conn.new result }
-    ensures serves { ServesAfter S.Store conn.old conn.new result }
+    ensures fault { IfErr result IsStoreFault }
+    ensures unrefused { NotRefusedIn S.Store conn.old conn.new result (λ _. ⊤) }
 {
-    let mut rows = conn.query_all(
+    let mut rows = query(
+        conn,
         "SELECT number, name, min_quorum, target_nresults, max_error_results, max_total_results, max_success_results, delay_bound, credit, input, error_mask, canonical, assimilate, file_delete, done_at FROM workunit WHERE name = ?1",
         params![name.as_str()],
     )?;
     Ok(rows.pop())
 }
 
-/// The row of the workunit with the least number above this one, or none. A number from 2^63 on is an error.
+/// The row of the workunit with the least number above this one, or none. A number from 2^63 on is `NotAProject`.
 pub fn workunit_row_above<S: Alter>(
     conn: &mut Connection<S>,
     number: u64,
-) -> Result<Option<Row>, Error>
-    ensures reads { Reads S.Store conn.old conn.new result }
+) -> Result<Option<Row>, Fault>
+    ensures asks { Asks S.Store conn.old conn.new result }
+    ensures opens { number < 2 ^ 63 → ServesUnlessFailed S.Store conn.new result }
     ensures answers { Answers S.Store conn.old conn.new result (row_above number) }
-    ensures told { number < 2 ^ 63 → OnlyFails S.Store conn.old conn.new result }
-    ensures serves { StaysAfter S.Store conn.old conn.new result }
-    ensures asked { number < 2 ^ 63 → ServesAfter S.Store conn.old conn.new result }
+    ensures fault { IfErr result IsStoreFault }
+    ensures unrefused { NotRefusedIn S.Store conn.old conn.new result (λ _. number < 2 ^ 63) }
 {
-    let number = match signed(number) {
-        Ok(number) => number,
-        Err(error) => return Err(error),
-    };
-    let found = conn.query_all(
+    let number = key_of(number)?;
+    let mut rows = query(
+        conn,
         "SELECT number, name, min_quorum, target_nresults, max_error_results, max_total_results, max_success_results, delay_bound, credit, input, error_mask, canonical, assimilate, file_delete, done_at FROM workunit WHERE number > ?1 ORDER BY number LIMIT 1",
         params![number],
-    );
-    match found {
-        Ok(mut rows) => Ok(rows.pop()),
-        Err(error) => Err(error),
-    }
+    )?;
+    Ok(rows.pop())
 }
 
 /// The rows of the instances of the workunit of this number, in order of theirs, from the third column on.
-/// A number from 2^63 on is an error.
-pub fn instance_rows<S: Alter>(conn: &mut Connection<S>, workunit: u64) -> Result<Vec<Row>, Error>
-    ensures reads { Reads S.Store conn.old conn.new result }
+/// A number from 2^63 on is `NotAProject`.
+pub fn instance_rows<S: Alter>(conn: &mut Connection<S>, workunit: u64) -> Result<Vec<Row>, Fault>
+    ensures asks { Asks S.Store conn.old conn.new result }
+    ensures opens { workunit < 2 ^ 63 → ServesUnlessFailed S.Store conn.new result }
     ensures answers { AnswersRows S.Store conn.old conn.new result (instance_rows_of workunit) }
-    ensures told { workunit < 2 ^ 63 → OnlyFails S.Store conn.old conn.new result }
-    ensures serves { StaysAfter S.Store conn.old conn.new result }
+    ensures fault { IfErr result IsStoreFault }
+    ensures unrefused { NotRefusedIn S.Store conn.old conn.new result (λ _. workunit < 2 ^ 63) }
 {
-    let workunit = match signed(workunit) {
-        Ok(workunit) => workunit,
-        Err(error) => return Err(error),
-    };
-    conn.query_all(
+    let workunit = key_of(workunit)?;
+    query(
+        conn,
         "SELECT server_state, outcome, validate_state, file_delete, host, sent_at, deadline, received_at, output FROM result WHERE workunit = ?1 ORDER BY n",
         params![workunit],
     )
 }
 
 /// The row of the last grant's place, or none.
-pub fn last_grant_row<S: Alter>(conn: &mut Connection<S>) -> Result<Option<Row>, Error>
-    ensures reads { Reads S.Store conn.old conn.new result }
+pub fn last_grant_row<S: Alter>(conn: &mut Connection<S>) -> Result<Option<Row>, Fault>
+    ensures asks { Asks S.Store conn.old conn.new result }
+    ensures opens { ServesUnlessFailed S.Store conn.new result }
     ensures answers { Answers S.Store conn.old conn.new result last_grant }
-    ensures told { OnlyFails S.Store conn.old conn.new result }
-    ensures serves { ServesAfter S.Store conn.old conn.new result }
+    ensures fault { IfErr result IsStoreFault }
+    ensures unrefused { NotRefusedIn S.Store conn.old conn.new result (λ _. ⊤) }
 {
-    let mut found = conn.query_all(
+    let mut found = query(
+        conn,
         "SELECT seq FROM credit_grant ORDER BY seq DESC LIMIT 1",
         &[],
     )?;
@@ -225,93 +242,111 @@ pub fn last_grant_row<S: Alter>(conn: &mut Connection<S>) -> Result<Option<Row>,
 }
 
 /// The row of the last archived workunit's place, or none.
-pub fn last_archived_row<S: Alter>(conn: &mut Connection<S>) -> Result<Option<Row>, Error>
-    ensures reads { Reads S.Store conn.old conn.new result }
+pub fn last_archived_row<S: Alter>(conn: &mut Connection<S>) -> Result<Option<Row>, Fault>
+    ensures asks { Asks S.Store conn.old conn.new result }
+    ensures opens { ServesUnlessFailed S.Store conn.new result }
     ensures answers { Answers S.Store conn.old conn.new result last_archived }
-    ensures told { OnlyFails S.Store conn.old conn.new result }
-    ensures serves { ServesAfter S.Store conn.old conn.new result }
+    ensures fault { IfErr result IsStoreFault }
+    ensures unrefused { NotRefusedIn S.Store conn.old conn.new result (λ _. ⊤) }
 {
-    let mut found = conn.query_all("SELECT seq FROM archived ORDER BY seq DESC LIMIT 1", &[])?;
+    let mut found = query(
+        conn,
+        "SELECT seq FROM archived ORDER BY seq DESC LIMIT 1",
+        &[],
+    )?;
     Ok(found.pop())
 }
 
 /// The rows of all hosts, in order of their names' bytes.
-pub fn host_rows<S: Alter>(conn: &mut Connection<S>) -> Result<Vec<Row>, Error>
-    ensures reads { Reads S.Store conn.old conn.new result }
+pub fn host_rows<S: Alter>(conn: &mut Connection<S>) -> Result<Vec<Row>, Fault>
+    ensures asks { Asks S.Store conn.old conn.new result }
+    ensures opens { ServesUnlessFailed S.Store conn.new result }
     ensures answers { AnswersRows S.Store conn.old conn.new result all_hosts }
-    ensures told { OnlyFails S.Store conn.old conn.new result }
-    ensures serves { ServesAfter S.Store conn.old conn.new result }
+    ensures fault { IfErr result IsStoreFault }
+    ensures unrefused { NotRefusedIn S.Store conn.old conn.new result (λ _. ⊤) }
 {
-    conn.query_all("SELECT name, total, grants FROM host ORDER BY name", &[])
+    query(
+        conn,
+        "SELECT name, total, grants FROM host ORDER BY name",
+        &[],
+    )
 }
 
 /// The rows of all archived workunits, in order of their archiving, from the third column on.
-pub fn archived_rows<S: Alter>(conn: &mut Connection<S>) -> Result<Vec<Row>, Error>
-    ensures reads { Reads S.Store conn.old conn.new result }
+pub fn archived_rows<S: Alter>(conn: &mut Connection<S>) -> Result<Vec<Row>, Fault>
+    ensures asks { Asks S.Store conn.old conn.new result }
+    ensures opens { ServesUnlessFailed S.Store conn.new result }
     ensures answers { AnswersRows S.Store conn.old conn.new result all_archived }
-    ensures told { OnlyFails S.Store conn.old conn.new result }
-    ensures serves { ServesAfter S.Store conn.old conn.new result }
+    ensures fault { IfErr result IsStoreFault }
+    ensures unrefused { NotRefusedIn S.Store conn.old conn.new result (λ _. ⊤) }
 {
-    conn.query_all(
+    query(
+        conn,
         "SELECT number, name, error_mask, canonical, output, done_at FROM archived ORDER BY seq",
         &[],
     )
 }
 
 /// The rows of the credit of all grants, in order of their making.
-pub fn credit_rows<S: Alter>(conn: &mut Connection<S>) -> Result<Vec<Row>, Error>
-    ensures reads { Reads S.Store conn.old conn.new result }
+pub fn credit_rows<S: Alter>(conn: &mut Connection<S>) -> Result<Vec<Row>, Fault>
+    ensures asks { Asks S.Store conn.old conn.new result }
+    ensures opens { ServesUnlessFailed S.Store conn.new result }
     ensures answers { AnswersRows S.Store conn.old conn.new result all_credit }
-    ensures told { OnlyFails S.Store conn.old conn.new result }
-    ensures serves { ServesAfter S.Store conn.old conn.new result }
+    ensures fault { IfErr result IsStoreFault }
+    ensures unrefused { NotRefusedIn S.Store conn.old conn.new result (λ _. ⊤) }
 {
-    conn.query_all("SELECT credit FROM credit_grant ORDER BY seq", &[])
+    query(conn, "SELECT credit FROM credit_grant ORDER BY seq", &[])
 }
 
 /// A row for each workunit, in some order.
-pub fn workunit_number_rows<S: Alter>(conn: &mut Connection<S>) -> Result<Vec<Row>, Error>
-    ensures reads { Reads S.Store conn.old conn.new result }
+pub fn workunit_number_rows<S: Alter>(conn: &mut Connection<S>) -> Result<Vec<Row>, Fault>
+    ensures asks { Asks S.Store conn.old conn.new result }
+    ensures opens { ServesUnlessFailed S.Store conn.new result }
     ensures answers { AnswersSoMany S.Store conn.old conn.new result workunit_count }
-    ensures told { OnlyFails S.Store conn.old conn.new result }
-    ensures serves { ServesAfter S.Store conn.old conn.new result }
+    ensures fault { IfErr result IsStoreFault }
+    ensures unrefused { NotRefusedIn S.Store conn.old conn.new result (λ _. ⊤) }
 {
-    conn.query_all("SELECT number FROM workunit", &[])
+    query(conn, "SELECT number FROM workunit", &[])
 }
 
 /// A row for each instance, in some order.
-pub fn result_number_rows<S: Alter>(conn: &mut Connection<S>) -> Result<Vec<Row>, Error>
-    ensures reads { Reads S.Store conn.old conn.new result }
+pub fn result_number_rows<S: Alter>(conn: &mut Connection<S>) -> Result<Vec<Row>, Fault>
+    ensures asks { Asks S.Store conn.old conn.new result }
+    ensures opens { ServesUnlessFailed S.Store conn.new result }
     ensures answers { AnswersSoMany S.Store conn.old conn.new result result_count }
-    ensures told { OnlyFails S.Store conn.old conn.new result }
-    ensures serves { ServesAfter S.Store conn.old conn.new result }
+    ensures fault { IfErr result IsStoreFault }
+    ensures unrefused { NotRefusedIn S.Store conn.old conn.new result (λ _. ⊤) }
 {
-    conn.query_all("SELECT n FROM result", &[])
+    query(conn, "SELECT n FROM result", &[])
 }
 
 /// A row for each instance in this state, in some order.
 pub fn result_number_rows_in<S: Alter>(
     conn: &mut Connection<S>,
     state: ServerState,
-) -> Result<Vec<Row>, Error>
-    ensures reads { Reads S.Store conn.old conn.new result }
+) -> Result<Vec<Row>, Fault>
+    ensures asks { Asks S.Store conn.old conn.new result }
+    ensures opens { ServesUnlessFailed S.Store conn.new result }
     ensures answers { AnswersSoMany S.Store conn.old conn.new result (count_in state) }
-    ensures told { OnlyFails S.Store conn.old conn.new result }
-    ensures serves { ServesAfter S.Store conn.old conn.new result }
+    ensures fault { IfErr result IsStoreFault }
+    ensures unrefused { NotRefusedIn S.Store conn.old conn.new result (λ _. ⊤) }
 {
-    conn.query_all(
+    query(
+        conn,
         "SELECT n FROM result WHERE server_state = ?1",
         params![state.code()],
     )
 }
 
 /// A row for each import, in some order.
-pub fn import_kind_rows<S: Alter>(conn: &mut Connection<S>) -> Result<Vec<Row>, Error>
-    ensures reads { Reads S.Store conn.old conn.new result }
+pub fn import_kind_rows<S: Alter>(conn: &mut Connection<S>) -> Result<Vec<Row>, Fault>
+    ensures asks { Asks S.Store conn.old conn.new result }
+    ensures opens { ServesUnlessFailed S.Store conn.new result }
     ensures answers { AnswersSoMany S.Store conn.old conn.new result import_count }
-    ensures told { OnlyFails S.Store conn.old conn.new result }
-    ensures serves { ServesAfter S.Store conn.old conn.new result }
+    ensures fault { IfErr result IsStoreFault }
+    ensures unrefused { NotRefusedIn S.Store conn.old conn.new result (λ _. ⊤) }
 {
-    conn.query_all("SELECT kind FROM import", &[])
+    query(conn, "SELECT kind FROM import", &[])
 }
 
 /// Adds the row of a workunit at its place in order of number, without its instances. The table's key refuses a number

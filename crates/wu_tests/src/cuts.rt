@@ -25,7 +25,7 @@ fn spilling() -> Options {
 /// Else it was lost, which is told as `Broken`.
 fn is_adopted_again<S: Alter + Drop>(rt: &(impl Abort + AllocGlobal), project: Project<S>) -> bool {
     assert!(rt; project.ended());
-    match Project::adopt(project.release()) {
+    match project.begin_again() {
         Ok(mut again) => {
             shows(rt, &mut again, ONE_WORKUNIT);
             true

@@ -6,15 +6,14 @@ use crate::setting::{
 use sqlite::{Connection, Error, ErrorCode, MemStore};
 use std::process::Abort;
 use wu_core::LONGEST_INPUT;
-use wu_store::workunit_rows;
 
 /// Two jobs, whose batch and whose view take more than one step.
 const TWO_JOBS: &[u8] = b"name,input\njob_2,\njob_3,\n";
 
-/// Sees that the question for all workunits is refused for the limit on steps.
+/// Sees that a question for all workunits is refused for the limit on steps.
 fn is_interrupted(rt: &impl Abort, conn: &mut Connection<MemStore>) {
     let was_interrupted = matches!(
-        workunit_rows(conn),
+        conn.query_all("SELECT name FROM workunit", &[]),
         Err(Error::SqliteFailure(ErrorCode::OperationInterrupted))
     );
     assert!(rt; was_interrupted);

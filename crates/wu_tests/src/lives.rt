@@ -6,15 +6,13 @@
 use crate::disks::{empty_files, files_of};
 use crate::setting::{
     FIRST_ADDED, ONE_JOB, ONE_WORKUNIT, SECOND_JOB, TWO_WORKUNITS, adopted, batch, imports,
-    is_bytes, is_count, is_run, opened, shows, shows_lines,
+    is_bytes, is_count, opened, shows, shows_lines,
 };
 use sqlite::{Alter, Connection, FileStore, Files, Options};
 use sqlite_disk::{Crash, Disk};
 use std::process::Abort;
-use wu_drive::{Command, Project, Run};
-use wu_lives::{
-    adopt_stop_and_adopt, drive_stop_and_open, live, live_all, open_and_adopt, stop_and_open,
-};
+use wu_drive::{Command, Project};
+use wu_lives::{adopt_stop_and_adopt, live_all, open_and_adopt};
 
 /// What the batch of the other file prints after the first.
 const SECOND_ADDED: &str = "batch b2: 1 added, first 2\n";
@@ -33,16 +31,6 @@ pub fn begun<D: Disk + Drop>(
     files: Files<D>,
 ) -> Project<FileStore<D>> {
     resumed(rt, opened(rt, files))
-}
-
-/// Sees that a run did its one command, the first batch, and wrote its text.
-fn did_first(rt: &impl Abort, run: Run, out: &[u8]) {
-    let whole = Run {
-        acknowledged: 1,
-        end: None,
-    };
-    is_run(rt, run, whole);
-    is_bytes(rt, out, FIRST_ADDED.as_bytes());
 }
 
 /// Sees that the project shows no workunit, takes the first batch, and gives the connection back.
@@ -72,18 +60,6 @@ fn goes_on<D: Disk + Drop>(
     takes_both(rt, &mut project, shown);
 }
 
-/// Stops after a batch, and goes on.
-fn finds_a_batch<D: Crash + Drop>(rt: &(impl Abort + AllocGlobal), files: Files<D>) {
-    let conn = takes_first(rt, begun(rt, files));
-    let again = stop_and_open(rt.alloc(), conn, Options::new(2));
-    goes_on(rt, resumed(rt, again.expect(rt, "an open")), ONE_WORKUNIT);
-}
-
-#[test]
-fn a_batch_is_found_after_a_stop(rt: HostRuntime) {
-    finds_a_batch(&rt, empty_files(&rt));
-}
-
 /// A list of one batch.
 fn life(rt: &(impl Abort + AllocGlobal), name: &str, file: &[u8]) -> Vec<Command> {
     let mut commands = Vec::new(rt.alloc());
@@ -92,38 +68,6 @@ fn life(rt: &(impl Abort + AllocGlobal), name: &str, file: &[u8]) -> Vec<Command
         .ok()
         .expect(rt, "memory");
     commands
-}
-
-/// Runs a list, stops, and goes on.
-fn finds_a_list<D: Crash + Drop>(rt: &(impl Abort + AllocGlobal), files: Files<D>) {
-    let mut out = Vec::new(rt.alloc());
-    let project = begun(rt, files);
-    let list = life(rt, "b1", ONE_JOB);
-    let again = drive_stop_and_open(rt.alloc(), project, &list, &mut out, Options::new(2));
-    let (run, conn) = again.expect(rt, "an open");
-    did_first(rt, run, out.as_slice());
-    goes_on(rt, resumed(rt, conn), ONE_WORKUNIT);
-}
-
-#[test]
-fn a_list_is_found_after_a_stop(rt: HostRuntime) {
-    finds_a_list(&rt, empty_files(&rt));
-}
-
-/// Lives a life, and goes on in its session.
-fn lives_on<D: Crash + Drop>(rt: &(impl Abort + AllocGlobal), files: Files<D>) {
-    let mut out = Vec::new(rt.alloc());
-    let project = begun(rt, files);
-    let list = life(rt, "b1", ONE_JOB);
-    let lived = live(rt.alloc(), project, &list, &mut out, Options::new(2));
-    let (run, project) = lived.expect(rt, "a life");
-    did_first(rt, run, out.as_slice());
-    goes_on(rt, project, ONE_WORKUNIT);
-}
-
-#[test]
-fn a_session_goes_on_after_a_stop(rt: HostRuntime) {
-    lives_on(&rt, empty_files(&rt));
 }
 
 /// Lives two lives, of a batch each.

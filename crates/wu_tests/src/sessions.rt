@@ -1,36 +1,15 @@
-//! A session that has ended, numbers that come to their end, and passes that need no write.
+//! Numbers that come to their end, and passes that need no write.
 
 use crate::disks::{MOST_CALLS, Side, copies, empty_files, files_of};
 use crate::lives::begun;
 use crate::setting::{
-    FIRST_ADDED, ONE_JOB, ONE_WORKUNIT, SECOND_JOB, adopted, fresh, imports, named, noon, prints,
-    runs, shows,
+    FIRST_ADDED, ONE_JOB, SECOND_JOB, adopted, fresh, imports, noon, prints, runs,
 };
 use sqlite::{Alter, Files, Options};
 use sqlite_disk::{Disk, Fuse, Memory};
 use std::process::Abort;
 use wu_drive::{Command, Project};
 use wu_lives::open_and_adopt;
-
-#[test]
-fn a_session_that_ended_says_so_first(rt: HostRuntime) {
-    let mut project = fresh(&rt);
-    imports(&rt, &mut project, "b1", ONE_JOB, FIRST_ADDED);
-    assert!(rt; !project.ended());
-    project.end_session();
-    assert!(rt; project.ended());
-    let workunit = named(&rt, "job_1");
-    prints(&rt, &mut project, Command::Cancel { workunit }, "F16 Ended");
-    prints(
-        &rt,
-        &mut project,
-        Command::Validate { limit: 0 },
-        "F16 Ended",
-    );
-    prints(&rt, &mut project, Command::Upgrade, "F16 Ended");
-    imports(&rt, &mut project, "b1", b"", "F16 Ended");
-    shows(&rt, &mut adopted(&rt, project.release()), ONE_WORKUNIT);
-}
 
 #[test]
 fn numbers_end_at_a_thousand_million(rt: HostRuntime) {

@@ -1,17 +1,18 @@
 //! What a session does: its adoption, its commands, its release.
 
-ghost use Rattle.std.specs.Prelude.{◌≡◌, ◌<◌, ◌≤◌, ℕ, true, false, Err, IfErr, IfOk, IsErrAnd, IsTrue, OnOk};
-ghost use Rattle.sqlite.specs.State.{HasCleanDisk};
+ghost use Rattle.std.specs.Prelude.{◌≡◌, true, false, Err, IfErr, IfOk, IsErrAnd, IsTrue, OnOk};
 ghost use Rattle.sqlite.specs.Held.{state};
-ghost use Rattle.wu_passes.specs.Machine.{has_right_limits, present_version};
-ghost use Rattle.wu_passes.specs.Planning.{IsProject, NeverEnded, OpenOrFails, PlansFor, request_of};
-ghost use Rattle.wu_store.specs.Loading.{IsRead, KeepsTables, NotRefusedIn, OverWorlds, ServesUnlessFailed};
-ghost use Rattle.wu_passes.specs.Standing.{FindsKnown, FindsWorld, GoesBackRefused, IsAdoptionFault, IsCutBy, KeepsDoubt, KeepsFound, KeepsWhole, LeavesFresh, MakesBeside, MakesFresh, MayEnd, RefusesOnly, RefusesWhole, TellsStored};
-ghost use Rattle.wu_passes.specs.Projects.{AdoptsBeside, AdoptsFresh, AdoptsKnown, AdoptsWhole, AdoptsWorld, AnswersEnded, CarriesOut, ComesBack, connection_of, DoubtsStill, GivesBack, GoesStill, has_ended, IsLater, IsOpen, IsOver, IsUnlimited, KeepsLimit, NeedsOpen, PlansOn, ReadsUnrefused, RefusesAdoption, RefusesLimit, RefusesStanding, RunsOn, ServesAgain, ServesOn, ServesRight, state_of, StaysUnchanged, TellsStoredLater, TellsWhy};
+ghost use Rattle.wu_machine.specs.Machine.{has_right_limits};
+ghost use Rattle.wu_passes.specs.Planning.{NeverEnded, PlansFor};
+ghost use Rattle.wu_machine.specs.Commands.{request_of};
+ghost use Rattle.wu_machine.specs.Sound.{IsProject};
+ghost use Rattle.wu_store.specs.Loading.{Asks, NotRefusedIn, OverWorlds, ServesUnlessFailed};
+ghost use Rattle.wu_passes.specs.Standing.{IsCutBy, KeepsDoubt, MayEnd};
+ghost use Rattle.wu_passes.specs.Adopting.{Adopts, RefusesAdoption};
+ghost use Rattle.wu_passes.specs.Projects.{AnswersEnded, AsksOn, CarriesOut, connection_of, FailsAgain, GoesOnAgain, GoesStill, has_ended, IsOver, KeepsLimit, LeavesUntouched, PlansOn, ReadsUnrefused, RefusesLimit, RunsOn, ServesOn, ServesRight, state_of, TellsWhy};
 
 use crate::batch::plan_batch;
 use crate::cancel::plan_cancel;
-use crate::command::{Answer, Command};
 use crate::commit::change_all;
 use crate::files::{plan_reported, plan_sent};
 use crate::imports::Plan;
@@ -21,31 +22,26 @@ use crate::upgrade::{check_version, plan_upgrade};
 use sqlite::{Alter, Connection};
 use std::alloc::Global;
 use wu_core::Fault;
+use wu_machine::{Answer, Command};
 use wu_schema::{create, version_of};
 use wu_store::Change;
 
-/// Finds the project of the database, or makes a fresh one where none of its tables is there.
+/// Finds the project of the database, or makes a fresh one where none of its tables is there; a limit on steps is taken
+/// off.
+///
+/// A connection inside a transaction stays as it was.
 fn find_or_create<S: Alter>(conn: &mut Connection<S>) -> Result<(), Fault>
-    requires { conn.old.in_transaction ≡ false }
-    ensures mode { conn.new.in_transaction ≡ false }
-    ensures clean { KeepsDoubt (state S.Store conn.old) (state S.Store conn.new) }
-    ensures found { FindsWorld S.Store conn.old conn.new result }
-    ensures made { MakesFresh S.Store conn.old conn.new result }
-    ensures left { LeavesFresh S.Store conn.old conn.new }
-    ensures known { FindsKnown S.Store conn.old conn.new result }
-    ensures later { (version : ℕ) → result ≡ Err (Fault.NewSchema version)
-        → present_version < version }
-    ensures refused { RefusesWhole S.Store conn.old conn.new result }
-    ensures stored { TellsStored S.Store conn.old conn.new result }
-    ensures keeps { KeepsFound S.Store conn.old conn.new }
-    ensures whole { KeepsWhole S.Store conn.old conn.new result }
-    ensures beside { MakesBeside S.Store conn.old conn.new result }
-    ensures back { GoesBackRefused S.Store conn.old conn.new result }
-    ensures only { RefusesOnly S.Store conn.old conn.new result }
-    ensures limit { (state S.Store conn.new).step_limit ≡ (state S.Store conn.old).step_limit }
-    ensures opens { ServesUnlessFailed S.Store conn.new result }
-    ensures told { IfErr result IsAdoptionFault }
+    ensures busy { conn.old.in_transaction ≡ true
+        → (result ≡ Err Fault.NotAProject) × (conn.new ≡ conn.old) }
+    ensures mode { OnOk result (conn.new.in_transaction ≡ false) }
+    ensures adopted { OnOk result (Adopts (state S.Store conn.old) (state S.Store conn.new)) }
+    ensures refused { IfErr result
+        (RefusesAdoption (state S.Store conn.old) (state S.Store conn.new)) }
 {
+    if !conn.is_autocommit() {
+        return Err(Fault::NotAProject);
+    }
+    conn.set_step_limit(None);
     match version_of(conn) {
         Ok(Some(version)) => check_version(version),
         Ok(None) => create(conn),
@@ -78,10 +74,7 @@ fn plan<'a, S: Alter>(
     command: &'a Command,
 ) -> Result<Plan<'a>, Fault>
     requires { has_right_limits (request_of command.now) ≡ true }
-    ensures mode { conn.old.in_transaction ≡ false → conn.new.in_transaction ≡ false }
-    ensures read { IsRead (state S.Store conn.old) (state S.Store conn.new) }
-    ensures same { KeepsTables S.Store conn.old conn.new result }
-    ensures open { OpenOrFails S.Store conn.old conn.new result }
+    ensures asks { Asks S.Store conn.old conn.new result }
     ensures opens { ServesUnlessFailed S.Store conn.new result }
     ensures never { NeverEnded result }
     ensures unrefused { NotRefusedIn S.Store conn.old conn.new result IsProject }
@@ -119,32 +112,14 @@ impl<S: Alter> Project<S> {
     /// A project that is found is not touched, whatever comes of it. A database with none of the project's tables gets
     /// them, in one transaction; tables of other names are left alone. A later version is `NewSchema`, where it is
     /// stored. `NotAProject` is a connection inside a transaction, a taken name, or a table `project` with other rows.
-    /// With each refusal the connection comes back, and is open but after want of memory or a failure of the disk.
+    /// With each refusal the connection comes back, and is open but after `Memory` and `Broken`.
     pub fn adopt(mut conn: Connection<S>) -> Result<Self, (Connection<S>, Fault)>
         ensures busy { conn.in_transaction ≡ true → result ≡ Err (conn, Fault.NotAProject) }
         ensures begins { IfOk result GoesStill }
-        ensures clean { ComesBack result (DoubtsStill S.Store conn) }
-        ensures found { AdoptsWorld S.Store conn result }
-        ensures made { AdoptsFresh S.Store conn result }
-        ensures left { ComesBack result (LeavesFresh S.Store conn) }
-        ensures known { AdoptsKnown S.Store conn result }
-        ensures later { (version : ℕ) → IfErr result (IsLater version) }
-        ensures refused { RefusesAdoption S.Store conn result }
-        ensures stored { (version : ℕ) → IfErr result (TellsStoredLater S.Store conn version) }
-        ensures keeps { ComesBack result (KeepsFound S.Store conn) }
-        ensures whole { AdoptsWhole S.Store conn result }
-        ensures beside { AdoptsBeside S.Store conn result }
-        ensures back { IfErr result (GivesBack S.Store conn) }
-        ensures only { RefusesStanding S.Store conn result }
-        ensures unlimited { IfOk result IsUnlimited }
-        ensures opens { IfOk result IsOpen }
-        ensures serves { conn.in_transaction ≡ false → IfErr result (ServesAgain S.Store) }
-        ensures told { IfErr result (λ refusal. IsAdoptionFault refusal.1) }
+        ensures adopted { IfOk result (λ project. Adopts (state S.Store conn) (state_of project)) }
+        ensures refused { IfErr result (λ refusal.
+            RefusesAdoption (state S.Store conn) (state S.Store refusal.0) refusal.1) }
     {
-        if !conn.is_autocommit() {
-            return Err((conn, Fault::NotAProject));
-        }
-        conn.set_step_limit(None);
         match find_or_create(&mut conn) {
             Ok(()) => Ok(Project {
                 conn,
@@ -161,20 +136,36 @@ impl<S: Alter> Project<S> {
         self.has_ended
     }
 
-    /// Ends the session, and gives its connection back.
+    /// Ends the session, and gives its connection back, in no transaction.
     pub fn release(self) -> Connection<S>
-        ensures { result ≡ connection_of self }
+        ensures same { result ≡ connection_of self }
+        ensures idle { result.in_transaction ≡ false }
     {
         let Project { conn, has_ended: _ } = self;
         conn
     }
 
+    /// Ends the session, and begins another over its connection.
+    ///
+    /// Where a fault ended it and left the connection open, the new one goes on over the world from before, and only
+    /// `Memory` and `Broken` refuse it.
+    pub fn begin_again(self) -> Result<Self, (Connection<S>, Fault)>
+        ensures begins { IfOk result GoesStill }
+        ensures adopted { IfOk result (λ project. Adopts (state_of self) (state_of project)) }
+        ensures refused { IfErr result (λ refusal.
+            RefusesAdoption (state_of self) (state S.Store refusal.0) refusal.1) }
+        ensures goes { IfOk result (GoesOnAgain self) }
+        ensures fails { IfErr result (FailsAgain self) }
+    {
+        Self::adopt(self.release())
+    }
+
     /// Runs a command: its changes in one transaction, then its answer.
     ///
-    /// A pass whose limit or least age is out of range is `BadLimit`, before anything is read. All is computed before the
-    /// transaction begins. A fault before it changes nothing; only `Broken` ends the session
-    /// there. A statement that is refused within it is `NotAProject`, and is rolled back. `Memory` and `Broken` from
-    /// within end the session. After every other fault the connection is open.
+    /// A pass whose limit or least age is out of range is `BadLimit`, and nothing is touched. All is computed before the
+    /// transaction begins; a fault before it leaves the project as it was, and only `Broken` ends the session there. A
+    /// statement that is refused within it is `NotAProject`, and is rolled back; `Memory` and `Broken` from within end the
+    /// session. After Ok, and after each fault of a command with right limits but these two, the connection is open.
     pub fn run(&mut self, alloc: Global, command: &Command) -> Result<Answer, Fault>
         ensures ended { IsOver self.old → AnswersEnded self.old self.new result }
         ensures clean { KeepsDoubt (state_of self.old) (state_of self.new) }
@@ -186,6 +177,7 @@ impl<S: Alter> Project<S> {
         ensures never { GoesStill self.old → NeverEnded result }
         ensures runs { GoesStill self.old → RunsOn self.old self.new command.now result }
         ensures why { GoesStill self.old → TellsWhy self.old self.new command.now result }
+        ensures untouched { LeavesUntouched self.old self.new result }
     {
         if self.has_ended {
             return Err(Fault::Ended);
@@ -201,16 +193,13 @@ impl<S: Alter> Project<S> {
 
     /// What a command will answer and what it changes: all of it that comes before its transaction.
     ///
-    /// A failure of the disk ends the session here, and nothing else does: not want of memory, whatever the command.
+    /// `Broken` ends the session here, and nothing else does: not want of memory, whatever the command.
     fn prepare<'a>(&mut self, alloc: Global, command: &'a Command) -> Result<Plan<'a>, Fault>
         requires still { GoesStill self.old }
         requires right { has_right_limits (request_of command.now) ≡ true }
         ensures ends { IsOver self.new → result ≡ Err Fault.Broken }
         ensures broken { result ≡ Err Fault.Broken → IsOver self.new }
-        ensures read { IsRead (state_of self.old) (state_of self.new) }
-        ensures limit { KeepsLimit self.old self.new }
-        ensures same { StaysUnchanged self.old self.new result }
-        ensures open { NeedsOpen self.old self.new result }
+        ensures asks { AsksOn self.old self.new result }
         ensures opens { ServesOn self.new result }
         ensures never { NeverEnded result }
         ensures unrefused { ReadsUnrefused self.old self.new result }
@@ -239,10 +228,14 @@ impl<S: Alter> Project<S> {
         ensures limit { KeepsLimit self.old self.new }
         ensures never { NeverEnded result }
         ensures done { CarriesOut self.old self.new answer changes.now result }
+        ensures untouched { LeavesUntouched self.old self.new result }
     {
         if changes.is_empty() {
             return Ok(answer);
         }
+        // outside a transaction what is shown is what is committed
+        let is_idle = self.conn.is_autocommit();
+        prove!(is_idle);
         match change_all(&mut self.conn, changes) {
             Ok(()) => Ok(answer),
             Err(Fault::NotAProject) => {

@@ -1,7 +1,7 @@
 //! The summary of a project, within its session.
 
 ghost use Rattle.std.specs.Prelude.{◌≡◌, Err, IfErr};
-ghost use Rattle.wu_store.specs.Loading.{IsRead, IsStoreFault};
+ghost use Rattle.wu_store.specs.Loading.{IsStoreFault};
 
 use crate::project::Project;
 use sqlite::Alter;
@@ -9,19 +9,14 @@ use wu_core::Fault;
 use wu_store::{Summary, summary};
 
 impl<S: Alter> Project<S> {
-    ghost use Rattle.wu_passes.specs.Projects.{AnswersEnded, GoesStill, IsOver, KeepsLimit, ServesOn, state_of, StaysUnchanged, Summarizes, SummarizesUnrefused, WasOpenBefore};
-    ghost use Rattle.wu_passes.specs.Standing.{KeepsDoubt};
+    ghost use Rattle.wu_passes.specs.Projects.{AnswersEnded, AsksOn, GoesStill, IsOver, ServesOn, Summarizes, SummarizesUnrefused};
 
-    /// How much the project holds. It changes no table; a failure of the disk ends the session.
+    /// How much the project holds. It changes no table; `Broken` ends the session.
     ///
     /// `NotAProject` where a row is no value, or where the credit of all grants is not below 2^64.
     pub fn summary(&mut self) -> Result<Summary, Fault>
         ensures ended { IsOver self.old → AnswersEnded self.old self.new result }
-        ensures reads { IsRead (state_of self.old) (state_of self.new) }
-        ensures clean { KeepsDoubt (state_of self.old) (state_of self.new) }
-        ensures limit { KeepsLimit self.old self.new }
-        ensures same { StaysUnchanged self.old self.new result }
-        ensures open { WasOpenBefore self.old self.new result }
+        ensures asks { AsksOn self.old self.new result }
         ensures opens { GoesStill self.old → ServesOn self.new result }
         ensures fault { GoesStill self.old → IfErr result IsStoreFault }
         ensures ends { GoesStill self.old → IsOver self.new → result ≡ Err Fault.Broken }

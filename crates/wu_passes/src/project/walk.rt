@@ -2,8 +2,9 @@
 
 ghost use Rattle.std.specs.Prelude.{◌≡◌, ◌<◌, Err, IfErr, IfOk, IfSome};
 ghost use Rattle.std.specs.Vec.Iter.{into_iter_items};
-ghost use Rattle.wu_store.specs.Lines.{archived_lines, AreHostsNamed, host_lines, IsArchiveStorable, result_lines, workunit_lines};
-ghost use Rattle.wu_store.specs.Loading.{AreStorable, IsStoreFault};
+ghost use Rattle.wu_store.specs.Lines.{archived_lines, AreHostsNamed, host_lines, result_lines, workunit_lines};
+ghost use Rattle.wu_store.specs.Loading.{IsStoreFault};
+ghost use Rattle.wu_core.specs.Storable.{AreStorable, IsArchiveStorable};
 
 use crate::project::Project;
 use sqlite::Alter;

@@ -1,6 +1,6 @@
 use Rattle.wu_report.proofs.WritingLemmas.{Writes-kept}
 use Rattle.wu_drive.specs.Texts.{reply_text}
-use Rattle.wu_passes.specs.Planning.{reply_of_answer}
+use Rattle.wu_machine.specs.Commands.{reply_of_answer}
 use Rattle.wu_drive.proofs.replies.write_answer.Goals as goal
 
 pub returns-clause-bytes : goal.returns-clause-bytes

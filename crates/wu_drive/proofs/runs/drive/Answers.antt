@@ -6,16 +6,16 @@ use Rattle.std.proofs.lemmas.Bool.{cases_Bool}
 use Rattle.wu_core.specs.declared.fault.Fault.{Fault}
 use Rattle.wu_core.specs.declared.fault.Fault.TheVariants.{Broken, Output}
 use Rattle.wu_drive.proofs.AnswerLemmas.{all_written, answers_text-more, last_cut}
-use Rattle.wu_drive.proofs.DrivingLemmas.{driving_more, driving_none, drives_cut, drives_so_far, not_done, one_fault, serves_done, serves_or_rests}
+use Rattle.wu_drive.proofs.DrivingLemmas.{driving_more, driving_none, drives_cut, drives_so_far, leaves_first, not_done, one_fault, serves_done, serves_or_rests}
 use Rattle.wu_drive.proofs.LifeLemmas.{lengthens}
-use Rattle.wu_passes.specs.Sessions.{world_of_life}
+use Rattle.wu_machine.specs.Sessions.{world_of_life}
 use Rattle.wu_passes.specs.Projects.{has_ended, state_of}
 use Rattle.wu_drive.specs.Writing.{answers_text}
 use Rattle.wu_drive.proofs.runs.drive.Goals as goal
 
 pub returns-in-Err-clause-answers : goal.returns-in-Err-clause-answers
 returns-in-Err-clause-answers g c =
-    let (index, was_ended, goes_still, limited, kept_clean, opened, (answers, counted, whole, driving)) = c.loop-command.invariant in (
+    let (index, was_ended, goes_still, limited, kept_clean, opened, untried, (answers, counted, whole, driving)) = c.loop-command.invariant in (
       answers,
       all_written _ _ answers _ counted whole,
       λ going clean world project goes.
@@ -27,7 +27,7 @@ returns-in-Err-clause-answers g c =
 
 pub returns-in-Err-write_answer-clause-answers : goal.returns-in-Err-write_answer-clause-answers
 returns-in-Err-write_answer-clause-answers g c =
-    let (index, was_ended, goes_still, limited, kept_clean, opened, (answers, counted, whole, driving)) = c.loop-command.invariant in
+    let (index, was_ended, goes_still, limited, kept_clean, opened, untried, (answers, counted, whole, driving)) = c.loop-command.invariant in
     let answer = c.in-Ok.answer in (
       answers ++ answer ∷ [],
       last_cut _ _ (g.W.Write.contents c.write_answer.new.out) answers answer _ (omega arith) (ap Some c.in-Err-write_answer.ensures.fault) whole c.in-Err-write_answer.ensures.bytes,
@@ -41,11 +41,11 @@ returns-in-Err-write_answer-clause-answers g c =
     )
 
 pub loop-command-init : goal.loop-command-init
-loop-command-init g c = (refl, λ ended. (refl, refl, refl), λ going. going, refl, omega arith, λ going was clean. was, ([], refl, search rules, λ going clean world project goes. driving_none world c.args.commands.now _ _ going project goes))
+loop-command-init g c = (refl, λ ended. (refl, refl, refl), λ going. going, refl, omega arith, λ going was clean. was, λ first. refl, ([], refl, search rules, λ going clean world project goes. driving_none world c.args.commands.now _ _ going project goes))
 
 pub loop-command-preserved : goal.loop-command-preserved
 loop-command-preserved g c =
-    let (index, was_ended, goes_still, limited, kept_clean, opened, (answers, counted, whole, driving)) = c.loop-command.invariant in
+    let (index, was_ended, goes_still, limited, kept_clean, opened, untried, (answers, counted, whole, driving)) = c.loop-command.invariant in
     let answer = c.in-Ok.answer in
     let longer : length (answers ++ answer ∷ []) ≡ c.loop-command.acknowledged + 1 = length-append answers (answer ∷ []) ∙ omega arith in
     let more = Appends-trans _ _ _ (answers_text answers) _ whole c.in_default.ensures.bytes in (
@@ -57,6 +57,7 @@ loop-command-preserved g c =
       c.run.ensures.limit ∙ limited,
       omega (arith, kept_clean, c.run.ensures.clean),
       λ going was clean. serves_done c.loop-command.project c.run.new.self c.command-item.result c.run.result (c.run.ensures.opens (goes_still going)) (c.run.ensures.refused (goes_still going)) answer c.in-Ok.is clean,
+      λ first. absurd (omega (arith, first)),
       (
         answers ++ answer ∷ [],
         longer,
@@ -71,7 +72,7 @@ loop-command-preserved g c =
 
 pub returns-clause-answers : goal.returns-clause-answers
 returns-clause-answers g c =
-    let (index, was_ended, goes_still, limited, kept_clean, opened, (answers, counted, whole, driving)) = c.loop-command.invariant in (
+    let (index, was_ended, goes_still, limited, kept_clean, opened, untried, (answers, counted, whole, driving)) = c.loop-command.invariant in (
       answers,
       all_written _ _ answers _ counted whole,
       λ going clean world project goes.
@@ -95,17 +96,17 @@ returns-clause-lives g c going clean start life project goes =
 
 pub returns-in-Err-clause-ends : goal.returns-in-Err-clause-ends
 returns-in-Err-clause-ends g c going over =
-    let (index, was_ended, goes_still, limited, kept_clean, opened, (answers, counted, whole, driving)) = c.loop-command.invariant in
+    let (index, was_ended, goes_still, limited, kept_clean, opened, untried, (answers, counted, whole, driving)) = c.loop-command.invariant in
     (c.in-Err.fault, refl, c.in-Err.ensures.ends (goes_still going) over)
 
 pub returns-in-Err-clause-broken : goal.returns-in-Err-clause-broken
 returns-in-Err-clause-broken g c going is =
-    let (index, was_ended, goes_still, limited, kept_clean, opened, (answers, counted, whole, driving)) = c.loop-command.invariant in
+    let (index, was_ended, goes_still, limited, kept_clean, opened, untried, (answers, counted, whole, driving)) = c.loop-command.invariant in
     c.run.ensures.broken (goes_still going) (c.in-Err.is ∙ ap (λ (f : Fault). Err f) (one_fault _ _ is))
 
 pub returns-in-Err-write_answer-clause-ends : goal.returns-in-Err-write_answer-clause-ends
 returns-in-Err-write_answer-clause-ends g c going over =
-    let (index, was_ended, goes_still, limited, kept_clean, opened, (answers, counted, whole, driving)) = c.loop-command.invariant in
+    let (index, was_ended, goes_still, limited, kept_clean, opened, untried, (answers, counted, whole, driving)) = c.loop-command.invariant in
     absurd (c.in-Ok.ensures.ends (goes_still going) over)
 
 pub returns-in-Err-write_answer-clause-broken : goal.returns-in-Err-write_answer-clause-broken
@@ -114,7 +115,7 @@ returns-in-Err-write_answer-clause-broken g c going is =
 
 pub returns-clause-ends : goal.returns-clause-ends
 returns-clause-ends g c going over =
-    let (index, was_ended, goes_still, limited, kept_clean, opened, (answers, counted, whole, driving)) = c.loop-command.invariant in
+    let (index, was_ended, goes_still, limited, kept_clean, opened, untried, (answers, counted, whole, driving)) = c.loop-command.invariant in
     absurd (let no : true ≡ false = sym over ∙ goes_still going in cc)
 
 pub returns-clause-broken : goal.returns-clause-broken
@@ -122,7 +123,7 @@ returns-clause-broken g c going is = absurd (cc)
 
 pub returns-in-Err-clause-why : goal.returns-in-Err-clause-why
 returns-in-Err-clause-why g c going clean unlimited world project goes fault told =
-    let (index, was_ended, goes_still, limited, kept_clean, opened, (answers, counted, whole, driving)) = c.loop-command.invariant in
+    let (index, was_ended, goes_still, limited, kept_clean, opened, untried, (answers, counted, whole, driving)) = c.loop-command.invariant in
     let before : HasCleanDisk (state_of c.loop-command.project) = omega (arith, c.run.ensures.clean) in
     let so_far = driving going before world project goes in
     inl (not_done world c.args.commands.now c.loop-command.command-index c.command-item.result c.command-item.result c.loop-command-test.true (sym c.command-item.is) _ index c.in-Err.fault fault _ told refl
@@ -130,7 +131,7 @@ returns-in-Err-clause-why g c going clean unlimited world project goes fault tol
 
 pub returns-in-Err-write_answer-clause-why : goal.returns-in-Err-write_answer-clause-why
 returns-in-Err-write_answer-clause-why g c going clean unlimited world project goes fault told =
-    let (index, was_ended, goes_still, limited, kept_clean, opened, (answers, counted, whole, driving)) = c.loop-command.invariant in
+    let (index, was_ended, goes_still, limited, kept_clean, opened, untried, (answers, counted, whole, driving)) = c.loop-command.invariant in
     inr (one_fault fault Output (sym told ∙ ap Some c.in-Err-write_answer.ensures.fault), omega arith, elim (cases_Bool (has_ended c.run.new.self)) [ inl over ↦ absurd (c.in-Ok.ensures.ends (goes_still going) over) | inr still ↦ still ])
 
 pub returns-clause-why : goal.returns-clause-why
@@ -138,7 +139,7 @@ returns-clause-why g c going clean unlimited world project goes fault told = abs
 
 pub returns-in-Err-clause-opens : goal.returns-in-Err-clause-opens
 returns-in-Err-clause-opens g c going was clean =
-    let (index, was_ended, goes_still, limited, kept_clean, opened, (answers, counted, whole, driving)) = c.loop-command.invariant in
+    let (index, was_ended, goes_still, limited, kept_clean, opened, untried, (answers, counted, whole, driving)) = c.loop-command.invariant in
     elim (serves_or_rests c.loop-command.project c.run.new.self c.command-item.result c.run.result (c.run.ensures.opens (goes_still going)) (c.run.ensures.refused (goes_still going)) c.in-Err.fault c.in-Err.is (opened going was) clean) [
       | inl failed ↦ inl (c.in-Err.fault, refl, failed)
       | inr still ↦ inr still
@@ -146,10 +147,21 @@ returns-in-Err-clause-opens g c going was clean =
 
 pub returns-in-Err-write_answer-clause-opens : goal.returns-in-Err-write_answer-clause-opens
 returns-in-Err-write_answer-clause-opens g c going was clean =
-    let (index, was_ended, goes_still, limited, kept_clean, opened, (answers, counted, whole, driving)) = c.loop-command.invariant in
+    let (index, was_ended, goes_still, limited, kept_clean, opened, untried, (answers, counted, whole, driving)) = c.loop-command.invariant in
     inr (serves_done c.loop-command.project c.run.new.self c.command-item.result c.run.result (c.run.ensures.opens (goes_still going)) (c.run.ensures.refused (goes_still going)) c.in-Ok.answer c.in-Ok.is clean)
 
 pub returns-clause-opens : goal.returns-clause-opens
 returns-clause-opens g c going was clean =
-    let (index, was_ended, goes_still, limited, kept_clean, opened, (answers, counted, whole, driving)) = c.loop-command.invariant in
+    let (index, was_ended, goes_still, limited, kept_clean, opened, untried, (answers, counted, whole, driving)) = c.loop-command.invariant in
     inr (opened going was clean)
+
+pub returns-in-Err-clause-untouched : goal.returns-in-Err-clause-untouched
+returns-in-Err-clause-untouched g c clean none =
+    let (index, was_ended, goes_still, limited, kept_clean, opened, untried, (answers, counted, whole, driving)) = c.loop-command.invariant in
+    leaves_first _ _ c.run.new.self c.in-Err.fault (untried (sym index ∙ none)) (c.in-Err.ensures.untouched clean)
+
+pub returns-in-Err-write_answer-clause-untouched : goal.returns-in-Err-write_answer-clause-untouched
+returns-in-Err-write_answer-clause-untouched g c clean none = absurd (omega (arith, none))
+
+pub returns-clause-untouched : goal.returns-clause-untouched
+returns-clause-untouched g c clean none = tt

@@ -9,20 +9,20 @@ use Rattle.wu_lives.proofs.leftovers.stop_and_open_left.Goals as goal
 
 pub returns-in-Ok-adopt-clause-blank : goal.returns-in-Ok-adopt-clause-blank
 returns-in-Ok-adopt-clause-blank g c files told numbered stay clean =
-    let early : HasCleanDisk (file_state c.in-Ok.conn) = omega (arith, clean, c.in-Ok-adopt.ensures.clean) in
+    let early : HasCleanDisk (file_state c.in-Ok.conn) = omega (arith, clean, c.in-Ok-adopt.ensures.adopted.clean) in
     let found = c.in-Ok.ensures.found early in
     let opened = c.in-Ok.ensures.opened early in (
       ∥∥₁_map (empty_again c.args.left c.into_files-log.result.log c.into_files-log.result.db c.crash.new.self c.crash-2.new.self c.into_files-log.ensures
           c.crash.ensures.left c.crash-2.ensures.left c.crash.ensures.clean c.crash-2.ensures.clean c.in-Ok.conn found files told numbered g.met.D.Disk.seen_may_stay stay)
-          (λ empty. c.in-Ok-adopt.ensures.made (empty_vacant _ c.in-Ok.conn opened found empty) clean),
+          (λ empty. (c.in-Ok-adopt.ensures.adopted.fresh clean (empty_vacant _ c.in-Ok.conn opened found empty)).goes),
       empty_project,
     )
 
 pub returns-in-Ok-adopt-clause-found : goal.returns-in-Ok-adopt-clause-found
 returns-in-Ok-adopt-clause-found g c files told numbered world first stay clean =
-    let early : HasCleanDisk (file_state c.in-Ok.conn) = omega (arith, clean, c.in-Ok-adopt.ensures.clean) in
+    let early : HasCleanDisk (file_state c.in-Ok.conn) = omega (arith, clean, c.in-Ok-adopt.ensures.adopted.clean) in
     let found = c.in-Ok.ensures.found early in
     let opened = c.in-Ok.ensures.opened early in
     ∥∥₁_map (world_again c.args.left c.into_files-log.result.log c.into_files-log.result.db c.crash.new.self c.crash-2.new.self c.into_files-log.ensures
     c.crash.ensures.left c.crash-2.ensures.left c.crash.ensures.clean c.crash-2.ensures.clean c.in-Ok.conn found files told numbered g.met.D.Disk.seen_may_stay world stay)
-    (λ it. c.in-Ok-adopt.ensures.found world first (goes_from_trees _ c.in-Ok.conn opened found g.met.D.Disk.seen_may_stay world it) clean)
+    (λ it. c.in-Ok-adopt.ensures.adopted.goes clean world first (goes_from_trees _ c.in-Ok.conn opened found g.met.D.Disk.seen_may_stay world it))

@@ -12,8 +12,8 @@ returns-in-Some g c =
     let mid = c.drive-run.new.project in
     let here = c.in-Some.again in
     let run = c.drive-run.result in
-    let again : HasCleanDisk (file_state here) → IsReopened (file_state mid.conn) (file_state here) = λ clean. subst (λ h. IsReopened (file_state h) (file_state here)) c.release.ensures (c.in-Some.ensures.reopened clean) in
-    let early : HasCleanDisk (file_state here) → HasCleanDisk (file_state mid.conn) = λ clean. subst (λ h. HasCleanDisk (file_state h)) c.release.ensures (c.in-Some.ensures.clean clean) in
+    let again : HasCleanDisk (file_state here) → IsReopened (file_state mid.conn) (file_state here) = λ clean. subst (λ h. IsReopened (file_state h) (file_state here)) c.release.ensures.same (c.in-Some.ensures.reopened clean) in
+    let early : HasCleanDisk (file_state here) → HasCleanDisk (file_state mid.conn) = λ clean. subst (λ h. HasCleanDisk (file_state h)) c.release.ensures.same (c.in-Some.ensures.clean clean) in
     let (answers, written, drives) = c.drive-run.ensures.answers in
     record {
       clean = λ clean. let now = early clean in omega (arith, now, c.drive-run.ensures.clean);

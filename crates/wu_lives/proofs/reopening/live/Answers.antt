@@ -5,27 +5,26 @@ use Rattle.wu_lives.proofs.reopening.live.Goals as goal
 
 pub returns-in-Ok-clause-found : goal.returns-in-Ok-clause-found
 returns-in-Ok-clause-found g c clean world project goes =
-    ∥∥₁_map (c.in-Some.ensures.found (omega (arith, c.in-Ok.ensures.clean)) world project goes) (λ holds.
+    ∥∥₁_map (c.in-Some.ensures.found (omega (arith, c.in-Ok.ensures.adopted.clean)) world project goes) (λ holds.
     let first : 1 ≤ (world_after world c.args.commands.now holds.count).version = omega (arith, holds.project.present) in
     record {
       count = holds.count;
       kept = holds.kept;
-      goes = (c.in-Ok.ensures.found (world_after world c.args.commands.now holds.count) first holds.goes clean).0;
+      goes = (c.in-Ok.ensures.adopted.goes clean (world_after world c.args.commands.now holds.count) first holds.goes).0;
       project = holds.project;
     })
 
 pub returns-in-Ok-clause-answers : goal.returns-in-Ok-clause-answers
 returns-in-Ok-clause-answers g c =
     let (answers, written, told) = c.in-Some.ensures.answers in
-    (answers, written, λ clean world project goes. told (omega (arith, c.in-Ok.ensures.clean)) world project goes)
+    (answers, written, λ clean world project goes. told (omega (arith, c.in-Ok.ensures.adopted.clean)) world project goes)
 
 pub returns-in-Ok-clause-ends : goal.returns-in-Ok-clause-ends
-returns-in-Ok-clause-ends g c going clean = c.in-Some.ensures.ends going (omega (arith, c.in-Ok.ensures.clean))
+returns-in-Ok-clause-ends g c going clean = c.in-Some.ensures.ends going (omega (arith, c.in-Ok.ensures.adopted.clean))
 
 pub returns-in-Ok-clause-reopened : goal.returns-in-Ok-clause-reopened
 returns-in-Ok-clause-reopened g c = record {
   again = c.in-Some.conn;
   found = c.in-Some.ensures.reopened;
-  whole = c.in-Ok.ensures.whole;
-  clean = c.in-Ok.ensures.clean;
+  adopted = c.in-Ok.ensures.adopted;
 }

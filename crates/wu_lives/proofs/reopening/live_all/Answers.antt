@@ -3,8 +3,8 @@ use Rattle.std.proofs.Math.Logic.{∥∥₁_elim, ∥∥₁_map}
 use Rattle.std.proofs.Math.Seq.{take-length}
 use Rattle.sqlite.specs.Files.{file_state}
 use Rattle.wu_passes.specs.Projects.{GoesStill}
-use Rattle.wu_passes.specs.declared.command.Command.{Command}
-use Rattle.wu_passes.specs.Sessions.{world_of_life}
+use Rattle.wu_machine.specs.declared.command.Command.{Command}
+use Rattle.wu_machine.specs.Sessions.{world_of_life}
 use Rattle.wu_lives.specs.Lives.{TellsLives, Told}
 use Rattle.wu_lives.proofs.ReopeningLemmas.{lived_more, lived_none, of_more, one_more, written_more}
 use Rattle.wu_lives.proofs.reopening.live_all.Goals as goal

@@ -2,8 +2,8 @@ use Rattle.std.proofs.Common.{List, [], ◌∷◌, subst, sym}
 use Rattle.std.proofs.lemmas.List.Elements.{recursion_from_All}
 use Rattle.std.specs.List.{All, AllByRecursion}
 use Rattle.wu_core.specs.World.{World}
-use Rattle.wu_passes.specs.Machine.{HasValues}
-use Rattle.wu_passes.specs.Sessions.{accepted, Lived, world_lived}
+use Rattle.wu_machine.specs.Machine.{HasValues}
+use Rattle.wu_machine.specs.Sessions.{accepted, Lived, world_lived}
 use Rattle.wu_sound_laws.specs.Laws.{HaveValues}
 use Rattle.wu_sound_laws.proofs.Consequences.{lives_sound, session_values}
 use Rattle.wu_lives.specs.Lives.{AreSessionsOf, Told}

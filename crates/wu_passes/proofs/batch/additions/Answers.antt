@@ -2,7 +2,7 @@ use Rattle.std.proofs.Common.{rules, ◌≡◌, ◌+◌, ◌++◌, ◌∷◌, []
 use Rattle.std.proofs.lemmas.List.{map-id}
 use Rattle.std.proofs.lemmas.Iterator.Adapters.{YieldsList-from_vec}
 use Rattle.std.proofs.lemmas.Iterator.Consumers.{YieldsList-end}
-use Rattle.wu_passes.specs.Batches.{new_workunit}
+use Rattle.wu_machine.specs.Batches.{new_workunit}
 use Rattle.wu_store.specs.declared.changes.Change.TheVariants.{Add, Next}
 use Rattle.wu_passes.proofs.PlanLemmas.{additions_more, additions_whole}
 use Rattle.wu_passes.proofs.batch.additions.Goals as goal

@@ -1,6 +1,6 @@
 use Rattle.std.proofs.Common.{◌≡◌, map}
 use Rattle.std.specs.List.{enumerate_from}
-use Rattle.wu_passes.specs.Batches.{new_workunit}
+use Rattle.wu_machine.specs.Batches.{new_workunit}
 use Rattle.wu_store.specs.declared.changes.Change.TheVariants.{Add}
 use Rattle.wu_passes.proofs.batch.additions.Given as goal
 

@@ -1,11 +1,11 @@
-use Rattle.std.proofs.Common.{◌≡◌, true, false, sym, ap, ◌∙◌, subst, arith}
+use Rattle.std.proofs.Common.{◌≡◌, ◌≢◌, true, false, Ok, Err, sym, ap, ◌∙◌, arith}
 use Rattle.std.specs.Prelude.{◌||◌}
-use Rattle.sqlite.specs.Effect.{Database}
 use Rattle.sqlite.specs.Held.{state}
+use Rattle.sqlite.specs.State.{HasCleanDisk}
 use Rattle.wu_store.specs.Answers.{has_name, was_archived}
 use Rattle.wu_schema.specs.StandsFor.{StandsFor}
-use Rattle.wu_store.proofs.LoadLemmas.{never_refused}
-use Rattle.wu_passes.proofs.AskLemmas.{taken_is}
+use Rattle.wu_schema.proofs.ReadLemmas.{if_ok}
+use Rattle.wu_passes.proofs.AskLemmas.{asks_made, asks_stands, asks_then, taken_is, told_or}
 use Rattle.wu_passes.proofs.batch.is_taken.Goals as goal
 
 pub returns-in-Ok-true-clause-taken : goal.returns-in-Ok-true-clause-taken
@@ -13,19 +13,23 @@ returns-in-Ok-true-clause-taken g c clean world stands =
     let present : has_name c.args.name.now world ≡ true = sym (c.in-Ok-true.ensures.answers clean world stands) ∙ c.in-Ok-true.field-0-test in
     sym (taken_is world c.args.name.now ∙ ap (λ b. b || was_archived c.args.name.now world) present)
 
-pub returns-in-Ok-clause-taken : goal.returns-in-Ok-clause-taken
-returns-in-Ok-clause-taken g c clean world stands =
-    let first : _ = c.in-Ok-false.ensures.reads.unchanged (omega (arith, c.has_archived.ensures.reads.crash.clean)) in
-    let absent : has_name c.args.name.now world ≡ false = sym (c.in-Ok-false.ensures.answers (omega (arith, c.has_archived.ensures.reads.crash.clean)) world stands) ∙ c.in-Ok-false.field-0-test in
-    let still : StandsFor (state g.S.Store c.has_workunit.new.conn).now world = subst (λ (d : Database). StandsFor d world) (sym first.0.now_is) stands in
-    c.in-Ok.ensures.answers clean world still ∙ sym (taken_is world c.args.name.now ∙ ap (λ b. b || was_archived c.args.name.now world) absent)
+pub returns-clause-asks : goal.returns-clause-asks
+returns-clause-asks g c = asks_then g.S.Store c.args.conn.now c.has_workunit.new.conn c.has_archived.new.conn c.in-Ok-false.field-0 c.in-Ok-false.ensures.asks c.has_archived.result c.has_archived.ensures.asks
+
+pub returns-clause-taken : goal.returns-clause-taken
+returns-clause-taken g c clean world stands =
+    let before : HasCleanDisk (state g.S.Store c.has_workunit.new.conn) = omega (arith, c.has_archived.ensures.asks.crash.clean) in
+    let absent : has_name c.args.name.now world ≡ false = sym (c.in-Ok-false.ensures.answers before world stands) ∙ c.in-Ok-false.field-0-test in
+    let still : StandsFor (state g.S.Store c.has_workunit.new.conn).now world = asks_stands g.S.Store c.args.conn.now c.has_workunit.new.conn c.in-Ok-false.field-0 c.in-Ok-false.ensures.asks before world stands in
+    told_or c.has_archived.result _
+    (if_ok c.has_archived.result _ _ (λ found h. h world still ∙ sym (taken_is world c.args.name.now ∙ ap (λ b. b || was_archived c.args.name.now world) absent)) (c.has_archived.ensures.answers clean))
+    c.has_archived.ensures.fault
+
+pub returns-clause-unrefused : goal.returns-clause-unrefused
+returns-clause-unrefused g c clean world stands limit =
+    let before : HasCleanDisk (state g.S.Store c.has_workunit.new.conn) = omega (arith, c.has_archived.ensures.asks.crash.clean) in
+    let still : StandsFor (state g.S.Store c.has_workunit.new.conn).now world = asks_stands g.S.Store c.args.conn.now c.has_workunit.new.conn c.in-Ok-false.field-0 c.in-Ok-false.ensures.asks before world stands in
+    c.has_archived.ensures.unrefused clean world still tt (c.has_workunit.ensures.asks.crash.limit ∙ limit)
 
 pub returns-in-Err-clause-unrefused : goal.returns-in-Err-clause-unrefused
-returns-in-Err-clause-unrefused g c clean world stands limit =
-    rw c.fault_of.ensures (never_refused _ (c.in-Err.ensures.told clean world stands limit))
-
-pub returns-in-Err-has_archived-clause-unrefused : goal.returns-in-Err-has_archived-clause-unrefused
-returns-in-Err-has_archived-clause-unrefused g c clean world stands limit =
-    let first : _ = c.in-Ok-false.ensures.reads.unchanged (omega (arith, c.has_archived.ensures.reads.crash.clean)) in
-    let still : StandsFor (state g.S.Store c.has_workunit.new.conn).now world = subst (λ (d : Database). StandsFor d world) (sym first.0.now_is) stands in
-    rw c.fault_of-in-Err-has_archived.ensures (never_refused _ (c.in-Err-has_archived.ensures.told clean world still (c.has_workunit.ensures.reads.crash.limit ∙ limit)))
+returns-in-Err-clause-unrefused g c clean world stands limit = c.in-Err.ensures.unrefused clean world stands tt limit

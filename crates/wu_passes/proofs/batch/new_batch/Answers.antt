@@ -1,7 +1,8 @@
 use Rattle.std.proofs.Common.{rules, ◌≡◌, ◌++◌, ◌∷◌, [], ◌∙◌, ap, refl, subst}
-use Rattle.wu_passes.specs.declared.command.Answer.TheVariants as reply
-use Rattle.wu_passes.specs.Imports.{Given}
-use Rattle.wu_passes.specs.Planning.{batch_of, first_of, KeepsImport}
+use Rattle.wu_machine.specs.declared.command.Answer.TheVariants as reply
+use Rattle.wu_machine.specs.Imports.{Given}
+use Rattle.wu_passes.specs.Planning.{first_of, KeepsImport}
+use Rattle.wu_machine.specs.Commands.{batch_of}
 use Rattle.wu_store.specs.declared.changes.Change.TheVariants.{Keep}
 use Rattle.wu_passes.proofs.PlanLemmas.{gives_ok, new_batch_is}
 use Rattle.wu_passes.proofs.batch.new_batch.Goals as goal

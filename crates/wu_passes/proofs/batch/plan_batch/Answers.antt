@@ -1,8 +1,8 @@
 use Rattle.std.proofs.Common.{inr}
 use Rattle.wu_core.specs.declared.import.ImportKind.TheVariants as kind
-use Rattle.wu_passes.specs.Planning.{batch_of, request_of_batch}
+use Rattle.wu_machine.specs.Commands.{batch_of, request_of_batch}
 use Rattle.wu_passes.proofs.AskLemmas.{found_in_range}
-use Rattle.wu_passes.proofs.BatchLemmas.{asked_of}
+use Rattle.wu_machine.proofs.BatchKeeps.{asked_of}
 use Rattle.wu_passes.proofs.ImportPlans.{repeated_planned}
 use Rattle.wu_passes.proofs.batch.plan_batch.Goals as goal
 

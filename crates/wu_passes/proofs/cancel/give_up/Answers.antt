@@ -1,6 +1,6 @@
 use Rattle.std.proofs.Common.{rules, ◌≡◌, ◌∙◌, [], ◌∷◌, ap}
 use Rattle.wu_core.specs.declared.workunit.Workunit.{Workunit}
-use Rattle.wu_passes.specs.declared.command.Answer.TheVariants as answer
+use Rattle.wu_machine.specs.declared.command.Answer.TheVariants as answer
 use Rattle.wu_store.specs.declared.changes.Change.TheVariants.{Replace}
 use Rattle.wu_passes.proofs.CancelLemmas.{same_name}
 use Rattle.wu_passes.proofs.cancel.give_up.Goals as goal

@@ -1,8 +1,8 @@
 use Rattle.std.proofs.Common.{◌≡◌, ◌∙◌, inl, inr, Some, sym}
 use Rattle.sqlite.specs.Held.{state}
-use Rattle.wu_passes.specs.Worlds.{workunit_named}
+use Rattle.wu_machine.specs.Worlds.{workunit_named}
 use Rattle.wu_passes.proofs.CancelLemmas.{cancel_planned, cancel_unknown}
-use Rattle.wu_passes.proofs.StorableLemmas.{named_loads}
+use Rattle.wu_passes.proofs.PlanLemmas.{named_loads}
 use Rattle.wu_passes.proofs.cancel.plan_cancel.Goals as goal
 
 pub returns-in-Ok-Some-clause-plan : goal.returns-in-Ok-Some-clause-plan

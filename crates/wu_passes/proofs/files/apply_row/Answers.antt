@@ -1,7 +1,7 @@
 use Rattle.std.proofs.Common.{ℕ, List, subst}
 use Rattle.wu_passes.specs.Touched.{IsTouched}
 use Rattle.wu_passes.proofs.FileLemmas.{left_touched, row_left}
-use Rattle.wu_passes.proofs.StorableLemmas.{named_loads}
+use Rattle.wu_passes.proofs.PlanLemmas.{named_loads}
 use Rattle.wu_passes.proofs.files.apply_row.Goals as goal
 
 pub returns-in-Ok-clause-left : goal.returns-in-Ok-clause-left

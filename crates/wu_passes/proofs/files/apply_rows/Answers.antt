@@ -7,44 +7,43 @@ use Rattle.sqlite.specs.Effect.{Database}
 use Rattle.sqlite.specs.State.{HasCleanDisk}
 use Rattle.sqlite.specs.Held.{state}
 use Rattle.wu_schema.specs.StandsFor.{StandsFor}
-use Rattle.wu_passes.proofs.AskLemmas.{read_none, read_then}
+use Rattle.wu_passes.proofs.AskLemmas.{asks_done, asks_fault, asks_none, asks_stands, asks_then}
 use Rattle.wu_passes.proofs.TouchedLemmas.{no_rows_left}
 use Rattle.wu_passes.proofs.files.apply_rows.Goals as goal
 
 pub loop-row-init : goal.loop-row-init
 loop-row-init g c = (
   rw c.new-verdicts.ensures.items (All-nil (λ verdict. verdict ≤ 9)),
-  λ idle. idle,
-  read_none _,
-  λ clean. refl,
+  asks_none g.S.Store _ _ (λ is. absurd cc),
   λ clean world stands. rw (c.new-touched.ensures, c.new-verdicts.ensures.items) (no_rows_left g.R.FileRow.rule world),
-  λ clean was. was,
 )
 
 pub loop-row-preserved : goal.loop-row-preserved
 loop-row-preserved g c =
-    let (digits, mode, read, same, left, opened) = c.loop-row.invariant in
+    let (digits, asks, left) = c.loop-row.invariant in
     let grown : c.push.new.self.items ≡ c.loop-row.verdicts.items ++ c.in-Ok.verdict ∷ [] = search rules in (
       rw grown (All-append (λ verdict. verdict ≤ 9) c.loop-row.verdicts.items (c.in-Ok.verdict ∷ []) digits (All-cons (λ verdict. verdict ≤ 9) c.in-Ok.verdict [] c.in-Ok.ensures.digit (All-nil (λ verdict. verdict ≤ 9)))),
-      λ idle. c.apply_row.ensures.mode (mode idle),
-      read_then _ _ _ read c.apply_row.ensures.read,
-      λ clean. c.in-Ok.ensures.same clean ∙ same (omega (arith, c.apply_row.ensures.read.survives.clean)),
+      asks_then g.S.Store _ _ _ tt asks _ (asks_done g.S.Store _ _ c.in-Ok.verdict c.in-Ok.ensures.asks),
       λ clean world stands.
-          let before : HasCleanDisk (state g.S.Store c.loop-row.conn) = omega (arith, c.apply_row.ensures.read.survives.clean) in
-          let still : StandsFor (state g.S.Store c.loop-row.conn).now world = subst (λ (d : Database). StandsFor d world) (sym (same before)) stands in
+          let before : HasCleanDisk (state g.S.Store c.loop-row.conn) = omega (arith, c.apply_row.ensures.asks.crash.clean) in
+          let still : StandsFor (state g.S.Store c.loop-row.conn).now world = asks_stands g.S.Store _ _ tt asks before world stands in
           rw grown (c.in-Ok.ensures.left clean world still c.loop-row.yielded c.loop-row.verdicts.items (left before world stands)),
-      λ clean was. c.in-Ok.ensures.opens (opened (omega (arith, c.apply_row.ensures.read.survives.clean)) was) clean,
     )
+
+pub returns-in-Err-clause-asks : goal.returns-in-Err-clause-asks
+returns-in-Err-clause-asks g c =
+    let (_, asks, _) = c.loop-row.invariant in
+    asks_then g.S.Store _ _ _ tt asks _ (asks_fault g.S.Store _ _ c.in-Err.fault c.in-Err.ensures.asks)
 
 pub returns-in-Err-clause-unrefused : goal.returns-in-Err-clause-unrefused
 returns-in-Err-clause-unrefused g c clean world stands storable limit =
-    let (_, _, read, same, _, _) = c.loop-row.invariant in
-    let still : StandsFor (state g.S.Store c.loop-row.conn).now world = subst (λ (d : Database). StandsFor d world) (sym (same (omega (arith, c.apply_row.ensures.read.survives.clean)))) stands in
-    c.in-Err.ensures.unrefused clean world still storable (read.survives.limit ∙ limit)
+    let (_, asks, _) = c.loop-row.invariant in
+    let before : HasCleanDisk (state g.S.Store c.loop-row.conn) = omega (arith, c.apply_row.ensures.asks.crash.clean) in
+    c.in-Err.ensures.unrefused clean world (asks_stands g.S.Store _ _ tt asks before world stands) storable (asks.crash.limit ∙ limit)
 
 pub returns-clause-left : goal.returns-clause-left
 returns-clause-left g c clean world stands =
-    let (_, _, _, _, left, _) = c.loop-row.invariant in
+    let (_, _, left) = c.loop-row.invariant in
     let seen = YieldsList-end (YieldsList-from_vec {s = c.into_iter-row-iterator.result} c.into_vec-row-items.result.items (search rules) (search rules)) c.loop-row.yielded c.loop-row.row-iterator c.loop-row.yielded_by c.next.result c.next.new.self c.in-None.is c.next.ensures.steps in
     let whole : c.loop-row.yielded ≡ c.args.rows = sym (map-id c.loop-row.yielded) ∙ seen.0 ∙ c.into_vec-row-items.ensures in
     rw whole at (left clean world stands)

@@ -4,9 +4,9 @@ use Rattle.sqlite.specs.Held.{state}
 use Rattle.sqlite.specs.State.{HasCleanDisk}
 use Rattle.wu_core.specs.declared.import.ImportKind.TheVariants as kind
 use Rattle.wu_schema.specs.StandsFor.{StandsFor}
-use Rattle.wu_passes.specs.Planning.{file_of}
-use Rattle.wu_passes.specs.Requests.{AskSent}
-use Rattle.wu_passes.proofs.AskLemmas.{found_in_range}
+use Rattle.wu_machine.specs.Commands.{file_of}
+use Rattle.wu_machine.specs.Requests.{AskSent}
+use Rattle.wu_passes.proofs.AskLemmas.{asks_stands, found_in_range}
 use Rattle.wu_passes.proofs.ImportPlans.{asked_sent, repeated_planned}
 use Rattle.wu_passes.proofs.files.plan_sent.Goals as goal
 
@@ -22,6 +22,6 @@ returns-in-Err-clause-unrefused g c clean world stands project limit =
 
 pub returns-in-Ok-clause-unrefused : goal.returns-in-Ok-clause-unrefused
 returns-in-Ok-clause-unrefused g c clean world stands project limit =
-    let before : HasCleanDisk (state g.S.Store c.import_of.new.conn) = omega (arith, c.plan_rows.ensures.read.survives.clean) in
-    let still : StandsFor (state g.S.Store c.import_of.new.conn).now world = subst (λ (d : Database). StandsFor d world) (sym (c.in-Ok-None.ensures.same before)) stands in
-    c.plan_rows.ensures.unrefused clean world still project.storable (c.import_of.ensures.read.survives.limit ∙ limit)
+    let before : HasCleanDisk (state g.S.Store c.import_of.new.conn) = omega (arith, c.plan_rows.ensures.asks.crash.clean) in
+    let still : StandsFor (state g.S.Store c.import_of.new.conn).now world = asks_stands g.S.Store _ _ c.in-Ok-None.field-0 c.in-Ok-None.ensures.asks before world stands in
+    c.plan_rows.ensures.unrefused clean world still project.storable (c.import_of.ensures.asks.crash.limit ∙ limit)

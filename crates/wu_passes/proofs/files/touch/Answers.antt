@@ -1,5 +1,5 @@
 use Rattle.std.proofs.Common.{◌≡◌, ◌∙◌, Some, sym}
-use Rattle.wu_passes.specs.Worlds.{workunit_named}
+use Rattle.wu_machine.specs.Worlds.{workunit_named}
 use Rattle.wu_store.proofs.WorldOnce.{once_named}
 use Rattle.wu_passes.proofs.FileLemmas.{not_touched, taken_in, touched_has, touched_none}
 use Rattle.wu_passes.proofs.files.touch.Goals as goal

@@ -1,6 +1,6 @@
 use Rattle.std.proofs.Common.{ap}
 use Rattle.wu_passes.proofs.PlanLemmas.{gives_ok}
-use Rattle.wu_passes.specs.Imports.{kept_import}
+use Rattle.wu_machine.specs.Imports.{kept_import}
 use Rattle.wu_passes.specs.Planning.{given_of}
 use Rattle.wu_passes.proofs.imports.kept.Goals as goal
 

@@ -1,5 +1,5 @@
 use Rattle.std.proofs.Common.{◌≡◌, ◌<◌, Some, arith, sym, ◌∙◌}
-use Rattle.wu_passes.specs.Machine.{present_version}
+use Rattle.wu_machine.specs.Machine.{present_version}
 use Rattle.wu_passes.proofs.upgrade.plan_upgrade.Goals as goal
 
 pub returns-in-Ok-None-clause-unrefused : goal.returns-in-Ok-None-clause-unrefused

@@ -1,9 +1,17 @@
 use Rattle.std.proofs.Common.{subst}
+use Rattle.wu_store.proofs.AskLemmas.{handed_on}
 use Rattle.wu_report.specs.Texts.{summary_lines}
 use Rattle.wu_report.specs.Writing.{WritesTo}
+use Rattle.wu_report.proofs.ViewLemmas.{refused_still}
 use Rattle.wu_report.proofs.views.write_counts.Goals as goal
 
 pub returns-clause-text : goal.returns-clause-text
 returns-clause-text g c going clean world goes =
-    let is = c.in_ok-summary.ensures.summary clean world (goes.stands (c.in_ok-summary.ensures.open clean)).0 in
+    let is = c.in_ok-summary.ensures.summary clean world (goes.stands ((c.summary.ensures.asks.back clean).was_open (c.in_ok-summary.ensures.opens going clean))).0 in
     subst (λ summary. WritesTo g.W.Write.contents c.args.out.now c.write_summary.new.out (summary_lines summary) c.write_summary.result) is c.write_summary.ensures.bytes
+
+pub returns-in_err-summary-clause-unrefused : goal.returns-in_err-summary-clause-unrefused
+returns-in_err-summary-clause-unrefused g c going clean unlimited world can goes =
+    handed_on c.from_residual.result c.in_err-summary.field-0.0 c.from_residual.ensures.1 (λ refused.
+    let still = refused_still c.in_err-summary.field-0.0 refused (c.in_err-summary.ensures.opens going clean) in
+    c.in_err-summary.ensures.unrefused going clean world (goes.stands ((c.summary.ensures.asks.back clean).was_open still)).0 can unlimited refused)

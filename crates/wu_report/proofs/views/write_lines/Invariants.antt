@@ -1,4 +1,3 @@
-use Rattle.std.proofs.Common.{◌≡◌, ℕ}
 use Rattle.wu_passes.specs.Walks.{left}
 use Rattle.wu_report.proofs.ViewLemmas.{IsUnderWay}
 use Rattle.wu_report.proofs.views.write_lines.Given as goal

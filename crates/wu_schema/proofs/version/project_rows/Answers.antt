@@ -1,6 +1,7 @@
 use Rattle.wu_schema.proofs.Words.{[], state, version_text}
 use Rattle.wu_schema.proofs.ReadLemmas.{all_read, if_ok, if_err, on_ok}
 use Rattle.wu_schema.proofs.VersionLemmas.{version_selects, version_found, version_told, version_there, version_absent, version_missing, query_serves}
+use Rattle.wu_schema.proofs.AskingLemmas.{query_broke}
 use Rattle.wu_schema.proofs.version.project_rows.Goals as goal
 
 pub returns-clause-reads : goal.returns-clause-reads
@@ -31,3 +32,7 @@ returns-clause-absent g c clean =
 pub returns-clause-missing : goal.returns-clause-missing
 returns-clause-missing g c clean =
     if_err c.query_all.result _ _ (λ e h m. version_missing (state g.S.Store c.args.conn.now) (state g.S.Store c.query_all.new.self) e h m) (c.query_all.ensures.err clean)
+
+pub returns-clause-breaks : goal.returns-clause-breaks
+returns-clause-breaks g c clean =
+    if_err c.query_all.result _ _ (λ e h is. query_broke (state g.S.Store c.args.conn.now) (state g.S.Store c.query_all.new.self) e version_text version_selects [] h is) (c.query_all.ensures.err clean)

@@ -1,9 +1,9 @@
 use Rattle.std.proofs.Common.{◌≡◌, subst, sym, arith, rules}
 use Rattle.std.proofs.lemmas.List.{take_all}
 use Rattle.std.proofs.lemmas.List.Elements.{All-more}
-use Rattle.wu_passes.specs.declared.command.Command.{Command}
-use Rattle.wu_passes.specs.Machine.{HasValues}
-use Rattle.wu_passes.specs.Planning.{request_of}
+use Rattle.wu_machine.specs.declared.command.Command.{Command}
+use Rattle.wu_machine.specs.Machine.{HasValues}
+use Rattle.wu_machine.specs.Commands.{request_of}
 use Rattle.wu_sound_laws.specs.Laws.{HaveValues}
 use Rattle.wu_sound_laws.proofs.laws.commands_have_values.Goals as goal
 

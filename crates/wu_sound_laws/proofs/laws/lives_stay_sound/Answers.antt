@@ -1,7 +1,7 @@
 use Rattle.std.proofs.lemmas.List.Elements.{recursion_from_All}
 use Rattle.std.specs.List.{All}
-use Rattle.wu_passes.specs.Machine.{HasValues}
-use Rattle.wu_passes.specs.Sessions.{Lived, accepted}
+use Rattle.wu_machine.specs.Machine.{HasValues}
+use Rattle.wu_machine.specs.Sessions.{Lived, accepted}
 use Rattle.wu_sound_laws.proofs.Consequences.{lives_sound}
 use Rattle.wu_sound_laws.proofs.laws.lives_stay_sound.Goals as goal
 

@@ -1,5 +1,6 @@
 use Rattle.wu_schema.proofs.Words.{HasCleanDisk, IsPart, IsTrue, StandsFor, World, state, ◌≡◌}
-use Rattle.wu_store.specs.Changes.{LacksNumber, bare, with_placed}
+use Rattle.wu_store.specs.Changes.{LacksNumber, with_placed}
+use Rattle.wu_core.specs.Storable.{bare}
 use Rattle.wu_store.proofs.PlacedLemmas.{first_instances}
 use Rattle.wu_store.proofs.changes.insert_instances.Given as goal
 

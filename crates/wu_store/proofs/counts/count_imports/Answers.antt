@@ -1,5 +1,5 @@
-use Rattle.wu_store.proofs.LoadLemmas.{never_refused}
+use Rattle.wu_store.proofs.AskLemmas.{handed_on}
 use Rattle.wu_store.proofs.counts.count_imports.Goals as goal
 
-pub returns-in-Err-clause-unrefused : goal.returns-in-Err-clause-unrefused
-returns-in-Err-clause-unrefused g c clean world stands can limit = rw c.fault_of.ensures (never_refused _ (c.in-Err.ensures.told clean world stands limit))
+pub returns-in_err-rows-clause-unrefused : goal.returns-in_err-rows-clause-unrefused
+returns-in_err-rows-clause-unrefused g c clean world stands any limit = handed_on c.from_residual.result c.in_err-rows.field-0.0 c.from_residual.ensures.1 (c.in_err-rows.ensures.unrefused clean world stands tt limit)

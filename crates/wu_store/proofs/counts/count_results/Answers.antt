@@ -1,34 +1,40 @@
-use Rattle.std.proofs.Common.{arith, subst, sym, ◌∙◌}
-use Rattle.sqlite.specs.Effect.{Database}
-use Rattle.sqlite.specs.Held.{state}
-use Rattle.sqlite.specs.State.{HasCleanDisk}
-use Rattle.wu_schema.specs.StandsFor.{StandsFor}
-use Rattle.wu_store.proofs.LoadLemmas.{read_then}
+use Rattle.wu_schema.proofs.Words.{HasCleanDisk, StandsFor, arith, state, ◌∙◌}
+use Rattle.wu_store.proofs.AskLemmas.{asks_handed, asks_made, asks_stands, asks_then, handed_on}
 use Rattle.wu_store.proofs.counts.count_results.Goals as goal
 
-pub returns-in-Err-count_results_in-clause-unrefused : goal.returns-in-Err-count_results_in-clause-unrefused
-returns-in-Err-count_results_in-clause-unrefused g c clean world stands can limit =
-    let first : HasCleanDisk (state g.S.Store c.count_all_results.new.conn) = omega (arith, c.count_results_in.ensures.read.survives.clean, clean) in
-    let still : StandsFor (state g.S.Store c.count_all_results.new.conn).now world = subst (λ (d : Database). StandsFor d world) (sym (c.in-Ok.ensures.same first)) stands in
-    c.in-Err-count_results_in.ensures.unrefused clean world still tt (c.count_all_results.ensures.read.survives.limit ∙ limit)
+pub returns-in_err-all-clause-unrefused : goal.returns-in_err-all-clause-unrefused
+returns-in_err-all-clause-unrefused g c clean world stands can limit = handed_on c.from_residual.result c.in_err-all.field-0.0 c.from_residual.ensures.1 (c.in_err-all.ensures.unrefused clean world stands tt limit)
 
-pub returns-in-Err-count_results_in-2-clause-unrefused : goal.returns-in-Err-count_results_in-2-clause-unrefused
-returns-in-Err-count_results_in-2-clause-unrefused g c clean world stands can limit =
-    let second : HasCleanDisk (state g.S.Store c.count_results_in.new.conn) = omega (arith, c.count_results_in-2.ensures.read.survives.clean, clean) in
-    let first : HasCleanDisk (state g.S.Store c.count_all_results.new.conn) = omega (arith, c.count_results_in.ensures.read.survives.clean, second) in
-    let still : StandsFor (state g.S.Store c.count_results_in.new.conn).now world = subst (λ (d : Database). StandsFor d world) (sym (c.in-Ok-count_results_in.ensures.same second ∙ c.in-Ok.ensures.same first)) stands in
-    c.in-Err-count_results_in-2.ensures.unrefused clean world still tt (c.count_results_in.ensures.read.survives.limit ∙ (c.count_all_results.ensures.read.survives.limit ∙ limit))
+pub returns-in_err-unsent-clause-asks : goal.returns-in_err-unsent-clause-asks
+returns-in_err-unsent-clause-asks g c =
+    asks_then g.S.Store _ _ _ c.in_ok-all.all c.in_ok-all.ensures.asks _ (asks_handed g.S.Store _ _ c.from_residual-in_err-unsent.result c.in_err-unsent.field-0.0 c.from_residual-in_err-unsent.ensures.1 c.in_err-unsent.ensures.asks)
 
-pub returns-in-Err-count_results_in-3-clause-unrefused : goal.returns-in-Err-count_results_in-3-clause-unrefused
-returns-in-Err-count_results_in-3-clause-unrefused g c clean world stands can limit =
-    let third : HasCleanDisk (state g.S.Store c.count_results_in-2.new.conn) = omega (arith, c.count_results_in-3.ensures.read.survives.clean, clean) in
-    let second : HasCleanDisk (state g.S.Store c.count_results_in.new.conn) = omega (arith, c.count_results_in-2.ensures.read.survives.clean, third) in
-    let first : HasCleanDisk (state g.S.Store c.count_all_results.new.conn) = omega (arith, c.count_results_in.ensures.read.survives.clean, second) in
-    let still : StandsFor (state g.S.Store c.count_results_in-2.new.conn).now world = subst (λ (d : Database). StandsFor d world) (sym (c.in-Ok-count_results_in-2.ensures.same third ∙ c.in-Ok-count_results_in.ensures.same second ∙ c.in-Ok.ensures.same first)) stands in
-    c.in-Err-count_results_in-3.ensures.unrefused clean world still tt (c.count_results_in-2.ensures.read.survives.limit ∙ (c.count_results_in.ensures.read.survives.limit ∙ (c.count_all_results.ensures.read.survives.limit ∙ limit)))
+pub returns-in_err-unsent-clause-unrefused : goal.returns-in_err-unsent-clause-unrefused
+returns-in_err-unsent-clause-unrefused g c clean world stands can limit =
+    let before : HasCleanDisk (state g.S.Store c.count_all_results.new.conn) = omega (arith, c.count_results_in.ensures.asks.crash.clean) in
+    let asked = c.in_ok-all.ensures.asks in
+    handed_on c.from_residual-in_err-unsent.result c.in_err-unsent.field-0.0 c.from_residual-in_err-unsent.ensures.1 (c.in_err-unsent.ensures.unrefused clean world (asks_stands g.S.Store _ _ c.in_ok-all.all asked before world stands) tt (asked.crash.limit ∙ limit))
 
-pub returns-in-Ok-count_results_in-3-clause-read : goal.returns-in-Ok-count_results_in-3-clause-read
-returns-in-Ok-count_results_in-3-clause-read g c = read_then _ _ _ (read_then _ _ _ (read_then _ _ _ c.count_all_results.ensures.read c.count_results_in.ensures.read) c.count_results_in-2.ensures.read) c.count_results_in-3.ensures.read
+pub returns-in_err-in_progress-clause-asks : goal.returns-in_err-in_progress-clause-asks
+returns-in_err-in_progress-clause-asks g c =
+    asks_then g.S.Store _ _ _ c.in_ok-unsent.unsent (asks_then g.S.Store _ _ _ c.in_ok-all.all c.in_ok-all.ensures.asks _ c.in_ok-unsent.ensures.asks) _ (asks_handed g.S.Store _ _ c.from_residual-in_err-in_progress.result c.in_err-in_progress.field-0.0 c.from_residual-in_err-in_progress.ensures.1 c.in_err-in_progress.ensures.asks)
 
-pub returns-in-Err-count_results_in-3-clause-read : goal.returns-in-Err-count_results_in-3-clause-read
-returns-in-Err-count_results_in-3-clause-read g c = read_then _ _ _ (read_then _ _ _ (read_then _ _ _ c.count_all_results.ensures.read c.count_results_in.ensures.read) c.count_results_in-2.ensures.read) c.count_results_in-3.ensures.read
+pub returns-in_err-in_progress-clause-unrefused : goal.returns-in_err-in_progress-clause-unrefused
+returns-in_err-in_progress-clause-unrefused g c clean world stands can limit =
+    let before : HasCleanDisk (state g.S.Store c.count_results_in.new.conn) = omega (arith, c.count_results_in-2.ensures.asks.crash.clean) in
+    let asked = (asks_then g.S.Store _ _ _ c.in_ok-all.all c.in_ok-all.ensures.asks _ c.in_ok-unsent.ensures.asks) in
+    handed_on c.from_residual-in_err-in_progress.result c.in_err-in_progress.field-0.0 c.from_residual-in_err-in_progress.ensures.1 (c.in_err-in_progress.ensures.unrefused clean world (asks_stands g.S.Store _ _ c.in_ok-unsent.unsent asked before world stands) tt (asked.crash.limit ∙ limit))
+
+pub returns-in_err-over-clause-asks : goal.returns-in_err-over-clause-asks
+returns-in_err-over-clause-asks g c =
+    asks_then g.S.Store _ _ _ c.in_ok-in_progress.in_progress (asks_then g.S.Store _ _ _ c.in_ok-unsent.unsent (asks_then g.S.Store _ _ _ c.in_ok-all.all c.in_ok-all.ensures.asks _ c.in_ok-unsent.ensures.asks) _ c.in_ok-in_progress.ensures.asks) _ (asks_handed g.S.Store _ _ c.from_residual-in_err-over.result c.in_err-over.field-0.0 c.from_residual-in_err-over.ensures.1 c.in_err-over.ensures.asks)
+
+pub returns-in_err-over-clause-unrefused : goal.returns-in_err-over-clause-unrefused
+returns-in_err-over-clause-unrefused g c clean world stands can limit =
+    let before : HasCleanDisk (state g.S.Store c.count_results_in-2.new.conn) = omega (arith, c.count_results_in-3.ensures.asks.crash.clean) in
+    let asked = (asks_then g.S.Store _ _ _ c.in_ok-unsent.unsent (asks_then g.S.Store _ _ _ c.in_ok-all.all c.in_ok-all.ensures.asks _ c.in_ok-unsent.ensures.asks) _ c.in_ok-in_progress.ensures.asks) in
+    handed_on c.from_residual-in_err-over.result c.in_err-over.field-0.0 c.from_residual-in_err-over.ensures.1 (c.in_err-over.ensures.unrefused clean world (asks_stands g.S.Store _ _ c.in_ok-in_progress.in_progress asked before world stands) tt (asked.crash.limit ∙ limit))
+
+pub returns-clause-asks : goal.returns-clause-asks
+returns-clause-asks g c =
+    asks_made g.S.Store _ _ c.in_ok-over.over _ (λ is. absurd cc) (asks_then g.S.Store _ _ _ c.in_ok-in_progress.in_progress (asks_then g.S.Store _ _ _ c.in_ok-unsent.unsent (asks_then g.S.Store _ _ _ c.in_ok-all.all c.in_ok-all.ensures.asks _ c.in_ok-unsent.ensures.asks) _ c.in_ok-in_progress.ensures.asks) _ c.in_ok-over.ensures.asks)

@@ -1,21 +1,18 @@
-use Rattle.std.proofs.Common.{◌≡◌, ◌<◌, false, length, IsTrue}
+use Rattle.std.proofs.Common.{◌<◌, Ok, length, IsTrue}
 use Rattle.sqlite.specs.State.{HasCleanDisk}
 use Rattle.sqlite.specs.Held.{state}
 use Rattle.wu_core.specs.World.{World}
 use Rattle.wu_schema.specs.StandsFor.{StandsFor}
 use Rattle.wu_store.specs.Due.{numbers_left}
-use Rattle.wu_store.specs.Loading.{IsRead, StaysSame}
+use Rattle.wu_store.specs.Loading.{Asks}
 use Rattle.wu_store.proofs.DueLemmas.{IsSoFar}
 use Rattle.wu_store.proofs.due.load_due.Given as goal
 
 abbrev pub invariant-loop-next : goal.invariant-loop-next
 invariant-loop-next g l = record {
   few : length l.due.items < l.limit;
-  mode : l.fn.conn.in_transaction ≡ false → l.conn.in_transaction ≡ false;
-  read : IsRead (state g.S.Store l.fn.conn) (state g.S.Store l.conn);
-  same : HasCleanDisk (state g.S.Store l.conn) → StaysSame (state g.S.Store l.fn.conn) (state g.S.Store l.conn);
-  was_open : HasCleanDisk (state g.S.Store l.conn) → IsTrue (state g.S.Store l.fn.conn).is_open;
-  opens : HasCleanDisk (state g.S.Store l.conn) → IsTrue (state g.S.Store l.fn.conn).is_open → IsTrue (state g.S.Store l.conn).is_open;
+  asks : Asks {T = Unit {0}} g.S.Store l.fn.conn l.conn (Ok tt);
+  opens : HasCleanDisk (state g.S.Store l.conn) → IsTrue (state g.S.Store l.conn).is_open;
   so_far : HasCleanDisk (state g.S.Store l.conn) → (world : World) → StandsFor (state g.S.Store l.fn.conn).now world → IsSoFar l.pass l.now l.min_age world l.due.items l.next;
 }
 

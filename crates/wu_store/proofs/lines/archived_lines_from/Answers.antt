@@ -1,7 +1,7 @@
 use Rattle.std.proofs.Common.{◌≡◌, ◌∙◌, [], ◌∷◌, ◌++◌, rules, sym, take_all}
 use Rattle.wu_schema.proofs.Words.{err_from_is_err_and}
 use Rattle.wu_schema.specs.Stored.{archived_cells}
-use Rattle.wu_store.specs.Reading.{IsStoredArchived}
+use Rattle.wu_core.specs.Storable.{IsStoredArchived}
 use Rattle.wu_store.proofs.ListingLemmas.{all_unread, stored_more}
 use Rattle.wu_store.proofs.lines.archived_lines_from.Goals as goal
 

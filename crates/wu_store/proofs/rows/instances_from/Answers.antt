@@ -1,6 +1,6 @@
 use Rattle.wu_schema.proofs.Words.{[], err_from_is_err_and, rules, sym, take_all, ◌++◌, ◌∙◌, ◌∷◌, ◌≡◌}
 use Rattle.std.proofs.lemmas.List.Elements.{All-push}
-use Rattle.wu_store.specs.Reading.{IsStoredInstance}
+use Rattle.wu_core.specs.Storable.{IsStoredInstance}
 use Rattle.wu_store.proofs.LoadLemmas.{instance_unread, instances_more, instances_restored}
 use Rattle.wu_store.proofs.rows.instances_from.Goals as goal
 

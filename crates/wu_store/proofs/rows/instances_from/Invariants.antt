@@ -1,6 +1,6 @@
 use Rattle.wu_schema.proofs.Words.{instance_row, map, take, ◌≡◌}
 use Rattle.std.specs.Prelude.{All}
-use Rattle.wu_store.specs.Reading.{IsStoredInstance}
+use Rattle.wu_core.specs.Storable.{IsStoredInstance}
 use Rattle.wu_store.proofs.rows.instances_from.Given as goal
 
 abbrev pub invariant-loop-row : goal.invariant-loop-row

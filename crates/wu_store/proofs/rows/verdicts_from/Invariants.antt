@@ -1,5 +1,5 @@
 use Rattle.wu_schema.proofs.Words.{take, verdict_digits, ◌≡◌}
-use Rattle.wu_store.specs.Reading.{AreVerdicts}
+use Rattle.wu_core.specs.Storable.{AreVerdicts}
 use Rattle.wu_store.proofs.rows.verdicts_from.Given as goal
 
 abbrev pub invariant-loop-digit : goal.invariant-loop-digit

@@ -1,5 +1,6 @@
 use Rattle.wu_schema.proofs.Words.{Blob, HasCleanDisk, OnOk, StandsFor, Text, World, ap, bound_value, number, state, workunit_row, ◌∙◌, ◌≡◌}
-use Rattle.wu_store.specs.Changes.{LacksNumber, bare, with_placed}
+use Rattle.wu_store.specs.Changes.{LacksNumber, with_placed}
+use Rattle.wu_core.specs.Storable.{bare}
 use Rattle.wu_store.proofs.InsertTexts.{workunit_put}
 use Rattle.wu_schema.proofs.InsertEffect.{also, no_more}
 use Rattle.wu_schema.proofs.CallLemmas.{ok_on, ran_as}

@@ -12,9 +12,9 @@ use Rattle.wu_store.proofs.statements.instance_rows.Goals as goal
 pub returns : goal.returns
 returns g c =
     let old = c.args.conn.now in
-    let new = c.query_all.new.self in
-    let q = c.query_all.ensures in
-    let given = also (sent_number c.args.workunit c.params-to_sql.ensures c.in-Ok.ensures.value c.in-Ok.ensures.within) no_more in
-    let it = asked_all g.S.Store (question Instances (λ _. tt) instances_asked instances_fits (number c.args.workunit ∷ []) refl (λ _. refl)) old new _ given q.mode q.survives (λ rows world. rows ≡ instance_rows_of c.args.workunit world)
-    (λ rows h world s. instances_found (state g.S.Store old) (state g.S.Store new) world s c.args.workunit rows h) c.query_all.result q.ok q.err in
-    record { reads = it.reads; answers = it.answers; told = λ _. it.told; serves = λ was clean. if_err c.query_all.result _ _ (λ e h is. (h is).0.is_open) (it.serves clean) }
+    let new = c.query.new.conn in
+    let q = c.query.ensures in
+    let given = also (sent_number c.args.workunit c.params-to_sql.ensures c.in_ok-workunit.ensures.value c.in_ok-workunit.ensures.within) no_more in
+    let it = asked_all g.S.Store (question Instances (λ _. tt) instances_asked instances_fits (number c.args.workunit ∷ []) refl (λ _. refl)) old new _ given (λ rows world. rows ≡ instance_rows_of c.args.workunit world)
+    (λ rows h world s. instances_found (state g.S.Store old) (state g.S.Store new) world s c.args.workunit rows h) c.query.result q.asks q.opens q.shows q.fails q.told in
+    record { asks = it.asks; opens = λ few. it.opens; answers = it.answers; fault = it.fault; unrefused = λ clean world s few limit. it.unrefused clean world s tt limit }

@@ -8,13 +8,13 @@ use Rattle.wu_store.proofs.statements.last_archived_row.Goals as goal
 pub returns-in_err-found : goal.returns-in_err-found
 returns-in_err-found g c =
     let q = c.in_err-found.ensures in
-    let it = any_err g.S.Store (last_question Archive (λ _. tt) archived_text archived_fits) c.args.conn.now c.query_all.new.self [] refl q.mode q.survives last_archived c.in_err-found.field-0.0 q.err c.from_residual.result c.from_residual.ensures.1 in
-    record { reads = it.reads; answers = it.answers; told = it.told; serves = it.serves }
+    let it = any_err g.S.Store (last_question Archive (λ _. tt) archived_text archived_fits) c.args.conn.now c.query.new.conn [] refl last_archived c.in_err-found.field-0.0 q.asks q.opens q.fails q.told c.from_residual.result c.from_residual.ensures.1 in
+    record { asks = it.asks; opens = it.opens; answers = it.answers; fault = it.fault; unrefused = it.unrefused }
 
 pub returns : goal.returns
 returns g c =
     let q = c.in_ok-found.ensures in
     let found = c.in_ok-found.found in
-    let it = asked_first g.S.Store (last_question Archive (λ _. tt) archived_text archived_fits) c.args.conn.now c.query_all.new.self [] refl q.mode q.survives last_archived
-    (λ rows h world s. archived_found (state g.S.Store c.args.conn.now) (state g.S.Store c.query_all.new.self) world s rows h) found q.ok c.pop.new.self.items c.pop.result c.pop.ensures.items (λ some. c.pop.ensures.variant.1 (omega (arith, some, found.ok.0))) in
-    record { reads = it.reads; answers = it.answers; told = it.told; serves = it.serves }
+    let it = asked_first g.S.Store (last_question Archive (λ _. tt) archived_text archived_fits) c.args.conn.now c.query.new.conn [] refl last_archived
+    (λ rows h world s. archived_found (state g.S.Store c.args.conn.now) (state g.S.Store c.query.new.conn) world s rows h) found q.asks q.opens q.shows c.pop.new.self.items c.pop.result c.pop.ensures.items (λ some. c.pop.ensures.variant.1 (omega (arith, some, found.ok.0))) in
+    record { asks = it.asks; opens = it.opens; answers = it.answers; fault = it.fault; unrefused = it.unrefused }

@@ -1,76 +1,42 @@
-use Rattle.std.proofs.Common.{arith, subst, sym, ◌∙◌, IfErr}
-use Rattle.wu_schema.proofs.VersionLemmas.{has_understood}
-use Rattle.wu_passes.specs.Standing.{TellsLater}
-use Rattle.sqlite.specs.State.{HasCleanDisk}
 use Rattle.sqlite.specs.Held.{state}
-use Rattle.wu_core.specs.World.{empty_world}
+use Rattle.std.proofs.Common.{refl}
+use Rattle.wu_schema.proofs.AskingLemmas.{asks_refused, asks_unchanged}
 use Rattle.wu_schema.proofs.CallLemmas.{leaves_only}
-use Rattle.wu_passes.proofs.StandingLemmas.{adoption_fault, adoption_later, adoption_told, created_is, known_is, leaves_made, leaves_read, none_known, refusal_is, stored_later, tells_worlds}
+use Rattle.wu_passes.proofs.AdoptingLemmas.{bare_adopts, bare_limit, bare_refused, bare_refuses, bare_settled, found_adopts, found_refuses, made_adopts, made_refuses, unasked_refuses}
 use Rattle.wu_passes.proofs.project.session.find_or_create.Goals as goal
 
-pub returns-in-Ok-None-clause-made : goal.returns-in-Ok-None-clause-made
-returns-in-Ok-None-clause-made g c clean vacant =
-    let before : HasCleanDisk (state g.S.Store c.version_of.new.conn) = omega (arith, c.create.ensures.crash.clean) in
-    created_is (state g.S.Store c.args.conn.now) (state g.S.Store c.version_of.new.conn) (state g.S.Store c.create.new.conn) clean before (c.in-Ok-None.ensures.reads.unchanged before) c.version_of.ensures.reads.crash
-    c.create.result (c.create.ensures.done clean)
+pub returns-in-Ok-Some-clause-adopted : goal.returns-in-Ok-Some-clause-adopted
+returns-in-Ok-Some-clause-adopted g c =
+    bare_adopts g.S.Store c.args.conn.now c.set_step_limit.new.self c.set_step_limit.ensures _ c.check_version.result
+    (found_adopts (state g.S.Store c.set_step_limit.new.self) (state g.S.Store c.version_of.new.conn) c.version_of.ensures.asks.crash (bare_limit g.S.Store c.args.conn.now c.set_step_limit.new.self c.set_step_limit.ensures (state g.S.Store c.version_of.new.conn))
+    c.in-Ok-Some.field-0 c.in-Ok-Some.version c.in-Ok-Some.field-0-is (asks_unchanged g.S.Store c.set_step_limit.new.self c.version_of.new.conn c.in-Ok-Some.field-0 c.in-Ok-Some.ensures.asks c.in-Ok-Some.ensures.opens) c.in-Ok-Some.ensures.absent c.in-Ok-Some.ensures.answers c.in-Ok-Some.ensures.stored
+    c.check_version.result c.check_version.ensures.known)
 
-pub returns-in-Ok-None-clause-left : goal.returns-in-Ok-None-clause-left
-returns-in-Ok-None-clause-left g c clean =
-    let before : HasCleanDisk (state g.S.Store c.version_of.new.conn) = omega (arith, c.create.ensures.crash.clean) in
-    leaves_made (state g.S.Store c.args.conn.now) (state g.S.Store c.version_of.new.conn) (state g.S.Store c.create.new.conn) clean before (c.in-Ok-None.ensures.reads.unchanged before) c.version_of.ensures.reads.crash
-    c.create.ensures.crash
+pub returns-in-Ok-Some-clause-refused : goal.returns-in-Ok-Some-clause-refused
+returns-in-Ok-Some-clause-refused g c =
+    bare_refuses g.S.Store c.args.conn.now c.set_step_limit.new.self c.set_step_limit.ensures _ c.check_version.result
+    (found_refuses (state g.S.Store c.set_step_limit.new.self) (state g.S.Store c.version_of.new.conn) c.version_of.ensures.asks.crash (bare_limit g.S.Store c.args.conn.now c.set_step_limit.new.self c.set_step_limit.ensures (state g.S.Store c.version_of.new.conn))
+    c.in-Ok-Some.field-0 c.in-Ok-Some.version c.in-Ok-Some.field-0-is (asks_unchanged g.S.Store c.set_step_limit.new.self c.version_of.new.conn c.in-Ok-Some.field-0 c.in-Ok-Some.ensures.asks c.in-Ok-Some.ensures.opens) c.in-Ok-Some.ensures.absent c.in-Ok-Some.ensures.answers c.in-Ok-Some.ensures.stored
+    c.check_version.result c.check_version.ensures.later)
 
-pub returns-in-Ok-Some-clause-left : goal.returns-in-Ok-Some-clause-left
-returns-in-Ok-Some-clause-left g c clean = leaves_read _ _ empty_world clean c.version_of.ensures.reads.crash
-
-pub returns-in-Err-clause-left : goal.returns-in-Err-clause-left
-returns-in-Err-clause-left g c clean = leaves_read _ _ empty_world clean c.version_of.ensures.reads.crash
+pub returns-in-Ok-None-clause-adopted : goal.returns-in-Ok-None-clause-adopted
+returns-in-Ok-None-clause-adopted g c =
+    bare_adopts g.S.Store c.args.conn.now c.set_step_limit.new.self c.set_step_limit.ensures _ c.create.result
+    (made_adopts (state g.S.Store c.set_step_limit.new.self) (state g.S.Store c.version_of.new.conn) c.version_of.ensures.asks.crash (bare_limit g.S.Store c.args.conn.now c.set_step_limit.new.self c.set_step_limit.ensures (state g.S.Store c.version_of.new.conn))
+    (state g.S.Store c.create.new.conn) c.create.ensures.crash (asks_unchanged g.S.Store c.set_step_limit.new.self c.version_of.new.conn c.in-Ok-None.field-0 c.in-Ok-None.ensures.asks c.in-Ok-None.ensures.opens) (λ clean. c.in-Ok-None.ensures.none clean c.in-Ok-None.field-0-is) c.create.result c.create.ensures.done)
 
 pub returns-in-Ok-None-clause-refused : goal.returns-in-Ok-None-clause-refused
-returns-in-Ok-None-clause-refused g c clean whole =
-    let before : HasCleanDisk (state g.S.Store c.version_of.new.conn) = omega (arith, c.create.ensures.crash.clean) in
-    let same = c.in-Ok-None.ensures.reads.unchanged before in
-    let only = leaves_only g.S.Store g.met.S.Store.settled g.met.S.Store.stays c.version_of.new.conn same.0.is_open in
-    refusal_is (state g.S.Store c.args.conn.now) (state g.S.Store c.version_of.new.conn) (state g.S.Store c.create.new.conn) clean before same c.version_of.ensures.reads.crash
-    c.create.result whole only (c.create.ensures.refused clean)
+returns-in-Ok-None-clause-refused g c =
+    bare_refuses g.S.Store c.args.conn.now c.set_step_limit.new.self c.set_step_limit.ensures _ c.create.result
+    (made_refuses (state g.S.Store c.set_step_limit.new.self) (state g.S.Store c.version_of.new.conn) c.version_of.ensures.asks.crash (bare_limit g.S.Store c.args.conn.now c.set_step_limit.new.self c.set_step_limit.ensures (state g.S.Store c.version_of.new.conn))
+    (state g.S.Store c.create.new.conn) c.create.ensures.crash (asks_unchanged g.S.Store c.set_step_limit.new.self c.version_of.new.conn c.in-Ok-None.field-0 c.in-Ok-None.ensures.asks c.in-Ok-None.ensures.opens) (λ clean. c.in-Ok-None.ensures.none clean c.in-Ok-None.field-0-is)
+    (bare_settled g.S.Store c.args.conn.now c.set_step_limit.new.self c.set_step_limit.ensures (state g.S.Store c.version_of.new.conn) (c.if-not-is_autocommit.ensures.settled refl))
+    (leaves_only g.S.Store g.met.S.Store.settled g.met.S.Store.stays c.version_of.new.conn)
+    c.create.result c.create.ensures.told c.create.ensures.undone c.create.ensures.refused)
 
-pub returns-in-Ok-Some-clause-known : goal.returns-in-Ok-Some-clause-known
-returns-in-Ok-Some-clause-known g c clean = known_is c.check_version.result (state g.S.Store c.args.conn.now).now c.in-Ok-Some.field-0 (c.in-Ok-Some.ensures.answers clean) c.in-Ok-Some.version c.in-Ok-Some.field-0-is c.check_version.ensures.known
-
-pub returns-in-Ok-None-clause-known : goal.returns-in-Ok-None-clause-known
-returns-in-Ok-None-clause-known g c clean =
-    let before : HasCleanDisk (state g.S.Store c.version_of.new.conn) = omega (arith, c.create.ensures.crash.clean) in
-    none_known c.create.result (state g.S.Store c.args.conn.now).now c.in-Ok-None.field-0 (c.in-Ok-None.ensures.answers before) c.in-Ok-None.field-0-is
-
-pub returns-in-Ok-Some-clause-stored : goal.returns-in-Ok-Some-clause-stored
-returns-in-Ok-Some-clause-stored g c clean version told =
-    let later = subst (λ r. IfErr r (TellsLater c.in-Ok-Some.version)) told c.check_version.ensures.later in
-    stored_later (state g.S.Store c.args.conn.now) c.in-Ok-Some.field-0 c.in-Ok-Some.version version c.in-Ok-Some.field-0-is (let same = later.0 in cc) later.1 (c.in-Ok-Some.ensures.absent clean) (c.in-Ok-Some.ensures.answers clean)
-
-pub returns-in-Ok-None-clause-keeps : goal.returns-in-Ok-None-clause-keeps
-returns-in-Ok-None-clause-keeps g c clean has =
-    let before : HasCleanDisk (state g.S.Store c.version_of.new.conn) = omega (arith, c.create.ensures.crash.clean) in
-    absurd (has_understood _ has (c.in-Ok-None.ensures.none before c.in-Ok-None.field-0-is))
-
-pub returns-in-Ok-None-clause-whole : goal.returns-in-Ok-None-clause-whole
-returns-in-Ok-None-clause-whole g c clean has =
-    let before : HasCleanDisk (state g.S.Store c.version_of.new.conn) = omega (arith, c.create.ensures.crash.clean) in
-    absurd (has_understood _ has (c.in-Ok-None.ensures.none before c.in-Ok-None.field-0-is))
-
-pub returns-in-Ok-Some-clause-only : goal.returns-in-Ok-Some-clause-only
-returns-in-Ok-Some-clause-only g c clean unlimited world first stands =
-    tells_worlds world c.in-Ok-Some.field-0 c.in-Ok-Some.version c.check_version.result c.in-Ok-Some.field-0-is (c.in-Ok-Some.ensures.stored clean world stands) c.check_version.ensures.later
-
-pub returns-in-Ok-None-clause-only : goal.returns-in-Ok-None-clause-only
-returns-in-Ok-None-clause-only g c clean unlimited world first stands =
-    let before : HasCleanDisk (state g.S.Store c.version_of.new.conn) = omega (arith, c.create.ensures.crash.clean) in
-    absurd (let no = sym c.in-Ok-None.field-0-is ∙ c.in-Ok-None.ensures.stored before world stands in cc)
-
-pub returns-in-Ok-Some-clause-told : goal.returns-in-Ok-Some-clause-told
-returns-in-Ok-Some-clause-told g c = adoption_later c.in-Ok-Some.version c.check_version.result c.check_version.ensures.later
-
-pub returns-in-Ok-None-clause-told : goal.returns-in-Ok-None-clause-told
-returns-in-Ok-None-clause-told g c = adoption_told c.create.result c.create.ensures.told
-
-pub returns-in-Err-clause-told : goal.returns-in-Err-clause-told
-returns-in-Err-clause-told g c = adoption_fault c.in-Err.fault c.in-Err.ensures.told
+pub returns-in-Err-clause-refused : goal.returns-in-Err-clause-refused
+returns-in-Err-clause-refused g c =
+    let unlimited = bare_limit g.S.Store c.args.conn.now c.set_step_limit.new.self c.set_step_limit.ensures (state g.S.Store c.version_of.new.conn) in
+    bare_refused g.S.Store c.args.conn.now c.set_step_limit.new.self c.set_step_limit.ensures _ c.in-Err.fault
+    (unasked_refuses (state g.S.Store c.set_step_limit.new.self) (state g.S.Store c.version_of.new.conn) c.version_of.ensures.asks.crash unlimited
+    c.in-Err.fault c.in-Err.ensures.told c.in-Err.ensures.asks.back (asks_refused g.S.Store c.set_step_limit.new.self c.version_of.new.conn c.in-Err.fault c.in-Err.ensures.asks c.in-Err.ensures.opens) (λ clean has version of. c.in-Err.ensures.taken clean has version of unlimited))

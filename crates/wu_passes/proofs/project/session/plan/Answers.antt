@@ -1,6 +1,6 @@
 use Rattle.std.proofs.Common.{rules, subst}
 use Rattle.wu_passes.specs.Planning.{IsPlan}
-use Rattle.wu_passes.specs.Requests.{Request}
+use Rattle.wu_machine.specs.Requests.{Request}
 use Rattle.wu_passes.proofs.project.session.plan.Goals as goal
 
 pub returns-in-Batch-clause-plan : goal.returns-in-Batch-clause-plan

@@ -6,7 +6,7 @@ use Rattle.std.specs.Map.{values_of}
 use Rattle.std.specs.Ordering.{nat_cmp}
 use Rattle.std.specs.String.{string_cmp}
 use Rattle.wu_core.specs.declared.workunit.Workunit.{Workunit}
-use Rattle.wu_passes.specs.FileRows.{KeepsIdentity}
+use Rattle.wu_machine.specs.FileRows.{KeepsIdentity}
 use Rattle.wu_passes.specs.Touched.{IsUnderItsName, LeavesBy, touched_named}
 use Rattle.wu_passes.proofs.NamedLemmas.{left_is, left_named, named_is, under_set}
 use Rattle.wu_passes.proofs.touched.Touched.apply.Goals as goal

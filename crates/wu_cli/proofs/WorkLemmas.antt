@@ -1,0 +1,123 @@
+-- What is done for a line or a script, over an open database.
+use Rattle.std.proofs.Common.{◌≡◌, ◌∙◌, inl, inr, ℕ, ◌≤◌, List, Option, Some, None, Result, Err, refl, sym, ap, subst, arith, false, []}
+use Rattle.std.specs.Prelude.{OnOk}
+use Rattle.sqlite.specs.Held.{Held, state}
+use Rattle.sqlite.specs.State.{HasCleanDisk}
+use Rattle.sqlite.specs.Store.{Ghosts}
+use Rattle.wu_core.specs.declared.fault.Fault.{Fault}
+use Rattle.wu_core.specs.World.{World}
+use Rattle.wu_machine.specs.Sound.{IsProject}
+use Rattle.wu_passes.specs.declared.project.Project.{Project}
+use Rattle.wu_passes.specs.Projects.{GoesStill, has_ended, state_of}
+use Rattle.wu_passes.specs.Standing.{GoesOn, KeepsDoubt}
+use Rattle.wu_words.specs.declared.action.Action.{Action}
+use Rattle.wu_words.specs.declared.action.Action.TheVariants.{Commands, Look}
+use Rattle.wu_words.specs.declared.step.LineFault.{LineFault}
+use Rattle.wu_cli.specs.Performing.{Performs}
+use Rattle.wu_cli.specs.Working.{BeginsFrom, DoesAdopted, DoesNothing, DoesOver, DrivesOver, DrivesWork, line_end, PerformsWork, script_end}
+use Rattle.wu_cli.specs.declared.trouble.Trouble.{Trouble}
+use Rattle.wu_cli.specs.declared.work.Work.{Work}
+use Rattle.wu_cli.specs.declared.work.Work.TheVariants as work
+use Rattle.wu_cli.proofs.ScriptLemmas.{drives_steps, one_clean, steps_clean}
+
+-- what is refused in one way is refused with the same
+pub same_refusal : {T A B : Type 0} (x y : A) (f g : B) → ◌≡◌ {A = Result T (A × B)} (Err (x, f)) (Err (y, g)) → (x ≡ y) × (f ≡ g)
+same_refusal {T} {A} {B} x y f g is =
+    let both : ◌≡◌ {A = A × B} (x, f) (y, g) = cc in
+    (ap (λ (p : A × B). p.0) both, ap (λ (p : A × B). p.1) both)
+
+-- where all went well no fault came
+line_whole : (end : Option Fault) (whole : Type 0) → (end ≡ None → whole) → OnOk (line_end end) whole
+line_whole None whole of_none = of_none refl
+line_whole (Some fault) whole of_none = tt
+
+script_whole : (end : Option LineFault) (whole : Type 0) → (end ≡ None → whole) → OnOk (script_end end) whole
+script_whole None whole of_none = of_none refl
+script_whole (Some fault) whole of_none = tt
+
+-- ---- over a project
+
+module _ {S W : Type 0} {store : Ghosts S} (contents : W → Option (List ℕ)) (old new : Project S store) (out_old out_new : W) where
+  line_works : (action : Action) (end : Option Fault) → Performs contents old new out_old out_new action end
+      → GoesStill old → HasCleanDisk (state_of new) → (world : World) → IsProject world → GoesOn (state_of old) world
+      → DrivesWork world (work.Line action) (line_end end) (state_of new)
+  line_works (Commands commands) end (run, runs, is) going clean world project goes =
+      let driven = runs.answers.2 going clean world project goes in
+      record {
+        count = run.acknowledged;
+        answers = runs.answers.0;
+        is_cut = has_ended new;
+        drives = record {
+          within = driven.within;
+          answered = driven.answered;
+          end = λ fault told. absurd (cc);
+          goes = driven.goes;
+          ended = driven.ended;
+          project = driven.project;
+          cut_project = driven.cut_project;
+        };
+        whole = line_whole end _ (λ none. runs.all (is ∙ none));
+      }
+  line_works (Look view) end sees going clean world project goes = record {
+    count = 0;
+    answers = [];
+    is_cut = false;
+    drives = record {
+      within = omega arith;
+      answered = tt;
+      end = λ fault told. absurd (cc);
+      goes = λ still. sees.goes clean world goes;
+      ended = λ ended. absurd (cc);
+      project = project;
+      cut_project = λ ended cut there. absurd (cc);
+    };
+    whole = line_whole end _ (λ none. refl);
+  }
+
+  work_clean : (asked : Work) (done : Result (Unit {0}) Trouble) → PerformsWork contents old new out_old out_new asked done → KeepsDoubt (state_of old) (state_of new)
+  work_clean (work.Line action) done (end, does, is) = one_clean contents old new out_old out_new action end does
+  work_clean (work.Script steps) done (end, does, is) = steps_clean contents old new out_old out_new steps end does
+
+  -- a beginning of its commands is done over each world that the session goes on over
+  work_drives : (asked : Work) (done : Result (Unit {0}) Trouble) → PerformsWork contents old new out_old out_new asked done
+      → GoesStill old → HasCleanDisk (state_of new) → (world : World) → IsProject world → GoesOn (state_of old) world
+      → DrivesWork world asked done (state_of new)
+  work_drives (work.Line action) done (end, does, is) going clean world project goes =
+      subst (λ d. DrivesWork world (work.Line action) d (state_of new)) (sym is) (line_works action end does going clean world project goes)
+  work_drives (work.Script steps) done (end, does, is) going clean world project goes =
+      let driven = drives_steps contents old new out_old out_new steps end does going clean world project goes in
+      subst (λ d. DrivesWork world (work.Script steps) d (state_of new)) (sym is) (record {
+        count = driven.count;
+        answers = driven.answers;
+        is_cut = driven.is_cut;
+        drives = driven.drives;
+        whole = script_whole end _ driven.whole;
+      })
+
+-- ---- over an open database
+
+module _ {S W : Type 0} (g : Ghosts S) (contents : W → Option (List ℕ)) (conn again : Held S) (out_old out_new : W) (asked : Work) (done : Result (Unit {0}) Trouble) where
+  -- the session begins from the world
+  begins : (does : DoesAdopted g contents conn again out_old out_new asked done) → HasCleanDisk (state_of does.old) → (world : World) → IsProject world
+      → BeginsFrom (state g conn) world → GoesOn (state_of does.old) world
+  begins does clean world project (inl goes) =
+      let first : 1 ≤ world.version = omega (arith, project.present) in
+      (does.adopts.goes clean world first goes).0
+  begins does clean world project (inr (vacant, is)) = subst (λ w. GoesOn (state_of does.old) w) (sym is) (does.adopts.fresh clean vacant).goes
+
+  stands : (none : DoesNothing g contents conn again out_old out_new asked done) → HasCleanDisk (state g again) → (world : World) → GoesOn (state g conn) world → GoesOn (state g again) world
+  stands none clean world goes = (none.refused.given clean).goes world goes
+
+  pub drives_over : DoesOver g contents conn again out_old out_new asked done → DrivesOver g conn again asked done
+  drives_over (inl does) clean world project begun =
+      let after : HasCleanDisk (state_of does.new) = subst (λ c. HasCleanDisk (state g c)) does.released clean in
+      let kept = work_clean contents does.old does.new out_old out_new asked done does.does in
+      let before : HasCleanDisk (state_of does.old) = omega (arith, kept, after) in
+      inl (subst (λ c. DrivesWork world asked done (state g c)) (sym does.released)
+      (work_drives contents does.old does.new out_old out_new asked done does.does does.begins after world project (begins does before world project begun)))
+  drives_over (inr none) clean world project begun = inr (record {
+    fault = none.fault;
+    told = none.told;
+    why = none.refused.told;
+    stands = stands none clean world;
+  })

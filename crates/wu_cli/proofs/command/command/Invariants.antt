@@ -1,7 +1,0 @@
-use Rattle.std.proofs.Common.{◌≡◌, map, take}
-use Rattle.clap.specs.Words.{app_of}
-use Rattle.wu_cli.specs.CommandLine.{all_subcommands, program_with, subcommand_shape}
-use Rattle.wu_cli.proofs.command.command.Given as goal
-
-abbrev pub invariant-loop-each : goal.invariant-loop-each
-invariant-loop-each l = app_of l.command ≡ program_with (map subcommand_shape (take l.each-index all_subcommands))

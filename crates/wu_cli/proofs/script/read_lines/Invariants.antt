@@ -1,5 +1,0 @@
-use Rattle.wu_cli.specs.Scripts.{AreEntriesOf}
-use Rattle.wu_cli.proofs.script.read_lines.Given as goal
-
-abbrev pub invariant-loop-number : goal.invariant-loop-number
-invariant-loop-number l = AreEntriesOf l.fn.db l.yielded l.entries.items

@@ -1,0 +1,26 @@
+-- What the program does with the words of its process.
+use Rattle.std.specs.Prelude.{◌≡◌, ◌⊎◌, if◌then◌else◌, nat_le, vec_len, MatchResult, Result, Ok, Err, String}
+use Rattle.std.specs.IoError.{error_kind}
+use Rattle.std.specs.declared.alloc.Global.{Global}
+use Rattle.std.specs.declared.io.Error.{Error}
+use Rattle.std.specs.declared.io.ErrorKind.{ErrorKind}
+use Rattle.std.specs.declared.io.ErrorKind.TheVariants.{OutOfMemory}
+use Rattle.std.specs.declared.vec.Vec.{Vec}
+use Rattle.wu_core.specs.declared.fault.Fault.TheVariants as fault
+use Rattle.wu_feed.specs.declared.script.LineCause.TheVariants.{NotText}
+use Rattle.wu_words.specs.declared.usage.Usage.TheVariants.{Refused}
+use Rattle.wu_cli.specs.Endings.{cause_text}
+use Rattle.wu_cli.specs.declared.start.Start.{Start}
+use Rattle.wu_cli.specs.declared.start.Start.TheVariants.{Demonstration, Words}
+use Rattle.wu_cli.specs.declared.trouble.Trouble.{Trouble}
+use Rattle.wu_cli.specs.declared.trouble.Trouble.TheVariants as trouble
+
+-- want of memory; or else the words are no text, as it is told of a script's line, unless memory is wanted for that
+abbrev pub IsUnheard : ErrorKind → Trouble → Type 0
+IsUnheard OutOfMemory told = told ≡ trouble.Fault fault.Memory
+IsUnheard _ told = (told ≡ trouble.Usage (Refused (cause_text NotText))) ⊎ (told ≡ trouble.Fault fault.Memory)
+
+-- with no word after the program's name the demonstration, else what the words ask for; or why they could not be had
+abbrev pub StartsBy : Result (Vec (String Global) Global) Error → Result Start Trouble → Type 0
+StartsBy (Ok words) result = result ≡ Ok (if nat_le (vec_len words) 1 then Demonstration else Words words)
+StartsBy (Err error) result = MatchResult result (λ _. ⊥) (IsUnheard (error_kind error))

@@ -1,0 +1,34 @@
+-- What ends a run of the program before all of it is done: its text on standard error, and its status.
+use Rattle.std.specs.Prelude.{◌≡◌, ℕ, Bool, List, Option, Result, Ok, Err}
+use Rattle.wu_core.specs.declared.fault.Fault.{Fault}
+use Rattle.wu_core.specs.declared.fault.Fault.TheVariants as fault
+use Rattle.wu_words.specs.Statuses.{fault_status, refusal_status, usage_status}
+use Rattle.wu_cli.specs.Endings.{bad_line_text, fault_line, line_fault_text, unopened_line, usage_text, WritesAll}
+use Rattle.wu_cli.specs.declared.trouble.Trouble.{Trouble}
+use Rattle.wu_cli.specs.declared.trouble.Trouble.TheVariants as trouble
+
+-- 3: the database can't be opened; else the status of refused words or of a fault
+abbrev pub trouble_status : Trouble → ℕ
+trouble_status (trouble.Usage usage) = usage_status usage
+trouble_status (trouble.BadLine bad) = refusal_status bad.why
+trouble_status trouble.Unopened = 3
+trouble_status (trouble.Fault fault) = fault_status fault
+trouble_status (trouble.LineFault end) = fault_status end.fault
+
+abbrev pub trouble_text : Trouble → List ℕ
+trouble_text (trouble.Usage usage) = usage_text usage
+trouble_text (trouble.BadLine bad) = bad_line_text bad
+trouble_text trouble.Unopened = unopened_line
+trouble_text (trouble.Fault fault) = fault_line fault
+trouble_text (trouble.LineFault end) = line_fault_text end
+
+-- of an opening only want of memory is told
+abbrev pub trouble_of_opening : Fault → Trouble
+trouble_of_opening fault.Memory = trouble.Fault fault.Memory
+trouble_of_opening _ = trouble.Unopened
+
+-- all was done: nothing is told, and the status is 0; else the trouble is told, maybe in part, with its status
+abbrev pub EndsWith : {W T : Type 0} → (W → Option (List ℕ)) → W → W → Result T Trouble → ℕ → Type 0
+EndsWith contents old new (Ok done) status = (status ≡ 0) × (new ≡ old)
+EndsWith contents old new (Err trouble) status =
+    (status ≡ trouble_status trouble) × ((is_whole : Bool) × WritesAll (contents old) (contents new) (trouble_text trouble) is_whole)

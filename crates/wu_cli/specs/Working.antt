@@ -1,0 +1,123 @@
+-- What words ask of a project, with all files read, and what is done for it over an open database.
+use Rattle.std.specs.Prelude.{◌≡◌, ◌⊎◌, ℕ, Bool, true, false, List, length, Option, Some, None, OnOk, Result, Ok, Err}
+use Rattle.sqlite.specs.Held.{Held, state}
+use Rattle.sqlite.specs.State.{State, HasCleanDisk}
+use Rattle.sqlite.specs.Store.{Ghosts}
+use Rattle.wu_core.specs.declared.fault.Fault.{Fault}
+use Rattle.wu_core.specs.declared.fault.Fault.TheVariants.{NotAProject}
+use Rattle.wu_core.specs.Reads.{Gives}
+use Rattle.wu_core.specs.World.{World, empty_world}
+use Rattle.wu_machine.specs.declared.command.Answer.{Answer}
+use Rattle.wu_machine.specs.declared.command.Command.{Command}
+use Rattle.wu_machine.specs.Sound.{IsProject}
+use Rattle.wu_passes.specs.declared.project.Project.{Project}
+use Rattle.wu_passes.specs.Adopting.{Adopts, IsAdoptionFault, IsVacant, RefusesAdoption}
+use Rattle.wu_passes.specs.Projects.{connection_of, GoesStill, state_of}
+use Rattle.wu_passes.specs.Standing.{GoesOn}
+use Rattle.wu_drive.specs.Driving.{Drives}
+use Rattle.wu_words.specs.Actions.{prepared}
+use Rattle.wu_words.specs.Scripts.{GivesSteps, prepared_script}
+use Rattle.wu_words.specs.declared.action.Action.{Action}
+use Rattle.wu_words.specs.declared.line.Line.{Line}
+use Rattle.wu_words.specs.declared.step.BadLine.{BadLine}
+use Rattle.wu_words.specs.declared.step.FedEntry.{FedEntry}
+use Rattle.wu_words.specs.declared.step.LineFault.{LineFault}
+use Rattle.wu_words.specs.declared.step.Step.{Step}
+use Rattle.wu_cli.specs.Performing.{Performs}
+use Rattle.wu_cli.specs.Scripting.{commands_of_action, commands_of_steps, PerformsSteps, so_far}
+use Rattle.wu_cli.specs.declared.trouble.Trouble.{Trouble}
+use Rattle.wu_cli.specs.declared.trouble.Trouble.TheVariants as trouble
+use Rattle.wu_cli.specs.declared.work.Work.{Work}
+use Rattle.wu_cli.specs.declared.work.Work.TheVariants as work
+
+-- ---- what is asked
+
+abbrev pub work_of_line : Result Action Fault → Result Work Trouble
+work_of_line (Ok action) = Ok (work.Line action)
+work_of_line (Err fault) = Err (trouble.Fault fault)
+
+abbrev pub work_of_script : Result (List Step) BadLine → Result Work Trouble
+work_of_script (Ok steps) = Ok (work.Script steps)
+work_of_script (Err bad) = Err (trouble.BadLine bad)
+
+-- what a line asks for, with the contents of its files, or the fault of it
+abbrev pub AsksOfLine : Line → List (Option (List ℕ)) → Result Work Trouble → Type 0
+AsksOfLine line contents result = (given : Result Action Fault) × Gives given (prepared line contents) × (result ≡ work_of_line given)
+
+-- what the lines of a script ask for, or the first that can't be run
+abbrev pub AsksOfScript : List FedEntry → Result Work Trouble → Type 0
+AsksOfScript script result = (given : Result (List Step) BadLine) × GivesSteps given (prepared_script script) × (result ≡ work_of_script given)
+
+-- ---- over a project
+
+-- how a line or a script ended
+abbrev pub line_end : Option Fault → Result (Unit {0}) Trouble
+line_end None = Ok tt
+line_end (Some fault) = Err (trouble.Fault fault)
+
+abbrev pub script_end : Option LineFault → Result (Unit {0}) Trouble
+script_end None = Ok tt
+script_end (Some end) = Err (trouble.LineFault end)
+
+-- the line or the steps of the script are done, and what ended them is told
+abbrev pub PerformsWork : {S W : Type 0} {store : Ghosts S} → (W → Option (List ℕ)) → Project S store → Project S store → W → W → Work → Result (Unit {0}) Trouble → Type 0
+PerformsWork contents old new out_old out_new (work.Line action) done =
+    (end : Option Fault) × Performs contents old new out_old out_new action end × (done ≡ line_end end)
+PerformsWork contents old new out_old out_new (work.Script steps) done =
+    (end : Option LineFault) × PerformsSteps contents old new out_old out_new steps end × (done ≡ script_end end)
+
+-- its commands in order: a view is none
+abbrev pub commands_of_work : Work → List Command
+commands_of_work (work.Line action) = commands_of_action action
+commands_of_work (work.Script steps) = commands_of_steps steps
+
+-- So many commands were done, each with the machine's reply, and the tables stand for the world after them; where the
+-- session ended within the next one, a stop may also leave the world after that. Where all went well all were done.
+pub record DrivesWork (world : World) (asked : Work) (done : Result (Unit {0}) Trouble) (new : State) : Type 0 where
+  pub count : ℕ
+  pub answers : List Answer
+  pub is_cut : Bool
+  pub drives : Drives world (commands_of_work asked) answers (so_far count) is_cut new
+  pub whole : OnOk done (count ≡ length (commands_of_work asked))
+
+-- ---- over an open database
+
+module _ {S W : Type 0} (g : Ghosts S) (contents : W → Option (List ℕ)) (conn again : Held S) (out_old out_new : W) (asked : Work) (done : Result (Unit {0}) Trouble) where
+  -- its project is adopted, the work is done over that, and the session released
+  pub record DoesAdopted : Type 0 where
+    pub old : Project S g
+    pub new : Project S g
+    pub idle : conn.in_transaction ≡ false
+    pub begins : GoesStill old
+    pub adopts : Adopts (state g conn) (state_of old)
+    pub does : PerformsWork contents old new out_old out_new asked done
+    pub released : again ≡ connection_of new
+
+  -- nothing is adopted: the fault of that is told, and nothing is done or written
+  pub record DoesNothing : Type 0 where
+    pub fault : Fault
+    pub refused : RefusesAdoption (state g conn) (state g again) fault
+    -- amid a transaction it comes back as it was
+    pub busy : conn.in_transaction ≡ true → (again ≡ conn) × (fault ≡ NotAProject)
+    pub told : done ≡ Err (trouble.Fault fault)
+    pub unwritten : out_new ≡ out_old
+
+  abbrev pub DoesOver : Type 0
+  DoesOver = DoesAdopted ⊎ DoesNothing
+
+-- the world that a session begins from: one that the tables stand for, or the empty one where no project is
+abbrev pub BeginsFrom : State → World → Type 0
+BeginsFrom s world = GoesOn s world ⊎ (IsVacant s × (world ≡ empty_world))
+
+-- nothing was adopted, for such a fault, and tables that stood for the world stand for it still
+pub record RefusesWork (old new : State) (world : World) (done : Result (Unit {0}) Trouble) : Type 0 where
+  pub fault : Fault
+  pub told : done ≡ Err (trouble.Fault fault)
+  pub why : IsAdoptionFault fault
+  pub stands : GoesOn old world → GoesOn new world
+
+-- over each world that a session may begin from a beginning of the commands is done, or nothing was adopted
+abbrev pub DrivesOver : {S : Type 0} (g : Ghosts S) → Held S → Held S → Work → Result (Unit {0}) Trouble → Type 0
+DrivesOver g conn again asked done =
+    HasCleanDisk (state g again) → (world : World) → IsProject world → BeginsFrom (state g conn) world
+    → DrivesWork world asked done (state g again) ⊎ RefusesWork (state g conn) (state g again) world done

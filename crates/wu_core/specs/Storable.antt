@@ -1,0 +1,121 @@
+-- Values in the ranges that a project may hold: what a stored row is read as.
+use Rattle.std.specs.Prelude.{◌≡◌, ℕ, ◌+◌, ◌<◌, ◌≤◌, ◌^◌, true, List, [], length, All, Option, is_some, IfSome}
+use Rattle.std.specs.List.{AllByRecursion}
+use Rattle.wu_core.specs.declared.import.ImportKind.{ImportKind}
+use Rattle.wu_core.specs.declared.states.Assimilate.{Assimilate}
+use Rattle.wu_core.specs.declared.states.Assimilate.TheVariants as assimilate
+use Rattle.wu_core.specs.declared.workunit.Archived.{Archived}
+use Rattle.wu_core.specs.declared.workunit.Instance.{Instance}
+use Rattle.wu_core.specs.declared.workunit.Workunit.{Workunit}
+use Rattle.wu_core.specs.Formed.{IsInstance}
+use Rattle.wu_core.specs.Limits.{last_deadline, last_moment, longest_input, longest_output, most_instances, most_workunits}
+use Rattle.wu_core.specs.Names.{is_name}
+use Rattle.wu_core.specs.Parameters.{IsParameters}
+use Rattle.wu_core.specs.World.{World, last_skip}
+
+-- ---- values
+
+abbrev pub IsName : List ℕ → Type 0
+IsName name = is_name name ≡ true
+
+abbrev pub IsInput : List ℕ → Type 0
+IsInput input = length input ≤ longest_input
+
+abbrev pub IsOutput : List ℕ → Type 0
+IsOutput output = length output ≤ longest_output
+
+-- a number of an instance fits into 32 bits
+abbrev pub IsPlace : Option ℕ → Type 0
+IsPlace place = IfSome place (λ n. n < 2 ^ 32)
+
+abbrev pub IsMoment : Option ℕ → Type 0
+IsMoment moment = IfSome moment (λ seconds. seconds ≤ last_moment)
+
+abbrev pub IsDeadline : Option ℕ → Type 0
+IsDeadline deadline = IfSome deadline (λ seconds. seconds ≤ last_deadline)
+
+abbrev pub IsHost : Option (List ℕ) → Type 0
+IsHost host = IfSome host IsName
+
+-- ---- instances
+
+-- when it was sent, by when it is due, and when it was received
+pub record AreMoments (sent due received : Option ℕ) : Type 0 where
+  pub sent_at : IsMoment sent
+  pub deadline : IsDeadline due
+  pub received_at : IsMoment received
+
+-- the values of an instance are each in range
+pub record MayBeInstance (i : Instance) : Type 0 where
+  pub host : IsHost i.host
+  pub moments : AreMoments i.sent_at i.deadline i.received_at
+  pub output : IsOutput i.output
+
+-- what a row of an instance stands for, but for its workunit and its number
+pub record IsStoredInstance (i : Instance) : Type 0 where
+  pub values : MayBeInstance i
+  pub formed : IsInstance i
+
+-- these may be the instances of one workunit
+pub record AreStoredInstances (instances : List Instance) : Type 0 where
+  pub each : All IsStoredInstance instances
+  pub few : length instances ≤ most_instances
+
+-- ---- workunits
+
+-- a workunit is assimilated exactly where it has its moment
+pub record IsStamped (state : Assimilate) (done_at : Option ℕ) : Type 0 where
+  pub moment : IsMoment done_at
+  pub done : state ≡ assimilate.Done → is_some done_at ≡ true
+  pub done_only : is_some done_at ≡ true → state ≡ assimilate.Done
+
+-- a workunit without its instances
+abbrev pub bare : Workunit → Workunit
+bare w = record w { instances = [] }
+
+-- what a row of a workunit stands for: one without its instances
+pub record IsStoredWorkunit (w : Workunit) : Type 0 where
+  pub name : IsName w.name
+  pub parameters : IsParameters w.params
+  pub input : IsInput w.input
+  pub canonical : IsPlace w.canonical
+  pub stamped : IsStamped w.assimilate w.done_at
+  pub bare : w.instances ≡ []
+
+-- the values of a workunit and of its instances are such as their rows are read as
+pub record IsStorable (w : Workunit) : Type 0 where
+  pub number : w.number < 2 ^ 63
+  pub row : IsStoredWorkunit (bare w)
+  pub instances : AreStoredInstances w.instances
+
+-- each workunit that is present can be read
+abbrev pub AreStorable : World → Type 0
+AreStorable world = All IsStorable world.workunits
+
+-- the number is above those of all workunits
+abbrev pub IsAbove : ℕ → List Workunit → Type 0
+IsAbove number = AllByRecursion (λ (w : Workunit). w.number < number)
+
+-- ---- archived workunits, imports, and the next number
+
+-- what a row of an archived workunit stands for, but for its place
+pub record IsStoredArchived (a : Archived) : Type 0 where
+  pub name : IsName a.name
+  pub canonical : IsPlace a.canonical
+  pub output : IsOutput a.output
+  pub done_at : a.done_at ≤ last_moment
+
+abbrev pub IsArchiveStorable : World → Type 0
+IsArchiveStorable world = All IsStoredArchived world.archived
+
+-- each is that of a skip of such a file, or 0
+abbrev pub AreVerdicts : ImportKind → List ℕ → Type 0
+AreVerdicts kind verdicts = All (λ verdict. verdict ≤ last_skip kind) verdicts
+
+-- one more than there may be workunits ever is the number of none
+abbrev pub IsNextNumber : ℕ → Type 0
+IsNextNumber next = (1 ≤ next) × (next ≤ most_workunits + 1)
+
+-- it is one that the next workunit may get
+abbrev pub LoadsNext : World → Type 0
+LoadsNext world = IsNextNumber world.next_number

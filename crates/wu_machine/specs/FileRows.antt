@@ -1,0 +1,62 @@
+-- Rows of files of sends and of reports: the verdict of a row on a world, and what it makes of one.
+use Rattle.std.specs.Prelude.{◌≡◌, ℕ, ◌==◌, if◌then◌else◌, List, [], ◌∷◌}
+use Rattle.std.specs.Option.{option_map_or}
+use Rattle.wu_core.specs.declared.workunit.Workunit.{Workunit}
+use Rattle.wu_core.specs.World.{World}
+use Rattle.wu_feed.specs.declared.reports.ReportRow.{ReportRow}
+use Rattle.wu_feed.specs.declared.sends.SendRow.{SendRow}
+use Rattle.wu_rules.specs.Reporting.{report_verdict_in, reported_in}
+use Rattle.wu_rules.specs.Sending.{send_verdict_in, sent_in}
+use Rattle.wu_rules.specs.Verdicts.{report_verdict_code, send_verdict_code}
+use Rattle.wu_machine.specs.Worlds.{workunit_named, with_named}
+
+-- What a kind of rows says: the name of a row's workunit, the number of the verdict on it (0 where it is applied, else why
+-- it is skipped), and what it makes of the workunit.
+pub record Rule (Row : Type 0) : Type 0 where
+  pub workunit : Row → List ℕ
+  pub verdict : Row → Workunit → ℕ
+  pub image : Row → Workunit → Workunit
+
+abbrev pub send_rule : Rule SendRow
+send_rule = record {
+  workunit = λ row. row.workunit;
+  verdict = λ row w. send_verdict_code (send_verdict_in w row.n row.host);
+  image = λ row w. sent_in w row.n row.host row.moment;
+}
+
+abbrev pub report_rule : Rule ReportRow
+report_rule = record {
+  workunit = λ row. row.workunit;
+  verdict = λ row w. report_verdict_code (report_verdict_in w row.n row.host row.moment);
+  image = λ row w. reported_in w row.n row.moment row.status row.output;
+}
+
+-- name and number are as they were
+pub record KeepsIdentity (old new : Workunit) : Type 0 where
+  pub name : new.name ≡ old.name
+  pub number : new.number ≡ old.number
+
+-- a workunit as a row with this verdict leaves it
+abbrev pub left_by : {Row : Type 0} → Rule Row → Row → ℕ → Workunit → Workunit
+left_by rule row verdict w = if verdict == 0 then rule.image row w else w
+
+-- the verdict on a row whose workunit is not present
+abbrev pub unknown : ℕ
+unknown = 1
+
+abbrev pub row_verdict : {Row : Type 0} → Rule Row → World → Row → ℕ
+row_verdict rule world row = option_map_or (rule.verdict row) (workunit_named world (rule.workunit row)) unknown
+
+-- a row that is applied changes its workunit, another changes nothing
+abbrev pub after_row : {Row : Type 0} → Rule Row → World → Row → World
+after_row rule world row =
+    if row_verdict rule world row == 0 then with_named world (rule.workunit row) (rule.image row) else world
+
+-- a file's rows in order, each on what the rows before left
+abbrev pub after_rows : {Row : Type 0} → Rule Row → World → List Row → World
+after_rows rule world [] = world
+after_rows rule world (row ∷ rows) = after_rows rule (after_row rule world row) rows
+
+abbrev pub row_verdicts : {Row : Type 0} → Rule Row → World → List Row → List ℕ
+row_verdicts rule world [] = []
+row_verdicts rule world (row ∷ rows) = row_verdict rule world row ∷ row_verdicts rule (after_row rule world row) rows

@@ -1,0 +1,13 @@
+pub mod Requests
+pub mod Worlds
+pub mod Passes
+pub mod Batches
+pub mod FileRows
+pub mod Imports
+pub mod Machine
+pub mod Sessions
+pub mod Sound
+pub mod Laws
+pub mod Examples
+pub mod Commands
+pub mod Cycles

@@ -1,0 +1,25 @@
+-- What a project is asked at schema version 1, and what it answers.
+use Rattle.std.specs.Prelude.{ℕ, List}
+use Rattle.wu_core.specs.declared.import.ImportKind.{ImportKind}
+use Rattle.wu_rules.specs.declared.due.Pass.{Pass}
+
+pub data Request : Type 0 where
+  -- adds the jobs of a file, with the parameters of a template
+  AskBatch : (name template file : List ℕ) → Request
+  -- imports a file of sends, or of reports
+  AskSent : (name file : List ℕ) → Request
+  AskReported : (name file : List ℕ) → Request
+  -- runs a pass at a moment, over at most so many workunits; the least age is for the purge alone
+  AskPass : (pass : Pass) (now limit min_age : ℕ) → Request
+  -- gives a workunit up
+  AskCancel : (workunit : List ℕ) → Request
+  -- brings the schema to the present version
+  AskUpgrade : Request
+
+pub data Reply : Type 0 where
+  -- a file was imported, now or earlier: its first number, and a verdict for each row
+  Imported : (kind : ImportKind) (name : List ℕ) (first : ℕ) (verdicts : List ℕ) → Reply
+  -- so many workunits were changed
+  Passed : (pass : Pass) (handled : ℕ) → Reply
+  Cancelled : (workunit : List ℕ) → Reply
+  Upgraded : (from to : ℕ) → Reply

@@ -1,0 +1,67 @@
+-- Sound worlds: verdicts, grants and archived rows agree, numbers and names are used once, and values are in their ranges.
+use Rattle.std.specs.Prelude.{◌≡◌, ◌≢◌, ◌↔◌, ℕ, ◌<◌, ◌≤◌, ◌+◌, ◌==◌, ◌&&◌, List, filter, length, All, AllPairs}
+use Rattle.wu_core.specs.declared.workunit.Grant.{Grant}
+use Rattle.wu_core.specs.declared.workunit.Workunit.{Workunit}
+use Rattle.wu_core.specs.Formed.{IsWorkunit}
+use Rattle.wu_core.specs.Limits.{most_credit, most_instances, most_workunits}
+use Rattle.wu_core.specs.World.{World, IsInOrder}
+use Rattle.wu_rules.specs.Consistent.{IsConsistent, IsGrantFor, IsRowOf, is_done, is_valid_at, one_if}
+use Rattle.wu_core.specs.Storable.{AreVerdicts, IsAbove, IsName, AreStorable, IsArchiveStorable, LoadsNext}
+use Rattle.wu_machine.specs.Machine.{present_version}
+
+-- the grants for an instance of a workunit
+abbrev pub grants_for : World → Workunit → ℕ → List Grant
+grants_for world w n = filter (λ grant. grant.workunit == w.number && grant.n == n) world.grants
+
+-- a workunit that is present agrees with the grants and with the archive
+pub record IsRecorded (world : World) (w : Workunit) : Type 0 where
+  -- an instance has one grant exactly where it is VALID; a place without an instance has none
+  pub granted : (n : ℕ) → length (grants_for world w n) ≡ one_if (is_valid_at w.instances n)
+  -- each is for its host, with its workunit's credit
+  pub own : All (λ grant. grant.workunit ≡ w.number → IsGrantFor w grant) world.grants
+  -- it has one archived row exactly where it is DONE
+  pub archived : length (filter (λ row. row.number == w.number) world.archived) ≡ one_if (is_done w)
+  -- with its canonical number, its error mask and its moment
+  pub as_archived : All (λ row. row.number ≡ w.number → IsRowOf w row) world.archived
+  -- it shares its name with its own archived row alone
+  pub named : All (λ row. (row.name ≡ w.name) ↔ (row.number ≡ w.number)) world.archived
+
+-- a number that was given to a workunit
+abbrev pub IsGiven : World → ℕ → Type 0
+IsGiven world number = (1 ≤ number) × (number < world.next_number)
+
+pub record IsSound (world : World) : Type 0 where
+  pub next_number : (1 ≤ world.next_number) × (world.next_number ≤ most_workunits + 1)
+  pub formed : All IsWorkunit world.workunits
+  -- the values of each workunit are in their ranges, and so are those of grants, archived rows and imports
+  pub storable : AreStorable world
+  pub granted_to : All (λ grant. IsName grant.host) world.grants
+  pub archivable : IsArchiveStorable world
+  pub imports : All (λ import. IsName import.name × AreVerdicts import.kind import.verdicts) world.imports
+  pub consistent : All IsConsistent world.workunits
+  pub recorded : All (IsRecorded world) world.workunits
+  pub given : All (λ w. IsGiven world w.number) world.workunits
+  pub ascending : IsInOrder world
+  pub names : AllPairs (λ one other. one.name ≢ other.name) world.workunits
+  pub archived : All (λ row. IsGiven world row.number) world.archived
+  pub archived_once : AllPairs (λ one other. one.number ≢ other.number) world.archived
+  pub archived_names : AllPairs (λ one other. one.name ≢ other.name) world.archived
+  pub grants : All (λ grant. IsGiven world grant.workunit × (grant.n < most_instances) × (grant.credit ≤ most_credit)) world.grants
+  pub granted_once : AllPairs (λ one other. one.workunit ≡ other.workunit → one.n ≢ other.n) world.grants
+  pub imported_once : AllPairs (λ one other. one.kind ≡ other.kind → one.name ≢ other.name) world.imports
+
+-- ---- what a command asks of a world
+
+-- the verdicts of each import are numbers of verdicts on such a file
+abbrev pub HasVerdicts : World → Type 0
+HasVerdicts world = All (λ import. AreVerdicts import.kind import.verdicts) world.imports
+
+-- A world at the present version, as each sound world is: workunits are below the next number, that and the verdicts of
+-- imports are in range, each workunit can be read, and no two have one name.
+pub record IsProject (world : World) : Type 0 where
+  pub present : world.version ≡ present_version
+  pub above : IsAbove world.next_number world.workunits
+  pub next : LoadsNext world
+  pub verdicts : HasVerdicts world
+  pub storable : AreStorable world
+  pub names : AllPairs (λ one other. one.name ≢ other.name) world.workunits

@@ -1,0 +1,91 @@
+//! What a project is asked, and what it answers.
+
+use wu_core::{Bytes, ImportKind, Moment, Name};
+use wu_rules::Pass;
+
+/// A file of jobs and the template of their parameters, under the name of the batch.
+#[derive(Debug, Drop)]
+pub struct Batch {
+    pub name: Name,
+    pub template: Bytes,
+    pub file: Bytes,
+}
+
+/// A file of rows that are applied one by one, or skipped, under the name of its import.
+#[derive(Debug, Drop)]
+pub struct RowsFile {
+    pub name: Name,
+    pub file: Bytes,
+}
+
+/// What a project is asked to do. Each command is done whole or not at all.
+///
+/// A pass changes the first workunits by number, up to its limit of 1 to 1000, that are due for it; the least age of a
+/// purge is at most a year of 365 days.
+#[derive(Debug, Drop)]
+pub enum Command {
+    /// Adds the jobs of a batch.
+    Batch(Batch),
+    /// Applies the rows of a file of sends.
+    Sent(RowsFile),
+    /// Applies the rows of a file of reports.
+    Reported(RowsFile),
+    /// Times out what is overdue by this moment, makes the instances that are wanted, and closes what is given up.
+    Transition {
+        now: Moment,
+        limit: u64,
+    },
+    /// Judges results, and grants credit.
+    Validate {
+        limit: u64,
+    },
+    /// Closes what is ready, and keeps its canonical output for good.
+    Assimilate {
+        now: Moment,
+        limit: u64,
+    },
+    /// Deletes the inputs and outputs that nobody needs any more.
+    Delete {
+        limit: u64,
+    },
+    /// Removes what was assimilated at least this many seconds ago, and is through.
+    Purge {
+        now: Moment,
+        limit: u64,
+        min_age: u64,
+    },
+    /// Gives an undecided workunit up.
+    Cancel {
+        workunit: Name,
+    },
+    /// Brings the schema to the present version.
+    Upgrade,
+}
+
+/// What a project answers to a command that it accepted.
+#[derive(Debug, Drop)]
+pub enum Answer {
+    /// A file was imported, now or at an earlier command.
+    Imported {
+        kind: ImportKind,
+        name: Name,
+        /// The first number of a batch; 0 where no workunit was made.
+        first: u64,
+        /// One for each row: 0 where it was applied, else the number of the skip.
+        verdicts: Bytes,
+    },
+    /// A pass changed so many workunits.
+    Passed {
+        pass: Pass,
+        handled: u32,
+    },
+    /// The workunit of this name was given up.
+    Cancelled {
+        workunit: Name,
+    },
+    /// The schema was of one version, and is of the other now.
+    Upgraded {
+        from: u64,
+        to: u64,
+    },
+}

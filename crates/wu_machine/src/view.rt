@@ -1,0 +1,16 @@
+//! What is shown of a project.
+
+/// A view of a project.
+#[derive(Clone, Copy, Debug, PartialEq, Eq)]
+pub enum View {
+    /// A line for each workunit, in order of number.
+    Workunits,
+    /// A line for each instance, in order of its workunit's number and of its own.
+    Results,
+    /// A line for each host that was granted credit, in order of the bytes of its name.
+    Hosts,
+    /// A line for each archived workunit, in order of its assimilation.
+    Archive,
+    /// Eleven lines: the version, the next number, and how much there is of what.
+    Summary,
+}

@@ -1,0 +1,164 @@
+-- A cancel, and a row of a file, keep a sound world sound.
+use Rattle.std.proofs.Common.{◌≡◌, ℕ, ◌==◌, Bool, true, false, List, [], ◌∷◌, ◌++◌, map, append-nil, Option, Some, None, bytes_eq, refl, sym, ap, subst, ◌∙◌, inl, inr}
+use Rattle.std.proofs.lemmas.Bool.{cases_Bool, eqb-true}
+use Rattle.std.proofs.lemmas.List.Concat.{flat_map_single}
+use Rattle.std.proofs.lemmas.List.Elements.{All-cons, All-head, All-nil, All-tail}
+use Rattle.std.proofs.lemmas.Slice.Eq.{bytes_eq-Decides}
+use Rattle.std.specs.List.{All, flat_map}
+use Rattle.std.specs.Prelude.{find, if◌then◌else◌}
+use Rattle.wu_core.specs.Formed.{IsWorkunit}
+use Rattle.wu_core.specs.World.{World}
+use Rattle.wu_core.specs.declared.workunit.Archived.{Archived}
+use Rattle.wu_core.specs.declared.workunit.Grant.{Grant}
+use Rattle.wu_core.specs.declared.workunit.Workunit.{Workunit}
+use Rattle.wu_feed.specs.Ranges.{IsReportRow, IsSendRow}
+use Rattle.wu_feed.specs.declared.reports.ReportRow.{ReportRow}
+use Rattle.wu_feed.specs.declared.sends.SendRow.{SendRow}
+use Rattle.wu_rules.specs.Cancelling.{cancelled}
+use Rattle.wu_rules.specs.Counts.{is_undecided}
+use Rattle.wu_rules.specs.Reporting.{report_verdict_in}
+use Rattle.wu_rules.specs.Sending.{send_verdict_in}
+use Rattle.wu_rules.specs.Verdicts.{send_verdict_code}
+use Rattle.wu_rules.specs.declared.verdicts.SendVerdict.{SendVerdict}
+use Rattle.wu_rules.specs.declared.verdicts.SendVerdict.TheVariants as send
+use Rattle.wu_rules.specs.Consistent.{IsConsistent, Rewrites}
+use Rattle.wu_rules_laws.proofs.Rewriting.{rewrites_unchanged, rules_rewrite}
+use Rattle.wu_core.specs.Storable.{IsStoredArchived, IsStorable}
+use Rattle.wu_machine.specs.FileRows.{Rule, after_row, after_rows, report_rule, row_verdict, send_rule}
+use Rattle.wu_machine.specs.Machine.{cancel_done, step, world_of}
+use Rattle.wu_machine.specs.Sound.{IsProject, IsSound}
+use Rattle.wu_machine.specs.Requests.{AskCancel}
+use Rattle.wu_machine.specs.Worlds.{with_named, workunit_named}
+use Rattle.wu_machine.proofs.PassKeeps.{keeps_project_cancel}
+use Rattle.wu_machine.proofs.ImageLemmas.{gives_nothing}
+use Rattle.wu_machine.proofs.StorableLemmas.{code_applied, reports_keep, sends_keep}
+use Rattle.wu_machine_laws.proofs.Becoming.{same_holding, sound_changed}
+use Rattle.wu_machine_laws.proofs.Lasts.{Leads, lasts_same, lasts_then}
+use Rattle.wu_machine_laws.proofs.Middles.{of_each, Pairs, to_pairs}
+use Rattle.wu_machine_laws.proofs.SoundLemmas.{now_of, project_now}
+use Rattle.wu_machine_laws.proofs.SoundParts.{Differ}
+
+-- ---- the workunit of a name changed
+
+-- where names differ, the workunit of a name is the one that is found
+found_named : (name : List ℕ) (ws : List Workunit) → Pairs Differ ws
+    → All (λ (w : Workunit). bytes_eq w.name name ≡ true → find (λ (v : Workunit). bytes_eq v.name name) ws ≡ Some w) ws
+found_named name [] apart = All-nil (λ (w : Workunit). bytes_eq w.name name ≡ true → find (λ (v : Workunit). bytes_eq v.name name) [] ≡ Some w)
+found_named name (w ∷ ws) apart =
+    All-cons (λ (u : Workunit). bytes_eq u.name name ≡ true → find (λ (v : Workunit). bytes_eq v.name name) (w ∷ ws) ≡ Some u) w ws (λ is. rw is refl)
+    (λ k d low here. elim (cases_Bool (bytes_eq w.name name)) [
+      | inl is ↦ absurd (apart.0 k d low ((bytes_eq-Decides w.name name).0 is ∙ sym ((bytes_eq-Decides _ name).0 here)))
+      | inr not ↦ rw not (found_named name ws apart.1 k d low here)
+    ])
+
+module _ (world : World) (sound : IsSound world) (name : List ℕ) (image : Workunit → Workunit) where
+  -- a workunit with the one of the name changed
+  abbrev changed : Workunit → Workunit
+  changed w = if bytes_eq w.name name then image w else w
+
+  -- where the workunit of the name is rewritten, the world stays sound
+  pub sound_named : All IsStorable (map changed world.workunits) → ((w : Workunit) → workunit_named world name ≡ Some w → IsWorkunit w → IsConsistent w
+      → Rewrites w (image w) [] [])
+      → Leads world (with_named world name image)
+  sound_named storable rewrites =
+      same_holding world (Leads world) (flat_map (λ w. changed w ∷ []) world.workunits) (map changed world.workunits)
+      (world.grants ++ flat_map no_grants world.workunits) world.grants
+      (world.archived ++ flat_map no_rows world.workunits) world.archived single
+      (ap (λ l. world.grants ++ l) (gives_nothing no_grants world.workunits (λ w. refl)) ∙ append-nil world.grants)
+      (ap (λ l. world.archived ++ l) (gives_nothing no_rows world.workunits (λ w. refl)) ∙ append-nil world.archived)
+      (sound_changed world (λ w. changed w ∷ []) no_grants no_rows sound (λ k d low. (
+        rewritten _ (found k d low) (sound.formed k d low) (sound.consistent k d low),
+        All-head IsStorable _ [] (each k d low),
+        All-nil IsStoredArchived,
+      )))
+    where
+      no_grants : Workunit → List Grant
+      no_grants w = []
+
+      no_rows : Workunit → List Archived
+      no_rows w = []
+
+      single : flat_map (λ w. changed w ∷ []) world.workunits ≡ map changed world.workunits
+      single = flat_map_single changed world.workunits
+
+      each : All (λ w. All IsStorable (changed w ∷ [])) world.workunits
+      each = of_each IsStorable (λ w. changed w ∷ []) world.workunits (subst (All IsStorable) (sym single) storable)
+
+      found : All (λ (w : Workunit). bytes_eq w.name name ≡ true → workunit_named world name ≡ Some w) world.workunits
+      found = found_named name world.workunits (to_pairs Differ world.workunits sound.names)
+
+      rewritten : (w : Workunit) → (bytes_eq w.name name ≡ true → workunit_named world name ≡ Some w) → IsWorkunit w → IsConsistent w
+          → Rewrites w (changed w) [] []
+      rewritten w is formed consistent = by (bytes_eq w.name name) is
+        where
+          by : (b : Bool) → (b ≡ true → workunit_named world name ≡ Some w) → Rewrites w (if b then image w else w) [] []
+          by true here = rewrites w (here refl) formed consistent
+          by false here = rewrites_unchanged w formed consistent
+
+-- ---- a cancel
+
+module _ (world : World) (sound : IsSound world) (name : List ℕ) where
+  -- a cancel of what is found under the name
+  cancel_found : (found : Option Workunit) → workunit_named world name ≡ found → Leads world (world_of world (cancel_done world name found))
+  cancel_found None is = (sound, lasts_same world)
+  cancel_found (Some w) is = elim (cases_Bool (is_undecided w)) [
+    | inl undecided ↦
+        let kept : IsProject (step (now_of world) (AskCancel name)) = keeps_project_cancel (now_of world) (project_now world sound) name in
+        let after : IsProject (with_named (now_of world) name cancelled) = rw (is, undecided) at kept in
+        rw undecided (sound_named world sound name cancelled after.storable (λ v here formed consistent.
+        let same : w ≡ v = cc in
+        (rules_rewrite v formed consistent).cancelled (subst (λ u. is_undecided u ≡ true) same undecided)))
+    | inr decided ↦ rw decided (sound, lasts_same world)
+  ]
+
+  -- a cancel leads to a sound world
+  pub sound_cancelled : Leads world (world_of world (cancel_done world name (workunit_named world name)))
+  sound_cancelled = cancel_found (workunit_named world name) refl
+
+-- ---- a row, and the rows of a file
+
+module _ {Row : Type 0} (rule : Rule Row) (IsRow : Row → Type 0) (keeps : (row : Row) → IsRow row → (world : World) → IsProject world
+    → IsProject (after_row rule world row))
+    (rewrites : (row : Row) (w : Workunit) → IsWorkunit w → IsConsistent w → rule.verdict row w ≡ 0 → Rewrites w (rule.image row w) [] []) where
+  -- a row leads to a sound world
+  sound_row : (row : Row) → IsRow row → (world : World) → IsSound world → Leads world (after_row rule world row)
+  sound_row row ranged world sound = elim (cases_Bool (row_verdict rule world row == 0)) [
+    | inl applied ↦
+        let kept : IsProject (after_row rule (now_of world) row) = keeps row ranged (now_of world) (project_now world sound) in
+        let after : IsProject (with_named (now_of world) (rule.workunit row) (rule.image row)) = rw applied at kept in
+        let zero_is : row_verdict rule world row ≡ 0 = eqb-true (row_verdict rule world row) 0 applied in
+        rw applied (sound_named world sound (rule.workunit row) (rule.image row) after.storable (λ w here formed consistent.
+        let verdict : rule.verdict row w ≡ 0 = rw here at zero_is in
+        rewrites row w formed consistent verdict))
+    | inr skipped ↦ rw skipped (sound, lasts_same world)
+  ]
+
+  -- so do the rows of a file
+  pub sound_rows : (rows : List Row) → All IsRow rows → (world : World) → IsSound world → Leads world (after_rows rule world rows)
+  sound_rows [] ranged world sound = (sound, lasts_same world)
+  sound_rows (row ∷ rows) ranged world sound =
+      let one : Leads world (after_row rule world row) = sound_row row (All-head IsRow row rows ranged) world sound in
+      let rest = sound_rows rows (All-tail IsRow row rows ranged) (after_row rule world row) one.0 in
+      (rest.0, lasts_then world (after_row rule world row) (after_rows rule (after_row rule world row) rows) one.1 rest.1)
+
+-- the number 0 is that of a send that is applied
+send_applied : (verdict : SendVerdict) → send_verdict_code verdict ≡ 0 → verdict ≡ send.Applied
+send_applied send.Applied is = refl
+send_applied send.Unknown is = absurd cc
+send_applied send.NotUnsent is = absurd cc
+send_applied send.SameHost is = absurd cc
+
+-- sends do
+pub sound_sends : (rows : List SendRow) → All IsSendRow rows → (world : World) → IsSound world → Leads world (after_rows send_rule world rows)
+sound_sends =
+    sound_rows send_rule IsSendRow (λ row ranged world project. sends_keep (row ∷ []) world (All-cons IsSendRow row [] ranged (All-nil IsSendRow)) project)
+    (λ row w formed consistent applied. (rules_rewrite w formed consistent).sent row.n row.host row.moment
+    (send_applied (send_verdict_in w row.n row.host) applied))
+
+-- reports do
+pub sound_reports : (rows : List ReportRow) → All IsReportRow rows → (world : World) → IsSound world → Leads world (after_rows report_rule world rows)
+sound_reports =
+    sound_rows report_rule IsReportRow (λ row ranged world project. reports_keep (row ∷ []) world (All-cons IsReportRow row [] ranged (All-nil IsReportRow))
+    project)
+    (λ row w formed consistent applied. (rules_rewrite w formed consistent).reported row.n row.host row.moment row.status row.output
+    (code_applied (report_verdict_in w row.n row.host row.moment) applied))

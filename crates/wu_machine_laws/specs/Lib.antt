@@ -1,0 +1,5 @@
+pub mod Laws
+pub mod Sound
+pub mod Lasting
+pub mod Leaving
+pub mod Files

@@ -1,0 +1,30 @@
+//! Laws of what a request leaves, takes out and adds: each function's contract is one, for every world.
+
+ghost use Rattle.wu_machine_laws.specs.Leaving.{CancelsAndUpgrades, GoesByPurgeAlone, LeavesWhatIsNotNamed, NumbersBatches, PurgedIsGone};
+
+/// Where workunits are in order of number, no request but a purge takes one out, and that only one that may be purged.
+pub fn goes_by_purge_alone()
+    ensures { GoesByPurgeAlone }
+{}
+
+/// What a purge takes is not present after it.
+pub fn what_is_purged_is_gone()
+    ensures { PurgedIsGone }
+{}
+
+/// A file and a cancel change the workunits that they name alone; a batch and an upgrade change none, and what is refused
+/// changes nothing.
+pub fn leaves_what_is_not_named()
+    ensures { LeavesWhatIsNotNamed }
+{}
+
+/// A batch adds a workunit for each job, with consecutive numbers from the next one, which is its first number.
+pub fn numbers_batches()
+    ensures { NumbersBatches }
+{}
+
+/// A cancel that is answered has cancelled the workunit of its name, which was undecided; an upgrade has brought the world to
+/// the present version.
+pub fn cancels_and_upgrades()
+    ensures { CancelsAndUpgrades }
+{}

@@ -1,0 +1,366 @@
+-- What an adoption gives, from what its question for the version and its creation give.
+use Rattle.std.proofs.Common.{refl, ◌≡◌, ◌⊎◌, true, false, ◌<◌, ◌≤◌, ℕ, Option, None, Some, Result, Ok, Err, IfErr, IfOk, OnErr, OnOk, IsTrue, sym, ap, subst, ◌∙◌, inl, inr, arith}
+use Rattle.sqlite.specs.Effect.{Database}
+use Rattle.sqlite.specs.Held.{Held, state}
+use Rattle.sqlite.specs.State.{State, HasCleanDisk, IsUnchanged, Survives}
+use Rattle.sqlite.specs.Store.{Ghosts}
+use Rattle.wu_core.specs.declared.fault.Fault.{Fault}
+use Rattle.wu_core.specs.declared.fault.Fault.TheVariants.{NewSchema, NotAProject}
+use Rattle.wu_core.specs.World.{World, empty_world}
+use Rattle.wu_schema.proofs.CallLemmas.{back_none, back_unchanged}
+use Rattle.wu_schema.proofs.VersionLemmas.{has_understood, project_of, project_row}
+use Rattle.wu_schema.specs.Calls.{IsBack, IsDone, IsMade, IsRefused, IsUndone, LeavesOnly}
+use Rattle.wu_schema.specs.Faults.{IsFailure}
+use Rattle.wu_schema.specs.Made.{MakesProject}
+use Rattle.wu_schema.specs.StandsFor.{StandsFor}
+use Rattle.wu_schema.specs.Versions.{HasProject, HasVersion}
+use Rattle.wu_machine.specs.Machine.{present_version}
+use Rattle.wu_machine.specs.Requests.{Request}
+use Rattle.wu_machine.specs.Sound.{IsProject}
+use Rattle.wu_store.specs.Loading.{IsStoreFault}
+use Rattle.wu_passes.specs.Standing.{GoesOn, HasEnded, TellsLater}
+use Rattle.wu_passes.specs.Adopting.{Adopts, FindsProject, IsAdoptionFault, IsRefusalOf, IsVacant, KeepsAll, LeavesFresh, LeavesNoMore, RefusesAdoption}
+use Rattle.wu_passes.specs.declared.project.Project.{Project}
+use Rattle.wu_passes.specs.Projects.{connection_of, FailsAgain, GoesOnAgain, state_of}
+use Rattle.wu_passes.proofs.StandingLemmas.{goes_read}
+
+-- ---- a connection whose limit on steps was taken off shows what it showed
+
+abbrev no_limit : State → State
+no_limit s = record s { step_limit = None }
+
+limit_goes : (s : State) (world : World) → GoesOn s world → GoesOn (no_limit s) world
+limit_goes s world goes = record { stands = goes.stands; left = goes.left }
+
+limit_keeps : (old new : State) → KeepsAll (no_limit old) new → KeepsAll old new
+limit_keeps old new keeps = record { now = keeps.now; committed = keeps.committed; left = keeps.left }
+
+limit_adopts : (old new : State) → Adopts (no_limit old) new → Adopts old new
+limit_adopts old new a = record {
+  clean = a.clean;
+  unlimited = a.unlimited;
+  was_open = a.was_open;
+  is_open = a.is_open;
+  goes = λ clean world first goes. a.goes clean world first (limit_goes old world goes);
+  found = λ clean there. let f = a.found clean there in record { kept = limit_keeps old new f.kept; known = f.known };
+  fresh = λ clean vacant. let f = a.fresh clean vacant in record { beside = f.beside; goes = f.goes };
+  left = a.left;
+}
+
+limit_refuses : (old new : State) (fault : Fault) → RefusesAdoption (no_limit old) new fault → RefusesAdoption old new fault
+limit_refuses old new fault r = record {
+  told = r.told;
+  clean = r.clean;
+  cause = λ clean. let why = r.cause clean in record {
+    stored = λ version is. let s = why.stored version is in record { is_open = s.is_open; there = s.there; stored = s.stored; later = s.later };
+    only = why.only;
+  };
+  given = λ clean. let left = r.given clean in record {
+    back = record { was_open = left.back.was_open; now = left.back.now; committed = left.back.committed };
+    left = left.left;
+    kept = left.kept;
+    whole = λ is. limit_keeps old new (left.whole is);
+    goes = λ world goes. left.goes world (limit_goes old world goes);
+    serves = left.serves;
+  };
+}
+
+module _ {S : Type 0} (g : Ghosts S) (old bare : Held S) (is : bare ≡ record old { step_limit = None }) (new : State) where
+  pub bare_adopts : (r : Result (Unit {0}) Fault) → OnOk r (Adopts (state g bare) new) → OnOk r (Adopts (state g old) new)
+  bare_adopts (Ok x) adopts = limit_adopts (state g old) new (subst (λ h. Adopts (state g h) new) is adopts)
+  bare_adopts (Err e) adopts = tt
+
+  pub bare_refused : (fault : Fault) → RefusesAdoption (state g bare) new fault → RefusesAdoption (state g old) new fault
+  bare_refused fault refuses = limit_refuses (state g old) new fault (subst (λ h. RefusesAdoption (state g h) new fault) is refuses)
+
+  pub bare_refuses : (r : Result (Unit {0}) Fault) → IfErr r (RefusesAdoption (state g bare) new) → IfErr r (RefusesAdoption (state g old) new)
+  bare_refuses (Ok x) refuses = tt
+  bare_refuses (Err e) refuses = bare_refused e refuses
+
+  pub bare_settled : (IsTrue (state g old).is_open → (state g old).now ≡ (state g old).committed) → IsTrue (state g bare).is_open → (state g bare).now ≡ (state g bare).committed
+  bare_settled settled = subst (λ h. IsTrue (state g h).is_open → (state g h).now ≡ (state g h).committed) (sym is) settled
+
+  pub bare_limit : (state g bare).step_limit ≡ None
+  bare_limit = ap (λ (h : Held S). h.step_limit) is
+
+-- ---- which faults may come
+
+pub adoption_fault : (fault : Fault) → IsStoreFault fault → IsAdoptionFault fault
+adoption_fault fault told = inl told
+
+never_later : (fault : Fault) (version : ℕ) → IsStoreFault fault → ¬ (fault ≡ NewSchema version)
+never_later fault version (inl wanted) is = absurd (let no = sym wanted ∙ is in cc)
+never_later fault version (inr (inl failed)) is = absurd (let no = sym failed ∙ is in cc)
+never_later fault version (inr (inr refused)) is = absurd (let no = sym refused ∙ is in cc)
+
+-- ---- what stands is a project
+
+-- a lone row has one version
+one_version : (db : Database) (has : HasProject db.schema) (a b : ℕ) → HasVersion db has a → HasVersion db has b → a ≡ b
+one_version db has a b (first, one) (second, other) = let same = sym one.1 ∙ other.1 in cc
+
+-- a world's version is that of the row
+pub version_stands : (db : Database) (world : World) (stands : StandsFor db world) → 1 ≤ world.version → HasVersion db (project_of db world stands) world.version
+version_stands db world stands first = (first, project_row db world stands)
+
+never_vacant : (s : State) (world : World) → StandsFor s.now world → ¬ IsVacant s
+never_vacant s world stands vacant = absurd (has_understood _ (project_of s.now world stands) vacant)
+
+-- ---- a connection in a transaction comes back as it was
+
+pub busy_refused : (s : State) → s.in_transaction ≡ true → RefusesAdoption s s NotAProject
+busy_refused s busy = record {
+  told = inl (inr (inr refl));
+  clean = omega arith;
+  cause = λ clean. record {
+    stored = λ version is. absurd cc;
+    only = λ idle has version of. absurd (let no = sym busy ∙ idle in cc);
+  };
+  given = λ clean. record {
+    back = back_none s;
+    left = λ db may. inl may;
+    kept = λ there db may. may;
+    whole = λ is. record { now = refl; committed = refl; left = λ db may. may };
+    goes = λ world goes. goes;
+    serves = λ idle. absurd (let no = sym busy ∙ idle in cc);
+  };
+}
+
+-- ---- the question for the version
+
+module _ (old asked : State) (crash : Survives old asked (λ _. ⊥)) (unlimited : old.step_limit ≡ None) where
+  leaves_no_more : HasCleanDisk asked → LeavesNoMore old asked
+  leaves_no_more clean db may = elim (crash.crash clean db may) [ inl before ↦ before | inr none ↦ absurd none ]
+
+  keeps_all : HasCleanDisk asked → IsUnchanged old asked → KeepsAll old asked
+  keeps_all clean same = record { now = same.0.now_is; committed = same.0.committed_is; left = leaves_no_more clean }
+
+  goes_asked : (world : World) → HasCleanDisk asked → IsBack old asked → GoesOn old world → GoesOn asked world
+  goes_asked world clean back goes = goes_read old asked world clean (record { survives = crash; back = λ _. back }) goes
+
+  -- a version was found
+  module _ (found : Option ℕ) (version : ℕ) (is : found ≡ Some version) (same : HasCleanDisk asked → IsUnchanged old asked) (absent : HasCleanDisk asked → IsVacant old → found ≡ None)
+      (answers : HasCleanDisk asked → (has : HasProject old.now.schema) → (one : ℕ) × (found ≡ Some one) × HasVersion old.now has one)
+      (stored : HasCleanDisk asked → (world : World) → StandsFor old.now world → found ≡ Some world.version) where
+    there : HasCleanDisk asked → ¬ IsVacant old
+    there clean vacant = absurd (let no = sym is ∙ absent clean vacant in cc)
+
+    of_row : HasCleanDisk asked → (has : HasProject old.now.schema) → HasVersion old.now has version
+    of_row clean has = let (one, one_is, of) = answers clean has in let same : one ≡ version = let so = sym one_is ∙ is in cc in subst (λ n. HasVersion old.now has n) same of
+
+    of_world : HasCleanDisk asked → (world : World) → StandsFor old.now world → version ≡ world.version
+    of_world clean world stands = let so = sym is ∙ stored clean world stands in cc
+
+    known_adopts : version ≤ present_version → Adopts old asked
+    known_adopts known = record {
+      clean = crash.clean;
+      unlimited = crash.limit ∙ unlimited;
+      was_open = λ clean. (same clean).0.was_open;
+      is_open = λ clean. (same clean).0.is_open;
+      goes = λ clean world first goes.
+          let is = of_world clean world (goes.stands (same clean).0.was_open).0 in
+          (goes_asked world clean (back_unchanged old asked (same clean)) goes, omega (arith, is, known, first));
+      found = λ clean _. record { kept = keeps_all clean (same clean); known = λ has. (version, of_row clean has, known) };
+      fresh = λ clean vacant. absurd (there clean vacant);
+      left = λ clean db may. inl (leaves_no_more clean db may);
+    }
+
+    later_refuses : (fault : Fault) → TellsLater version fault → RefusesAdoption old asked fault
+    later_refuses fault later = record {
+      told = inr (version, later);
+      clean = crash.clean;
+      cause = λ clean. record {
+        stored = λ one is.
+            let told : version ≡ one = let so = sym later.0 ∙ is in cc in
+            record {
+              is_open = (same clean).0.was_open;
+              there = there clean;
+              stored = λ has. subst (λ n. HasVersion old.now has n) told (of_row clean has);
+              later = subst (λ n. present_version < n) told later.1;
+            };
+        only = λ idle has one of. inr (subst (λ n. TellsLater n fault) (one_version old.now has version one (of_row clean has) of) later);
+      };
+      given = λ clean. record {
+        back = back_unchanged old asked (same clean);
+        left = λ db may. inl (leaves_no_more clean db may);
+        kept = λ _. leaves_no_more clean;
+        whole = λ is. absurd (let no = sym later.0 ∙ is in cc);
+        goes = λ world goes. goes_asked world clean (back_unchanged old asked (same clean)) goes;
+        serves = λ idle. inr (same clean).0.is_open;
+      };
+    }
+
+    pub found_adopts : (r : Result (Unit {0}) Fault) → OnOk r (version ≤ present_version) → OnOk r (Adopts old asked)
+    found_adopts (Ok x) known = known_adopts known
+    found_adopts (Err e) known = tt
+
+    pub found_refuses : (r : Result (Unit {0}) Fault) → IfErr r (TellsLater version) → IfErr r (RefusesAdoption old asked)
+    found_refuses (Ok x) later = tt
+    found_refuses (Err e) later = later_refuses e later
+
+  -- it was refused
+  pub unasked_refuses : (fault : Fault) → IsStoreFault fault → (HasCleanDisk asked → IsBack old asked) → (HasCleanDisk asked → fault ≡ NotAProject → IsUnchanged old asked)
+      → (HasCleanDisk asked → (has : HasProject old.now.schema) (version : ℕ) → HasVersion old.now has version → IsFailure fault) → RefusesAdoption old asked fault
+  unasked_refuses fault told back serves fails = record {
+    told = adoption_fault fault told;
+    clean = crash.clean;
+    cause = λ clean. record {
+      stored = λ version is. absurd (never_later fault version told is);
+      only = λ idle has version of. inl (fails clean has version of);
+    };
+    given = λ clean. record {
+      back = back clean;
+      left = λ db may. inl (leaves_no_more clean db may);
+      kept = λ _. leaves_no_more clean;
+      whole = λ is. keeps_all clean (serves clean is);
+      goes = λ world goes. goes_asked world clean (back clean) goes;
+      serves = λ idle. elim told [
+        | inl wanted ↦ inl (inl wanted)
+        | inr other ↦ elim other [ inl failed ↦ inl (inr failed) | inr refused ↦ inr (serves clean refused).0.is_open ]
+      ];
+    };
+  }
+
+  -- none was found, and a fresh project is made
+  module _ (made : State) (creates : Survives asked made (IsMade MakesProject asked.now)) (same : HasCleanDisk asked → IsUnchanged old asked) (vacant : HasCleanDisk asked → IsVacant old) where
+    before : HasCleanDisk made → HasCleanDisk asked
+    before clean = omega (arith, creates.clean)
+
+    leaves_fresh : HasCleanDisk made → LeavesFresh old made
+    leaves_fresh clean db may = elim (creates.crash clean db may) [
+      | inl was ↦ inl (leaves_no_more (before clean) db was)
+      | inr fresh ↦ inr (record { database = fresh.0; same = fresh.1; stands = fresh.2.stands })
+    ]
+
+    fresh_goes : IsDone MakesProject asked made → GoesOn made empty_world
+    fresh_goes created =
+        let stands = created.makes.stands in
+        record { stands = λ is_open. (stands, created.committed); left = λ db may. record { database = made.now; same = sym (created.left.only db may); stands = stands } }
+
+    fresh_adopts : (HasCleanDisk made → IsDone MakesProject asked made) → Adopts old made
+    fresh_adopts created = record {
+      clean = omega (arith, crash.clean, creates.clean);
+      unlimited = creates.limit ∙ crash.limit ∙ unlimited;
+      was_open = λ clean. (same (before clean)).0.was_open;
+      is_open = λ clean. (created clean).is_open;
+      goes = λ clean world first goes. absurd (never_vacant old world (goes.stands (same (before clean)).0.was_open).0 (vacant (before clean)));
+      found = λ clean there. absurd (there (vacant (before clean)));
+      fresh = λ clean _. record {
+        beside = subst (λ (d : Database). MakesProject d made.now) (same (before clean)).0.now_is (created clean).makes;
+        goes = fresh_goes (created clean);
+      };
+      left = leaves_fresh;
+    }
+
+    pub made_adopts : (r : Result (Unit {0}) Fault) → (HasCleanDisk made → OnOk r (IsDone MakesProject asked made)) → OnOk r (Adopts old made)
+    made_adopts (Ok x) created = fresh_adopts created
+    made_adopts (Err e) created = tt
+
+    module _ (settled : IsTrue old.is_open → old.now ≡ old.committed) (only : IsTrue asked.is_open → LeavesOnly asked asked.committed.trees) where
+      keeps_refused : HasCleanDisk made → IsRefused asked made → KeepsAll old made
+      keeps_refused clean refused =
+          let was = same (before clean) in
+          record {
+            now = refused.now ∙ was.0.committed_is ∙ sym (settled was.0.was_open);
+            committed = refused.committed ∙ was.0.committed_is;
+            left = λ db may. leaves_no_more (before clean) db (subst (λ t. asked.may_leave t) (sym (refused.left.only db may)) (only was.0.is_open).stays);
+          }
+
+      back_undone : HasCleanDisk made → IsUndone asked made → IsBack old made
+      back_undone clean undone =
+          let was = same (before clean) in
+          record {
+            was_open = λ _. was.0.was_open;
+            now = λ is_open. inr ((undone.now is_open).0 ∙ was.0.committed_is);
+            committed = λ is_open. (undone.now is_open).1 ∙ was.0.committed_is;
+          }
+
+      unmade_refuses : (fault : Fault) → IsStoreFault fault → (HasCleanDisk made → IsUndone asked made) → (HasCleanDisk made → fault ≡ NotAProject → IsRefused asked made) → RefusesAdoption old made fault
+      unmade_refuses fault told undone refused = record {
+        told = adoption_fault fault told;
+        clean = omega (arith, crash.clean, creates.clean);
+        cause = λ clean. record {
+          stored = λ version is. absurd (never_later fault version told is);
+          only = λ idle has version of. absurd (has_understood _ has (vacant (before clean)));
+        };
+        given = λ clean. record {
+          back = back_undone clean (undone clean);
+          left = leaves_fresh clean;
+          kept = λ there. absurd (there (vacant (before clean)));
+          whole = λ is. keeps_refused clean (refused clean is);
+          goes = λ world goes. absurd (never_vacant old world (goes.stands (same (before clean)).0.was_open).0 (vacant (before clean)));
+          serves = λ idle. elim told [
+            | inl wanted ↦ inl (inl wanted)
+            | inr other ↦ elim other [ inl failed ↦ inl (inr failed) | inr is ↦ inr (refused clean is).is_open ]
+          ];
+        };
+      }
+
+      pub made_refuses : (r : Result (Unit {0}) Fault) → IfErr r IsStoreFault → (HasCleanDisk made → OnErr r (IsUndone asked made)) → (HasCleanDisk made → IfErr r (λ fault. fault ≡ NotAProject → IsRefused asked made))
+          → IfErr r (RefusesAdoption old made)
+      made_refuses (Ok x) told undone refused = tt
+      made_refuses (Err e) told undone refused = unmade_refuses e told undone refused
+
+-- ---- what follows
+
+module _ (old new : State) (fault : Fault) (clean : HasCleanDisk new) (refuses : RefusesAdoption old new fault) where
+  -- tables that stand for a world are refused for its later version, or for a failure
+  pub standing_refused : old.in_transaction ≡ false → (world : World) → 1 ≤ world.version → StandsFor old.now world → IsRefusalOf world.version fault
+  standing_refused idle world first stands = (refuses.cause clean).only idle (project_of old.now world stands) world.version (version_stands old.now world stands first)
+
+  -- a row of a version that this program knows is refused for a failure alone
+  pub known_refused : old.in_transaction ≡ false → (has : HasProject old.now.schema) (version : ℕ) → HasVersion old.now has version → version ≤ present_version → IsFailure fault
+  known_refused idle has version of known = elim ((refuses.cause clean).only idle has version of) [ inl failed ↦ failed | inr later ↦ absurd (omega (arith, later.1, known)) ]
+
+  -- over which a session went on: for its later version, or for a fault of the store
+  pub world_refused : (world : World) → 1 ≤ world.version → GoesOn old world → IsStoreFault fault ⊎ TellsLater world.version fault
+  world_refused world first goes = elim refuses.told [
+    | inl store ↦ inl store
+    | inr (version, later) ↦
+        let why = (refuses.cause clean).stored version later.0 in
+        let stands = (goes.stands why.is_open).0 in
+        let same : version ≡ world.version = one_version old.now (project_of old.now world stands) version world.version (why.stored (project_of old.now world stands)) (version_stands old.now world stands first) in
+        inr (subst (λ n. TellsLater n fault) same later)
+  ]
+
+  -- where a project is, what is shown and what a stop may leave is not touched
+  pub found_kept : HasProject old.now.schema → LeavesNoMore old new
+  found_kept has = (refuses.given clean).kept (has_understood _ has)
+
+-- only a later version is told as one
+pub told_later : (old new : State) (fault : Fault) (version : ℕ) → RefusesAdoption old new fault → fault ≡ NewSchema version → present_version < version
+told_later old new fault version refuses is = elim refuses.told [
+  | inl store ↦ absurd (never_store store)
+  | inr (one, later) ↦ let same : one ≡ version = let so = sym later.0 ∙ is in cc in subst (λ n. present_version < n) same later.1
+]
+  where
+    never_store : IsStoreFault fault → ⊥
+    never_store (inl wanted) = absurd (let no = sym wanted ∙ is in cc)
+    never_store (inr (inl failed)) = absurd (let no = sym failed ∙ is in cc)
+    never_store (inr (inr refused)) = absurd (let no = sym refused ∙ is in cc)
+
+-- a table `project` with its columns is a project that is found
+pub project_found : (old new : State) → Adopts old new → HasCleanDisk new → HasProject old.now.schema → FindsProject old new
+project_found old new adopts clean has = adopts.found clean (has_understood _ has)
+
+-- ---- a new session over the connection of one that a fault ended
+
+pub adopts_again : (old new : State) (world : World) (cut : Request) → Adopts old new → HasCleanDisk new → IsTrue old.is_open → IsProject world → HasEnded old world cut → GoesOn new world
+adopts_again old new world cut adopts clean is_open project ended = (adopts.goes clean world (omega (arith, project.present)) (ended.stands is_open)).0
+
+pub refuses_again : (old new : State) (fault : Fault) (world : World) (cut : Request) → RefusesAdoption old new fault → HasCleanDisk new → old.in_transaction ≡ false → IsTrue old.is_open → IsProject world
+    → HasEnded old world cut → GoesOn new world × IsFailure fault
+refuses_again old new fault world cut refuses clean idle is_open project ended =
+    let goes = ended.stands is_open in
+    let stands = (goes.stands is_open).0 in
+    ((refuses.given clean).goes world goes, known_refused old new fault clean refuses idle (project_of old.now world stands) world.version (version_stands old.now world stands (omega (arith, project.present))) (omega (arith, project.present)))
+
+pub goes_again : {S : Type 0} {g : Ghosts S} (old : Project S g) (r : Result (Project S g) (Held S × Fault)) → IfOk r (λ new. Adopts (state_of old) (state_of new)) → IfOk r (GoesOnAgain old)
+goes_again old (Ok new) adopts = λ clean is_open world cut project ended. adopts_again (state_of old) (state_of new) world cut adopts clean is_open project ended
+goes_again old (Err refusal) adopts = tt
+
+pub fails_again : {S : Type 0} {g : Ghosts S} (old : Project S g) (r : Result (Project S g) (Held S × Fault)) → (connection_of old).in_transaction ≡ false
+    → IfErr r (λ refusal. RefusesAdoption (state_of old) (state g refusal.0) refusal.1) → IfErr r (FailsAgain old)
+fails_again old (Ok new) idle refuses = tt
+fails_again {S} {g} old (Err refusal) idle refuses =
+    λ clean is_open world cut project ended. refuses_again (state_of old) (state g refusal.0) refusal.1 world cut refuses clean idle is_open project ended

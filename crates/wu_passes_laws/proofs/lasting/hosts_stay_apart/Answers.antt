@@ -1,5 +1,0 @@
-use Rattle.wu_passes_laws.proofs.LastingLaws.{hosts_stay_apart}
-use Rattle.wu_passes_laws.proofs.lasting.hosts_stay_apart.Goals as goal
-
-pub returns : goal.returns
-returns c = hosts_stay_apart

@@ -1,5 +1,0 @@
-use Rattle.wu_passes_laws.proofs.Records.{steps_record}
-use Rattle.wu_passes_laws.proofs.lasting.imports_last.Goals as goal
-
-pub returns : goal.returns
-returns c world requests = (steps_record world requests).imports

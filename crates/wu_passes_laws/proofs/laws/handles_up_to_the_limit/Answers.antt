@@ -1,6 +1,0 @@
-use Rattle.wu_store.specs.Due.{changes}
-use Rattle.wu_passes_laws.proofs.PassLaws.{how_many}
-use Rattle.wu_passes_laws.proofs.laws.handles_up_to_the_limit.Goals as goal
-
-pub returns : goal.returns
-returns c pass now min_age limit world = how_many (changes pass now min_age) limit world.workunits

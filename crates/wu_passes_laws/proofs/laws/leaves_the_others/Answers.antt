@@ -1,6 +1,0 @@
-use Rattle.wu_store.specs.Due.{chosen}
-use Rattle.wu_passes_laws.proofs.PassLaws.{others_stay}
-use Rattle.wu_passes_laws.proofs.laws.leaves_the_others.Goals as goal
-
-pub returns : goal.returns
-returns c pass now min_age limit world = others_stay pass now (chosen pass now min_age limit world) world.workunits

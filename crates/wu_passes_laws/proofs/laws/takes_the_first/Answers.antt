@@ -1,5 +1,0 @@
-use Rattle.wu_passes_laws.proofs.PassLaws.{is_taken}
-use Rattle.wu_passes_laws.proofs.laws.takes_the_first.Goals as goal
-
-pub returns : goal.returns
-returns c = is_taken

@@ -1,5 +1,0 @@
-use Rattle.wu_passes_laws.proofs.SoundSteps.{sound_step}
-use Rattle.wu_passes_laws.proofs.sound.keeps_sound.Goals as goal
-
-pub returns : goal.returns
-returns c world request values sound = (sound_step world sound request values).0

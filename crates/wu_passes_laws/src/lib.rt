@@ -1,6 +1,0 @@
-//! Laws of passes, of sound worlds, and of what lasts over lists of requests.
-#![tactic(auto)]
-
-pub mod lasting;
-pub mod laws;
-pub mod sound;

@@ -1,0 +1,18 @@
+//! Plays of scripts over databases in memory, over files that stop and into writers that fail, with the transcript of what
+//! they answer.
+#![tactic(auto)]
+
+mod course;
+mod disks;
+mod lives;
+mod memory;
+mod narrow;
+mod outputs;
+mod runs;
+mod scripts;
+mod sessions;
+mod stops;
+mod way;
+
+pub use scripts::{write_comment, write_status};
+pub use way::Way;

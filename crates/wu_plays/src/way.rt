@@ -1,0 +1,51 @@
+//! How a script is played.
+
+use crate::{lives, memory, outputs, stops};
+use anyhow::{Result, bail};
+use std::alloc::Global;
+
+/// How a script is played.
+#[derive(Drop)]
+pub enum Way {
+    /// Over a database in memory, each line a command of its own.
+    Memory,
+    /// Over two files that stop at each call.
+    Stops,
+    /// Over two files that stop at the commands of these numbers, from 1.
+    Lives(Vec<usize>),
+    /// Into writers that fail after each byte.
+    Outputs,
+}
+
+/// The numbers that the words write.
+fn numbers<'a>(alloc: Global, words: &[&'a str]) -> Result<Vec<usize>> {
+    let mut numbers = Vec::new(alloc);
+    for word in words {
+        numbers.push(word.parse::<usize>()?)?;
+    }
+    Ok(numbers)
+}
+
+impl Way {
+    /// The way of this name, with the words that stand behind the script.
+    pub fn read<'a>(alloc: Global, name: &str, rest: &[&'a str]) -> Result<Way> {
+        let way = match name {
+            "memory" => Way::Memory,
+            "stops" => Way::Stops,
+            "lives" => Way::Lives(numbers(alloc, rest)?),
+            "outputs" => Way::Outputs,
+            _ => bail!("no way to play"),
+        };
+        Ok(way)
+    }
+
+    /// Plays a script, and writes what it answers.
+    pub fn play(&self, rt: &HostRuntime, text: &str, transcript: &mut Vec<u8>) -> Result<()> {
+        match self {
+            Way::Memory => memory::play(rt, text, transcript),
+            Way::Stops => stops::play(rt, text, transcript),
+            Way::Lives(numbers) => lives::play(rt, text, numbers.as_slice(), transcript),
+            Way::Outputs => outputs::play(rt, text, transcript),
+        }
+    }
+}

@@ -1,0 +1,5 @@
+mod ContentLemmas
+mod NumberLemmas
+mod ParseLemmas
+mod TableLemmas
+mod StepLemmas

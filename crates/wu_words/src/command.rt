@@ -1,0 +1,59 @@
+//! The command of the program, as `clap` builds it.
+
+ghost use Rattle.std.specs.Prelude.{◌≡◌, false, IfOk};
+ghost use Rattle.clap.specs.Words.{app_of, rule_of, shape_of};
+ghost use Rattle.clap.specs.declared.builder.command.Command.TheViews.{out-Command};
+ghost use Rattle.wu_words.specs.CommandLine.{option_rule, program, subcommand_shape};
+
+use crate::option::LineOption;
+use crate::subcommand::{SUBCOMMANDS, Subcommand};
+use clap::{Arg, ArgAction, Command, value_parser};
+use std::alloc::{AllocError, Global};
+
+/// An option, with what help says of it.
+fn arg<'a>(alloc: Global, option: LineOption) -> Arg<'a>
+    ensures rule { rule_of result ≡ option_rule option }
+    ensures local { result.global ≡ false }
+{
+    let arg = Arg::new(alloc, option.name())
+        .long(option.name())
+        .value_name(option.value_name())
+        .help(option.help())
+        .required(option.is_required())
+        .action(ArgAction::Set);
+    if option.is_number() {
+        arg.value_parser(value_parser!(u64))
+    } else {
+        arg
+    }
+}
+
+/// A subcommand with its options.
+fn subcommand<'a>(alloc: Global, subcommand: Subcommand) -> Result<Command<'a>, AllocError>
+    ensures shape { IfOk result (λ command. shape_of command ≡ subcommand_shape subcommand) }
+    ensures local { IfOk result (λ command. (out-Command command).has_globals ≡ false) }
+{
+    let mut command = Command::new(alloc, subcommand.name())
+        .about(subcommand.about())
+        .after_help(subcommand.example());
+    for option in subcommand.options() {
+        command = command.arg(arg(alloc, *option))?;
+    }
+    Ok(command)
+}
+
+/// The command of the program: one subcommand a line, each with its options.
+pub fn command<'a>(alloc: Global) -> Result<Command<'a>, AllocError>
+    ensures { IfOk result (λ command. app_of command ≡ program) }
+{
+    let mut command = Command::new(alloc, "lintelthyme")
+        .about("The back end of a BOINC project: one command on a project in a database file")
+        .after_help(
+            "With no word after its name, the program runs a demonstration in memory.\nStatus: 0 done; 1 refused; 2 wrong words; 3 the database failed or could not be opened; 4 no memory; 5 the output failed.",
+        )
+        .subcommand_required(true);
+    for each in SUBCOMMANDS {
+        command = command.subcommand(subcommand(alloc, each)?)?;
+    }
+    Ok(command)
+}

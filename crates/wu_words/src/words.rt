@@ -1,0 +1,208 @@
+//! The line that the words of the command line are.
+
+ghost use Rattle.std.specs.Prelude.{◌≡◌, map, string_bytes, IfErr, IfOk};
+ghost use Rattle.clap.specs.Words.{found_of, rows_of};
+ghost use Rattle.wu_words.specs.Lines.{IsLine, IsOrder, IsScript};
+ghost use Rattle.wu_words.specs.Refusals.{Explains, IsLacking, IsOrderOf, IsUnread};
+
+use crate::line::Line;
+use crate::option::LineOption;
+use crate::order::{Order, ScriptFile};
+use crate::parse::parse;
+use crate::subcommand::Subcommand;
+use crate::usage::Usage;
+use crate::values::{number, template, text, view};
+use clap::ArgMatches;
+use std::alloc::Global;
+
+/// The line of a batch.
+fn batch(alloc: Global, found: &ArgMatches<'_>) -> Result<Line, Usage>
+    ensures line { IfOk result (IsLine (rows_of (found_of found.now)) Subcommand.Batch) }
+    ensures refused { IfErr result (IsLacking (rows_of (found_of found.now)) Subcommand.Batch) }
+{
+    Ok(Line::Batch {
+        db: text(alloc, found, LineOption::Database)?,
+        name: text(alloc, found, LineOption::Name)?,
+        jobs: text(alloc, found, LineOption::Jobs)?,
+        template: template(alloc, found)?,
+    })
+}
+
+/// The line of a file of sends.
+fn sent(alloc: Global, found: &ArgMatches<'_>) -> Result<Line, Usage>
+    ensures line { IfOk result (IsLine (rows_of (found_of found.now)) Subcommand.Sent) }
+    ensures refused { IfErr result (IsLacking (rows_of (found_of found.now)) Subcommand.Sent) }
+{
+    Ok(Line::Sent {
+        db: text(alloc, found, LineOption::Database)?,
+        name: text(alloc, found, LineOption::Name)?,
+        file: text(alloc, found, LineOption::File)?,
+    })
+}
+
+/// The line of a file of reports.
+fn reported(alloc: Global, found: &ArgMatches<'_>) -> Result<Line, Usage>
+    ensures line { IfOk result (IsLine (rows_of (found_of found.now)) Subcommand.Reported) }
+    ensures refused { IfErr result (IsLacking (rows_of (found_of found.now)) Subcommand.Reported) }
+{
+    Ok(Line::Reported {
+        db: text(alloc, found, LineOption::Database)?,
+        name: text(alloc, found, LineOption::Name)?,
+        file: text(alloc, found, LineOption::File)?,
+    })
+}
+
+/// The line of a transition.
+fn transition(alloc: Global, found: &ArgMatches<'_>) -> Result<Line, Usage>
+    ensures line { IfOk result (IsLine (rows_of (found_of found.now)) Subcommand.Transition) }
+    ensures refused { IfErr result (IsLacking (rows_of (found_of found.now)) Subcommand.Transition) }
+{
+    Ok(Line::Transition {
+        db: text(alloc, found, LineOption::Database)?,
+        now: text(alloc, found, LineOption::Now)?,
+        limit: number(found, LineOption::Limit)?,
+    })
+}
+
+/// The line of a validation.
+fn validate(alloc: Global, found: &ArgMatches<'_>) -> Result<Line, Usage>
+    ensures line { IfOk result (IsLine (rows_of (found_of found.now)) Subcommand.Validate) }
+    ensures refused { IfErr result (IsLacking (rows_of (found_of found.now)) Subcommand.Validate) }
+{
+    Ok(Line::Validate {
+        db: text(alloc, found, LineOption::Database)?,
+        limit: number(found, LineOption::Limit)?,
+    })
+}
+
+/// The line of an assimilation.
+fn assimilate(alloc: Global, found: &ArgMatches<'_>) -> Result<Line, Usage>
+    ensures line { IfOk result (IsLine (rows_of (found_of found.now)) Subcommand.Assimilate) }
+    ensures refused { IfErr result (IsLacking (rows_of (found_of found.now)) Subcommand.Assimilate) }
+{
+    Ok(Line::Assimilate {
+        db: text(alloc, found, LineOption::Database)?,
+        now: text(alloc, found, LineOption::Now)?,
+        limit: number(found, LineOption::Limit)?,
+    })
+}
+
+/// The line of a deletion.
+fn delete(alloc: Global, found: &ArgMatches<'_>) -> Result<Line, Usage>
+    ensures line { IfOk result (IsLine (rows_of (found_of found.now)) Subcommand.Delete) }
+    ensures refused { IfErr result (IsLacking (rows_of (found_of found.now)) Subcommand.Delete) }
+{
+    Ok(Line::Delete {
+        db: text(alloc, found, LineOption::Database)?,
+        limit: number(found, LineOption::Limit)?,
+    })
+}
+
+/// The line of a purge.
+fn purge(alloc: Global, found: &ArgMatches<'_>) -> Result<Line, Usage>
+    ensures line { IfOk result (IsLine (rows_of (found_of found.now)) Subcommand.Purge) }
+    ensures refused { IfErr result (IsLacking (rows_of (found_of found.now)) Subcommand.Purge) }
+{
+    Ok(Line::Purge {
+        db: text(alloc, found, LineOption::Database)?,
+        now: text(alloc, found, LineOption::Now)?,
+        limit: number(found, LineOption::Limit)?,
+        min_age: number(found, LineOption::MinAge)?,
+    })
+}
+
+/// The line of a cancel.
+fn cancel(alloc: Global, found: &ArgMatches<'_>) -> Result<Line, Usage>
+    ensures line { IfOk result (IsLine (rows_of (found_of found.now)) Subcommand.Cancel) }
+    ensures refused { IfErr result (IsLacking (rows_of (found_of found.now)) Subcommand.Cancel) }
+{
+    Ok(Line::Cancel {
+        db: text(alloc, found, LineOption::Database)?,
+        workunit: text(alloc, found, LineOption::Workunit)?,
+    })
+}
+
+/// The line of a cycle.
+fn cycle(alloc: Global, found: &ArgMatches<'_>) -> Result<Line, Usage>
+    ensures line { IfOk result (IsLine (rows_of (found_of found.now)) Subcommand.Cycle) }
+    ensures refused { IfErr result (IsLacking (rows_of (found_of found.now)) Subcommand.Cycle) }
+{
+    Ok(Line::Cycle {
+        db: text(alloc, found, LineOption::Database)?,
+        now: text(alloc, found, LineOption::Now)?,
+        limit: number(found, LineOption::Limit)?,
+        min_age: number(found, LineOption::MinAge)?,
+    })
+}
+
+/// The line of a view.
+fn show(alloc: Global, found: &ArgMatches<'_>) -> Result<Line, Usage>
+    ensures line { IfOk result (IsLine (rows_of (found_of found.now)) Subcommand.Show) }
+    ensures refused { IfErr result (IsUnread (rows_of (found_of found.now)) Subcommand.Show) }
+{
+    Ok(Line::Show {
+        db: text(alloc, found, LineOption::Database)?,
+        view: view(found)?,
+    })
+}
+
+/// The line of an upgrade.
+fn upgrade(alloc: Global, found: &ArgMatches<'_>) -> Result<Line, Usage>
+    ensures line { IfOk result (IsLine (rows_of (found_of found.now)) Subcommand.Upgrade) }
+    ensures refused { IfErr result (IsLacking (rows_of (found_of found.now)) Subcommand.Upgrade) }
+{
+    Ok(Line::Upgrade {
+        db: text(alloc, found, LineOption::Database)?,
+    })
+}
+
+/// A script's file, and the database that it is for.
+fn script(alloc: Global, found: &ArgMatches<'_>) -> Result<ScriptFile, Usage>
+    ensures script { IfOk result (IsScript (rows_of (found_of found.now))) }
+    ensures refused { IfErr result (IsLacking (rows_of (found_of found.now)) Subcommand.Script) }
+{
+    Ok(ScriptFile {
+        db: text(alloc, found, LineOption::Database)?,
+        file: text(alloc, found, LineOption::File)?,
+    })
+}
+
+/// What a subcommand asks for, with the values that `clap` found.
+fn order_of(alloc: Global, subcommand: Subcommand, found: &ArgMatches<'_>) -> Result<Order, Usage>
+    ensures order { IfOk result (IsOrder (rows_of (found_of found.now)) subcommand) }
+    ensures refused { IfErr result (IsUnread (rows_of (found_of found.now)) subcommand) }
+{
+    let line = match subcommand {
+        Subcommand::Batch => batch(alloc, found)?,
+        Subcommand::Sent => sent(alloc, found)?,
+        Subcommand::Reported => reported(alloc, found)?,
+        Subcommand::Transition => transition(alloc, found)?,
+        Subcommand::Validate => validate(alloc, found)?,
+        Subcommand::Assimilate => assimilate(alloc, found)?,
+        Subcommand::Delete => delete(alloc, found)?,
+        Subcommand::Purge => purge(alloc, found)?,
+        Subcommand::Cancel => cancel(alloc, found)?,
+        Subcommand::Cycle => cycle(alloc, found)?,
+        Subcommand::Show => show(alloc, found)?,
+        Subcommand::Upgrade => upgrade(alloc, found)?,
+        Subcommand::Script => return Ok(Order::Script(script(alloc, found)?)),
+    };
+    Ok(Order::Line(line))
+}
+
+/// What the words ask for, of which the first is the program's name. `clap` takes them apart: one subcommand, each
+/// option given once, `--db` always; limits and ages are numbers of 64 bits. Other words, and a request for help, are
+/// `Refused` with the text of `clap`; a view that there is not is `UnknownView`.
+pub fn read_words(alloc: Global, words: &[String]) -> Result<Order, Usage>
+    ensures order { IfOk result (IsOrderOf (map string_bytes words.now)) }
+    ensures refused { IfErr result (Explains (map string_bytes words.now)) }
+{
+    let matches = parse(alloc, words)?;
+    let Some((name, found)) = matches.subcommand() else {
+        return Err(Usage::Incomplete);
+    };
+    match Subcommand::named(name) {
+        Some(subcommand) => order_of(alloc, subcommand, found),
+        None => Err(Usage::Incomplete),
+    }
+}
