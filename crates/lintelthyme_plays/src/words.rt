@@ -1,6 +1,7 @@
 //! A play of whole command lines over files of the current folder, by the call that the program makes.
 
 use anyhow::{Result, bail};
+use sqlite_disk::Wary;
 use std::io::Write;
 use wu_feed::{LineCause, Words, read_script};
 use wu_plays::{write_comment, write_status};
@@ -19,7 +20,7 @@ fn process_words(rt: &HostRuntime, words: Result<Words, LineCause>) -> Result<Ve
 /// Runs the program with these words: what it prints, what it tells of a fault, and its status.
 fn run(rt: &HostRuntime, words: &[String], transcript: &mut Vec<u8>) -> Result<()> {
     let mut told = Vec::new(rt.alloc());
-    let status = obey(rt, words, transcript, &mut told);
+    let status = obey(rt, words, Wary, transcript, &mut told).status;
     transcript.write_all(told.as_slice())?;
     write_status(status, transcript)?;
     Ok(())

@@ -47,8 +47,8 @@ pub no_database : (image : Image) (db : Trees) → image.db ≡ [] → AreFoundI
 no_database image db blank (inl (size, pages, wanted, adopts, ours, reads)) = let low = adopts.found.present in absurd (omega (arith, low, ap (λ bytes. length bytes) blank))
 no_database image db blank (inr (nothing, empty)) = empty
 
--- two files were opened
-module _ {D : Type 0} {g : Ghosts D} (files : Files D) (again : Held (FileStore D g)) (opened : IsOpened again) (found : Finds files again) where
+-- a connection was opened
+module _ {D : Type 0} {g : Ghosts D} (again : Held (FileStore D g)) (opened : IsOpened again) where
   -- no tree, no project
   pub empty_vacant : IsEmpty (file_state again).committed.trees → IsVacant (file_state again)
   empty_vacant empty =
@@ -56,15 +56,17 @@ module _ {D : Type 0} {g : Ghosts D} (files : Files D) (again : Held (FileStore 
       let none : (file_state again).now.trees catalog_tree ≡ [] = ap (λ (d : Database). d.trees catalog_tree) same ∙ empty.1 in
       free_lacks _ (free_of_none _ _ (codes "project") none ((opened.1 opened.0.is_open).0.lists))
 
-  pub blank_vacant : IsBlank g files → IsVacant (file_state again)
-  blank_vacant blank = empty_vacant (no_database _ _ blank found.reads)
-
   pub goes_from_trees : SeenMayStay g → (world : World) → FoundAs (file_state again).committed.trees world → GoesOn (file_state again) world
   goes_from_trees stays world held =
       goes_again (file_state again) world (committed_at again stays opened) (subst (λ (d : Database). FoundAs d.trees world) (sym opened.0.clean) held)
 
+-- over two files
+module _ {D : Type 0} {g : Ghosts D} (files : Files D) (again : Held (FileStore D g)) (opened : IsOpened again) (found : Finds files again) where
+  pub blank_vacant : IsBlank g files → IsVacant (file_state again)
+  blank_vacant blank = empty_vacant again opened (no_database _ _ blank found.reads)
+
   pub goes_from : SeenMayStay g → (world : World) → HoldWorld g files world → GoesOn (file_state again) world
-  goes_from stays world held = goes_from_trees stays world (subst (λ (db : Trees). FoundAs db world) (sym (found.holds held.trees held.holds)) held.found)
+  goes_from stays world held = goes_from_trees again opened stays world (subst (λ (db : Trees). FoundAs db world) (sym (found.holds held.trees held.holds)) held.found)
 
 -- what a stop within an adoption left of a free database
 module _ (old mid again : State) (free : AwaitsProject old) (left : LeavesFresh old mid) (reopened : IsReopened mid again) where

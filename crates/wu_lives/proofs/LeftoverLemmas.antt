@@ -1,5 +1,5 @@
 -- What is found where the leftover of an opening that failed is opened again after a stop.
-use Rattle.std.proofs.Common.{◌≡◌, ℕ, zero, suc, ◌*◌, ◌%◌, ◌<◌, ◌≤◌, IsTrue, Bool, true, false, cond, List, [], ◌∷◌, ◌++◌, ◌-◌, codes, length, take, slice_index, Option, None, Some, IfSome, unwrap_or, refl, sym, ap, subst, ◌∙◌, inl, inr, arith, get_or-take, zero-add, eqb-true, eq-eqb, ne_eqb}
+use Rattle.std.proofs.Common.{◌≡◌, ℕ, zero, suc, ◌*◌, ◌%◌, ◌<◌, ◌≤◌, IsTrue, Bool, true, false, cond, List, [], ◌∷◌, ◌++◌, ◌-◌, codes, length, take, slice_index, Option, Some, unwrap_or, refl, sym, ap, subst, ◌∙◌, inl, inr, arith, get_or-take, zero-add, eqb-true, eq-eqb, ne_eqb}
 use Rattle.std.proofs.Math.Logic.{∥∥₁_elim, ∥∥₁_map}
 use Rattle.std.proofs.lemmas.Bool.{cases_Bool, cases_eq, cases_lt}
 use Rattle.sqlite_disk.specs.declared.Disk.{Ghosts}
@@ -34,7 +34,6 @@ use Rattle.sqlite.specs.declared.file.Leftover.{Leftover}
 use Rattle.sqlite.specs.declared.file.Leftover.TheVariants as left
 use Rattle.wu_core.specs.World.{World}
 use Rattle.wu_passes.specs.Committing.{FoundAs}
-use Rattle.wu_lives.specs.Beginning.{HoldWorld}
 use Rattle.wu_lives.specs.Leftovers.{HoldsPlainly, IsLeftOf, IsNumberedLeft, StayBlank, StayWorld}
 use Rattle.wu_lives.proofs.BeginningLemmas.{no_database}
 use Rattle.wu_lives.proofs.ReopeningLemmas.{and_both}

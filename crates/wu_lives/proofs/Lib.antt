@@ -1,3 +1,5 @@
 mod BeginningLemmas
 mod ReopeningLemmas
 mod LeftoverLemmas
+mod ClosingLemmas
+mod RunsLemmas

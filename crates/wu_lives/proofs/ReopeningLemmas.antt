@@ -17,6 +17,7 @@ use Rattle.sqlite_store.specs.FileStore.{state, view, faults, recovers, is_shiel
 use Rattle.sqlite_store.specs.Laws.{settled_at, stays_at}
 use Rattle.sqlite.specs.Effect.{Database}
 use Rattle.sqlite.specs.State.{State, HasCleanDisk}
+use Rattle.sqlite.specs.Tree.{Trees}
 use Rattle.sqlite.specs.Held.{Held, AreDatabases}
 use Rattle.sqlite.specs.Files.{Finds, IsOpened, file_state}
 use Rattle.sqlite.proofs.Theorems.{next_run}
@@ -101,33 +102,51 @@ next_world world commands i command there =
     ap (λ cs. fold_steps world (map request_of cs)) (take_more commands i command (slice_get_within commands i command there) ∙ ap (λ c. take i commands ++ c ∷ []) (get_or_from_slice_get commands i command command there))
     ∙ ap (λ rs. fold_steps world rs) (map-append request_of (take i commands) (command ∷ [])) ∙ fold_more world (map request_of (take i commands)) (request_of command)
 
+-- these tables stand for the world after a beginning of a list
+pub record IsBeginning (world : World) (commands : List Command) (run : Run) (db : Trees) : Type 0 where
+  pub count : ℕ
+  pub kept : IsKept commands run count
+  pub found : FoundAs db (world_after world commands count)
+  pub project : IsProject (world_after world commands count)
+
 -- after a run of commands
-module _ (world : World) (commands : List Command) (mid new : State) (again : IsReopened mid new) (project : IsProject world) where
-  holds_at : (run : Run) (count : ℕ) → run.acknowledged ≤ count → count ≤ run.acknowledged + 1 → (run.acknowledged < count → EndsBy run MayEnd) → count ≤ length commands → IsProject (world_after world commands count)
-      → FoundAs new.now.trees (world_after world commands count) → HoldsBeginning world commands run new
-  holds_at run count has most cut within still found = record {
+module _ (world : World) (commands : List Command) (mid : State) (project : IsProject world) (db : Trees) (may : mid.may_leave db) where
+  beginning_at : (run : Run) (count : ℕ) → run.acknowledged ≤ count → count ≤ run.acknowledged + 1 → (run.acknowledged < count → EndsBy run MayEnd) → count ≤ length commands → IsProject (world_after world commands count)
+      → FoundAs db (world_after world commands count) → IsBeginning world commands run db
+  beginning_at run count has most cut within still found = record {
     count = count;
     kept = record { within = within; has_acknowledged = has; at_most_one_more = most; cut = cut };
-    goes = goes_again new _ again.whole found;
+    found = found;
     project = still;
   }
 
-  pub holds_beginning : (answers : List Answer) (run : Run) (has_ended : Bool) → (has_ended ≡ true → EndsBy run MayEnd) → Drives world commands answers run has_ended mid → ∥ HoldsBeginning world commands run new ∥₁
-  holds_beginning answers run false ends drives = ∥∥₁_map again.found (λ may. holds_at run run.acknowledged (omega arith) (omega arith) (λ more. absurd (omega (arith, more))) drives.within drives.project ((drives.goes refl).left _ may))
-  holds_beginning answers run true ends drives = ∥∥₁_map again.found (λ may.
+  pub beginning_of : (answers : List Answer) (run : Run) (has_ended : Bool) → (has_ended ≡ true → EndsBy run MayEnd) → Drives world commands answers run has_ended mid → IsBeginning world commands run db
+  beginning_of answers run false ends drives = beginning_at run run.acknowledged (omega arith) (omega arith) (λ more. absurd (omega (arith, more))) drives.within drives.project ((drives.goes refl).left _ may)
+  beginning_of answers run true ends drives =
       let (cut, there, ended) = drives.ended refl in
       let low = slice_get_within commands run.acknowledged cut there in
       elim (ended.left _ may) [
-        | inl before ↦ holds_at run run.acknowledged (omega arith) (omega arith) (λ more. absurd (omega (arith, more))) drives.within drives.project before
+        | inl before ↦ beginning_at run run.acknowledged (omega arith) (omega arith) (λ more. absurd (omega (arith, more))) drives.within drives.project before
         | inr after ↦
             let next = next_world world commands run.acknowledged cut there in
-            holds_at run (run.acknowledged + 1) (omega arith) (omega arith) (λ more. ends refl) (omega (arith, low))
-            (subst (λ w. IsProject w) (sym next) (drives.cut_project refl cut there)) (subst (λ w. FoundAs new.now.trees w) (sym next) after)
-      ])
+            beginning_at run (run.acknowledged + 1) (omega arith) (omega arith) (λ more. ends refl) (omega (arith, low))
+            (subst (λ w. IsProject w) (sym next) (drives.cut_project refl cut there)) (subst (λ w. FoundAs db w) (sym next) after)
+      ]
 
   -- over a session that had ended no command is done
+  pub beginning_none : (run : Run) → run.acknowledged ≡ 0 → GoesOn mid world → IsBeginning world commands run db
+  beginning_none run none goes = beginning_at run 0 (omega (arith, none)) (omega arith) (λ more. absurd (omega (arith, more))) (omega arith) project (goes.left _ may)
+
+pub holds_from : (world : World) (commands : List Command) (run : Run) (new : State) → IsCommitted new → IsBeginning world commands run new.now.trees → HoldsBeginning world commands run new
+holds_from world commands run new whole it = record { count = it.count; kept = it.kept; goes = goes_again new _ whole it.found; project = it.project }
+
+-- and what is found of it
+module _ (world : World) (commands : List Command) (mid new : State) (again : IsReopened mid new) (project : IsProject world) where
+  pub holds_beginning : (answers : List Answer) (run : Run) (has_ended : Bool) → (has_ended ≡ true → EndsBy run MayEnd) → Drives world commands answers run has_ended mid → ∥ HoldsBeginning world commands run new ∥₁
+  holds_beginning answers run has_ended ends drives = ∥∥₁_map again.found (λ may. holds_from world commands run new again.whole (beginning_of world commands mid project _ may answers run has_ended ends drives))
+
   pub holds_none : (run : Run) → run.acknowledged ≡ 0 → GoesOn mid world → ∥ HoldsBeginning world commands run new ∥₁
-  holds_none run none goes = ∥∥₁_map again.found (λ may. holds_at run 0 (omega (arith, none)) (omega arith) (λ more. absurd (omega (arith, more))) (omega arith) project (goes.left _ may))
+  holds_none run none goes = ∥∥₁_map again.found (λ may. holds_from world commands run new again.whole (beginning_none world commands mid project _ may run none goes))
 
 pub answers_none : (world : World) (commands : List Command) (answers : List Answer) (run : Run) → run.acknowledged ≡ 0 → length answers ≡ run.acknowledged → AnswerAll world (take run.acknowledged commands) answers
 answers_none world commands [] run none count = subst (λ k. AnswerAll world (take k commands) []) (sym none) tt

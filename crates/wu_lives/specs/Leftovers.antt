@@ -1,5 +1,5 @@
 -- What an opening that failed left of its two files, and what is found where they are opened again after a stop.
-use Rattle.std.specs.Prelude.{◌≡◌, ◌≤◌, ℕ, [], false, IfSome, IsTrue, Option, ⊤}
+use Rattle.std.specs.Prelude.{◌≡◌, ◌≤◌, ℕ, [], false, IsTrue, ⊤}
 use Rattle.sqlite_disk.specs.declared.Disk.{Ghosts}
 use Rattle.sqlite_disk.specs.declared.Files.{Files}
 use Rattle.sqlite_pool.specs.Stored.{is_summed, stored_size}

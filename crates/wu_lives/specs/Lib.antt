@@ -3,3 +3,5 @@ pub mod Reopening
 pub mod Lives
 pub mod Leftovers
 pub mod Soundness
+pub mod Closing
+pub mod Runs

@@ -1,87 +1,96 @@
 //! What the program does with a process's words, files and outputs: a line or a script of an operator over a project in a
 //! database file, or with no word after its name the demonstration in memory. What is decided of them, and what is done
-//! over an open database, has its clauses in `wu_words` and `wu_cli`; here files are opened, and no clause can say what
-//! they or the outputs are.
+//! over an open database, has its clauses in `wu_words` and `wu_cli`; here files are opened and read, and the clauses hold
+//! whatever they are. That they lie where the words say, no clause can say.
 #![tactic(auto)]
 
-ghost use Rattle.std.specs.Prelude.{Result};
-ghost use Rattle.wu_cli.specs.Troubles.{EndsWith};
-ghost use Rattle.wu_cli.specs.declared.trouble.Trouble.{Trouble};
+ghost use Rattle.std.specs.Prelude.{map, string_bytes};
+ghost use Rattle.wu_program.specs.Running.{Obeys, RunsWords, TellsTrouble};
 
 mod contents;
+mod database;
 mod work;
 
-use sqlite::{Connection, FileStore};
+pub use database::Left;
+use database::open_and_perform;
+use sqlite::FileFrom;
 use sqlite_disk::{Disk, Wary};
 use std::env;
 use std::io::{self, BufWriter, Write};
-use work::{work_of_line, work_of_script};
-use wu_cli::{
-    Line, Order, ScriptFile, Start, Trouble, Work, end_with, read_words, start_of, unopened,
-};
+use work::{database_in, order_and_work};
+use wu_cli::{Start, Trouble, start_of};
 use wu_core::Fault;
 use wu_drive::demo;
 
-/// Does the work over an open database, as `Work::perform_over`, and closes it.
-fn perform_and_close<D: Disk + Drop, O: Write>(
+/// How a run of the program ended.
+#[derive(Drop)]
+pub struct End<D: Disk> {
+    /// The status to end with.
+    pub status: u8,
+    /// Whether all that there was to tell of a trouble went out.
+    pub is_told: bool,
+    /// What is left of the database that the words name; None where they ask for no work.
+    pub left: Option<Left<D>>,
+}
+
+/// Does what the words ask for, up to the first trouble. All files are read before the database is opened.
+fn run_words<S: sqlite::Start, O: Write>(
     rt: &HostRuntime,
-    conn: Connection<FileStore<D>>,
-    work: &Work,
+    words: &[String],
+    start: S,
     out: &mut O,
-) -> Result<(), Trouble> {
-    let (conn, done) = work.perform_over(rt.alloc(), conn, out);
-    let _ = conn.close();
-    done
-}
-
-/// Opens the database, and does the work over it. The work has what the files hold, so these are read before.
-fn open_and_perform<O: Write>(
-    rt: &HostRuntime,
-    database: &str,
-    work: &Work,
-    out: &mut O,
-) -> Result<(), Trouble> {
-    match Connection::open_from(rt, database, false, Wary) {
-        Ok(conn) => perform_and_close(rt, conn, work, out),
-        Err((error, _)) => Err(unopened(&error)),
-    }
-}
-
-/// Does what a line asks for. Its files are read before the database is opened.
-fn run_line<O: Write>(rt: &HostRuntime, line: &Line, out: &mut O) -> Result<(), Trouble> {
-    let work = work_of_line(rt, line)?;
-    open_and_perform(rt, line.database(), &work, out)
-}
-
-/// Does what a script asks for. All its lines and their files are read before the database is opened.
-fn run_script<O: Write>(rt: &HostRuntime, script: &ScriptFile, out: &mut O) -> Result<(), Trouble> {
-    let work = work_of_script(rt, script)?;
-    open_and_perform(rt, script.db.as_str(), &work, out)
-}
-
-/// Does what the words ask for, up to the first trouble.
-fn run_words<O: Write>(rt: &HostRuntime, words: &[String], out: &mut O) -> Result<(), Trouble> {
-    match read_words(rt.alloc(), words)? {
-        Order::Line(line) => run_line(rt, &line, out),
-        Order::Script(script) => run_script(rt, &script, out),
-    }
-}
-
-/// Does what the words ask for, of which the first is the program's name, and answers the status to end with. What is
-/// printed goes to the one writer, and the text of a trouble, with its status, to the other.
-pub fn obey<O: Write, E: Write>(rt: &HostRuntime, words: &[String], out: &mut O, err: &mut E) -> u8
-    ensures { (done : Result (Unit {0}) Trouble)
-        × EndsWith E.contents err.old err.new done result }
+) -> (Result<(), Trouble>, Option<Left<FileFrom<S>>>)
+    ensures { RunsWords O.contents (map string_bytes words.now)
+        out.old out.new result.0 result.1 }
 {
-    let done = run_words(rt, words, out);
-    end_with(done, err)
+    match order_and_work(rt, words) {
+        Ok((order, work)) => {
+            let (done, left) = open_and_perform(rt, database_in(&order), &work, start, out);
+            (done, Some(left))
+        }
+        Err(trouble) => (Err(trouble), None),
+    }
 }
 
-/// Does what the words ask for, with the outputs of the process.
+/// Tells of the trouble that ended a run, if one did: the status to end with, and whether all of it went out.
+fn tell<E: Write>(done: Result<(), Trouble>, err: &mut E) -> (u8, bool)
+    ensures { TellsTrouble E.contents err.old err.new done result.0 result.1 }
+{
+    match done {
+        Ok(()) => (0, true),
+        Err(trouble) => {
+            let is_told = trouble.write(err);
+            (trouble.status(), is_told)
+        }
+    }
+}
+
+/// Does what the words ask for, of which the first is the program's name, whatever the files of the database held at
+/// first. What is printed goes to the one writer, and the text of a trouble to the other.
+pub fn obey<S: sqlite::Start, O: Write, E: Write>(
+    rt: &HostRuntime,
+    words: &[String],
+    start: S,
+    out: &mut O,
+    err: &mut E,
+) -> End<FileFrom<S>>
+    ensures { Obeys O.contents E.contents (map string_bytes words.now)
+        out.old out.new err.old err.new result }
+{
+    let (done, left) = run_words(rt, words, start, out);
+    let (status, is_told) = tell(done, err);
+    End {
+        status,
+        is_told,
+        left,
+    }
+}
+
+/// Does what the words ask for, with the outputs of the process, over a database file of which nothing is supposed.
 fn obey_here(rt: &HostRuntime, words: &[String]) -> u8 {
     match BufWriter::new(rt.alloc(), rt.stdout()) {
-        Ok(mut out) => obey(rt, words, &mut out, &mut rt.stderr()),
-        Err(_) => end_with(Err(Trouble::Fault(Fault::Memory)), &mut rt.stderr()),
+        Ok(mut out) => obey(rt, words, Wary, &mut out, &mut rt.stderr()).status,
+        Err(_) => tell(Err(Trouble::Fault(Fault::Memory)), &mut rt.stderr()).0,
     }
 }
 
@@ -104,6 +113,6 @@ pub fn run(rt: &HostRuntime) -> u8 {
     match start_of(rt.alloc(), words(rt)) {
         Ok(Start::Demonstration) => demonstrate(rt),
         Ok(Start::Words(words)) => obey_here(rt, words.as_slice()),
-        Err(trouble) => end_with(Err(trouble), &mut rt.stderr()),
+        Err(trouble) => tell(Err(trouble), &mut rt.stderr()).0,
     }
 }

@@ -14,7 +14,7 @@ returns-in-Ok-adopt-clause-blank g c files told numbered stay clean =
     let opened = c.in-Ok.ensures.opened early in (
       ∥∥₁_map (empty_again c.args.left c.into_files-log.result.log c.into_files-log.result.db c.crash.new.self c.crash-2.new.self c.into_files-log.ensures
           c.crash.ensures.left c.crash-2.ensures.left c.crash.ensures.clean c.crash-2.ensures.clean c.in-Ok.conn found files told numbered g.met.D.Disk.seen_may_stay stay)
-          (λ empty. (c.in-Ok-adopt.ensures.adopted.fresh clean (empty_vacant _ c.in-Ok.conn opened found empty)).goes),
+          (λ empty. (c.in-Ok-adopt.ensures.adopted.fresh clean (empty_vacant c.in-Ok.conn opened empty)).goes),
       empty_project,
     )
 
@@ -25,4 +25,4 @@ returns-in-Ok-adopt-clause-found g c files told numbered world first stay clean 
     let opened = c.in-Ok.ensures.opened early in
     ∥∥₁_map (world_again c.args.left c.into_files-log.result.log c.into_files-log.result.db c.crash.new.self c.crash-2.new.self c.into_files-log.ensures
     c.crash.ensures.left c.crash-2.ensures.left c.crash.ensures.clean c.crash-2.ensures.clean c.in-Ok.conn found files told numbered g.met.D.Disk.seen_may_stay world stay)
-    (λ it. c.in-Ok-adopt.ensures.adopted.goes clean world first (goes_from_trees _ c.in-Ok.conn opened found g.met.D.Disk.seen_may_stay world it))
+    (λ it. c.in-Ok-adopt.ensures.adopted.goes clean world first (goes_from_trees c.in-Ok.conn opened g.met.D.Disk.seen_may_stay world it))

@@ -1,0 +1,104 @@
+-- What the first of two runs leaves of its files, and what the second finds there.
+use Rattle.std.proofs.Common.{◌≡◌, ◌≤◌, ℕ, IsTrue, List, [], Option, inl, inr, length, take, sym, subst, ◌∙◌, arith}
+use Rattle.std.proofs.lemmas.Bool.{cases_Bool}
+use Rattle.std.proofs.Math.Logic.{∥∥₁_map}
+use Rattle.sqlite_disk.specs.declared.Disk.{Ghosts}
+use Rattle.sqlite_disk.specs.declared.Files.{Files}
+use Rattle.sqlite_wal.specs.Files.{outcomes}
+use Rattle.sqlite_wal.specs.Reads.{AreClean}
+use Rattle.sqlite_wal.specs.Recovery.{Image}
+use Rattle.sqlite_wal.proofs.LogLemmas.{SeenMayStay}
+use Rattle.sqlite_pool.proofs.StateLemmas.{clean_is, may_leave_is}
+use Rattle.sqlite_trees.specs.View.{IsClean, IsQuiet}
+use Rattle.sqlite_trees.proofs.Doubt.{no_doubt}
+use Rattle.sqlite_store.specs.declared.store.FileStore.{FileStore}
+use Rattle.sqlite_store.specs.FileStore.{state, view, faults, recovers, is_shielded, files as store_files}
+use Rattle.sqlite.specs.Closing.{IsCopied}
+use Rattle.sqlite_store.specs.Laws.{stays_at}
+use Rattle.sqlite.specs.Files.{IsOpened, file_state, over_files}
+use Rattle.sqlite.specs.Held.{Held, AreDatabases}
+use Rattle.sqlite.specs.Start.{FindsIn}
+use Rattle.sqlite.specs.State.{State, HasCleanDisk}
+use Rattle.sqlite.specs.Tree.{Trees}
+use Rattle.sqlite.proofs.Theorems.{opens_again}
+use Rattle.wu_core.specs.World.{World}
+use Rattle.wu_drive.specs.Driving.{AnswerAll, DrivesProject, EndsBy, world_after}
+use Rattle.wu_drive.specs.declared.runs.Run.{Run}
+use Rattle.wu_machine.specs.Sessions.{world_of_life}
+use Rattle.wu_machine.specs.Sound.{IsProject}
+use Rattle.wu_machine.specs.declared.command.Answer.{Answer}
+use Rattle.wu_machine.specs.declared.command.Command.{Command}
+use Rattle.wu_passes.specs.Adopting.{IsVacant}
+use Rattle.wu_passes.specs.Committing.{FoundAs}
+use Rattle.wu_passes.specs.Projects.{GoesStill, IsOver, state_of}
+use Rattle.wu_passes.specs.Standing.{GoesOn, MayEnd}
+use Rattle.wu_passes.specs.declared.project.Project.{Project}
+use Rattle.wu_lives.specs.Runs.{BeginsOver, HoldsBeginningIn, HoldsWorld, LeavesBeginnings, LivesOn, TellsFirst, told_by}
+use Rattle.wu_lives.proofs.BeginningLemmas.{empty_vacant, goes_from_trees, no_database}
+use Rattle.wu_lives.proofs.ReopeningLemmas.{IsBeginning, answers_none, beginning_none, beginning_of, lived_more}
+
+-- a connection was let go, and its two files
+module _ {D : Type 0} {g : Ghosts D} (old : Held (FileStore D g)) (store : FileStore D g) (files : Files D)
+    (numbered : IsClean (view store) → IsTrue (view store).is_numbered) (sound : IsClean (view store) → AreDatabases (recovers store)) (quiet : IsQuiet view faults recovers is_shielded old.store store)
+    (is : (files.log, files.db) ≡ store_files store) (honest : AreClean g files.log files.db) where
+  sure : AreClean g (store_files store).0 (store_files store).1
+  sure = subst (λ (p : D × D). AreClean g p.0 p.1) is honest
+
+  clean : IsClean (view store)
+  clean = no_doubt _ (clean_is store.pool ∙ sure)
+
+  pub was_clean : HasCleanDisk (file_state old)
+  was_clean = let now = clean in omega (arith, now, quiet.clean)
+
+  -- each image that a stop may leave of them holds tables that the stop could leave of the connection
+  pub beginning_in : (world : World) (commands : List Command) (run : Run) → ((db : Trees) → (file_state old).may_leave db → IsBeginning world commands run db)
+      → (image : Image) → outcomes g files.log files.db image → ∥ HoldsBeginningIn world commands run image ∥₁
+  beginning_in world commands run each image may =
+      let allowed : (state store).may_leave image = may_leave_is store.pool image sure (subst (λ (p : D × D). outcomes g p.0 p.1 image) is may) in
+      ∥∥₁_map (opens_again store (numbered clean) (sound clean) image allowed) (λ it.
+      let begins : IsBeginning world commands run it.0 = each it.0 (quiet.outcomes it.0 it.1) in
+      record { count = begins.count; kept = begins.kept; held = record { trees = it.0; holds = it.2; found = begins.found }; project = begins.project })
+
+-- a close gave the files back, which hold the last commit
+pub beginning_copied : {D : Type 0} {g : Ghosts D} (old : Held (FileStore D g)) (files : Files D) → SeenMayStay g → IsCopied old files → (world : World) (commands : List Command) (run : Run)
+    → ((db : Trees) → (file_state old).may_leave db → IsBeginning world commands run db) → (image : Image) → outcomes g files.log files.db image → ∥ HoldsBeginningIn world commands run image ∥₁
+beginning_copied old files stays copied world commands run each image may =
+    ∥∥₁_map (copied.left image may).both (λ holds.
+    let begins : IsBeginning world commands run (file_state old).committed.trees = each (file_state old).committed.trees (stays_at old.store stays copied.was_open) in
+    record { count = begins.count; kept = begins.kept; held = record { trees = (file_state old).committed.trees; holds = holds; found = begins.found }; project = begins.project })
+
+-- what a run left of its session stands for the world after a beginning of its list
+module _ {D : Type 0} {g : Ghosts D} (old mid : Project (FileStore D g) over_files) (commands : List Command) (answers : List Answer) (run : Run) (counted : length answers ≡ run.acknowledged)
+    (drives : DrivesProject old mid commands answers run) (ends : GoesStill old → IsOver mid → EndsBy run MayEnd) (ended : IsOver old → (mid ≡ old) × (run.acknowledged ≡ 0)) (clean : HasCleanDisk (state_of mid)) (world : World) (project : IsProject world) (goes : GoesOn (state_of old) world) where
+  pub begins_at : (db : Trees) → (state_of mid).may_leave db → IsBeginning world commands run db
+  begins_at db may = elim (cases_Bool old.has_ended) [
+    | inl was ↦
+        let (same, none) = ended was in
+        beginning_none world commands (state_of mid) project db may run none (subst (λ (p : Project (FileStore D g) over_files). GoesOn (state_of p) world) (sym same) goes)
+    | inr going ↦ beginning_of world commands (state_of mid) project db may answers run mid.has_ended (ends going) (drives going clean world project goes)
+  ]
+
+  pub answered_at : AnswerAll world (take run.acknowledged commands) answers
+  answered_at = elim (cases_Bool old.has_ended) [
+    | inl was ↦ answers_none world commands answers run (ended was).1 counted
+    | inr going ↦ (drives going clean world project goes).answered
+  ]
+
+-- the second run opened such an image
+module _ {D : Type 0} {g : Ghosts D} (again : Held (FileStore D g)) (opened : IsOpened again) (image : Image) (found : FindsIn image (file_state again)) where
+  pub goes_in : SeenMayStay g → (world : World) → HoldsWorld image world → GoesOn (file_state again) world
+  goes_in stays world held = goes_from_trees again opened stays world (subst (λ (db : Trees). FoundAs db world) (sym (found.holds held.trees held.holds)) held.found)
+
+  pub vacant_in : image.db ≡ [] → IsVacant (file_state again)
+  vacant_in blank = empty_vacant again opened (no_database image _ blank found.reads)
+
+-- and the life goes on over both
+pub lives_on : {D : Type 0} {g : Ghosts D} (old : Project (FileStore D g) over_files) (commands : List Command) (run : Run) (before after : Option (List ℕ)) (answers : List Answer) (files : Files D) (image : Image) (new : State)
+    → TellsFirst old commands run before after answers files → LeavesBeginnings old commands run files → BeginsOver image new → LivesOn old commands run answers files image new
+lives_on old commands run before after answers files image new tells leaves begins honest may clean world told lived =
+    let start : World = world_of_life world lived.life in
+    ∥∥₁_map (leaves honest start lived.project lived.goes image may) (λ it.
+    let first : 1 ≤ (world_after start commands it.count).version = omega (arith, it.project.present) in
+    let goes : GoesOn new (world_after start commands it.count) = (begins (world_after start commands it.count) first it.held clean).0 in
+    lived_more world told (told_by commands answers run) (state_of old) new lived (record { count = it.count; kept = it.kept; goes = goes; project = it.project })
+    (tells.1 honest start lived.project lived.goes))

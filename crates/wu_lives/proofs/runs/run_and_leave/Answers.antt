@@ -1,0 +1,45 @@
+use Rattle.std.proofs.Common.{subst}
+use Rattle.sqlite_store.specs.FileStore.{view, faults, recovers, is_shielded}
+use Rattle.sqlite_trees.specs.View.{IsQuiet}
+use Rattle.sqlite_wal.specs.Reads.{AreClean}
+use Rattle.sqlite.specs.Files.{file_state}
+use Rattle.sqlite.specs.State.{HasCleanDisk}
+use Rattle.wu_lives.proofs.RunsLemmas.{answered_at, begins_at, beginning_in, was_clean}
+use Rattle.wu_lives.proofs.runs.run_and_leave.Goals as goal
+
+pub returns : goal.returns
+returns g c =
+    let old = c.args.project in
+    let mid = c.drive-run.new.project in
+    let list = c.args.commands.now in
+    let run = c.drive-run.result in
+    let files = c.close.result in
+    let store = c.into_store.result in
+    let it = c.drive-run.ensures in
+    let quiet : IsQuiet view faults recovers is_shielded mid.conn.store store = subst (λ h. IsQuiet view faults recovers is_shielded h.store store) c.release.ensures.same c.into_store.ensures.quiet in
+    let early : AreClean g.D.Disk files.log files.db → HasCleanDisk (file_state mid.conn) = was_clean mid.conn store files c.into_store.ensures.numbered c.into_store.ensures.sound quiet c.close.ensures in
+    let (answers, written, drives) = it.answers in
+    record {
+      files = record {
+        left = mid;
+        is_left = record { ends = it.ends; broken = it.broken; same = λ was. (it.ended was).0; lives = it.lives };
+        store = store;
+        quiet = quiet;
+        files_are = c.close.ensures;
+      };
+      answers = (
+        answers,
+        (
+          written,
+          λ honest world project goes.
+              answered_at old mid list answers run written.counted drives it.ends (λ was. ((it.ended was).0, (it.ended was).2)) (early honest) world project goes,
+        ),
+      );
+      left = λ honest world project goes.
+          beginning_in mid.conn store files c.into_store.ensures.numbered c.into_store.ensures.sound quiet c.close.ensures honest world list run
+          (begins_at old mid list answers run written.counted drives it.ends (λ was. ((it.ended was).0, (it.ended was).2)) (early honest) world project goes);
+      count = it.count;
+      all = it.all;
+      ended = λ was. let (same, unwritten, none, why) = it.ended was in (unwritten, none, why);
+      ends = λ going honest world project goes. (drives going (early honest) world project goes).end;
+    }

@@ -1,0 +1,111 @@
+-- Two runs of the program over one file: what a stop leaves of the first begins the second.
+use Rattle.std.specs.Prelude.{◌≡◌, ◌≤◌, ◌++◌, ◌∷◌, ℕ, List, [], take, Option}
+use Rattle.sqlite_disk.specs.declared.Disk.{Ghosts}
+use Rattle.sqlite_disk.specs.declared.Files.{Files}
+use Rattle.sqlite_store.specs.FileStore.{view, faults, recovers, is_shielded, files as store_files}
+use Rattle.sqlite_store.specs.declared.store.FileStore.{FileStore}
+use Rattle.sqlite_trees.specs.View.{IsQuiet}
+use Rattle.sqlite_wal.specs.Files.{outcomes}
+use Rattle.sqlite_wal.specs.Reads.{AreClean}
+use Rattle.sqlite_wal.specs.Recovery.{Image}
+use Rattle.sqlite.specs.Files.{HoldsDatabase, over_files}
+use Rattle.sqlite.specs.State.{State, HasCleanDisk}
+use Rattle.sqlite.specs.Tree.{Trees}
+use Rattle.wu_core.specs.World.{World, empty_world}
+use Rattle.wu_drive.specs.Driving.{AnswerAll, EndsEarly, world_after}
+use Rattle.wu_drive.specs.Writing.{WritesAnswers}
+use Rattle.wu_drive.specs.declared.runs.Run.{Run}
+use Rattle.wu_machine.specs.Machine.{present_version}
+use Rattle.wu_machine.specs.Sound.{IsProject}
+use Rattle.wu_machine.specs.declared.command.Answer.{Answer}
+use Rattle.wu_machine.specs.declared.command.Command.{Command}
+use Rattle.wu_passes.specs.Committing.{FoundAs}
+use Rattle.wu_passes.specs.Projects.{connection_of, GoesStill, state_of}
+use Rattle.wu_passes.specs.Standing.{GoesOn}
+use Rattle.wu_passes.specs.declared.project.Project.{Project}
+use Rattle.wu_lives.specs.Closing.{IsNumbered}
+use Rattle.wu_lives.specs.Lives.{HasLived, Told}
+use Rattle.wu_lives.specs.Reopening.{IsKept, IsLeft}
+
+-- the two files, with these bytes, hold the tables of this world
+pub record HoldsWorld (image : Image) (world : World) : Type 0 where
+  pub trees : Trees
+  pub holds : HoldsDatabase image trees
+  pub found : FoundAs trees world
+
+-- They hold those of the machine's world after the first so many commands: every acknowledged one, and at most one more.
+pub record HoldsBeginningIn (world : World) (commands : List Command) (run : Run) (image : Image) : Type 0 where
+  pub count : ℕ
+  pub kept : IsKept commands run count
+  pub held : HoldsWorld image (world_after world commands count)
+  -- so that further commands go on from there
+  pub project : IsProject (world_after world commands count)
+
+-- over files with no byte in the database a session begins from the empty world
+abbrev pub BeginsBlank : Image → State → Type 0
+BeginsBlank image new = image.db ≡ [] → HasCleanDisk new → GoesOn new empty_world × IsProject empty_world
+
+-- over the tables of a world it goes on from that world, which is of the present version
+abbrev pub BeginsOver : Image → State → Type 0
+BeginsOver image new =
+    (world : World) → 1 ≤ world.version → HoldsWorld image world → HasCleanDisk new → GoesOn new world × (world.version ≡ present_version)
+
+-- what a run told
+abbrev pub told_by : List Command → List Answer → Run → Told
+told_by commands answers run = record { commands = commands; answers = answers; run = run }
+
+module _ {D : Type 0} {g : Ghosts D} (old : Project (FileStore D g) over_files) (commands : List Command) (run : Run) where
+  -- These are the two files of the first run: its session was let go, and then its store.
+  pub record AreLeft (files : Files D) : Type 0 where
+    pub left : Project (FileStore D g) over_files
+    pub is_left : IsLeft old commands run left
+    pub store : FileStore D g
+    pub quiet : IsQuiet view faults recovers is_shielded (connection_of left).store store
+    pub files_are : (files.log, files.db) ≡ store_files store
+
+  -- this holds of each world of a project that it began with, over a disk that had no fault by its end
+  abbrev pub OfFirst : Files D → (World → Type 0) → Type 0
+  OfFirst files holds = AreClean g files.log files.db → (world : World) → IsProject world → GoesOn (state_of old) world → holds world
+
+  -- the texts of these answers are written, which are the machine's replies to the commands that it acknowledged
+  abbrev pub TellsFirst : Option (List ℕ) → Option (List ℕ) → List Answer → Files D → Type 0
+  TellsFirst before after answers files = WritesAnswers before after answers run × OfFirst files (λ world. AnswerAll world (take run.acknowledged commands) answers)
+
+  -- such answers there are
+  abbrev pub TellsAnswers : Option (List ℕ) → Option (List ℕ) → Files D → Type 0
+  TellsAnswers before after files = (answers : List Answer) × TellsFirst before after answers files
+
+  -- over a session that went on, why it ended early
+  abbrev pub WhyEnded : Files D → Type 0
+  WhyEnded files = GoesStill old → OfFirst files (λ world. EndsEarly world commands run)
+
+  -- each image that a stop may leave of its files holds the world after a beginning of the list
+  abbrev pub LeavesBeginnings : Files D → Type 0
+  LeavesBeginnings files = OfFirst files (λ world. (image : Image) → outcomes g files.log files.db image → ∥ HoldsBeginningIn world commands run image ∥₁)
+
+  -- so it is of the files of a store that a close left where it failed, if that is numbered
+  abbrev pub LeavesUnclosed : FileStore D g → Type 0
+  LeavesUnclosed store = IsNumbered store → (files : Files D) → (files.log, files.db) ≡ store_files store → LeavesBeginnings files
+
+  -- where such an image began the second, that goes on from the world of the life over both
+  abbrev pub LivesOn : List Answer → Files D → Image → State → Type 0
+  LivesOn answers files image new =
+      AreClean g files.log files.db → outcomes g files.log files.db image → HasCleanDisk new → (world : World) (told : List Told) → HasLived world told (state_of old)
+      → ∥ HasLived world (told ++ told_by commands answers run ∷ []) new ∥₁
+
+  -- what the first run told
+  abbrev pub AnswersFirst : Option (List ℕ) → Option (List ℕ) → Type 0
+  AnswersFirst before after = (files : Files D) × AreLeft files × TellsAnswers before after files
+
+  -- why it ended
+  abbrev pub EndsFirst : Type 0
+  EndsFirst = (files : Files D) × AreLeft files × WhyEnded files
+
+  -- what it left
+  abbrev pub LeavesFirst : Type 0
+  LeavesFirst = (files : Files D) × AreLeft files × LeavesBeginnings files
+
+  -- and the life over both runs
+  abbrev pub LivesOver : Option (List ℕ) → Option (List ℕ) → Image → State → Type 0
+  LivesOver before after image new =
+      (files : Files D) × AreLeft files × ((answers : List Answer) × TellsFirst before after answers files × LivesOn answers files image new)

@@ -1,0 +1,2 @@
+pub mod ContentLemmas
+pub mod RunLemmas

@@ -1,0 +1,5 @@
+pub mod Asking
+pub mod Closing
+pub mod Contents
+pub mod Opening
+pub mod Running
