@@ -1,0 +1,360 @@
+-- From what a run found to what it left.
+use Rattle.std.proofs.Common.{◌≡◌, ◌⊎◌, ℕ, ◌+◌, true, false, Bool, List, [], ◌∷◌, ◌++◌, length, filter, codes, map, take, Option, Some, None, Result, Ok, Err, inl, inr, refl, sym, ap, subst, ◌∙◌, arith, IsTrue}
+use Rattle.std.proofs.Math.Logic.{∥∥₁_map}
+use Rattle.std.specs.List.{AllZip}
+use Rattle.std.proofs.lemmas.List.{map-append, take_more}
+use Rattle.std.proofs.lemmas.Option.{get_or_from_slice_get, slice_get_within}
+use Rattle.std.specs.Prelude.{OnOk, slice_get}
+use Rattle.sqlite_disk.specs.declared.Disk.{Ghosts}
+use Rattle.sqlite_disk.specs.declared.Files.{Files}
+use Rattle.sqlite_wal.proofs.LogLemmas.{SeenMayStay}
+use Rattle.sqlite_wal.specs.Files.{outcomes}
+use Rattle.sqlite_wal.specs.Reads.{AreClean}
+use Rattle.sqlite_wal.specs.Recovery.{Image}
+use Rattle.sqlite_trees.specs.Objects.{catalog_tree}
+use Rattle.sqlite_catalog.specs.Listing.{is_table_row, is_index_row, is_view_row, IsIndexRow, IsTableRow, IsViewRow, Lists}
+use Rattle.sqlite_pool.proofs.StateLemmas.{clean_is, may_leave_is}
+use Rattle.sqlite_trees.proofs.Doubt.{no_doubt}
+use Rattle.sqlite_trees.specs.View.{IsClean}
+use Rattle.sqlite_store.specs.FileStore.{state, view, files as store_files}
+use Rattle.sqlite_store.specs.Laws.{settled_at, stays_at}
+use Rattle.sqlite_store.specs.declared.store.FileStore.{FileStore}
+use Rattle.sqlite.specs.Closing.{IsCopied}
+use Rattle.sqlite.specs.Effect.{Database}
+use Rattle.sqlite.proofs.Theorems.{opens_again}
+use Rattle.sqlite.specs.Files.{AreFoundIn, HoldsDatabase, IsClosed, IsEmpty, IsOpened, file_state, over_files}
+use Rattle.sqlite.specs.Held.{Held}
+use Rattle.sqlite.specs.Order.{Row}
+use Rattle.sqlite.specs.Schema.{Schema}
+use Rattle.sqlite.specs.Start.{FindsIn}
+use Rattle.sqlite.specs.State.{HasCleanDisk}
+use Rattle.sqlite.specs.Store as trees
+use Rattle.sqlite.specs.Tree.{Trees}
+use Rattle.wu_core.specs.World.{World}
+use Rattle.wu_core.specs.declared.fault.Fault.{Fault}
+use Rattle.wu_core.specs.declared.fault.Fault.TheVariants as fault
+use Rattle.wu_drive.proofs.DrivingLemmas.{fold_more}
+use Rattle.wu_drive.specs.Driving.{Drives, world_after}
+use Rattle.wu_machine.specs.Commands.{request_of}
+use Rattle.wu_machine.specs.Machine.{fold_steps, step}
+use Rattle.wu_machine.specs.declared.command.Command.{Command}
+use Rattle.wu_machine.specs.Sound.{IsProject}
+use Rattle.wu_machine.specs.declared.command.Answer.{Answer}
+use Rattle.wu_passes.specs.Adopting.{IsVacant}
+use Rattle.wu_passes.specs.Committing.{FoundAs}
+use Rattle.wu_passes.specs.Projects.{state_of}
+use Rattle.wu_passes.specs.Standing.{GoesOn, KeepsDoubt}
+use Rattle.wu_passes.specs.declared.project.Project.{Project}
+use Rattle.wu_schema.specs.StandsFor.{IsFree, StandsFor}
+use Rattle.wu_schema.proofs.StandsLemmas.{stands_again}
+use Rattle.wu_schema.proofs.VersionLemmas.{free_lacks}
+use Rattle.wu_words.specs.Statuses.{fault_status, refusal_status, usage_status}
+use Rattle.wu_words.specs.declared.action.Action.{Action}
+use Rattle.wu_words.specs.declared.action.Action.TheVariants.{Commands, Look}
+use Rattle.wu_words.specs.declared.entry.Refusal.{Refusal}
+use Rattle.wu_words.specs.declared.entry.Refusal.TheVariants as refusal
+use Rattle.wu_words.specs.declared.step.LineFault.{LineFault}
+use Rattle.wu_words.specs.declared.step.Step.{Step}
+use Rattle.wu_words.specs.declared.usage.Usage.{Usage}
+use Rattle.wu_words.specs.declared.usage.Usage.TheVariants as usage
+use Rattle.wu_cli.specs.Performing.{Performs}
+use Rattle.wu_cli.specs.Scripting.{PerformsEach, PerformsSteps, so_far}
+use Rattle.wu_cli.specs.Troubles.{trouble_status}
+use Rattle.wu_cli.specs.Working.{BeginsFrom, commands_of_work, DoesOver, DrivesOver, DrivesWork, PerformsWork, RefusesWork}
+use Rattle.wu_cli.specs.declared.trouble.Trouble.{Trouble}
+use Rattle.wu_cli.specs.declared.trouble.Trouble.TheVariants as trouble
+use Rattle.wu_cli.specs.declared.work.Work.{Work}
+use Rattle.wu_cli.specs.declared.work.Work.TheVariants as work
+use Rattle.sqlite_disk.specs.declared.calls.Calls as calls
+use Rattle.sqlite_disk.specs.declared.modelled.Modelled.{Modelled}
+use Rattle.sqlite_disk.specs.declared.start.Start as start
+use Rattle.sqlite_std_file.specs.declared.host.Host.{Host}
+use Rattle.sqlite_wal.specs.Files.{image_at}
+use Rattle.wu_lives.specs.Closing.{IsNumbered}
+use Rattle.wu_lives.specs.Runs.{HoldsWorld}
+use Rattle.wu_program.specs.Opening.{IsOpenedAt}
+use Rattle.wu_program.specs.Running.{RunsWords, TellsTrouble}
+use Rattle.wu_program.specs.declared.End.{End}
+use Rattle.wu_program.specs.declared.database.Left.TheVariants as left
+use Rattle.wu_program_laws.specs.Runs.{HoldAfter, HoldAfterOneMore, Holds, LeavesAsItWas, LeavesDone, LeavesItsWork, LeavesItsWorkUnclosed, OfEachImage, StandsForWorld}
+
+-- ---- statuses
+
+fault_told : (f : Fault) → fault_status f ≡ 0 → ⊥
+fault_told fault.BadName none = absurd (omega (arith, none))
+fault_told (fault.BadTemplate key) none = absurd (omega (arith, none))
+fault_told (fault.BadFile row cause) none = absurd (omega (arith, none))
+fault_told fault.NameUsed none = absurd (omega (arith, none))
+fault_told (fault.WorkunitUsed n) none = absurd (omega (arith, none))
+fault_told fault.TooMany none = absurd (omega (arith, none))
+fault_told fault.BadMoment none = absurd (omega (arith, none))
+fault_told fault.BadLimit none = absurd (omega (arith, none))
+fault_told fault.UnknownWorkunit none = absurd (omega (arith, none))
+fault_told fault.NotOpenToCancel none = absurd (omega (arith, none))
+fault_told (fault.OldSchema n) none = absurd (omega (arith, none))
+fault_told (fault.NewSchema n) none = absurd (omega (arith, none))
+fault_told fault.NotAProject none = absurd (omega (arith, none))
+fault_told fault.Memory none = absurd (omega (arith, none))
+fault_told fault.Broken none = absurd (omega (arith, none))
+fault_told fault.Output none = absurd (omega (arith, none))
+fault_told fault.Ended none = absurd (omega (arith, none))
+
+usage_told : (u : Usage) → usage_status u ≡ 0 → ⊥
+usage_told (usage.Refused word) none = absurd (omega (arith, none))
+usage_told usage.UnknownView none = absurd (omega (arith, none))
+usage_told usage.Incomplete none = absurd (omega (arith, none))
+usage_told usage.Memory none = absurd (omega (arith, none))
+
+refusal_told : (r : Refusal) → refusal_status r ≡ 0 → ⊥
+refusal_told (refusal.Text cause) none = absurd (omega (arith, none))
+refusal_told (refusal.Words u) none = usage_told u none
+refusal_told refusal.Script none = absurd (omega (arith, none))
+refusal_told (refusal.Fault f) none = fault_told f none
+
+trouble_told : (t : Trouble) → trouble_status t ≡ 0 → ⊥
+trouble_told (trouble.Usage u) none = usage_told u none
+trouble_told (trouble.BadLine bad) none = refusal_told bad.why none
+trouble_told trouble.Unopened none = absurd (omega (arith, none))
+trouble_told (trouble.Fault f) none = fault_told f none
+trouble_told (trouble.LineFault end) none = fault_told end.fault none
+
+-- with status 0 there was no trouble
+whole_at : {W : Type 0} (contents : W → Option (List ℕ)) (old new : W) (done : Result (Unit {0}) Trouble) (status : ℕ) (is_told : Bool) (A : Type 0)
+    → TellsTrouble contents old new done status is_told → OnOk done A → status ≡ 0 → A
+whole_at contents old new (Ok done) status is_told A tells whole none = whole
+whole_at contents old new (Err t) status is_told A tells whole none = absurd (trouble_told t (sym tells.0 ∙ none))
+
+status_at : {W : Type 0} (contents : W → Option (List ℕ)) (old new : W) (done : Result (Unit {0}) Trouble) (status : ℕ) (is_told : Bool) (f : Fault)
+    → TellsTrouble contents old new done status is_told → done ≡ Err (trouble.Fault f) → status ≡ fault_status f
+status_at contents old new done status is_told f tells told =
+    (subst (λ (d : Result (Unit {0}) Trouble). TellsTrouble contents old new d status is_told) told tells).0
+
+-- ---- what is doubted of the disk stays doubted through a run
+
+module _ {S W : Type 0} {store : trees.Ghosts S} (contents : W → Option (List ℕ)) where
+  one_doubt : (old new : Project S store) (out_old out_new : W) (action : Action) (end : Option Fault) → Performs contents old new out_old out_new action end → KeepsDoubt (state_of old) (state_of new)
+  one_doubt old new out_old out_new (Commands commands) end (run, runs, is) = runs.clean
+  one_doubt old new out_old out_new (Look view) end sees = sees.clean
+
+  each_doubt : (old new : Project S store) (out_old out_new : W) (steps : List Step) → PerformsEach contents old new out_old out_new steps → KeepsDoubt (state_of old) (state_of new)
+  unfolding PerformsEach
+  each_doubt old new out_old out_new [] each = subst (λ p. KeepsDoubt (state_of old) (state_of p)) (sym each.0) (omega arith)
+  each_doubt old new out_old out_new (one ∷ steps) each =
+      let first = one_doubt old each.0 out_old each.1 one.action None each.2 in
+      let rest = each_doubt each.0 new each.1 out_new steps each.3 in
+      omega (arith, first, rest)
+
+  steps_doubt : (old new : Project S store) (out_old out_new : W) (steps : List Step) (end : Option LineFault) → PerformsSteps contents old new out_old out_new steps end → KeepsDoubt (state_of old) (state_of new)
+  steps_doubt old new out_old out_new steps None each = each_doubt old new out_old out_new steps each
+  steps_doubt old new out_old out_new steps (Some end) until =
+      let first = each_doubt old until.mid out_old until.out_mid until.before until.each in
+      let last = one_doubt until.mid new until.out_mid out_new until.last.action (Some end.fault) until.ends in
+      omega (arith, first, last)
+
+  work_doubt : (old new : Project S store) (out_old out_new : W) (asked : Work) (done : Result (Unit {0}) Trouble) → PerformsWork contents old new out_old out_new asked done → KeepsDoubt (state_of old) (state_of new)
+  work_doubt old new out_old out_new (work.Line action) done (end, does, is) = one_doubt old new out_old out_new action end does
+  work_doubt old new out_old out_new (work.Script steps) done (end, does, is) = steps_doubt old new out_old out_new steps end does
+
+was_clean : {D W : Type 0} {g : Ghosts D} (contents : W → Option (List ℕ)) (conn again : Held (FileStore D g)) (old new : W) (asked : Work) (done : Result (Unit {0}) Trouble)
+    → DoesOver over_files contents conn again old new asked done → HasCleanDisk (file_state again) → HasCleanDisk (file_state conn)
+was_clean contents conn again old new asked done (inl does) clean =
+    let after : HasCleanDisk (state_of does.new) = subst (λ c. HasCleanDisk (file_state c)) does.released clean in
+    let kept = work_doubt contents does.old does.new old new asked done does.does in
+    omega (arith, kept, after, does.adopts.clean)
+was_clean contents conn again old new asked done (inr none) clean = omega (arith, clean, none.refused.clean)
+
+-- ---- what a run begins with
+
+none_beside : {A B : Type 0} (R : A → B → Type 0) (xs : List A) (ys : List B) → xs ≡ [] → AllZip R xs ys → ys ≡ []
+none_beside R [] [] none all = refl
+none_beside R [] (y ∷ ys) none all = absurd all
+none_beside R (x ∷ xs) ys none all = absurd cc
+
+free_of_none : (schema : Schema) (objects : List Row) (name : List ℕ) → objects ≡ [] → Lists objects schema → IsFree schema name
+free_of_none schema objects name none lists = record {
+  table = rw (none_beside IsTableRow _ schema.tables (ap (λ rs. filter is_table_row rs) none) lists.listed.tables) refl;
+  index = rw (none_beside (IsIndexRow schema.tables) _ schema.indexes (ap (λ rs. filter is_index_row rs) none) lists.listed.indexes) refl;
+  view = rw (none_beside IsViewRow _ schema.views (ap (λ rs. filter is_view_row rs) none) lists.listed.views) refl;
+}
+
+-- a file with no byte holds no database
+no_database : (image : Image) (db : Trees) → image.db ≡ [] → AreFoundIn image db → IsEmpty db
+no_database image db blank (inl (size, pages, wanted, adopts, ours, reads)) = let low = adopts.found.present in absurd (omega (arith, low, ap (λ bytes. length bytes) blank))
+no_database image db blank (inr (nothing, empty)) = empty
+
+module _ {D : Type 0} {g : Ghosts D} (stays : SeenMayStay g) (conn : Held (FileStore D g)) (opened : IsOpened conn) (image : Image) (found : FindsIn image (file_state conn)) where
+  no_project : image.db ≡ [] → IsVacant (file_state conn)
+  no_project blank =
+      let same : (file_state conn).now ≡ (file_state conn).committed = opened.0.clean in
+      let none : (file_state conn).now.trees catalog_tree ≡ [] = ap (λ (d : Database). d.trees catalog_tree) same ∙ (no_database image _ blank found.reads).1 in
+      free_lacks _ (free_of_none _ _ (codes "project") none ((opened.1 opened.0.is_open).0.lists))
+
+  goes_from : (world : World) → HoldsWorld image world → GoesOn (file_state conn) world
+  goes_from world held =
+      let same : (file_state conn).now ≡ (file_state conn).committed = opened.0.clean in
+      let it : FoundAs (file_state conn).committed.trees world = subst (λ (db : Trees). FoundAs db world) (sym (found.holds held.trees held.holds)) held.found in
+      let stands : StandsFor (file_state conn).now world =
+      stands_again it.database (file_state conn).now world it.stands (opened.1 opened.0.is_open).0 (ap (λ (d : Database). d.trees) same ∙ sym it.same) in
+      record {
+        stands = λ is_open. (stands, sym same);
+        left = λ db may. subst (λ (t : Trees). FoundAs t world) (sym (settled_at conn.store stays db opened.0.is_open may)) it;
+      }
+
+  begins_from : (world : World) → StandsForWorld image world → BeginsFrom (file_state conn) world
+  begins_from world (inl held) = inl (goes_from world held)
+  begins_from world (inr (blank, same)) = inr (no_project blank, same)
+
+-- ---- what it leaves
+
+next_world : (world : World) (commands : List Command) (i : ℕ) (command : Command) → slice_get commands i ≡ Some command
+    → world_after world commands (i + 1) ≡ step (world_after world commands i) (request_of command)
+next_world world commands i command there =
+    ap (λ cs. fold_steps world (map request_of cs)) (take_more commands i command (slice_get_within commands i command there) ∙ ap (λ c. take i commands ++ c ∷ []) (get_or_from_slice_get commands i command command there))
+    ∙ ap (λ rs. fold_steps world rs) (map-append request_of (take i commands) (command ∷ [])) ∙ fold_more world (map request_of (take i commands)) (request_of command)
+
+-- each image that a stop may leave of the files holds tables that it may leave of the connection
+module _ {D : Type 0} {g : Ghosts D} (again : Held (FileStore D g)) (files : Files D)
+    (each : OfEachImage g files (λ image. (db : Trees) × (file_state again).may_leave db × HoldsDatabase image db)) where
+  all_hold : (world : World) → GoesOn (file_state again) world → OfEachImage g files (λ image. HoldsWorld image world)
+  all_hold world goes image may = ∥∥₁_map (each image may) (λ it.
+      let held : HoldsWorld image world = record { trees = it.0; holds = it.2; found = goes.left it.0 it.1 } in held)
+
+  -- a session that ended within a command left the connection open, so the world of before that is committed
+  hold_after : IsTrue (file_state again).is_open → (world : World) (commands : List Command) (answers : List Answer) (count : ℕ) (is_cut : Bool)
+      → Drives world commands answers (so_far count) is_cut (file_state again) → OfEachImage g files (HoldAfter world commands count)
+  hold_after is_open world commands answers count is_cut drives image may = ∥∥₁_map (all_hold (world_after world commands count) (goes is_cut drives) image may) (λ held.
+      let it : HoldAfter world commands count image = record { held = held; project = drives.project } in it)
+    where
+      goes : (is_cut : Bool) → Drives world commands answers (so_far count) is_cut (file_state again) → GoesOn (file_state again) (world_after world commands count)
+      goes false drives = drives.goes refl
+      goes true drives = (drives.ended refl).2.stands is_open
+
+  -- or that of after it may be
+  hold_one_more : (world : World) (commands : List Command) (answers : List Answer) (count : ℕ) (is_cut : Bool)
+      → Drives world commands answers (so_far count) is_cut (file_state again) → OfEachImage g files (HoldAfterOneMore world commands count)
+  hold_one_more world commands answers count is_cut drives image may = ∥∥₁_map (each image may) (λ it. kept is_cut drives it.0 it.1 it.2)
+    where
+      kept : (is_cut : Bool) → Drives world commands answers (so_far count) is_cut (file_state again) → (db : Trees) → (file_state again).may_leave db → HoldsDatabase image db → HoldAfterOneMore world commands count image
+      kept false drives db left holds = record {
+        kept = count;
+        within = drives.within;
+        has_done = omega arith;
+        at_most_one_more = omega arith;
+        after = record { held = record { trees = db; holds = holds; found = (drives.goes refl).left db left }; project = drives.project };
+      }
+      kept true drives db left holds =
+          let (cut, there, ended) = drives.ended refl in
+          let low = slice_get_within commands count cut there in
+          elim (ended.left db left) [
+            | inl before ↦ record {
+              kept = count;
+              within = drives.within;
+              has_done = omega arith;
+              at_most_one_more = omega arith;
+              after = record { held = record { trees = db; holds = holds; found = before }; project = drives.project };
+            }
+            | inr after ↦
+                let next = next_world world commands count cut there in
+                record {
+                  kept = count + 1;
+                  within = omega (arith, low);
+                  has_done = omega arith;
+                  at_most_one_more = omega arith;
+                  after = record {
+                    held = record { trees = db; holds = holds; found = subst (λ w. FoundAs db w) (sym next) after };
+                    project = subst (λ w. IsProject w) (sym next) (drives.cut_project refl cut there);
+                  };
+                }
+          ]
+
+  module _ {E : Type 0} (told_of : E → Option (List ℕ)) (err_old err_new : E) (done : Result (Unit {0}) Trouble) (status : ℕ) (is_told : Bool) (tells : TellsTrouble told_of err_old err_new done status is_told) where
+    leaves_done : (says : Holds) (world : World) (asked : Work) (it : DrivesWork world asked done (file_state again)) → OfEachImage g files (says world (commands_of_work asked) it.count) → LeavesDone g files says world asked status
+    leaves_done says world asked it held = record {
+      count = it.count;
+      within = it.drives.within;
+      answers = it.answers;
+      answered = it.drives.answered;
+      whole = whole_at told_of err_old err_new done status is_told _ tells it.whole;
+      held = held;
+    }
+
+    leaves_as_it_was : (conn : Held (FileStore D g)) (first : Image) (world : World) → (HoldsWorld first world → GoesOn (file_state conn) world) → RefusesWork (file_state conn) (file_state again) world done → LeavesAsItWas g files first world status
+    leaves_as_it_was conn first world goes it = record {
+      fault = it.fault;
+      told = status_at told_of err_old err_new done status is_told it.fault tells it.told;
+      why = it.why;
+      held = λ held. all_hold world (it.stands (goes held));
+    }
+
+-- ---- what a close leaves
+
+copied_each : {D : Type 0} {g : Ghosts D} (again : Held (FileStore D g)) (files : Files D) → SeenMayStay g → IsCopied again files
+    → OfEachImage g files (λ image. (db : Trees) × (file_state again).may_leave db × HoldsDatabase image db)
+copied_each again files stays copied image may = ∥∥₁_map (copied.left image may).both (λ holds. ((file_state again).committed.trees, stays_at again.store stays copied.was_open, holds))
+
+-- where it failed
+module _ {D : Type 0} {g : Ghosts D} (again : Held (FileStore D g)) (last : FileStore D g) (closed : IsClosed again last) (numbered : IsNumbered last) (files : Files D)
+    (is : (files.log, files.db) ≡ store_files last) (honest : AreClean g files.log files.db) where
+  sure : AreClean g (store_files last).0 (store_files last).1
+  sure = subst (λ (p : D × D). AreClean g p.0 p.1) is honest
+
+  clean : IsClean (view last)
+  clean = no_doubt _ (clean_is last.pool ∙ sure)
+
+  unclosed_clean : HasCleanDisk (file_state again)
+  unclosed_clean = let now = clean in omega (arith, now, closed.quiet.clean)
+
+  unclosed_each : OfEachImage g files (λ image. (db : Trees) × (file_state again).may_leave db × HoldsDatabase image db)
+  unclosed_each image may =
+      let allowed : (state last).may_leave image = may_leave_is last.pool image sure (subst (λ (p : D × D). outcomes g p.0 p.1 image) is may) in
+      ∥∥₁_map (opens_again last numbered (closed.sound clean) image allowed) (λ it. (it.0, closed.quiet.outcomes it.0 it.1, it.2))
+
+-- ---- a run
+
+module _ {S W E : Type 0} {c : calls.Ghosts Host} {s : start.Ghosts S} {g : Ghosts (Modelled Host S c s)} (stays : SeenMayStay g) (contents : W → Option (List ℕ)) (told_of : E → Option (List ℕ)) where
+  -- a database was opened, the work was done over it, and each image holds what is left of that
+  opened_leaves : (says : Holds) (conn again : Held (FileStore (Modelled Host S c s) g)) (path : List ℕ) (asked : Work) (old new : W) (err_old err_new : E) (done : Result (Unit {0}) Trouble) (status : ℕ) (is_told : Bool) (files : Files (Modelled Host S c s))
+      → IsOpenedAt path (image_at s) conn → DoesOver over_files contents conn again old new asked done → DrivesOver over_files conn again asked done → TellsTrouble told_of err_old err_new done status is_told
+      → HasCleanDisk (file_state again) → OfEachImage g files (λ image. (db : Trees) × (file_state again).may_leave db × HoldsDatabase image db)
+      → ((world : World) (it : DrivesWork world asked done (file_state again)) → OfEachImage g files (says world (commands_of_work asked) it.count))
+      → (world : World) → IsProject world → StandsForWorld (image_at s) world → LeavesDone g files says world asked status ⊎ LeavesAsItWas g files (image_at s) world status
+  opened_leaves says conn again path asked old new err_old err_new done status is_told files at does drives tells clean each hold world project start =
+      let early : HasCleanDisk (file_state conn) = was_clean contents conn again old new asked done does clean in
+      let opened : IsOpened conn = at.opens early in
+      let found : FindsIn (image_at s) (file_state conn) = at.finds early in
+      elim (drives clean world project (begins_from stays conn opened (image_at s) found world start)) [
+        | inl works ↦ inl (leaves_done again files each told_of err_old err_new done status is_told tells says world asked works (hold world works))
+        | inr refuses ↦ inr (leaves_as_it_was again files each told_of err_old err_new done status is_told tells conn (image_at s) world (goes_from stays conn opened (image_at s) found world) refuses)
+      ]
+
+  pub leaves_its_work : (end : End (Modelled Host S c s) g) → LeavesItsWork contents told_of end
+  leaves_its_work end words old new err_old err_new obeys files closed =
+      let runs : RunsWords {g = g} contents words old new obeys.done (Some (left.Closed files)) = subst (λ l. RunsWords {g = g} contents words old new obeys.done l) closed obeys.runs in
+      let conn = runs.runs.conn in
+      let it = runs.runs.does in
+      record {
+        order = runs.order;
+        work = runs.work;
+        asked = runs.asked;
+        left = λ honest.
+            let copied : IsCopied it.again files = it.closed.copied honest in
+            let each = copied_each it.again files stays copied in
+            opened_leaves HoldAfter conn it.again _ runs.work old new err_old err_new obeys.done end.status end.is_told files runs.runs.opened it.does it.drives obeys.tells copied.was_clean each
+            (λ world works. hold_after it.again files each copied.was_open world (commands_of_work runs.work) works.answers works.count works.is_cut works.drives);
+      }
+
+  pub leaves_its_work_unclosed : (end : End (Modelled Host S c s) g) → LeavesItsWorkUnclosed contents told_of end
+  leaves_its_work_unclosed end words old new err_old err_new obeys error store closed numbered files is =
+      let runs : RunsWords {g = g} contents words old new obeys.done (Some (left.Unclosed error store)) = subst (λ l. RunsWords {g = g} contents words old new obeys.done l) closed obeys.runs in
+      let conn = runs.runs.conn in
+      let it = runs.runs.does in
+      record {
+        order = runs.order;
+        work = runs.work;
+        asked = runs.asked;
+        left = λ honest.
+            let each = unclosed_each it.again store it.closed.quiet numbered files is honest in
+            opened_leaves HoldAfterOneMore conn it.again _ runs.work old new err_old err_new obeys.done end.status end.is_told files runs.runs.opened it.does it.drives obeys.tells
+            (unclosed_clean it.again store it.closed.quiet numbered files is honest) each
+            (λ world works. hold_one_more it.again files each world (commands_of_work runs.work) works.answers works.count works.is_cut works.drives);
+      }

@@ -1,0 +1,104 @@
+-- What a run of the program leaves of its database, and where the next run begins.
+use Rattle.std.specs.Prelude.{◌≡◌, ◌⊎◌, ◌+◌, ◌≤◌, ℕ, List, [], length, take, Option, Some}
+use Rattle.sqlite.specs.declared.error.Error.{Error}
+use Rattle.sqlite_disk.specs.declared.Disk.{Ghosts}
+use Rattle.sqlite_disk.specs.declared.Files.{Files}
+use Rattle.sqlite_disk.specs.declared.calls.Calls as calls
+use Rattle.sqlite_disk.specs.declared.modelled.Modelled.{Modelled}
+use Rattle.sqlite_disk.specs.declared.start.Start as start
+use Rattle.sqlite_std_file.specs.declared.host.Host.{Host}
+use Rattle.sqlite_store.specs.FileStore.{files as store_files}
+use Rattle.sqlite_store.specs.declared.store.FileStore.{FileStore}
+use Rattle.sqlite_wal.specs.Files.{image_at, outcomes}
+use Rattle.sqlite_wal.specs.Reads.{AreClean}
+use Rattle.sqlite_wal.specs.Recovery.{Image}
+use Rattle.wu_core.specs.World.{World, empty_world}
+use Rattle.wu_core.specs.declared.fault.Fault.{Fault}
+use Rattle.wu_drive.specs.Driving.{AnswerAll, world_after}
+use Rattle.wu_machine.specs.Sound.{IsProject}
+use Rattle.wu_machine.specs.declared.command.Answer.{Answer}
+use Rattle.wu_machine.specs.declared.command.Command.{Command}
+use Rattle.wu_passes.specs.Adopting.{IsAdoptionFault}
+use Rattle.wu_words.specs.Statuses.{fault_status}
+use Rattle.wu_words.specs.declared.order.Order.{Order}
+use Rattle.wu_cli.specs.Working.{commands_of_work}
+use Rattle.wu_cli.specs.declared.work.Work.{Work}
+use Rattle.wu_lives.specs.Closing.{IsNumbered}
+use Rattle.wu_lives.specs.Runs.{HoldsWorld}
+use Rattle.wu_program.specs.Asking.{AsksFor}
+use Rattle.wu_program.specs.Running.{Obeys}
+use Rattle.wu_program.specs.declared.End.{End}
+use Rattle.wu_program.specs.declared.database.Left.TheVariants as left
+
+-- the files hold the tables of this world; or the database has no byte, and it is the empty world
+abbrev pub StandsForWorld : Image → World → Type 0
+StandsForWorld image world = HoldsWorld image world ⊎ ((image.db ≡ []) × (world ≡ empty_world))
+
+-- The files hold the machine's world after so many commands of a list, in order: none of them is lost, none was skipped,
+-- and none is there in part. Further commands go on from there.
+pub record HoldAfter (world : World) (commands : List Command) (count : ℕ) (image : Image) : Type 0 where
+  pub held : HoldsWorld image (world_after world commands count)
+  pub project : IsProject (world_after world commands count)
+
+-- they hold that after so many, or after one more
+pub record HoldAfterOneMore (world : World) (commands : List Command) (count : ℕ) (image : Image) : Type 0 where
+  pub kept : ℕ
+  pub within : kept ≤ length commands
+  pub has_done : count ≤ kept
+  pub at_most_one_more : kept ≤ count + 1
+  pub after : HoldAfter world commands kept image
+
+-- what is said of an image after so many commands
+abbrev pub Holds : Type 1
+Holds = World → List Command → ℕ → Image → Type 0
+
+module _ {D : Type 0} (g : Ghosts D) (files : Files D) where
+  -- this holds of each image that a stop may leave of the files
+  abbrev pub OfEachImage : (Image → Type 0) → Type 0
+  OfEachImage holds = (image : Image) → outcomes g files.log files.db image → ∥ holds image ∥₁
+
+  -- so many commands of the work were done, each with the machine's reply, and with status 0 all; this is said of the files
+  pub record LeavesDone (says : Holds) (world : World) (asked : Work) (status : ℕ) : Type 0 where
+    pub count : ℕ
+    pub within : count ≤ length (commands_of_work asked)
+    pub answers : List Answer
+    pub answered : AnswerAll world (take count (commands_of_work asked)) answers
+    pub whole : status ≡ 0 → count ≡ length (commands_of_work asked)
+    pub held : OfEachImage (says world (commands_of_work asked) count)
+
+  -- Nothing was adopted, for such a fault, whose status is told; and a world that the files held they hold still.
+  pub record LeavesAsItWas (first : Image) (world : World) (status : ℕ) : Type 0 where
+    pub fault : Fault
+    pub told : status ≡ fault_status fault
+    pub why : IsAdoptionFault fault
+    pub held : HoldsWorld first world → OfEachImage (λ image. HoldsWorld image world)
+
+  -- over each world of a project that was there at first, where the disk had no fault by the end
+  abbrev pub LeavesBeginning : Holds → Image → Work → ℕ → Type 0
+  LeavesBeginning says first asked status =
+      AreClean g files.log files.db → (world : World) → IsProject world → StandsForWorld first world
+      → LeavesDone says world asked status ⊎ LeavesAsItWas first world status
+
+  -- the words ask for work, and a beginning of that is left
+  pub record AreLeftByRun (says : Holds) (first : Image) (words : List (List ℕ)) (status : ℕ) : Type 0 where
+    pub order : Order
+    pub work : Work
+    pub asked : AsksFor words order work
+    pub left : LeavesBeginning says first work status
+
+module _ {S W E : Type 0} {c : calls.Ghosts Host} {s : start.Ghosts S} {g : Ghosts (Modelled Host S c s)}
+    (contents : W → Option (List ℕ)) (told_of : E → Option (List ℕ)) where
+  -- whatever a run did that ended so: it closed its database, whose files hold what was done, and no more
+  abbrev pub LeavesItsWork : End (Modelled Host S c s) g → Type 0
+  LeavesItsWork end =
+      (words : List (List ℕ)) (old new : W) (err_old err_new : E) → Obeys contents told_of words old new err_old err_new end
+      → (files : Files (Modelled Host S c s)) → end.left ≡ Some (left.Closed files)
+      → AreLeftByRun g files HoldAfter (image_at s) words end.status
+
+  -- its close failed, as where the disk stopped amid the run: they hold what was done, and at most the one that was cut
+  abbrev pub LeavesItsWorkUnclosed : End (Modelled Host S c s) g → Type 0
+  LeavesItsWorkUnclosed end =
+      (words : List (List ℕ)) (old new : W) (err_old err_new : E) → Obeys contents told_of words old new err_old err_new end
+      → (error : Error) (store : FileStore (Modelled Host S c s) g) → end.left ≡ Some (left.Unclosed error store) → IsNumbered store
+      → (files : Files (Modelled Host S c s)) → (files.log, files.db) ≡ store_files store
+      → AreLeftByRun g files HoldAfterOneMore (image_at s) words end.status

@@ -1,0 +1,18 @@
+//! The laws of whole runs of the program: each function's contract is one, of every run that ended so.
+#![tactic(auto)]
+
+ghost use Rattle.wu_program_laws.specs.Runs.{LeavesItsWork, LeavesItsWorkUnclosed};
+
+use sqlite::{FileFrom, Start};
+use std::io::Write;
+use wu_program::End;
+
+/// A run that closed its database leaves the world after a beginning of its work, and no stop changes that.
+pub fn a_run_leaves_a_beginning<S: Start, O: Write, E: Write>(end: &End<FileFrom<S>>)
+    ensures { LeavesItsWork O.contents E.contents end.now }
+{}
+
+/// So does a run whose close failed, as where the disk stopped amid the run; the command that was cut may be in it.
+pub fn a_stopped_run_leaves_a_beginning<S: Start, O: Write, E: Write>(end: &End<FileFrom<S>>)
+    ensures { LeavesItsWorkUnclosed O.contents E.contents end.now }
+{}
