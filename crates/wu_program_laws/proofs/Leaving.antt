@@ -1,5 +1,5 @@
 -- From what a run found to what it left.
-use Rattle.std.proofs.Common.{◌≡◌, ◌⊎◌, ℕ, ◌+◌, true, false, Bool, List, [], ◌∷◌, ◌++◌, length, filter, codes, map, take, Option, Some, None, Result, Ok, Err, inl, inr, refl, sym, ap, subst, ◌∙◌, arith, IsTrue}
+use Rattle.std.proofs.Common.{◌≤◌, ◌≡◌, ◌⊎◌, ℕ, ◌+◌, true, false, Bool, List, [], ◌∷◌, ◌++◌, length, filter, codes, map, take, Option, Some, None, Result, Ok, Err, inl, inr, refl, sym, ap, subst, ◌∙◌, arith, IsTrue}
 use Rattle.std.proofs.Math.Logic.{∥∥₁_map}
 use Rattle.std.specs.List.{AllZip}
 use Rattle.std.proofs.lemmas.List.{map-append, take_more}
@@ -42,7 +42,7 @@ use Rattle.wu_machine.specs.Sound.{IsProject}
 use Rattle.wu_machine.specs.declared.command.Answer.{Answer}
 use Rattle.wu_passes.specs.Adopting.{IsVacant}
 use Rattle.wu_passes.specs.Committing.{FoundAs}
-use Rattle.wu_passes.specs.Projects.{state_of}
+use Rattle.wu_passes.specs.Projects.{has_ended, state_of}
 use Rattle.wu_passes.specs.Standing.{GoesOn, KeepsDoubt}
 use Rattle.wu_passes.specs.declared.project.Project.{Project}
 use Rattle.wu_schema.specs.StandsFor.{IsFree, StandsFor}
@@ -60,7 +60,7 @@ use Rattle.wu_words.specs.declared.usage.Usage.TheVariants as usage
 use Rattle.wu_cli.specs.Performing.{Performs}
 use Rattle.wu_cli.specs.Scripting.{PerformsEach, PerformsSteps, so_far}
 use Rattle.wu_cli.specs.Troubles.{trouble_status}
-use Rattle.wu_cli.specs.Working.{BeginsFrom, commands_of_work, DoesOver, DrivesOver, DrivesWork, PerformsWork, RefusesWork}
+use Rattle.wu_cli.specs.Working.{BeginsFrom, commands_of_work, DoesAdopted, DoesNothing, DoesOver, DrivesOver, DrivesWork, line_end, PerformsWork, RefusesWork}
 use Rattle.wu_cli.specs.declared.trouble.Trouble.{Trouble}
 use Rattle.wu_cli.specs.declared.trouble.Trouble.TheVariants as trouble
 use Rattle.wu_cli.specs.declared.work.Work.{Work}
@@ -76,7 +76,7 @@ use Rattle.wu_program.specs.Opening.{IsOpenedAt}
 use Rattle.wu_program.specs.Running.{RunsWords, TellsTrouble}
 use Rattle.wu_program.specs.declared.End.{End}
 use Rattle.wu_program.specs.declared.database.Left.TheVariants as left
-use Rattle.wu_program_laws.specs.Runs.{HoldAfter, HoldAfterOneMore, Holds, LeavesAsItWas, LeavesDone, LeavesItsWork, LeavesItsWorkUnclosed, OfEachImage, StandsForWorld}
+use Rattle.wu_program_laws.specs.Runs.{HoldAfter, HoldAfterOneMore, Holds, LeavesAsItWas, LeavesDone, LeavesItsWork, LeavesItsWorkUnclosed, OfEachImage, StandsForWorld, TellsDone}
 
 -- ---- statuses
 
@@ -162,6 +162,67 @@ was_clean contents conn again old new asked done (inl does) clean =
     let kept = work_doubt contents does.old does.new old new asked done does.does in
     omega (arith, kept, after, does.adopts.clean)
 was_clean contents conn again old new asked done (inr none) clean = omega (arith, clean, none.refused.clean)
+
+-- ---- what was told of the work
+
+module _ {D W : Type 0} {g : Ghosts D} (contents : W → Option (List ℕ)) (conn again : Held (FileStore D g)) (old new : W) (done : Result (Unit {0}) Trouble) where
+  adopted_goes : (asked : Work) (does : DoesAdopted over_files contents conn again old new asked done) → HasCleanDisk (state_of does.old) → (world : World) → IsProject world
+      → BeginsFrom (file_state conn) world → GoesOn (state_of does.old) world
+  adopted_goes asked does clean world project (inl goes) =
+      let first : 1 ≤ world.version = omega (arith, project.present) in
+      (does.adopts.goes clean world first goes).0
+  adopted_goes asked does clean world project (inr (vacant, is)) = subst (λ w. GoesOn (state_of does.old) w) (sym is) (does.adopts.fresh clean vacant).goes
+
+  abbrev ToldWork : World → Work → Type 0
+  ToldWork world asked = (it : DrivesWork world asked done (file_state again)) × TellsDone (contents old) (contents new) asked it.answers it.count
+
+  line_whole : (end : Option Fault) (A : Type 0) → (end ≡ None → A) → OnOk (line_end end) A
+  line_whole None A of_none = of_none refl
+  line_whole (Some f) A of_none = tt
+
+  -- a line of commands was done over an adopted project
+  line_told : (commands : List Command) (does : DoesAdopted over_files contents conn again old new (work.Line (Commands commands)) done) → HasCleanDisk (file_state again) → (world : World) → IsProject world
+      → BeginsFrom (file_state conn) world → ToldWork world (work.Line (Commands commands))
+  line_told commands does clean world project begun =
+      let (end, (run, runs, is), told) = does.does in
+      let (answers, written, driven) = runs.answers in
+      let after : HasCleanDisk (state_of does.new) = subst (λ c. HasCleanDisk (file_state c)) does.released clean in
+      let before : HasCleanDisk (state_of does.old) = let kept = runs.clean in omega (arith, kept, after) in
+      let drives = driven does.begins after world project (adopted_goes _ does before world project begun) in
+      let it : Drives world commands answers (so_far run.acknowledged) (has_ended does.new) (state_of does.new) = record {
+        within = drives.within;
+        answered = drives.answered;
+        end = λ fault told. absurd (cc);
+        goes = drives.goes;
+        ended = drives.ended;
+        project = drives.project;
+        cut_project = drives.cut_project;
+      } in
+      let whole : OnOk done (run.acknowledged ≡ length commands) = subst (λ (d : Result (Unit {0}) Trouble). OnOk d (run.acknowledged ≡ length commands)) (sym told) (line_whole end _ (λ none. runs.all (is ∙ none))) in (
+        record {
+          count = run.acknowledged;
+          answers = answers;
+          is_cut = has_ended does.new;
+          drives = subst (λ c. Drives world commands answers (so_far run.acknowledged) (has_ended does.new) (file_state c)) (sym does.released) it;
+          whole = whole;
+        },
+        (run.end, written),
+      )
+
+  nothing_told : (asked : Work) → DoesNothing over_files contents conn again old new asked done → HasCleanDisk (file_state again) → (world : World) → RefusesWork (file_state conn) (file_state again) world done
+  nothing_told asked none clean world = record {
+    fault = none.fault;
+    told = none.told;
+    why = none.refused.told;
+    stands = (none.refused.given clean).goes world;
+  }
+
+  work_told : (asked : Work) → DoesOver over_files contents conn again old new asked done → DrivesOver over_files conn again asked done → HasCleanDisk (file_state again) → (world : World) → IsProject world
+      → BeginsFrom (file_state conn) world → ToldWork world asked ⊎ RefusesWork (file_state conn) (file_state again) world done
+  work_told (work.Line (Commands commands)) (inl does) drives clean world project begun = inl (line_told commands does clean world project begun)
+  work_told (work.Line (Commands commands)) (inr none) drives clean world project begun = inr (nothing_told _ none clean world)
+  work_told (work.Line (Look view)) does drives clean world project begun = elim (drives clean world project begun) [ inl works ↦ inl (works, tt) | inr refuses ↦ inr refuses ]
+  work_told (work.Script steps) does drives clean world project begun = elim (drives clean world project begun) [ inl works ↦ inl (works, tt) | inr refuses ↦ inr refuses ]
 
 -- ---- what a run begins with
 
@@ -268,12 +329,14 @@ module _ {D : Type 0} {g : Ghosts D} (again : Held (FileStore D g)) (files : Fil
           ]
 
   module _ {E : Type 0} (told_of : E → Option (List ℕ)) (err_old err_new : E) (done : Result (Unit {0}) Trouble) (status : ℕ) (is_told : Bool) (tells : TellsTrouble told_of err_old err_new done status is_told) where
-    leaves_done : (says : Holds) (world : World) (asked : Work) (it : DrivesWork world asked done (file_state again)) → OfEachImage g files (says world (commands_of_work asked) it.count) → LeavesDone g files says world asked status
-    leaves_done says world asked it held = record {
+    leaves_done : (says : Holds) (before after : Option (List ℕ)) (world : World) (asked : Work) (it : DrivesWork world asked done (file_state again)) → TellsDone before after asked it.answers it.count
+        → OfEachImage g files (says world (commands_of_work asked) it.count) → LeavesDone g files says before after world asked status
+    leaves_done says before after world asked it told held = record {
       count = it.count;
       within = it.drives.within;
       answers = it.answers;
       answered = it.drives.answered;
+      told = told;
       whole = whole_at told_of err_old err_new done status is_told _ tells it.whole;
       held = held;
     }
@@ -317,13 +380,13 @@ module _ {S W E : Type 0} {c : calls.Ghosts Host} {s : start.Ghosts S} {g : Ghos
       → IsOpenedAt path (image_at s) conn → DoesOver over_files contents conn again old new asked done → DrivesOver over_files conn again asked done → TellsTrouble told_of err_old err_new done status is_told
       → HasCleanDisk (file_state again) → OfEachImage g files (λ image. (db : Trees) × (file_state again).may_leave db × HoldsDatabase image db)
       → ((world : World) (it : DrivesWork world asked done (file_state again)) → OfEachImage g files (says world (commands_of_work asked) it.count))
-      → (world : World) → IsProject world → StandsForWorld (image_at s) world → LeavesDone g files says world asked status ⊎ LeavesAsItWas g files (image_at s) world status
+      → (world : World) → IsProject world → StandsForWorld (image_at s) world → LeavesDone g files says (contents old) (contents new) world asked status ⊎ LeavesAsItWas g files (image_at s) world status
   opened_leaves says conn again path asked old new err_old err_new done status is_told files at does drives tells clean each hold world project start =
       let early : HasCleanDisk (file_state conn) = was_clean contents conn again old new asked done does clean in
       let opened : IsOpened conn = at.opens early in
       let found : FindsIn (image_at s) (file_state conn) = at.finds early in
-      elim (drives clean world project (begins_from stays conn opened (image_at s) found world start)) [
-        | inl works ↦ inl (leaves_done again files each told_of err_old err_new done status is_told tells says world asked works (hold world works))
+      elim (work_told contents conn again old new done asked does drives clean world project (begins_from stays conn opened (image_at s) found world start)) [
+        | inl works ↦ inl (leaves_done again files each told_of err_old err_new done status is_told tells says (contents old) (contents new) world asked works.0 works.1 (hold world works.0))
         | inr refuses ↦ inr (leaves_as_it_was again files each told_of err_old err_new done status is_told tells conn (image_at s) world (goes_from stays conn opened (image_at s) found world) refuses)
       ]
 

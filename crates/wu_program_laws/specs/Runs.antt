@@ -1,5 +1,5 @@
 -- What a run of the program leaves of its database, and where the next run begins.
-use Rattle.std.specs.Prelude.{◌≡◌, ◌⊎◌, ◌+◌, ◌≤◌, ℕ, List, [], length, take, Option, Some}
+use Rattle.std.specs.Prelude.{◌≡◌, ◌⊎◌, ◌+◌, ◌≤◌, ℕ, List, [], length, take, Option, Some, ⊤}
 use Rattle.sqlite.specs.declared.error.Error.{Error}
 use Rattle.sqlite_disk.specs.declared.Disk.{Ghosts}
 use Rattle.sqlite_disk.specs.declared.Files.{Files}
@@ -15,14 +15,17 @@ use Rattle.sqlite_wal.specs.Recovery.{Image}
 use Rattle.wu_core.specs.World.{World, empty_world}
 use Rattle.wu_core.specs.declared.fault.Fault.{Fault}
 use Rattle.wu_drive.specs.Driving.{AnswerAll, world_after}
+use Rattle.wu_drive.specs.Writing.{WritesAnswers}
 use Rattle.wu_machine.specs.Sound.{IsProject}
 use Rattle.wu_machine.specs.declared.command.Answer.{Answer}
 use Rattle.wu_machine.specs.declared.command.Command.{Command}
 use Rattle.wu_passes.specs.Adopting.{IsAdoptionFault}
 use Rattle.wu_words.specs.Statuses.{fault_status}
+use Rattle.wu_words.specs.declared.action.Action.TheVariants.{Commands}
 use Rattle.wu_words.specs.declared.order.Order.{Order}
 use Rattle.wu_cli.specs.Working.{commands_of_work}
 use Rattle.wu_cli.specs.declared.work.Work.{Work}
+use Rattle.wu_cli.specs.declared.work.Work.TheVariants as work
 use Rattle.wu_lives.specs.Closing.{IsNumbered}
 use Rattle.wu_lives.specs.Runs.{HoldsWorld}
 use Rattle.wu_program.specs.Asking.{AsksFor}
@@ -57,15 +60,6 @@ module _ {D : Type 0} (g : Ghosts D) (files : Files D) where
   abbrev pub OfEachImage : (Image → Type 0) → Type 0
   OfEachImage holds = (image : Image) → outcomes g files.log files.db image → ∥ holds image ∥₁
 
-  -- so many commands of the work were done, each with the machine's reply, and with status 0 all; this is said of the files
-  pub record LeavesDone (says : Holds) (world : World) (asked : Work) (status : ℕ) : Type 0 where
-    pub count : ℕ
-    pub within : count ≤ length (commands_of_work asked)
-    pub answers : List Answer
-    pub answered : AnswerAll world (take count (commands_of_work asked)) answers
-    pub whole : status ≡ 0 → count ≡ length (commands_of_work asked)
-    pub held : OfEachImage (says world (commands_of_work asked) count)
-
   -- Nothing was adopted, for such a fault, whose status is told; and a world that the files held they hold still.
   pub record LeavesAsItWas (first : Image) (world : World) (status : ℕ) : Type 0 where
     pub fault : Fault
@@ -73,18 +67,34 @@ module _ {D : Type 0} (g : Ghosts D) (files : Files D) where
     pub why : IsAdoptionFault fault
     pub held : HoldsWorld first world → OfEachImage (λ image. HoldsWorld image world)
 
+-- of a line of commands: the texts of these answers went out, of as many as were done; only with `Output` the last was cut
+abbrev pub TellsDone : Option (List ℕ) → Option (List ℕ) → Work → List Answer → ℕ → Type 0
+TellsDone before after (work.Line (Commands commands)) answers count = (end : Option Fault) × WritesAnswers before after answers (record { acknowledged = count; end = end })
+TellsDone before after _ answers count = ⊤
+
+module _ {D : Type 0} (g : Ghosts D) (files : Files D) (says : Holds) (before after : Option (List ℕ)) where
+  -- so many commands of the work were done, each with the machine's reply, and with status 0 all; this is said of the files
+  pub record LeavesDone (world : World) (asked : Work) (status : ℕ) : Type 0 where
+    pub count : ℕ
+    pub within : count ≤ length (commands_of_work asked)
+    pub answers : List Answer
+    pub answered : AnswerAll world (take count (commands_of_work asked)) answers
+    pub told : TellsDone before after asked answers count
+    pub whole : status ≡ 0 → count ≡ length (commands_of_work asked)
+    pub held : OfEachImage g files (says world (commands_of_work asked) count)
+
   -- over each world of a project that was there at first, where the disk had no fault by the end
-  abbrev pub LeavesBeginning : Holds → Image → Work → ℕ → Type 0
-  LeavesBeginning says first asked status =
+  abbrev pub LeavesBeginning : Image → Work → ℕ → Type 0
+  LeavesBeginning first asked status =
       AreClean g files.log files.db → (world : World) → IsProject world → StandsForWorld first world
-      → LeavesDone says world asked status ⊎ LeavesAsItWas first world status
+      → LeavesDone world asked status ⊎ LeavesAsItWas g files first world status
 
   -- the words ask for work, and a beginning of that is left
-  pub record AreLeftByRun (says : Holds) (first : Image) (words : List (List ℕ)) (status : ℕ) : Type 0 where
+  pub record AreLeftByRun (first : Image) (words : List (List ℕ)) (status : ℕ) : Type 0 where
     pub order : Order
     pub work : Work
     pub asked : AsksFor words order work
-    pub left : LeavesBeginning says first work status
+    pub left : LeavesBeginning first work status
 
 module _ {S W E : Type 0} {c : calls.Ghosts Host} {s : start.Ghosts S} {g : Ghosts (Modelled Host S c s)}
     (contents : W → Option (List ℕ)) (told_of : E → Option (List ℕ)) where
@@ -93,7 +103,7 @@ module _ {S W E : Type 0} {c : calls.Ghosts Host} {s : start.Ghosts S} {g : Ghos
   LeavesItsWork end =
       (words : List (List ℕ)) (old new : W) (err_old err_new : E) → Obeys contents told_of words old new err_old err_new end
       → (files : Files (Modelled Host S c s)) → end.left ≡ Some (left.Closed files)
-      → AreLeftByRun g files HoldAfter (image_at s) words end.status
+      → AreLeftByRun g files HoldAfter (contents old) (contents new) (image_at s) words end.status
 
   -- its close failed, as where the disk stopped amid the run: they hold what was done, and at most the one that was cut
   abbrev pub LeavesItsWorkUnclosed : End (Modelled Host S c s) g → Type 0
@@ -101,4 +111,4 @@ module _ {S W E : Type 0} {c : calls.Ghosts Host} {s : start.Ghosts S} {g : Ghos
       (words : List (List ℕ)) (old new : W) (err_old err_new : E) → Obeys contents told_of words old new err_old err_new end
       → (error : Error) (store : FileStore (Modelled Host S c s) g) → end.left ≡ Some (left.Unclosed error store) → IsNumbered store
       → (files : Files (Modelled Host S c s)) → (files.log, files.db) ≡ store_files store
-      → AreLeftByRun g files HoldAfterOneMore (image_at s) words end.status
+      → AreLeftByRun g files HoldAfterOneMore (contents old) (contents new) (image_at s) words end.status
