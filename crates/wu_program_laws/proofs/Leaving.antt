@@ -76,7 +76,7 @@ use Rattle.wu_program.specs.Opening.{IsOpenedAt}
 use Rattle.wu_program.specs.Running.{RunsWords, TellsTrouble}
 use Rattle.wu_program.specs.declared.End.{End}
 use Rattle.wu_program.specs.declared.database.Left.TheVariants as left
-use Rattle.wu_program_laws.specs.Runs.{HoldAfter, HoldAfterOneMore, Holds, LeavesAsItWas, LeavesDone, LeavesItsWork, LeavesItsWorkUnclosed, OfEachImage, StandsForWorld, TellsDone}
+use Rattle.wu_program_laws.specs.Runs.{BeginsWhereOneEnded, HoldAfter, HoldAfterOneMore, Holds, LeavesAsItWas, LeavesDone, LeavesItsDone, LeavesItsWork, LeavesItsWorkUnclosed, OfEachImage, StandsForWorld, TellsDone}
 
 -- ---- statuses
 
@@ -391,8 +391,8 @@ module _ {S W E : Type 0} {c : calls.Ghosts Host} {s : start.Ghosts S} {g : Ghos
       ]
 
   pub leaves_its_work : (end : End (Modelled Host S c s) g) → LeavesItsWork contents told_of end
-  leaves_its_work end words old new err_old err_new obeys files closed =
-      let runs : RunsWords {g = g} contents words old new obeys.done (Some (left.Closed files)) = subst (λ l. RunsWords {g = g} contents words old new obeys.done l) closed obeys.runs in
+  leaves_its_work end run =
+      let runs : RunsWords {g = g} contents run.words run.old run.new run.obeys.done (Some (left.Closed run.files)) = subst (λ l. RunsWords {g = g} contents run.words run.old run.new run.obeys.done l) run.closed run.obeys.runs in
       let conn = runs.runs.conn in
       let it = runs.runs.does in
       record {
@@ -400,15 +400,15 @@ module _ {S W E : Type 0} {c : calls.Ghosts Host} {s : start.Ghosts S} {g : Ghos
         work = runs.work;
         asked = runs.asked;
         left = λ honest.
-            let copied : IsCopied it.again files = it.closed.copied honest in
-            let each = copied_each it.again files stays copied in
-            opened_leaves HoldAfter conn it.again _ runs.work old new err_old err_new obeys.done end.status end.is_told files runs.runs.opened it.does it.drives obeys.tells copied.was_clean each
-            (λ world works. hold_after it.again files each copied.was_open world (commands_of_work runs.work) works.answers works.count works.is_cut works.drives);
+            let copied : IsCopied it.again run.files = it.closed.copied honest in
+            let each = copied_each it.again run.files stays copied in
+            opened_leaves HoldAfter conn it.again _ runs.work run.old run.new run.err_old run.err_new run.obeys.done end.status end.is_told run.files runs.runs.opened it.does it.drives run.obeys.tells copied.was_clean each
+            (λ world works. hold_after it.again run.files each copied.was_open world (commands_of_work runs.work) works.answers works.count works.is_cut works.drives);
       }
 
   pub leaves_its_work_unclosed : (end : End (Modelled Host S c s) g) → LeavesItsWorkUnclosed contents told_of end
-  leaves_its_work_unclosed end words old new err_old err_new obeys error store closed numbered files is =
-      let runs : RunsWords {g = g} contents words old new obeys.done (Some (left.Unclosed error store)) = subst (λ l. RunsWords {g = g} contents words old new obeys.done l) closed obeys.runs in
+  leaves_its_work_unclosed end run =
+      let runs : RunsWords {g = g} contents run.words run.old run.new run.obeys.done (Some (left.Unclosed run.error run.store)) = subst (λ l. RunsWords {g = g} contents run.words run.old run.new run.obeys.done l) run.unclosed run.obeys.runs in
       let conn = runs.runs.conn in
       let it = runs.runs.does in
       record {
@@ -416,8 +416,23 @@ module _ {S W E : Type 0} {c : calls.Ghosts Host} {s : start.Ghosts S} {g : Ghos
         work = runs.work;
         asked = runs.asked;
         left = λ honest.
-            let each = unclosed_each it.again store it.closed.quiet numbered files is honest in
-            opened_leaves HoldAfterOneMore conn it.again _ runs.work old new err_old err_new obeys.done end.status end.is_told files runs.runs.opened it.does it.drives obeys.tells
-            (unclosed_clean it.again store it.closed.quiet numbered files is honest) each
-            (λ world works. hold_one_more it.again files each world (commands_of_work runs.work) works.answers works.count works.is_cut works.drives);
+            let each = unclosed_each it.again run.store it.closed.quiet run.numbered run.files run.files_are honest in
+            opened_leaves HoldAfterOneMore conn it.again _ runs.work run.old run.new run.err_old run.err_new run.obeys.done end.status end.is_told run.files runs.runs.opened it.does it.drives run.obeys.tells
+            (unclosed_clean it.again run.store it.closed.quiet run.numbered run.files run.files_are honest) each
+            (λ world works. hold_one_more it.again run.files each world (commands_of_work runs.work) works.answers works.count works.is_cut works.drives);
+      }
+
+-- ---- one after another
+
+module _ {S T W E : Type 0} {c d : calls.Ghosts Host} {s : start.Ghosts S} {t : start.Ghosts T} {g : Ghosts (Modelled Host S c s)} {h : Ghosts (Modelled Host T d t)} (stays : SeenMayStay g) (still : SeenMayStay h)
+    (contents : W → Option (List ℕ)) (told_of : E → Option (List ℕ)) where
+  pub begins_where_one_ended : (first : End (Modelled Host S c s) g) (second : End (Modelled Host T d t) h) → BeginsWhereOneEnded contents told_of first second
+  begins_where_one_ended first second one two may =
+      let left : LeavesItsDone contents told_of first one = leaves_its_work stays contents told_of first one in
+      let next : LeavesItsDone contents told_of second two = leaves_its_work still contents told_of second two in
+      record {
+        left = left;
+        next = next;
+        done = λ honest world it. ∥∥₁_map (it.held (image_at t) may) (λ after. next.left honest _ after.project (inl after.held));
+        kept = λ honest world project held it. ∥∥₁_map (it.held held (image_at t) may) (λ still_held. next.left honest world project (inl still_held));
       }

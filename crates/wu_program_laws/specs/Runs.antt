@@ -96,19 +96,69 @@ module _ {D : Type 0} (g : Ghosts D) (files : Files D) (says : Holds) (before af
     pub asked : AsksFor words order work
     pub left : LeavesBeginning first work status
 
-module _ {S W E : Type 0} {c : calls.Ghosts Host} {s : start.Ghosts S} {g : Ghosts (Modelled Host S c s)}
-    (contents : W → Option (List ℕ)) (told_of : E → Option (List ℕ)) where
-  -- whatever a run did that ended so: it closed its database, whose files hold what was done, and no more
-  abbrev pub LeavesItsWork : End (Modelled Host S c s) g → Type 0
-  LeavesItsWork end =
-      (words : List (List ℕ)) (old new : W) (err_old err_new : E) → Obeys contents told_of words old new err_old err_new end
-      → (files : Files (Modelled Host S c s)) → end.left ≡ Some (left.Closed files)
-      → AreLeftByRun g files HoldAfter (contents old) (contents new) (image_at s) words end.status
+-- ---- one run
 
-  -- its close failed, as where the disk stopped amid the run: they hold what was done, and at most the one that was cut
+module _ {S W E : Type 0} {c : calls.Ghosts Host} {s : start.Ghosts S} {g : Ghosts (Modelled Host S c s)} (contents : W → Option (List ℕ)) (told_of : E → Option (List ℕ)) where
+  -- a run that ended so, and closed its database: its words and outputs, and the two files
+  pub record ClosedRun (end : End (Modelled Host S c s) g) : Type 0 where
+    pub words : List (List ℕ)
+    pub old : W
+    pub new : W
+    pub err_old : E
+    pub err_new : E
+    pub obeys : Obeys contents told_of words old new err_old err_new end
+    pub files : Files (Modelled Host S c s)
+    pub closed : end.left ≡ Some (left.Closed files)
+
+  -- a run that ended so, and whose close failed, as where the disk stopped amid the run: it left a store, with two files
+  pub record UnclosedRun (end : End (Modelled Host S c s) g) : Type 0 where
+    pub words : List (List ℕ)
+    pub old : W
+    pub new : W
+    pub err_old : E
+    pub err_new : E
+    pub obeys : Obeys contents told_of words old new err_old err_new end
+    pub error : Error
+    pub store : FileStore (Modelled Host S c s) g
+    pub unclosed : end.left ≡ Some (left.Unclosed error store)
+    pub numbered : IsNumbered store
+    pub files : Files (Modelled Host S c s)
+    pub files_are : (files.log, files.db) ≡ store_files store
+
+  -- its files hold what was done, and no more
+  abbrev pub LeavesItsDone : (end : End (Modelled Host S c s) g) → ClosedRun end → Type 0
+  LeavesItsDone end run = AreLeftByRun g run.files HoldAfter (contents run.old) (contents run.new) (image_at s) run.words end.status
+
+  abbrev pub LeavesItsWork : End (Modelled Host S c s) g → Type 0
+  LeavesItsWork end = (run : ClosedRun end) → LeavesItsDone end run
+
+  -- they hold what was done, and at most the one command that was cut
   abbrev pub LeavesItsWorkUnclosed : End (Modelled Host S c s) g → Type 0
   LeavesItsWorkUnclosed end =
-      (words : List (List ℕ)) (old new : W) (err_old err_new : E) → Obeys contents told_of words old new err_old err_new end
-      → (error : Error) (store : FileStore (Modelled Host S c s) g) → end.left ≡ Some (left.Unclosed error store) → IsNumbered store
-      → (files : Files (Modelled Host S c s)) → (files.log, files.db) ≡ store_files store
-      → AreLeftByRun g files HoldAfterOneMore (contents old) (contents new) (image_at s) words end.status
+      (run : UnclosedRun end) → AreLeftByRun g run.files HoldAfterOneMore (contents run.old) (contents run.new) (image_at s) run.words end.status
+
+-- ---- one after another
+
+module _ {S T W E : Type 0} {c d : calls.Ghosts Host} {s : start.Ghosts S} {t : start.Ghosts T} {g : Ghosts (Modelled Host S c s)} {h : Ghosts (Modelled Host T d t)} (contents : W → Option (List ℕ)) (told_of : E → Option (List ℕ))
+    (first : End (Modelled Host S c s) g) (second : End (Modelled Host T d t) h) where
+  -- over this world the second did a beginning of its work, or it adopted nothing
+  abbrev pub DoesNext : ClosedRun contents told_of second → Work → World → Type 0
+  DoesNext run asked world =
+      ∥ LeavesDone h run.files HoldAfter (contents run.old) (contents run.new) world asked second.status ⊎ LeavesAsItWas h run.files (image_at t) world second.status ∥₁
+
+  -- the second went on from the world that the first left: that after what the first did, or the one of before
+  pub record GoInTurn (one : ClosedRun contents told_of first) (two : ClosedRun contents told_of second) : Type 0 where
+    pub left : LeavesItsDone contents told_of first one
+    pub next : LeavesItsDone contents told_of second two
+    pub done :
+        AreClean h two.files.log two.files.db → (world : World) (it : LeavesDone g one.files HoldAfter (contents one.old) (contents one.new) world left.work first.status)
+        → DoesNext two next.work (world_after world (commands_of_work left.work) it.count)
+    pub kept :
+        AreClean h two.files.log two.files.db → (world : World) → IsProject world → HoldsWorld (image_at s) world → LeavesAsItWas g one.files (image_at s) world first.status
+        → DoesNext two next.work world
+
+  -- whatever two runs did that ended so, where the second began with what a stop left of the first
+  abbrev pub BeginsWhereOneEnded : Type 0
+  BeginsWhereOneEnded =
+      (one : ClosedRun contents told_of first) (two : ClosedRun contents told_of second) → outcomes g one.files.log one.files.db (image_at t)
+      → GoInTurn one two

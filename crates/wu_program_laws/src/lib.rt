@@ -1,7 +1,7 @@
 //! The laws of whole runs of the program: each function's contract is one, of every run that ended so.
 #![tactic(auto)]
 
-ghost use Rattle.wu_program_laws.specs.Runs.{LeavesItsWork, LeavesItsWorkUnclosed};
+ghost use Rattle.wu_program_laws.specs.Runs.{BeginsWhereOneEnded, LeavesItsWork, LeavesItsWorkUnclosed};
 
 use sqlite::{FileFrom, Start};
 use std::io::Write;
@@ -15,4 +15,12 @@ pub fn a_run_leaves_a_beginning<S: Start, O: Write, E: Write>(end: &End<FileFrom
 /// So does a run whose close failed, as where the disk stopped amid the run; the command that was cut may be in it.
 pub fn a_stopped_run_leaves_a_beginning<S: Start, O: Write, E: Write>(end: &End<FileFrom<S>>)
     ensures { LeavesItsWorkUnclosed O.contents E.contents end.now }
+{}
+
+/// A run whose database holds what a stop left of another's goes on from the world that the other left.
+pub fn a_run_begins_where_one_ended<S: Start, T: Start, O: Write, E: Write>(
+    first: &End<FileFrom<S>>,
+    second: &End<FileFrom<T>>,
+)
+    ensures { BeginsWhereOneEnded O.contents E.contents first.now second.now }
 {}
