@@ -76,7 +76,7 @@ use Rattle.wu_program.specs.Opening.{IsOpenedAt}
 use Rattle.wu_program.specs.Running.{RunsWords, TellsTrouble}
 use Rattle.wu_program.specs.declared.End.{End}
 use Rattle.wu_program.specs.declared.database.Left.TheVariants as left
-use Rattle.wu_program_laws.specs.Runs.{BeginsWhereOneEnded, HoldAfter, HoldAfterOneMore, Holds, LeavesAsItWas, LeavesDone, LeavesItsDone, LeavesItsWork, LeavesItsWorkUnclosed, OfEachImage, StandsForWorld, TellsDone}
+use Rattle.wu_program_laws.specs.Runs.{BeginsWhereOneEnded, BeginsWhereOneStopped, HoldAfter, HoldAfterOneMore, Holds, LeavesAsItWas, LeavesDone, LeavesItsDone, LeavesItsDoneOrMore, LeavesItsWork, LeavesItsWorkUnclosed, OfEachImage, StandsForWorld, TellsDone}
 
 -- ---- statuses
 
@@ -434,5 +434,22 @@ module _ {S T W E : Type 0} {c d : calls.Ghosts Host} {s : start.Ghosts S} {t : 
         left = left;
         next = next;
         done = λ honest world it. ∥∥₁_map (it.held (image_at t) may) (λ after. next.left honest _ after.project (inl after.held));
+        kept = λ honest world project held it. ∥∥₁_map (it.held held (image_at t) may) (λ still_held. next.left honest world project (inl still_held));
+      }
+
+  pub begins_where_one_stopped : (first : End (Modelled Host S c s) g) (second : End (Modelled Host T d t) h) → BeginsWhereOneStopped contents told_of first second
+  begins_where_one_stopped first second one two may =
+      let left : LeavesItsDoneOrMore contents told_of first one = leaves_its_work_unclosed stays contents told_of first one in
+      let next : LeavesItsDone contents told_of second two = leaves_its_work still contents told_of second two in
+      record {
+        left = left;
+        next = next;
+        done = λ honest world it. ∥∥₁_map (it.held (image_at t) may) (λ found. record {
+          kept = found.kept;
+          within = found.within;
+          has_done = found.has_done;
+          at_most_one_more = found.at_most_one_more;
+          next = next.left honest _ found.after.project (inl found.after.held);
+        });
         kept = λ honest world project held it. ∥∥₁_map (it.held held (image_at t) may) (λ still_held. next.left honest world project (inl still_held));
       }

@@ -67,13 +67,15 @@ module _ {D : Type 0} (g : Ghosts D) (files : Files D) where
     pub why : IsAdoptionFault fault
     pub held : HoldsWorld first world → OfEachImage (λ image. HoldsWorld image world)
 
--- of a line of commands: the texts of these answers went out, of as many as were done; only with `Output` the last was cut
+-- Of a line of commands: the texts of the answers to those that were done went out, and only with `Output` the last one was
+-- cut. So no command that was told is lost. Of the texts of a script's steps nothing is said here.
 abbrev pub TellsDone : Option (List ℕ) → Option (List ℕ) → Work → List Answer → ℕ → Type 0
 TellsDone before after (work.Line (Commands commands)) answers count = (end : Option Fault) × WritesAnswers before after answers (record { acknowledged = count; end = end })
 TellsDone before after _ answers count = ⊤
 
 module _ {D : Type 0} (g : Ghosts D) (files : Files D) (says : Holds) (before after : Option (List ℕ)) where
-  -- so many commands of the work were done, each with the machine's reply, and with status 0 all; this is said of the files
+  -- So many commands of the work were done, in order, each with the machine's reply; with status 0 all were. What is said
+  -- of so many commands holds of the files, whatever a stop leaves of them.
   pub record LeavesDone (world : World) (asked : Work) (status : ℕ) : Type 0 where
     pub count : ℕ
     pub within : count ≤ length (commands_of_work asked)
@@ -133,9 +135,11 @@ module _ {S W E : Type 0} {c : calls.Ghosts Host} {s : start.Ghosts S} {g : Ghos
   LeavesItsWork end = (run : ClosedRun end) → LeavesItsDone end run
 
   -- they hold what was done, and at most the one command that was cut
+  abbrev pub LeavesItsDoneOrMore : (end : End (Modelled Host S c s) g) → UnclosedRun end → Type 0
+  LeavesItsDoneOrMore end run = AreLeftByRun g run.files HoldAfterOneMore (contents run.old) (contents run.new) (image_at s) run.words end.status
+
   abbrev pub LeavesItsWorkUnclosed : End (Modelled Host S c s) g → Type 0
-  LeavesItsWorkUnclosed end =
-      (run : UnclosedRun end) → AreLeftByRun g run.files HoldAfterOneMore (contents run.old) (contents run.new) (image_at s) run.words end.status
+  LeavesItsWorkUnclosed end = (run : UnclosedRun end) → LeavesItsDoneOrMore end run
 
 -- ---- one after another
 
@@ -144,7 +148,15 @@ module _ {S T W E : Type 0} {c d : calls.Ghosts Host} {s : start.Ghosts S} {t : 
   -- over this world the second did a beginning of its work, or it adopted nothing
   abbrev pub DoesNext : ClosedRun contents told_of second → Work → World → Type 0
   DoesNext run asked world =
-      ∥ LeavesDone h run.files HoldAfter (contents run.old) (contents run.new) world asked second.status ⊎ LeavesAsItWas h run.files (image_at t) world second.status ∥₁
+      LeavesDone h run.files HoldAfter (contents run.old) (contents run.new) world asked second.status ⊎ LeavesAsItWas h run.files (image_at t) world second.status
+
+  -- so it is over the world after so many commands of the first, or after one more
+  pub record DoesNextAfter (run : ClosedRun contents told_of second) (asked : Work) (world : World) (commands : List Command) (count : ℕ) : Type 0 where
+    pub kept : ℕ
+    pub within : kept ≤ length commands
+    pub has_done : count ≤ kept
+    pub at_most_one_more : kept ≤ count + 1
+    pub next : DoesNext run asked (world_after world commands kept)
 
   -- the second went on from the world that the first left: that after what the first did, or the one of before
   pub record GoInTurn (one : ClosedRun contents told_of first) (two : ClosedRun contents told_of second) : Type 0 where
@@ -152,13 +164,29 @@ module _ {S T W E : Type 0} {c d : calls.Ghosts Host} {s : start.Ghosts S} {t : 
     pub next : LeavesItsDone contents told_of second two
     pub done :
         AreClean h two.files.log two.files.db → (world : World) (it : LeavesDone g one.files HoldAfter (contents one.old) (contents one.new) world left.work first.status)
-        → DoesNext two next.work (world_after world (commands_of_work left.work) it.count)
+        → ∥ DoesNext two next.work (world_after world (commands_of_work left.work) it.count) ∥₁
     pub kept :
         AreClean h two.files.log two.files.db → (world : World) → IsProject world → HoldsWorld (image_at s) world → LeavesAsItWas g one.files (image_at s) world first.status
-        → DoesNext two next.work world
+        → ∥ DoesNext two next.work world ∥₁
+
+  -- so it did after one whose close failed, where the command that was cut may be in that world
+  pub record GoAfterStop (one : UnclosedRun contents told_of first) (two : ClosedRun contents told_of second) : Type 0 where
+    pub left : LeavesItsDoneOrMore contents told_of first one
+    pub next : LeavesItsDone contents told_of second two
+    pub done :
+        AreClean h two.files.log two.files.db → (world : World) (it : LeavesDone g one.files HoldAfterOneMore (contents one.old) (contents one.new) world left.work first.status)
+        → ∥ DoesNextAfter two next.work world (commands_of_work left.work) it.count ∥₁
+    pub kept :
+        AreClean h two.files.log two.files.db → (world : World) → IsProject world → HoldsWorld (image_at s) world → LeavesAsItWas g one.files (image_at s) world first.status
+        → ∥ DoesNext two next.work world ∥₁
 
   -- whatever two runs did that ended so, where the second began with what a stop left of the first
   abbrev pub BeginsWhereOneEnded : Type 0
   BeginsWhereOneEnded =
       (one : ClosedRun contents told_of first) (two : ClosedRun contents told_of second) → outcomes g one.files.log one.files.db (image_at t)
       → GoInTurn one two
+
+  abbrev pub BeginsWhereOneStopped : Type 0
+  BeginsWhereOneStopped =
+      (one : UnclosedRun contents told_of first) (two : ClosedRun contents told_of second) → outcomes g one.files.log one.files.db (image_at t)
+      → GoAfterStop one two

@@ -1,7 +1,7 @@
 //! The laws of whole runs of the program: each function's contract is one, of every run that ended so.
 #![tactic(auto)]
 
-ghost use Rattle.wu_program_laws.specs.Runs.{BeginsWhereOneEnded, LeavesItsWork, LeavesItsWorkUnclosed};
+ghost use Rattle.wu_program_laws.specs.Runs.{BeginsWhereOneEnded, BeginsWhereOneStopped, LeavesItsWork, LeavesItsWorkUnclosed};
 
 use sqlite::{FileFrom, Start};
 use std::io::Write;
@@ -23,4 +23,12 @@ pub fn a_run_begins_where_one_ended<S: Start, T: Start, O: Write, E: Write>(
     second: &End<FileFrom<T>>,
 )
     ensures { BeginsWhereOneEnded O.contents E.contents first.now second.now }
+{}
+
+/// So does a run after one whose close failed, as where the disk stopped amid that one.
+pub fn a_run_begins_where_one_stopped<S: Start, T: Start, O: Write, E: Write>(
+    first: &End<FileFrom<S>>,
+    second: &End<FileFrom<T>>,
+)
+    ensures { BeginsWhereOneStopped O.contents E.contents first.now second.now }
 {}
