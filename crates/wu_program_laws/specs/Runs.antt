@@ -141,6 +141,12 @@ module _ {S W E : Type 0} {c : calls.Ghosts Host} {s : start.Ghosts S} {g : Ghos
   abbrev pub LeavesItsWorkUnclosed : End (Modelled Host S c s) g → Type 0
   LeavesItsWorkUnclosed end = (run : UnclosedRun end) → LeavesItsDoneOrMore end run
 
+module _ {S : Type 0} {c : calls.Ghosts Host} {s : start.Ghosts S} {g : Ghosts (Modelled Host S c s)} where
+  -- a run with these words and outputs that ended so: where it closed its database, its files hold what was done
+  abbrev pub LeavesWhereClosed : List (List ℕ) → Option (List ℕ) → Option (List ℕ) → End (Modelled Host S c s) g → Type 0
+  LeavesWhereClosed words before after end =
+      (files : Files (Modelled Host S c s)) → end.left ≡ Some (left.Closed files) → AreLeftByRun g files HoldAfter before after (image_at s) words end.status
+
 -- ---- one after another
 
 module _ {S T W E : Type 0} {c d : calls.Ghosts Host} {s : start.Ghosts S} {t : start.Ghosts T} {g : Ghosts (Modelled Host S c s)} {h : Ghosts (Modelled Host T d t)} (contents : W → Option (List ℕ)) (told_of : E → Option (List ℕ))

@@ -1,11 +1,12 @@
 //! The laws of whole runs of the program: each function's contract is one, of every run that ended so.
 #![tactic(auto)]
 
-ghost use Rattle.wu_program_laws.specs.Runs.{BeginsWhereOneEnded, BeginsWhereOneStopped, LeavesItsWork, LeavesItsWorkUnclosed};
+ghost use Rattle.std.specs.Prelude.{map, string_bytes};
+ghost use Rattle.wu_program_laws.specs.Runs.{BeginsWhereOneEnded, BeginsWhereOneStopped, LeavesItsWork, LeavesItsWorkUnclosed, LeavesWhereClosed};
 
 use sqlite::{FileFrom, Start};
 use std::io::Write;
-use wu_program::End;
+use wu_program::{End, obey};
 
 /// A run that closed its database leaves the world after a beginning of its work, and no stop changes that.
 pub fn a_run_leaves_a_beginning<S: Start, O: Write, E: Write>(end: &End<FileFrom<S>>)
@@ -32,3 +33,19 @@ pub fn a_run_begins_where_one_stopped<S: Start, T: Start, O: Write, E: Write>(
 )
     ensures { BeginsWhereOneStopped O.contents E.contents first.now second.now }
 {}
+
+/// Does what the words ask for, as `obey`. Where it closed its database, that holds the world after a beginning of the work.
+pub fn obey_and_leave<S: Start, O: Write, E: Write>(
+    rt: &HostRuntime,
+    words: &[String],
+    start: S,
+    out: &mut O,
+    err: &mut E,
+) -> End<FileFrom<S>>
+    ensures left { LeavesWhereClosed (map string_bytes words.now)
+        (O.contents out.old) (O.contents out.new) result }
+{
+    let end = obey(rt, words, start, out, err);
+    a_run_leaves_a_beginning::<S, O, E>(&end);
+    end
+}
