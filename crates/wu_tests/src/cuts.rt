@@ -2,12 +2,12 @@
 //! left of an opening that stopped is opened again, over them too.
 
 use crate::disks::{MOST_CALLS, Side, copies, empty_files, files_of};
-use crate::lives::begun;
+use crate::lives::with_one;
 use crate::sessions::one_made;
 use crate::setting::{
     FIRST_ADDED, ONE_JOB, ONE_WORKUNIT, SECOND_JOB, batch, imports, is_fault, shows,
 };
-use sqlite::{Alter, Connection, Files, Options};
+use sqlite::{Alter, Connection, FileStore, Files, Options};
 use sqlite_disk::{Crash, Disk, Fuse, Memory};
 use std::process::Abort;
 use wu_core::Fault;
@@ -50,12 +50,8 @@ enum End {
     Kept,
 }
 
-/// Runs a batch over the files of a project with one workunit, until their calls stop.
-fn fails_within<D: Disk + Drop>(rt: &(impl Abort + AllocGlobal), files: Files<D>) -> End {
-    assert!(rt; files.may_be_used());
-    let Some(mut project) = open_and_adopt(rt.alloc(), files, spilling()) else {
-        return End::Unbegun;
-    };
+/// Runs a batch over a project with one workunit.
+fn ends<S: Alter + Drop>(rt: &(impl Abort + AllocGlobal), mut project: Project<S>) -> End {
     let command = batch(rt, "b2", b"", SECOND_JOB);
     match project.run(rt.alloc(), &command) {
         Ok(_) => End::Done,
@@ -67,6 +63,15 @@ fn fails_within<D: Disk + Drop>(rt: &(impl Abort + AllocGlobal), files: Files<D>
                 End::Lost
             }
         }
+    }
+}
+
+/// Runs a batch over the files of a project with one workunit, until their calls stop.
+fn fails_within<D: Disk + Drop>(rt: &(impl Abort + AllocGlobal), files: Files<D>) -> End {
+    assert!(rt; files.may_be_used());
+    match open_and_adopt(rt.alloc(), files, spilling()) {
+        Some(project) => ends(rt, project),
+        None => End::Unbegun,
     }
 }
 
@@ -85,9 +90,8 @@ fn is_ever_kept(rt: &(impl Abort + AllocGlobal), files: &Files<Fuse<Memory>>) ->
 
 #[test]
 fn a_connection_is_adopted_again_after_a_fault_within_a_transaction(rt: HostRuntime) {
-    let mut project = begun(&rt, empty_files(&rt));
-    imports(&rt, &mut project, "b1", ONE_JOB, FIRST_ADDED);
-    assert!(rt; is_ever_kept(&rt, &files_of(&rt, project)));
+    let files = files_of(&rt, with_one(&rt, empty_files(&rt)));
+    assert!(rt; is_ever_kept(&rt, &files));
 }
 
 /// Sees that the project shows these workunits, and takes the first batch, again where it has it.
@@ -140,6 +144,11 @@ fn cuts_openings(rt: &(impl Abort + AllocGlobal), files: &Files<Fuse<Memory>>, s
     cuts_each_opening(rt, files, Side::Database, shown);
 }
 
+/// The files of a project whose log was not copied into its database.
+fn unclosed<D: Disk + Drop>(project: Project<FileStore<D>>) -> Files<D> {
+    project.release().into_store().close()
+}
+
 #[test]
 fn what_an_opening_of_empty_files_leaves_is_opened_again(rt: HostRuntime) {
     cuts_openings(&rt, &empty_files(&rt), "");
@@ -147,9 +156,7 @@ fn what_an_opening_of_empty_files_leaves_is_opened_again(rt: HostRuntime) {
 
 #[test]
 fn what_an_opening_of_a_project_leaves_is_opened_again(rt: HostRuntime) {
-    let mut project = begun(&rt, empty_files(&rt));
-    imports(&rt, &mut project, "b1", ONE_JOB, FIRST_ADDED);
-    let with_log = project.release().into_store().close();
+    let with_log = unclosed(with_one(&rt, empty_files(&rt)));
     cuts_openings(&rt, &with_log, ONE_WORKUNIT);
     cuts_openings(&rt, &one_made(&rt), ONE_WORKUNIT);
 }

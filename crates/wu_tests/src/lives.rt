@@ -33,6 +33,16 @@ pub fn begun<D: Disk + Drop>(
     resumed(rt, opened(rt, files))
 }
 
+/// The same, with one workunit.
+pub fn with_one<D: Disk + Drop>(
+    rt: &(impl Abort + AllocGlobal),
+    files: Files<D>,
+) -> Project<FileStore<D>> {
+    let mut project = begun(rt, files);
+    imports(rt, &mut project, "b1", ONE_JOB, FIRST_ADDED);
+    project
+}
+
 /// Sees that the project shows no workunit, takes the first batch, and gives the connection back.
 fn takes_first<S: Alter>(
     rt: &(impl Abort + AllocGlobal),

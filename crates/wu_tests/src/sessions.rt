@@ -1,10 +1,8 @@
 //! Numbers that come to their end, and passes that need no write.
 
 use crate::disks::{MOST_CALLS, Side, copies, empty_files, files_of};
-use crate::lives::begun;
-use crate::setting::{
-    FIRST_ADDED, ONE_JOB, SECOND_JOB, adopted, fresh, imports, noon, prints, runs,
-};
+use crate::lives::with_one;
+use crate::setting::{ONE_JOB, SECOND_JOB, adopted, fresh, imports, noon, prints, runs};
 use sqlite::{Alter, Files, Options};
 use sqlite_disk::{Disk, Fuse, Memory};
 use std::process::Abort;
@@ -55,16 +53,25 @@ fn begins_and_reads<D: Disk + Drop>(rt: &(impl Abort + AllocGlobal), files: File
     }
 }
 
-/// The files of a project with one workunit of two instances.
-pub fn one_made(rt: &(impl Abort + AllocGlobal)) -> Files<Fuse<Memory>> {
-    let mut project = begun(rt, empty_files(rt));
-    imports(rt, &mut project, "b1", ONE_JOB, FIRST_ADDED);
+/// Makes the instances of a project's one workunit.
+fn makes_instances<S: Alter>(rt: &(impl Abort + AllocGlobal), project: &mut Project<S>) {
     let ask = Command::Transition {
         now: noon(rt),
         limit: 10,
     };
-    prints(rt, &mut project, ask, "transition: 1\n");
+    prints(rt, project, ask, "transition: 1\n");
+}
+
+/// The files of a project with one workunit of two instances.
+fn with_instances<D: Disk + Drop>(rt: &(impl Abort + AllocGlobal), files: Files<D>) -> Files<D> {
+    let mut project = with_one(rt, files);
+    makes_instances(rt, &mut project);
     files_of(rt, project)
+}
+
+/// The same, over files in memory.
+pub fn one_made(rt: &(impl Abort + AllocGlobal)) -> Files<Fuse<Memory>> {
+    with_instances(rt, empty_files(rt))
 }
 
 #[test]
