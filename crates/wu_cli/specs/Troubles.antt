@@ -1,9 +1,9 @@
 -- What ends a run of the program before all of it is done: its text on standard error, and its status.
-use Rattle.std.specs.Prelude.{◌≡◌, ℕ, Bool, List, Option, Result, Ok, Err}
+use Rattle.std.specs.Prelude.{ℕ, List}
 use Rattle.wu_core.specs.declared.fault.Fault.{Fault}
 use Rattle.wu_core.specs.declared.fault.Fault.TheVariants as fault
 use Rattle.wu_words.specs.Statuses.{fault_status, refusal_status, usage_status}
-use Rattle.wu_cli.specs.Endings.{bad_line_text, fault_line, line_fault_text, unopened_line, usage_text, WritesAll}
+use Rattle.wu_cli.specs.Endings.{bad_line_text, fault_line, line_fault_text, unopened_line, usage_text}
 use Rattle.wu_cli.specs.declared.trouble.Trouble.{Trouble}
 use Rattle.wu_cli.specs.declared.trouble.Trouble.TheVariants as trouble
 
@@ -26,9 +26,3 @@ trouble_text (trouble.LineFault end) = line_fault_text end
 abbrev pub trouble_of_opening : Fault → Trouble
 trouble_of_opening fault.Memory = trouble.Fault fault.Memory
 trouble_of_opening _ = trouble.Unopened
-
--- all was done: nothing is told, and the status is 0; else the trouble is told, maybe in part, with its status
-abbrev pub EndsWith : {W T : Type 0} → (W → Option (List ℕ)) → W → W → Result T Trouble → ℕ → Type 0
-EndsWith contents old new (Ok done) status = (status ≡ 0) × (new ≡ old)
-EndsWith contents old new (Err trouble) status =
-    (status ≡ trouble_status trouble) × ((is_whole : Bool) × WritesAll (contents old) (contents new) (trouble_text trouble) is_whole)

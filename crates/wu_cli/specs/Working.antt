@@ -5,7 +5,7 @@ use Rattle.sqlite.specs.State.{State, HasCleanDisk}
 use Rattle.sqlite.specs.Store.{Ghosts}
 use Rattle.wu_core.specs.declared.fault.Fault.{Fault}
 use Rattle.wu_core.specs.declared.fault.Fault.TheVariants.{NotAProject}
-use Rattle.wu_core.specs.Reads.{Gives}
+use Rattle.wu_core.specs.Reads.{Gives, TellsRefusal}
 use Rattle.wu_core.specs.World.{World, empty_world}
 use Rattle.wu_machine.specs.declared.command.Answer.{Answer}
 use Rattle.wu_machine.specs.declared.command.Command.{Command}
@@ -16,7 +16,7 @@ use Rattle.wu_passes.specs.Projects.{connection_of, GoesStill, state_of}
 use Rattle.wu_passes.specs.Standing.{GoesOn}
 use Rattle.wu_drive.specs.Driving.{Drives}
 use Rattle.wu_words.specs.Actions.{prepared}
-use Rattle.wu_words.specs.Scripts.{GivesSteps, prepared_script}
+use Rattle.wu_words.specs.Scripts.{GivesSteps}
 use Rattle.wu_words.specs.declared.action.Action.{Action}
 use Rattle.wu_words.specs.declared.line.Line.{Line}
 use Rattle.wu_words.specs.declared.step.BadLine.{BadLine}
@@ -42,11 +42,12 @@ work_of_script (Err bad) = Err (trouble.BadLine bad)
 
 -- what a line asks for, with the contents of its files, or the fault of it
 abbrev pub AsksOfLine : Line → List (Option (List ℕ)) → Result Work Trouble → Type 0
-AsksOfLine line contents result = (given : Result Action Fault) × Gives given (prepared line contents) × (result ≡ work_of_line given)
+AsksOfLine line contents result =
+    (given : Result Action Fault) × Gives given (prepared line contents) × TellsRefusal given (prepared line contents) × (result ≡ work_of_line given)
 
 -- what the lines of a script ask for, or the first that can't be run
 abbrev pub AsksOfScript : List FedEntry → Result Work Trouble → Type 0
-AsksOfScript script result = (given : Result (List Step) BadLine) × GivesSteps given (prepared_script script) × (result ≡ work_of_script given)
+AsksOfScript script result = (given : Result (List Step) BadLine) × GivesSteps given script × (result ≡ work_of_script given)
 
 -- ---- over a project
 

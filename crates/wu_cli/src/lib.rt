@@ -10,7 +10,7 @@ mod work;
 pub use performing::{perform, perform_script};
 pub use start::{Start, start_of};
 pub use texts::{write_bad_line, write_fault, write_line_fault, write_unopened, write_usage};
-pub use trouble::{Trouble, end_with, unopened};
+pub use trouble::{Trouble, unopened};
 pub use work::Work;
 pub use wu_words::{
     Action, BadLine, Commands, Entries, Entry, FedEntry, Line, LineFault, LineFile, LineOption,

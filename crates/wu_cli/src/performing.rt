@@ -1,7 +1,7 @@
 //! What is done for a line or a script over a project, and the status that it ends with.
 
 ghost use Rattle.std.specs.Prelude.{◌≡◌};
-ghost use Rattle.wu_cli.specs.Performing.{as_result, Performs, Runs, Sees};
+ghost use Rattle.wu_cli.specs.Performing.{Performs};
 ghost use Rattle.wu_cli.specs.Scripting.{DrivesSteps, LengthensBySteps, PerformsSteps};
 ghost use Rattle.wu_words.specs.Statuses.{status_of, status_of_line};
 
@@ -9,35 +9,8 @@ use sqlite::Alter;
 use std::alloc::Global;
 use std::io::Write;
 use wu_core::Fault;
-use wu_drive::{Command, Project, Run, View, drive, show};
+use wu_drive::{Project, drive, show};
 use wu_words::{Action, LineFault, Step, status_of};
-
-/// Runs commands in order.
-fn runs<S: Alter, W: Write>(
-    alloc: Global,
-    project: &mut Project<S>,
-    commands: &[Command],
-    out: &mut W,
-) -> Run
-    ensures { Runs W.contents project.old project.new out.old out.new commands.now result }
-{
-    drive(alloc, project, commands, out)
-}
-
-/// Shows a view. It answers the fault that ended it.
-fn sees<S: Alter, W: Write>(
-    alloc: Global,
-    project: &mut Project<S>,
-    view: View,
-    out: &mut W,
-) -> Option<Fault>
-    ensures { Sees W.contents project.old project.new out.old out.new view (as_result result) }
-{
-    match show(alloc, project, view, out) {
-        Ok(()) => None,
-        Err(fault) => Some(fault),
-    }
-}
 
 /// Runs the commands of an action, or shows its view. It answers the status of the program, and the fault that ended it.
 pub fn perform<S: Alter, W: Write>(
@@ -51,8 +24,11 @@ pub fn perform<S: Alter, W: Write>(
     ensures status { result.0 ≡ status_of result.1 }
 {
     let end = match action {
-        Action::Commands(commands) => runs(alloc, project, commands.as_slice(), out).end,
-        Action::Look(view) => sees(alloc, project, *view, out),
+        Action::Commands(commands) => drive(alloc, project, commands.as_slice(), out).end,
+        Action::Look(view) => match show(alloc, project, *view, out) {
+            Ok(()) => None,
+            Err(fault) => Some(fault),
+        },
     };
     (status_of(end), end)
 }

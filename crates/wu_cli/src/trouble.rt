@@ -4,7 +4,7 @@ ghost use Rattle.std.specs.Prelude.{◌≡◌};
 ghost use Rattle.wu_core.specs.declared.fault.Fault.TheVariants as fault;
 ghost use Rattle.wu_cli.specs.declared.trouble.Trouble.TheVariants as trouble;
 ghost use Rattle.wu_cli.specs.Endings.{WritesAll};
-ghost use Rattle.wu_cli.specs.Troubles.{EndsWith, trouble_of_opening, trouble_status, trouble_text};
+ghost use Rattle.wu_cli.specs.Troubles.{trouble_of_opening, trouble_status, trouble_text};
 ghost use Rattle.wu_schema.specs.Faults.{fault_of};
 
 use crate::texts::{write_bad_line, write_fault, write_line_fault, write_unopened, write_usage};
@@ -114,19 +114,5 @@ pub fn unopened(error: &Error) -> Trouble
     match fault_of(error) {
         Fault::Memory => Trouble::Fault(Fault::Memory),
         _ => Trouble::Unopened,
-    }
-}
-
-/// Tells of the trouble that ended a run, if one did, on the writer of faults, and answers the status to end with: 0 where
-/// all was done, and nothing is written then.
-pub fn end_with<E: Write>(done: Result<(), Trouble>, err: &mut E) -> u8
-    ensures { EndsWith E.contents err.old err.new done result }
-{
-    match done {
-        Ok(()) => 0,
-        Err(trouble) => {
-            let _ = trouble.write(err);
-            trouble.status()
-        }
     }
 }

@@ -84,7 +84,7 @@ impl Work {
     }
 
     /// Adopts the project in an open database, does what is asked over it, up to the first fault, and gives the database
-    /// back. Where nothing is adopted, nothing is done or written.
+    /// back. Where nothing is adopted, no command is done and nothing is written.
     pub fn perform_over<S: Alter, W: Write>(
         &self,
         alloc: Global,

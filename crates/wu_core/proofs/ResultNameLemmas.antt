@@ -1,5 +1,5 @@
 -- The last '_' of a text parts the workunit's name from the place.
-use Rattle.std.proofs.Common.{◌≡◌, ◌<◌, ◌+◌, ◌-◌, ℕ, Bool, true, false, not, List, [], ◌∷◌, length, take, drop, zero, suc, if◌then◌else◌, Err, arith, refl, slice_index, ◌||◌, inl, inr, Option, Some, None, Ok, ◌∙◌}
+use Rattle.std.proofs.Common.{◌≡◌, ◌<◌, ◌+◌, ◌-◌, ℕ, Bool, true, false, not, List, [], ◌∷◌, length, take, drop, zero, suc, if◌then◌else◌, Err, arith, refl, slice_index, ◌||◌, inl, inr, Option, Some, None, Ok, Result, ◌∙◌}
 use Rattle.std.proofs.lemmas.List.Sums.{suffix_len_is}
 use Rattle.std.proofs.lemmas.List.{length-drop, take_all}
 use Rattle.std.specs.List.{list_any, before_last, after_last, suffix_len}
@@ -7,7 +7,7 @@ use Rattle.wu_core.specs.declared.fault.Fault.{Fault}
 use Rattle.wu_core.specs.declared.fault.Fault.TheVariants.{BadName}
 use Rattle.wu_core.specs.declared.name.ResultName.{ResultName}
 use Rattle.wu_core.specs.Names.{is_name, name_of, place_of}
-use Rattle.wu_core.specs.Reads.{Gives}
+use Rattle.wu_core.specs.Reads.{Gives, TellsRefusal}
 use Rattle.wu_core.specs.ResultNames.{is_underscore, instance_of, result_name_of, IsFreeFrom, IsLastUnderscore}
 
 none_from : (text : List ℕ) → ((k : ℕ) → k < length text → is_underscore (slice_index text k) ≡ false) → list_any is_underscore text ≡ false
@@ -92,3 +92,19 @@ both false name found o n p (inr e) = cc e
 pub result_name_of-both : (text : List ℕ) (i : ℕ) (name : List ℕ) (n : ℕ) → IsLastUnderscore text i → Some n ≡ place_of (tail_of text i)
     → Gives (Ok name) (name_of (take i text)) → Gives (Ok (record { workunit = name; n = n })) (result_name_of text)
 result_name_of-both text i name n last p e = rw (parts text i last) (both (is_name (take i text)) (take i text) name _ n p e)
+
+-- ---- want of memory is told of a name's text alone
+
+told : (b : Bool) (name : List ℕ) (o : Option ℕ) (n : ℕ) (fault : Fault) → Some n ≡ o → TellsRefusal {T = List ℕ} (Err fault) (if b then Ok name else Err BadName)
+    → TellsRefusal {T = ResultName} (Err fault) (if b then instance_of name o else Err BadName)
+told true name o n fault p e = rw (← p) tt
+told false name o n fault p e = cc e
+
+pub result_name_of-told : (text : List ℕ) (i : ℕ) (n : ℕ) (fault : Fault) → IsLastUnderscore text i → Some n ≡ place_of (tail_of text i)
+    → TellsRefusal {T = List ℕ} (Err fault) (name_of (take i text)) → TellsRefusal {T = ResultName} (Err fault) (result_name_of text)
+result_name_of-told text i n fault last p e = rw (parts text i last) (told (is_name (take i text)) (take i text) _ n fault p e)
+
+pub given_told : {T : Type 0} (x : T) (r : Result T Fault) → Gives (Ok x) r → TellsRefusal (Ok x) r
+given_told x (Ok y) it = tt
+given_told x (Err fault) (inl is) = cc is
+given_told x (Err fault) (inr is) = cc is

@@ -10,3 +10,7 @@ FailsForMemory result = IfErr result (λ fault. fault ≡ Memory)
 -- exactly this result, or want of memory
 abbrev pub Gives : {T : Type 0} → Result T Fault → Result T Fault → Type 0
 Gives result expected = (result ≡ expected) ⊎ (result ≡ Err Memory)
+
+-- what is refused is told as what it is refused for, and never as want of memory
+abbrev pub TellsRefusal : {T : Type 0} → Result T Fault → Result T Fault → Type 0
+TellsRefusal result expected = IfErr expected (λ fault. result ≡ Err fault)

@@ -3,7 +3,7 @@
 ghost use Rattle.std.specs.Prelude.{◌≡◌, ℕ, List, true, string_bytes, IfOk, IfSome, IfNone};
 ghost use Rattle.std.specs.List.{list_all};
 ghost use Rattle.wu_core.specs.Names.{is_name, is_name_byte, name_of, place_of};
-ghost use Rattle.wu_core.specs.Reads.{Gives};
+ghost use Rattle.wu_core.specs.Reads.{Gives, TellsRefusal};
 ghost use Rattle.wu_core.specs.ResultNames.{result_name_of, IsFreeFrom, IsLastUnderscore};
 
 use crate::fault::Fault;
@@ -51,9 +51,10 @@ fn is_name(text: &[u8]) -> bool
 }
 
 impl Name {
-    /// The text as a name. Any other text is `BadName`.
+    /// The text as a name. Any other text is `BadName`, whatever memory there is.
     pub fn read(alloc: Global, text: &[u8]) -> Result<Self, Fault>
-        ensures { Gives result (name_of text.now) }
+        ensures name { Gives result (name_of text.now) }
+        ensures told { TellsRefusal result (name_of text.now) }
     {
         if !is_name(text) {
             return Err(Fault::BadName);
@@ -161,9 +162,10 @@ impl fmt::Display for ResultName {
 
 impl ResultName {
     /// The text as a name of an instance: a workunit's name, `_` and the place in decimal, 0 to 99, without leading
-    /// zeros. Any other text is `BadName`.
+    /// zeros. Any other text is `BadName`, whatever memory there is.
     pub fn read(alloc: Global, text: &[u8]) -> Result<Self, Fault>
-        ensures { Gives result (result_name_of text.now) }
+        ensures name { Gives result (result_name_of text.now) }
+        ensures told { TellsRefusal result (result_name_of text.now) }
     {
         let Some(cut) = last_underscore(text) else {
             return Err(Fault::BadName);

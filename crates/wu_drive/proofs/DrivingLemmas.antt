@@ -1,28 +1,28 @@
 -- From command to command of a list.
-use Rattle.std.proofs.Common.{◌≡◌, ◌⊎◌, inl, inr, ℕ, ◌+◌, ◌<◌, ◌≤◌, Bool, true, false, List, [], ◌∷◌, ◌++◌, length, get_or, map, take, Option, Some, Ok, Err, refl, sym, ap, subst, ◌∙◌, arith}
+use Rattle.std.proofs.Common.{◌≡◌, ◌⊎◌, inl, inr, ℕ, ◌+◌, ◌<◌, ◌≤◌, Bool, true, false, List, [], ◌∷◌, ◌++◌, length, get_or, map, take, Option, Some, None, Ok, Err, refl, sym, ap, subst, ◌∙◌, arith}
 use Rattle.std.proofs.lemmas.List.{map-append, take_more}
 use Rattle.std.proofs.lemmas.Option.{slice_get-get_or}
 use Rattle.std.specs.Prelude.{slice_get}
-use Rattle.std.specs.Prelude.{IsTrue, MatchResult, Result}
+use Rattle.std.specs.Prelude.{IsTrue, MatchResult, OnOk, Result}
 use Rattle.std.proofs.lemmas.Bool.{cases_Bool}
 use Rattle.sqlite.specs.State.{State, HasCleanDisk}
 use Rattle.sqlite.specs.Store.{Ghosts}
 use Rattle.wu_schema.specs.Faults.{IsFailure}
 use Rattle.wu_core.specs.declared.fault.Fault.{Fault}
-use Rattle.wu_core.specs.declared.fault.Fault.TheVariants.{BadLimit, Output}
+use Rattle.wu_core.specs.declared.fault.Fault.TheVariants.{BadLimit, Ended, Output}
 use Rattle.std.proofs.lemmas.List.Elements.{All-nil}
 use Rattle.wu_core.specs.World.{Import, World, empty_world}
 use Rattle.wu_core.specs.Storable.{AreVerdicts, IsStorable}
 use Rattle.wu_machine.specs.declared.command.Answer.{Answer}
 use Rattle.wu_machine.specs.declared.command.Command.{Command}
 use Rattle.wu_drive.specs.declared.runs.Run.{Run}
-use Rattle.wu_drive.specs.Driving.{AnswerAll, Drives, NotDone, world_after}
-use Rattle.wu_machine.specs.Machine.{fold_steps, has_right_limits, reply, step}
+use Rattle.wu_drive.specs.Driving.{AnswerAll, Drives, MakeNothing, NotDone, world_after}
+use Rattle.wu_machine.specs.Machine.{fold_steps, has_right_limits, MakesNothing, reply, step}
 use Rattle.wu_machine.specs.Commands.{request_of, reply_of_answer}
 use Rattle.wu_machine.specs.Sound.{IsProject}
 use Rattle.wu_store.specs.Loading.{IsStoreFault}
 use Rattle.wu_passes.specs.Adopting.{KeepsAll}
-use Rattle.wu_passes.specs.Projects.{IsOpen, RefusesLimit, ServesRight, state_of}
+use Rattle.wu_passes.specs.Projects.{AnswersEnded, Broke, IsOpen, RefusesLimit, ServesRight, state_of}
 use Rattle.wu_machine.specs.Laws.{KeepsProjects}
 use Rattle.wu_passes.specs.declared.project.Project.{Project}
 use Rattle.wu_machine.specs.Requests.{Request}
@@ -59,18 +59,41 @@ empty_project = record {
 pub one_fault : (a b : Fault) → ◌≡◌ {A = Option Fault} (Some a) (Some b) → a ≡ b
 one_fault a b same = cc
 
+-- a run that ended early did not end without a fault
+pub never_told : {P : Type 0} (fault : Fault) → ◌≡◌ {A = Option Fault} None (Some fault) → P
+never_told fault told = absurd (cc)
+
+pub never_whole : {P : Type 0} (fault : Fault) → ◌≡◌ {A = Option Fault} (Some fault) None → P
+never_whole fault told = absurd (cc)
+
 there_is : {X : Type 0} (xs : List X) (i : ℕ) (x d : X) → i < length xs → get_or xs i d ≡ x → slice_get xs i ≡ Some x
 there_is xs i x d low there = slice_get-get_or xs i d low ∙ ap (λ y. Some y) there
 
 same_command : (one other : Command) → ◌≡◌ {A = Option Command} (Some one) (Some other) → one ≡ other
 same_command one other same = cc
 
+-- what broke in a part of a call broke in the call
+why_from : (Before After : Type 0) → (Before → After) → (is : Bool) (world : World) (request : Request) (fault : Fault) → WhyNot Before is world request fault → WhyNot After is world request fault
+why_from Before After from true world request fault (inl (broken, broke)) = inl (broken, from broke)
+why_from Before After from true world request fault (inr cut) = inr cut
+why_from Before After from false world request fault why = why
+
+-- the disk failed after some commands, or the connection was not open
+pub broke_after : {S : Type 0} {g : Ghosts S} (old mid new : Project S g) → (state_of old).faults ≤ (state_of mid).faults → (IsTrue (state_of old).is_open → IsTrue (state_of mid).is_open)
+    → Broke mid new → Broke old new
+broke_after old mid new rises opened (inl more) = inl (omega (arith, rises, more))
+broke_after old mid new rises opened (inr shut) = elim (cases_Bool (state_of old).is_open) [
+  | inl was ↦ absurd (let no : true ≡ false = sym (opened was) ∙ shut in cc)
+  | inr was ↦ inr was
+]
+
 -- the command at this place was not done
-pub not_done : (world : World) (commands : List Command) (i : ℕ) (command d : Command) → i < length commands → get_or commands i d ≡ command → (run : Run) → run.acknowledged ≡ i → (fault other : Fault) (is : Bool)
-    → run.end ≡ Some other → run.end ≡ Some fault → WhyNot is (world_after world commands i) (request_of command) fault → NotDone world commands run is other
-not_done world commands i command d low there run count fault other is told told_so why =
+pub not_done : (Before After : Type 0) → (Before → After) → (world : World) (commands : List Command) (i : ℕ) (command d : Command) → i < length commands → get_or commands i d ≡ command → (run : Run) → run.acknowledged ≡ i
+    → (fault other : Fault) (is : Bool) → run.end ≡ Some other → run.end ≡ Some fault → WhyNot Before is (world_after world commands i) (request_of command) fault → NotDone After world commands run is other
+not_done Before After from world commands i command d low there run count fault other is told told_so why =
     let same : fault ≡ other = one_fault fault other (sym told_so ∙ told) in
-    subst (λ k. NotDone world commands (record run { acknowledged = k }) is other) (sym count) (command, there_is commands i command d low there, subst (λ f. WhyNot is (world_after world commands i) (request_of command) f) same why)
+    let first = why_from Before After from is (world_after world commands i) (request_of command) fault why in
+    subst (λ k. NotDone After world commands (record run { acknowledged = k }) is other) (sym count) (command, there_is commands i command d low there, subst (λ f. WhyNot After is (world_after world commands i) (request_of command) f) same first)
 
 -- so it is on the way, after so many commands
 pub record IsDriving (world : World) (commands : List Command) (answers : List Answer) (count : ℕ) (has_ended : Bool) (new : State) : Type 0 where
@@ -139,7 +162,33 @@ module _ {S : Type 0} {g : Ghosts S} (old new : Project S g) (command : Command)
     | inr wrong ↦ inr (subst (λ project. IsOpen project) (sym (refuses wrong).1) was clean)
   ]
 
+-- ---- what makes nothing
+
+nothing_more : (world : World) (commands : List Command) (one : Command) → MakeNothing world (commands ++ one ∷ [])
+    → MakeNothing world commands × MakesNothing (fold_steps world (map request_of commands)) (request_of one)
+nothing_more world [] one (here, none) = (tt, here)
+nothing_more world (first ∷ commands) one (here, more) =
+    let (before, last) = nothing_more (step world (request_of first)) commands one more in
+    ((here, before), last)
+
+-- the commands up to a place make nothing, and so does the one there
+pub nothing_next : (world : World) (commands : List Command) (i : ℕ) (command d : Command) → i < length commands → get_or commands i d ≡ command → MakeNothing world (take (i + 1) commands)
+    → MakeNothing world (take i commands) × MakesNothing (world_after world commands i) (request_of command)
+nothing_next world commands i command d low there none =
+    nothing_more world (take i commands) command (subst (λ cs. MakeNothing world cs) (take_more commands i d low ∙ ap (λ c. take i commands ++ c ∷ []) there) none)
+
+pub ok_holds : {T E : Type 0} (r : Result T E) (x : T) (P : Type 0) → r ≡ Ok x → OnOk r P → P
+ok_holds (Ok y) x P is holds = holds
+ok_holds (Err e) x P is holds = absurd (cc)
+
 -- before the first command was done the project is the one from before
 pub leaves_first : {S : Type 0} {store : Ghosts S} (old mid new : Project S store) (fault : Fault) → mid ≡ old → IsFailure fault ⊎ KeepsAll (state_of mid) (state_of new)
     → IsFailure fault ⊎ KeepsAll (state_of old) (state_of new)
 leaves_first old mid new fault same it = subst (λ p. IsFailure fault ⊎ KeepsAll (state_of p) (state_of new)) same it
+
+-- over a session that had ended the first command is told so
+pub ended_first : {S W : Type 0} {store : Ghosts S} (old mid new : Project S store) (out_old out_mid : W) (count : ℕ) (fault : Fault) (result : Result Answer Fault)
+    → (count ≡ 0) × (mid ≡ old) × (out_mid ≡ out_old) → AnswersEnded mid new result → result ≡ Err fault
+    → (new ≡ old) × (out_mid ≡ out_old) × (count ≡ 0) × (fault ≡ Ended)
+ended_first old mid new out_old out_mid count fault result (none, same, unwritten) (told, still) is =
+    (still ∙ same, unwritten, none, (let both : ◌≡◌ {A = Result Answer Fault} (Err fault) (Err Ended) = sym is ∙ told in cc))

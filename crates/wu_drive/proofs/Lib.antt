@@ -2,3 +2,4 @@ mod AnswerLemmas
 pub mod LifeLemmas
 mod LineLemmas
 pub mod DrivingLemmas
+mod DemonstrationLemmas

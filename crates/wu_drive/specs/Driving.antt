@@ -10,7 +10,7 @@ use Rattle.wu_machine.specs.Sessions.{Lived, Session, world_of_life}
 use Rattle.wu_core.specs.World.{World}
 use Rattle.wu_core.specs.declared.fault.Fault.{Fault}
 use Rattle.wu_core.specs.declared.fault.Fault.TheVariants.{Ended, Output}
-use Rattle.wu_machine.specs.Machine.{fold_steps, reply, step}
+use Rattle.wu_machine.specs.Machine.{fold_steps, MakesNothing, reply, step}
 use Rattle.wu_machine.specs.Commands.{request_of, reply_of_answer}
 use Rattle.wu_machine.specs.Sound.{IsProject}
 use Rattle.wu_store.specs.Loading.{IsStoreFault}
@@ -18,7 +18,7 @@ use Rattle.wu_passes.specs.Standing.{GoesOn, HasEnded, WhyNot}
 use Rattle.wu_machine.specs.declared.command.Answer.{Answer}
 use Rattle.wu_machine.specs.declared.command.Command.{Command}
 use Rattle.wu_passes.specs.declared.project.Project.{Project}
-use Rattle.wu_passes.specs.Projects.{GoesStill, has_ended, IsOver, IsUnlimited, state_of}
+use Rattle.wu_passes.specs.Projects.{Broke, GoesStill, has_ended, IsOver, IsUnlimited, state_of}
 use Rattle.wu_drive.specs.declared.runs.Run.{Run}
 
 -- the answers are the machine's replies, one after another
@@ -75,10 +75,10 @@ DrivesProject old new commands answers run =
     → Drives world commands answers run (has_ended new) (state_of new)
 
 -- why the next command was not done
-abbrev pub NotDone : World → List Command → Run → Bool → Fault → Type 0
-NotDone world commands run has_ended fault =
+abbrev pub NotDone : Type 0 → World → List Command → Run → Bool → Fault → Type 0
+NotDone Broke world commands run has_ended fault =
     (next : Command) × (slice_get commands run.acknowledged ≡ Some next)
-    × WhyNot has_ended (world_after world commands run.acknowledged) (request_of next) fault
+    × WhyNot Broke has_ended (world_after world commands run.acknowledged) (request_of next) fault
 
 -- the text of the last command that was done could not be written, and the session goes on
 abbrev pub NotWritten : Run → Bool → Fault → Type 0
@@ -88,7 +88,7 @@ NotWritten run has_ended fault = (fault ≡ Output) × (1 ≤ run.acknowledged) 
 abbrev pub DrivesWhy : {S : Type 0} {store : Ghosts S} → Project S store → Project S store → List Command → Run → Type 0
 DrivesWhy old new commands run =
     GoesStill old → HasCleanDisk (state_of new) → IsUnlimited old → (world : World) → IsProject world → GoesOn (state_of old) world
-    → (fault : Fault) → run.end ≡ Some fault → NotDone world commands run (has_ended new) fault ⊎ NotWritten run (has_ended new) fault
+    → (fault : Fault) → run.end ≡ Some fault → NotDone (Broke old new) world commands run (has_ended new) fault ⊎ NotWritten run (has_ended new) fault
 
 -- and lengthens any life that led to that world
 abbrev pub LengthensLife : {S : Type 0} {store : Ghosts S} → Project S store → Project S store → List Command → Run → Type 0
@@ -112,6 +112,18 @@ LeavesAll old new run =
 -- the run ended early, with such a fault
 abbrev pub EndsBy : Run → (Fault → Type 0) → Type 0
 EndsBy run Is = (fault : Fault) × (run.end ≡ Some fault) × Is fault
+
+-- the machine makes nothing of the world by any of these commands, one after another
+abbrev pub MakeNothing : World → List Command → Type 0
+MakeNothing world [] = ⊤
+MakeNothing world (command ∷ commands) =
+    MakesNothing world (request_of command) × MakeNothing (step world (request_of command)) commands
+
+-- so it is where it makes nothing by all that were done
+abbrev pub LeavesAllIdle : {S : Type 0} {store : Ghosts S} → Project S store → Project S store → List Command → Run → Type 0
+LeavesAllIdle old new commands run =
+    GoesStill old → HasCleanDisk (state_of new) → (world : World) → IsProject world → GoesOn (state_of old) world
+    → MakeNothing world (take run.acknowledged commands) → EndsBy run IsFailure ⊎ KeepsAll (state_of old) (state_of new)
 
 -- over a session that went on an open connection stays so, but where the run ended for want of memory or of the disk
 abbrev pub ServesUnlessEnded : {S : Type 0} {store : Ghosts S} → Project S store → Project S store → Run → Type 0

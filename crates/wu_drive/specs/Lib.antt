@@ -1,3 +1,5 @@
 pub mod Texts
 pub mod Writing
 pub mod Driving
+pub mod Running
+pub mod Demonstration

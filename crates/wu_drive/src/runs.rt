@@ -1,11 +1,9 @@
 //! Lists of commands, and the demonstration.
 
-ghost use Rattle.std.specs.Prelude.{◌≡◌, ◌≤◌, List, Some, length};
-ghost use Rattle.wu_drive.specs.Driving.{DrivesNothing, DrivesProject, DrivesWhy, EndsBy, LeavesAll, LengthensLife, ServesUnlessEnded};
-ghost use Rattle.wu_drive.specs.Writing.{WritesAnswers};
-ghost use Rattle.wu_machine.specs.declared.command.Answer.{Answer};
-ghost use Rattle.wu_passes.specs.Projects.{GoesStill, IsOver, KeepsLimit, state_of};
-ghost use Rattle.wu_passes.specs.Standing.{KeepsDoubt, MayEnd};
+ghost use Rattle.std.specs.Prelude.{◌≡◌, IfNone, IfOk, OnOk};
+ghost use Rattle.wu_drive.specs.Demonstration.{demonstration, IsDemonstrated};
+ghost use Rattle.wu_drive.specs.Running.{Runs};
+ghost use Rattle.wu_machine.specs.Commands.{request_of};
 
 use crate::replies::write_answer;
 use sqlite::{Alter, Connection};
@@ -29,30 +27,17 @@ pub struct Run {
 ///
 /// An acknowledged command is one that was answered, also where its text could not be written. The run ends early with
 /// the refusal of the next command, with a fault of the store, or with `Output` for the text of the last one done. It
-/// ends the session with `Memory` or `Broken` alone, and after any other end the connection is open. Over a session that
-/// had ended it answers `Ended` at once. Where the first command was not done, every table is as it was, but for want of
-/// memory or of the disk. Where a stop before it could leave one world alone, the worlds that a stop may
-/// leave after it are those of the acknowledged commands, with the cut one or without.
+/// ends the session with `Broken`, and else only with `Memory`; after any end but these a connection that was open is
+/// open. Over a session that had ended it answers `Ended` at once. Where the first command was not done, or the machine makes nothing by all that
+/// were, every table is as it was, but for want of memory or of the disk. Where a stop before it could leave one world
+/// alone, the worlds that a stop may leave after it are those of the acknowledged commands, with the cut one or without.
 pub fn drive<S: Alter, W: Write>(
     alloc: Global,
     project: &mut Project<S>,
     commands: &[Command],
     out: &mut W,
 ) -> Run
-    ensures answers { (answers : List Answer)
-        × WritesAnswers (W.contents out.old) (W.contents out.new) answers result
-        × DrivesProject project.old project.new commands.now answers result }
-    ensures why { DrivesWhy project.old project.new commands.now result }
-    ensures opens { ServesUnlessEnded project.old project.new result }
-    ensures lives { LengthensLife project.old project.new commands.now result }
-    ensures ended { DrivesNothing project.old project.new out.old out.new result }
-    ensures untouched { LeavesAll project.old project.new result }
-    ensures ends { GoesStill project.old → IsOver project.new → EndsBy result MayEnd }
-    ensures broken { GoesStill project.old → result.end ≡ Some Fault.Broken → IsOver project.new }
-    ensures clean { KeepsDoubt (state_of project.old) (state_of project.new) }
-    ensures limit { KeepsLimit project.old project.new }
-    ensures count { result.acknowledged ≤ length commands.now }
-    ensures all { result.end ≡ None → result.acknowledged ≡ length commands.now }
+    ensures { Runs W.contents project.old project.new out.old out.new commands.now result }
 {
     let mut acknowledged = 0;
     for command in commands {
@@ -81,7 +66,9 @@ pub fn drive<S: Alter, W: Write>(
 }
 
 /// The batch of the demonstration: one job of two bytes.
-fn demo_batch(alloc: Global) -> Result<Command, Fault> {
+fn demo_batch(alloc: Global) -> Result<Command, Fault>
+    ensures { IfOk result (λ command. request_of command ≡ demonstration) }
+{
     let file = Vec::from_slice(alloc, b"name,input\njob_1,00ff\n")?;
     Ok(Command::Batch(Batch {
         name: Name::read(alloc, b"b1")?,
@@ -91,9 +78,14 @@ fn demo_batch(alloc: Global) -> Result<Command, Fault> {
 }
 
 /// Runs the demonstration, up to its first fault.
-fn run_demo<W: Write>(alloc: Global, out: &mut W) -> Result<(), Fault> {
-    let conn = Connection::open_in_memory(alloc).map_err(|_| Fault::Memory)?;
-    let mut project = Project::adopt(conn).map_err(|(_, fault)| fault)?;
+fn run_demo<W: Write>(alloc: Global, out: &mut W) -> Result<(), Fault>
+    ensures { OnOk result (IsDemonstrated (W.contents out.old) (W.contents out.new)) }
+{
+    let conn = Connection::open_in_memory(alloc)?;
+    let mut project = match Project::adopt(conn) {
+        Ok(project) => project,
+        Err((_, fault)) => return Err(fault),
+    };
     let commands = [demo_batch(alloc)?];
     match drive(alloc, &mut project, &commands, out).end {
         Some(fault) => Err(fault),
@@ -101,7 +93,10 @@ fn run_demo<W: Write>(alloc: Global, out: &mut W) -> Result<(), Fault> {
     }
 }
 
-/// The demonstration: a batch of one job in a database in memory, and the view of workunits.
-pub fn demo<W: Write>(alloc: Global, out: &mut W) -> Option<Fault> {
+/// The demonstration: a batch of one job in a database in memory, and the view of workunits. Without a fault, all that it
+/// prints went out.
+pub fn demo<W: Write>(alloc: Global, out: &mut W) -> Option<Fault>
+    ensures { IfNone result (IsDemonstrated (W.contents out.old) (W.contents out.new)) }
+{
     run_demo(alloc, out).err()
 }

@@ -51,9 +51,9 @@ abbrev pub TellsReplies : Option (List ℕ) → Option (List ℕ) → State → 
 TellsReplies before after old commands run new =
     (answers : List Answer) × WritesAnswers before after answers run × OfEachWorld old new (λ world. AnswerAll world (take run.acknowledged commands) answers)
 
--- a run that nothing ended has done the whole list
+-- a run has done no more than the list, and one that nothing ended all of it
 abbrev pub DoesAll : List Command → Run → Type 0
-DoesAll commands run = run.end ≡ None → run.acknowledged ≡ length commands
+DoesAll commands run = (run.acknowledged ≤ length commands) × (run.end ≡ None → run.acknowledged ≡ length commands)
 
 -- over a session that had ended nothing is done or written, and that is why the run ended, unless there was no command
 abbrev pub DoesNothing : {S W : Type 0} {g : Store.Ghosts S} → Project S g → W → W → Run → Type 0

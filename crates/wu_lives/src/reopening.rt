@@ -2,7 +2,7 @@
 //!
 //! A disk may fail at any call and from then on, so a stop amid a list of commands is one of these stops too.
 
-ghost use Rattle.std.specs.Prelude.{◌≤◌, IfSome, length};
+ghost use Rattle.std.specs.Prelude.{IfSome};
 ghost use Rattle.sqlite.specs.Files.{file_state};
 ghost use Rattle.wu_passes.specs.Projects.{GoesStill, state_of};
 ghost use Rattle.wu_lives.specs.Lives.{GoesOnAfter, RunsEach, TellsLives};
@@ -54,7 +54,6 @@ pub fn drive_stop_and_open<D: Crash + Drop, W: Write>(
         commands.now r.0 (file_state r.1)) }
     ensures found { IfSome result (λ r.
         FindsBeginning (state_of project) commands.now r.0 (file_state r.1)) }
-    ensures count { IfSome result (λ r. r.0.acknowledged ≤ length commands.now) }
     ensures all { IfSome result (λ r. DoesAll commands.now r.0) }
     ensures ended { IfSome result (λ r. DoesNothing project out.old out.new r.0) }
     ensures ends { IfSome result (λ r. TellsEnd project commands.now r.0 (file_state r.1)) }
@@ -87,7 +86,6 @@ pub fn live<D: Crash + Drop, W: Write>(
         commands.now r.0 (state_of r.1)) }
     ensures found { IfSome result (λ r.
         FindsBeginning (state_of project) commands.now r.0 (state_of r.1)) }
-    ensures count { IfSome result (λ r. r.0.acknowledged ≤ length commands.now) }
     ensures all { IfSome result (λ r. DoesAll commands.now r.0) }
     ensures ended { IfSome result (λ r. DoesNothing project out.old out.new r.0) }
     ensures ends { IfSome result (λ r.

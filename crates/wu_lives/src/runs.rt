@@ -3,7 +3,7 @@
 //! A disk may fail at any call and from then on, so a stop amid a command is one of these stops. No code can tell what a
 //! file holds, so the second run is one over whatever bytes `S` supposes of it.
 
-ghost use Rattle.std.specs.Prelude.{◌≤◌, IfErr, IfOk, IfSome, length};
+ghost use Rattle.std.specs.Prelude.{IfErr, IfOk, IfSome};
 ghost use Rattle.sqlite_wal.specs.Files.{image_at};
 ghost use Rattle.wu_passes.specs.Projects.{GoesStill, state_of};
 ghost use Rattle.wu_lives.specs.Reopening.{DoesAll, DoesNothing};
@@ -29,7 +29,6 @@ pub fn run_and_leave<D: Disk + Drop, W: Write>(
     ensures answers { TellsAnswers project commands.now result.0
         (W.contents out.old) (W.contents out.new) result.1 }
     ensures left { LeavesBeginnings project commands.now result.0 result.1 }
-    ensures count { result.0.acknowledged ≤ length commands.now }
     ensures all { DoesAll commands.now result.0 }
     ensures ended { DoesNothing project out.old out.new result.0 }
     ensures ends { WhyEnded project commands.now result.0 result.1 }

@@ -11,7 +11,7 @@ use Rattle.wu_rules.specs.Counts.{consensus}
 use Rattle.wu_rules.specs.Instances.{is_done_assimilate, is_ready_assimilate}
 use Rattle.wu_rules.specs.Transition.{ended, extended, readied, settled, timed, transitioned, with_files_readied}
 use Rattle.wu_rules.specs.Validation.{decided, is_to_validate, left_open, validated, validated_by}
-use Rattle.wu_rules.specs.Due.{changes, chosen}
+use Rattle.wu_rules.specs.Due.{chosen}
 use Rattle.wu_rules.specs.declared.due.Pass.{Pass}
 use Rattle.wu_machine.specs.Machine.{done, is_limit_right, pass_done}
 use Rattle.wu_machine.specs.Passes.{archives, granted, handled, images, is_among, passed}

@@ -1,6 +1,6 @@
 -- The machine: what each request answers and makes of a world, at schema version 1. It knows no tables, no transaction
 -- and no fault of the disk or of memory.
-use Rattle.std.specs.Prelude.{ℕ, ⊤, ◌≤◌, nat_le, nat_lt, Bool, true, not, ◌&&◌, if◌then◌else◌, List, [], ◌∷◌, Option, Some, None, Result, Ok, Err}
+use Rattle.std.specs.Prelude.{◌≡◌, ℕ, ⊤, ◌≤◌, nat_le, nat_lt, Bool, true, not, ◌&&◌, if◌then◌else◌, IsSome, List, [], ◌∷◌, Option, Some, None, Result, Ok, Err}
 use Rattle.wu_core.specs.declared.fault.Fault.{Fault}
 use Rattle.wu_core.specs.declared.fault.Fault.TheVariants.{BadLimit, UnknownWorkunit, NotOpenToCancel, OldSchema}
 use Rattle.wu_core.specs.declared.workunit.Workunit.{Workunit}
@@ -8,9 +8,10 @@ use Rattle.wu_core.specs.Limits.{last_moment, longest_age}
 use Rattle.wu_core.specs.World.{World}
 use Rattle.wu_rules.specs.Counts.{is_undecided}
 use Rattle.wu_rules.specs.Cancelling.{cancelled}
-use Rattle.wu_machine.specs.Imports.{Done, imported, batch_given, sent_given, reported_given}
+use Rattle.wu_machine.specs.Imports.{Done, Given, import_of, imported, batch_given, sent_given, reported_given}
 use Rattle.wu_machine.specs.Passes.{passed, handled}
 use Rattle.wu_core.specs.Storable.{IsName}
+use Rattle.wu_rules.specs.Due.{chosen}
 use Rattle.wu_rules.specs.declared.due.Pass.{Pass}
 use Rattle.wu_rules.specs.declared.due.Pass.TheVariants.{Purge}
 use Rattle.wu_machine.specs.Requests.{Request, AskBatch, AskSent, AskReported, AskPass, AskCancel, AskUpgrade, Reply, Passed, Cancelled, Upgraded}
@@ -95,3 +96,17 @@ step world request = world_of world (done world request)
 abbrev pub fold_steps : World → List Request → World
 fold_steps world [] = world
 fold_steps world (request ∷ more) = fold_steps (step world request) more
+
+-- an import of this kind and name came before
+abbrev pub CameBefore : World → Given → Type 0
+CameBefore world given = IsSome (import_of world given)
+
+-- The machine makes nothing of a world at the present version: an import that comes again, a pass that changes no
+-- workunit, an upgrade.
+abbrev pub MakesNothing : World → Request → Type 0
+MakesNothing world (AskBatch name template file) = CameBefore world (batch_given name template file)
+MakesNothing world (AskSent name file) = CameBefore world (sent_given name file)
+MakesNothing world (AskReported name file) = CameBefore world (reported_given name file)
+MakesNothing world (AskPass pass now limit min_age) = chosen pass now min_age limit world ≡ []
+MakesNothing world (AskCancel name) = ⊥
+MakesNothing world AskUpgrade = ⊤

@@ -70,7 +70,7 @@ find_map p f same (w ∷ ws) =
 
 module _ {Row : Type 0} (rule : Rule Row) (keeps : Keeps rule) where
   -- what a row makes of a workunit, if it is the one of its name
-  abbrev made : Row → Workunit → Workunit
+  abbrev pub made : Row → Workunit → Workunit
   made row w = if bytes_eq w.name (rule.workunit row) then rule.image row w else w
 
   made_name : (row : Row) (w : Workunit) → (made row w).name ≡ w.name
@@ -80,12 +80,12 @@ module _ {Row : Type 0} (rule : Rule Row) (keeps : Keeps rule) where
       by true = (keeps row w).0
       by false = refl
 
-  named_made : (world : World) (row : Row) (name : List ℕ)
+  pub named_made : (world : World) (row : Row) (name : List ℕ)
       → workunit_named (with_named world (rule.workunit row) (rule.image row)) name ≡ option_map (made row) (workunit_named world name)
   named_made world row name = find_map (λ w. bytes_eq w.name name) (made row) (λ w. ap (λ n. bytes_eq n name) (made_name row w)) world.workunits
 
   -- a row that is applied is so to the workunit of its name
-  applied_to : (world : World) (row : Row) → row_verdict rule world row ≡ 0
+  pub applied_to : (world : World) (row : Row) → row_verdict rule world row ≡ 0
       → (w : Workunit) × (workunit_named world (rule.workunit row) ≡ Some w) × (rule.verdict row w ≡ 0)
   applied_to world row nought = by (workunit_named world (rule.workunit row)) refl nought
     where
@@ -95,7 +95,7 @@ module _ {Row : Type 0} (rule : Rule Row) (keeps : Keeps rule) where
       by (Some w) is e = (w, is, e)
 
   -- its image is then found
-  image_found : (world : World) (row : Row) (w : Workunit) → row_verdict rule world row ≡ 0 → workunit_named world (rule.workunit row) ≡ Some w
+  pub image_found : (world : World) (row : Row) (w : Workunit) → row_verdict rule world row ≡ 0 → workunit_named world (rule.workunit row) ≡ Some w
       → workunit_named (after_row rule world row) (rule.workunit row) ≡ Some (rule.image row w)
   image_found world row w nought found =
       ap (λ b. workunit_named (if b then with_named world (rule.workunit row) (rule.image row) else world) (rule.workunit row))
@@ -165,6 +165,19 @@ module _ {Row : Type 0} (rule : Rule Row) (keeps : Keeps rule) where
       (All-tail (λ verdict. verdict ≢ 0) (row_verdict rule world row) (row_verdicts rule (after_row rule world row) rows) all)
       ∙ same
 
+  -- a row is applied exactly where it may be
+  pub row_applied : (May : Row → Workunit → Type 0) → ((row : Row) (w : Workunit) → (rule.verdict row w ≡ 0) ↔ May row w)
+      → (world : World) (row : Row) → (row_verdict rule world row ≡ 0) ↔ OfNamed world (rule.workunit row) (May row)
+  row_applied May may world row = (by_zero, to_zero)
+    where
+      by_zero : row_verdict rule world row ≡ 0 → OfNamed world (rule.workunit row) (May row)
+      by_zero nought = let to = applied_to world row nought in subst (λ o. IsSomeAnd o (May row)) (sym to.1) ((may row to.0).0 to.2)
+
+      to_zero : OfNamed world (rule.workunit row) (May row) → row_verdict rule world row ≡ 0
+      to_zero it =
+          let here = some_of (May row) (workunit_named world (rule.workunit row)) it in
+          ap (λ o. option_map_or (rule.verdict row) o unknown) here.1 ∙ (may row here.0).1 here.2
+
   -- the first row is applied exactly where it may be
   first_row : (May : Row → Workunit → Type 0) → ((row : Row) (w : Workunit) → (rule.verdict row w ≡ 0) ↔ May row w)
       → (rows : List Row) (world : World) (row : Row) → slice_get rows 0 ≡ Some row
@@ -173,17 +186,9 @@ module _ {Row : Type 0} (rule : Rule Row) (keeps : Keeps rule) where
   first_row May may (one ∷ rows) world row here =
       let same : one ≡ row = cc in
       subst (λ r. (Some (row_verdict rule world one) ≡ Some 0) ↔ OfNamed world (rule.workunit r) (May r)) same (
-        λ is. by_zero (cc),
-        λ it. ap Some (to_zero it),
+        λ is. (row_applied May may world one).0 (cc),
+        λ it. ap Some ((row_applied May may world one).1 it),
       )
-    where
-      by_zero : row_verdict rule world one ≡ 0 → OfNamed world (rule.workunit one) (May one)
-      by_zero nought = let to = applied_to world one nought in subst (λ o. IsSomeAnd o (May one)) (sym to.1) ((may one to.0).0 to.2)
-
-      to_zero : OfNamed world (rule.workunit one) (May one) → row_verdict rule world one ≡ 0
-      to_zero it =
-          let here = some_of (May one) (workunit_named world (rule.workunit one)) it in
-          ap (λ o. option_map_or (rule.verdict one) o unknown) here.1 ∙ (may one here.0).1 here.2
 
 -- ---- sends
 
@@ -193,7 +198,7 @@ send_zero send.Unknown is = absurd cc
 send_zero send.NotUnsent is = absurd cc
 send_zero send.SameHost is = absurd cc
 
-may_send : (row : SendRow) (w : Workunit) → (send_rule.verdict row w ≡ 0) ↔ MayBeSent w row.n row.host
+pub may_send : (row : SendRow) (w : Workunit) → (send_rule.verdict row w ≡ 0) ↔ MayBeSent w row.n row.host
 may_send row w = (
   λ nought. (sends w row.n row.host row.moment).applied.0 (send_zero (send_verdict_in w row.n row.host) nought),
   λ it. ap send_verdict_code ((sends w row.n row.host row.moment).applied.1 it),
@@ -220,7 +225,7 @@ stays_sent row other w it nought = elim (cases_eq row.n other.n) [
 
 -- ---- reports
 
-may_report : (row : ReportRow) (w : Workunit) → (report_rule.verdict row w ≡ 0) ↔ OfInstance row.n (MayBeReported row.host row.moment) w
+pub may_report : (row : ReportRow) (w : Workunit) → (report_rule.verdict row w ≡ 0) ↔ OfInstance row.n (MayBeReported row.host row.moment) w
 may_report row w = (
   λ nought. (reports w row.n row.host row.moment row.status row.output).applied.0 (code_applied (report_verdict_in w row.n row.host row.moment) nought),
   λ it. ap report_verdict_code ((reports w row.n row.host row.moment row.status row.output).applied.1 it),

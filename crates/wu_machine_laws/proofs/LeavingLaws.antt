@@ -139,7 +139,7 @@ reports_keep row w =
     let rest = (reports w row.n row.host row.moment row.status row.output).only.rest in
     (ap (λ v. v.name) rest, ap (λ v. v.number) rest)
 
-rows_change : {Row : Type 0} (rule : Rule Row) → Keeps rule → (names : List (List ℕ)) (rows : List Row)
+pub rows_change : {Row : Type 0} (rule : Rule Row) → Keeps rule → (names : List (List ℕ)) (rows : List Row)
     → AllByRecursion (λ row. is_one_of names (rule.workunit row) ≡ true) rows → (world : World)
     → ChangesNamed names world (after_rows rule world rows)
 rows_change rule keeps names [] all world = unchanged names world
@@ -161,7 +161,7 @@ one_more name names of_row (row ∷ rows) all = (or_true (bytes_eq name (of_row 
     or_true true b e = refl
     or_true false b e = e
 
-each_named : {Row : Type 0} (of_row : Row → List ℕ) (rows : List Row) → AllByRecursion (λ row. is_one_of (map of_row rows) (of_row row) ≡ true) rows
+pub each_named : {Row : Type 0} (of_row : Row → List ℕ) (rows : List Row) → AllByRecursion (λ row. is_one_of (map of_row rows) (of_row row) ≡ true) rows
 each_named of_row [] = tt
 each_named of_row (row ∷ rows) = (
   ap (λ b. b || is_one_of (map of_row rows) (of_row row)) ((bytes_eq-Decides (of_row row) (of_row row)).1 refl),

@@ -15,4 +15,6 @@ pub mod LeavingLaws
 pub mod Going
 pub mod Numbering
 pub mod FileLaws
+pub mod RowLaws
 pub mod Answered
+pub mod Staying

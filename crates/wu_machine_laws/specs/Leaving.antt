@@ -20,7 +20,8 @@ use Rattle.wu_rules.specs.declared.due.Pass.TheVariants.{Purge}
 use Rattle.wu_rules.specs.Due.{chosen}
 use Rattle.wu_machine.specs.Batches.{is_one_of}
 use Rattle.wu_machine.specs.Imports.{batch_given, import_of}
-use Rattle.wu_machine.specs.Machine.{present_version, reply, step}
+use Rattle.wu_machine.specs.Machine.{MakesNothing, present_version, reply, step}
+use Rattle.wu_machine.specs.Sound.{IsProject}
 use Rattle.wu_machine.specs.Passes.{is_among, passed}
 use Rattle.wu_machine.specs.Requests.{Request, AskBatch, AskCancel, AskPass, AskReported, AskSent, AskUpgrade, Cancelled, Imported, Upgraded}
 use Rattle.wu_machine.specs.Worlds.{workunit_named}
@@ -126,3 +127,9 @@ pub record DoesAsAnswered (world : World) : Type 0 where
 
 abbrev pub CancelsAndUpgrades : Type 0
 CancelsAndUpgrades = (world : World) → DoesAsAnswered world
+
+-- ---- what is left as it was
+
+-- where the machine makes nothing of a world, that stays
+abbrev pub StaysByNothing : Type 0
+StaysByNothing = (world : World) (request : Request) → IsProject world → MakesNothing world request → step world request ≡ world

@@ -3,3 +3,4 @@ pub mod Sound
 pub mod Lasting
 pub mod Leaving
 pub mod Files
+pub mod Rows

@@ -1,6 +1,6 @@
 //! Laws of what a request leaves, takes out and adds: each function's contract is one, for every world.
 
-ghost use Rattle.wu_machine_laws.specs.Leaving.{CancelsAndUpgrades, GoesByPurgeAlone, LeavesWhatIsNotNamed, NumbersBatches, PurgedIsGone};
+ghost use Rattle.wu_machine_laws.specs.Leaving.{CancelsAndUpgrades, GoesByPurgeAlone, LeavesWhatIsNotNamed, NumbersBatches, PurgedIsGone, StaysByNothing};
 
 /// Where workunits are in order of number, no request but a purge takes one out, and that only one that may be purged.
 pub fn goes_by_purge_alone()
@@ -27,4 +27,10 @@ pub fn numbers_batches()
 /// the present version.
 pub fn cancels_and_upgrades()
     ensures { CancelsAndUpgrades }
+{}
+
+/// Where the machine makes nothing of a world, the world after a request is the one before it: an import that comes again, a
+/// pass that changes no workunit, an upgrade.
+pub fn stays_where_nothing_is_made()
+    ensures { StaysByNothing }
 {}

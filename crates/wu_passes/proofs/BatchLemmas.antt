@@ -26,6 +26,7 @@ use Rattle.wu_passes.specs.declared.imports.Plan.{Plan}
 use Rattle.wu_store.specs.declared.changes.Change.{Change}
 use Rattle.wu_store.specs.declared.changes.Change.TheVariants.{Next, Keep}
 use Rattle.wu_store.specs.declared.changes.Import.{Import as Kept}
+use Rattle.wu_passes.proofs.ImportPlans.{never_before}
 use Rattle.wu_passes.proofs.PlanLemmas.{added}
 use Rattle.wu_machine.proofs.BatchKeeps.{above_more, asked_of, news, with_kept}
 
@@ -76,6 +77,7 @@ module _ (world : World) (project : IsProject world) (name template file : List 
   added_jobs fresh template_is file_is free few plan new = record {
     done = asked ∙ rw (fresh, template_is, file_is, free, few_enough _ few) (ap (λ (it : Done). Ok it) same);
     right = subst (λ changes. AreRight changes world) (sym new.changes) (right_new new.kept);
+    idle = λ before. absurd (never_before world (batch_given name template file) fresh before);
   }
     where
       given : Given

@@ -69,6 +69,7 @@ module _ (db : Database) (world : World) (stands : StandsFor db world) (project 
       record {
         done = asked ∙ ap (cancel_done world name) present ∙ rw it.undecided (ap (λ (d : Done). Ok d) (same one.0));
         right = subst (λ changes. AreRight changes world) (sym it.changes) one.1;
+        idle = λ none. absurd none;
       }
     where
       same : made_all (Replace (cancelled w) ∷ []) world ≡ with_named world name cancelled

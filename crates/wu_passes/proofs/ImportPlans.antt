@@ -2,7 +2,7 @@
 use Rattle.std.proofs.Common.{◌≡◌, ℕ, Bool, true, false, List, [], ◌∷◌, Some, None, Result, Ok, Err, IfOk, IfErr, refl, sym, ap, subst, ◌∙◌, inl, inr}
 use Rattle.std.proofs.lemmas.Bool.{cases_Bool}
 use Rattle.std.proofs.lemmas.Slice.Eq.{bytes_eq-Decides}
-use Rattle.std.specs.Prelude.{find, ◌&&◌, if◌then◌else◌}
+use Rattle.std.specs.Prelude.{find, ◌&&◌, if◌then◌else◌, IsSome, Option}
 use Rattle.sqlite.specs.Effect.{Database}
 use Rattle.wu_core.specs.declared.fault.Fault.{Fault}
 use Rattle.wu_core.specs.declared.fault.Fault.TheVariants.{Memory, NameUsed}
@@ -18,7 +18,7 @@ use Rattle.wu_passes.specs.declared.files.Left.{Left}
 use Rattle.wu_passes.specs.declared.imports.Plan.{Plan}
 use Rattle.wu_machine.specs.FileRows.{Rule, after_rows, row_verdicts}
 use Rattle.wu_machine.specs.Imports.{Done, Given, first_answer, has_content, import_of, imported, kept_import, keeping, newly_imported, reported_given, rows_read, sent_given}
-use Rattle.wu_machine.specs.Machine.{done}
+use Rattle.wu_machine.specs.Machine.{CameBefore, done, MakesNothing}
 use Rattle.wu_passes.specs.Planning.{has_same_content, IsNewFile, IsPlan, IsRepeated, KeepsImport, PlansRows, RefusesRepeat}
 use Rattle.wu_machine.specs.Commands.{reply_of_answer}
 use Rattle.wu_machine.specs.Sound.{IsProject}
@@ -63,6 +63,14 @@ asked_sent world project name file = rw project.present refl
 pub asked_reported : (world : World) → IsProject world → (name file : List ℕ) → done world (AskReported name file) ≡ imported world (reported_given name file)
 asked_reported world project name file = rw project.present refl
 
+none_found : (found : Option Import) → found ≡ None → IsSome found → ⊥
+none_found (Some import) fresh came = absurd cc
+none_found None fresh came = absurd (let no = came in cc)
+
+-- one that is new did not come before
+pub never_before : (world : World) (given : Given) → import_of world given ≡ None → ¬ CameBefore world given
+never_before world given fresh came = none_found (import_of world given) fresh came
+
 module _ (world : World) (request : Request) (given : Given) (asked : done world request ≡ imported world given) where
   came_before : (import : Import) → import_of world given ≡ Some import → has_content given import ≡ true → done world request ≡ Ok (first_answer import, world)
   came_before import found same = asked ∙ rw (found, same) refl
@@ -75,10 +83,11 @@ module _ (world : World) (request : Request) (given : Given) (asked : done world
   newly_refused fault fresh is = asked ∙ rw fresh is
 
   pub rows_planned : {Row : Type 0} → (rule : Rule Row) (rows : List Row) → import_of world given ≡ None → newly_imported world given given.kind ≡ rows_read rule given world (Ok rows)
-      → (r : Result Plan Fault) → PlansRows rule given rows r world → IsPlan world request r
-  rows_planned rule rows fresh read (Ok plan) it = record {
+      → (MakesNothing world request → CameBefore world given) → (r : Result Plan Fault) → PlansRows rule given rows r world → IsPlan world request r
+  rows_planned rule rows fresh read before (Ok plan) it = record {
     done = asked ∙ rw fresh (read ∙ ap (λ (d : Done). Ok d) same);
     right = it.right;
+    idle = λ none. absurd (never_before world given fresh (before none));
   }
     where
       import_is : kept_import given 0 (row_verdicts rule world rows) ≡ import_of_change it.kept
@@ -88,7 +97,7 @@ module _ (world : World) (request : Request) (given : Given) (asked : done world
       same = ap {B = Done} (λ (i : Import). (first_answer i, with_import i (after_rows rule world rows))) import_is
           ∙ ap {B = Done} (λ (a : Reply). (a, with_import (import_of_change it.kept) (after_rows rule world rows))) (sym it.reply)
           ∙ ap {B = Done} (λ (w : World). (reply_of_answer plan.answer, w)) (sym it.made)
-  rows_planned rule rows fresh read (Err fault) it = inr it
+  rows_planned rule rows fresh read before (Err fault) it = inr it
 
   kind_of : (kept : Import) → is_import given.kind given.name kept ≡ true → kept.kind ≡ given.kind
   kind_of kept is = kind_is kept.kind given.kind (both_true _ _ is).0
@@ -107,6 +116,7 @@ module _ (world : World) (request : Request) (given : Given) (asked : done world
   repeated_planned earlier (Ok plan) (kept, found, template_is, content_is, first_is, verdicts_are) it err = record {
     done = came_before kept found (same_stored earlier kept template_is content_is ∙ it.same) ∙ ap (λ (d : Done). Ok d) again;
     right = subst (λ changes. AreRight changes world) (sym it.nothing) tt;
+    idle = λ _. it.nothing;
   }
     where
       is_it : is_import given.kind given.name kept ≡ true

@@ -2,7 +2,7 @@ mod PlanLemmas
 mod PassPlanLemmas
 pub mod BatchLemmas
 mod AskLemmas
-mod StandingLemmas
+pub mod StandingLemmas
 pub mod AdoptingLemmas
 mod NamedLemmas
 mod TouchedLemmas

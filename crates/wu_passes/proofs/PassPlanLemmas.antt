@@ -94,4 +94,7 @@ module _ (db : Database) (world : World) (stands : StandsFor db world) (project 
             ∙ (λ i. Ok (Passed ask.pass (number i), sym made i));
         right = subst (λ cs. AreRight cs world) (sym changes_are)
             (pass_all_right db world stands ask.moment ask.min_age ask.limit given.place given.row_place given.next given.row_next ask.pass);
+        idle = λ none. given.changes_are
+            ∙ (λ i. all.changes i ++ granted_from given.place (all.grants i) ++ archived_from given.row_place (all.archived i))
+            ∙ ap (λ ts. map (change_by ask.pass ask.moment) ts ++ granted_from given.place (flat_map (granted ask.pass) ts) ++ archived_from given.row_place (flat_map (archives ask.pass ask.moment) ts)) (are ∙ none);
       }

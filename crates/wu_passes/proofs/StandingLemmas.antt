@@ -1,5 +1,5 @@
 -- What stands of a session after each exit of a command.
-use Rattle.std.proofs.Common.{refl, ◌≡◌, ◌≢◌, ◌⊎◌, Bool, true, false, List, Result, Ok, Err, IfErr, IsTrue, sym, ap, subst, ◌∙◌, inl, inr}
+use Rattle.std.proofs.Common.{refl, ◌≡◌, ◌≢◌, ◌⊎◌, Bool, true, false, List, [], Result, Ok, Err, IfErr, IsTrue, OnOk, sym, ap, subst, ◌∙◌, inl, inr}
 use Rattle.sqlite.specs.Effect.{Database}
 use Rattle.sqlite.specs.State.{State, HasCleanDisk, Survives}
 use Rattle.wu_core.specs.declared.fault.Fault.{Fault}
@@ -19,7 +19,7 @@ use Rattle.wu_passes.specs.Planning.{IsPlan, Plans}
 use Rattle.wu_machine.specs.Commands.{reply_of_answer}
 use Rattle.wu_store.specs.Loading.{IsRead, IsStoreFault}
 use Rattle.wu_machine.specs.Requests.{Request}
-use Rattle.wu_passes.specs.Standing.{GoesOn, HasEnded, IsAnswered, IsCutBy, Stands, WhyNot}
+use Rattle.wu_passes.specs.Standing.{GoesOn, HasEnded, IsCutBy, MakesSome, Stands, WhyNot}
 use Rattle.wu_passes.specs.declared.imports.Plan.{Plan}
 use Rattle.wu_machine.specs.declared.command.Answer.{Answer}
 use Rattle.wu_store.specs.declared.changes.Change.{Change}
@@ -96,24 +96,33 @@ plan_refused old new world request fault goes back (inl (inl memory)) plan = inr
 plan_refused old new world request fault goes back (inl (inr broken)) plan = inr (inr (inl broken))
 plan_refused old new world request fault goes back (inr still) plan = refused_is world request fault (plan (goes.stands (back.was_open still)).0)
 
+-- a plan that was cut makes something
+makes_some : (world : World) (request : Request) (answer : Answer) (changes : List Change) (fault : Fault) → Plans world request answer changes
+    → (changes ≡ [] → ◌≡◌ {A = Result Answer Fault} (Err fault) (Ok answer)) → MakesSome world request
+makes_some world request answer changes fault plans none = (
+  (reply_of_answer answer, reply_is world request answer changes plans),
+  λ nothing. absurd (let no = none (plans.idle nothing) in cc),
+)
+
 -- why a command was not done: its plan is there,
-pub cut_why : (ended : Bool) (world : World) (request : Request) (r : Result Answer Fault) → IsAnswered world request → IfErr r (IsCutBy ended) → IfErr r (WhyNot ended world request)
-cut_why ended world request (Ok answer) answered cut = tt
-cut_why true world request (Err fault) answered (inl memory) = inr (memory, answered)
-cut_why true world request (Err fault) answered (inr broken) = inl broken
-cut_why false world request (Err fault) answered refused = inr (inr (refused, answered))
+pub cut_why : (Broke : Type 0) (ended : Bool) (world : World) (request : Request) (answer : Answer) (changes : List Change) (r : Result Answer Fault) → Plans world request answer changes
+    → (changes ≡ [] → r ≡ Ok answer) → IfErr r (IsCutBy ended) → IfErr r (WhyNot Broke ended world request)
+cut_why Broke ended world request answer changes (Ok given) plans none cut = tt
+cut_why Broke true world request answer changes (Err fault) plans none cut = inr (cut, makes_some world request answer changes fault plans none)
+cut_why Broke false world request answer changes (Err fault) plans none refused = inr (inr (refused, makes_some world request answer changes fault plans none))
 
 -- or there is none
-pub refused_why : (world : World) (request : Request) (fault : Fault) → fault ≢ Broken → fault ≢ NotAProject → (reply world request ≡ Err fault) ⊎ IsStoreFault fault → WhyNot false world request fault
-refused_why world request fault whole served (inl told) = inl told
-refused_why world request fault whole served (inr (inl memory)) = inr (inl memory)
-refused_why world request fault whole served (inr (inr (inl broken))) = absurd (whole broken)
-refused_why world request fault whole served (inr (inr (inr refused))) = absurd (served refused)
+pub refused_why : (Broke : Type 0) (world : World) (request : Request) (fault : Fault) → fault ≢ Broken → fault ≢ NotAProject → (reply world request ≡ Err fault) ⊎ IsStoreFault fault
+    → WhyNot Broke false world request fault
+refused_why Broke world request fault whole served (inl told) = inl told
+refused_why Broke world request fault whole served (inr (inl memory)) = inr (inl memory)
+refused_why Broke world request fault whole served (inr (inr (inl broken))) = absurd (whole broken)
+refused_why Broke world request fault whole served (inr (inr (inr refused))) = absurd (served refused)
 
-pub unplanned_why : (ended : Bool) (world : World) (request : Request) (fault : Fault) → (ended ≡ true → fault ≡ Broken) → (fault ≡ Broken → ended ≡ true) → fault ≢ NotAProject
-    → (reply world request ≡ Err fault) ⊎ IsStoreFault fault → WhyNot ended world request fault
-unplanned_why true world request fault ends broken served told = inl (ends refl)
-unplanned_why false world request fault ends broken served told = refused_why world request fault (λ is. let no = broken is in cc) served told
+pub unplanned_why : (Broke : Type 0) (ended : Bool) (world : World) (request : Request) (fault : Fault) → (ended ≡ true → fault ≡ Broken) → (fault ≡ Broken → ended ≡ true) → (fault ≡ Broken → Broke)
+    → fault ≢ NotAProject → (reply world request ≡ Err fault) ⊎ IsStoreFault fault → WhyNot Broke ended world request fault
+unplanned_why Broke true world request fault ends broken broke served told = inl (ends refl, broke (ends refl))
+unplanned_why Broke false world request fault ends broken broke served told = refused_why Broke world request fault (λ is. let no = broken is in cc) served told
 
 -- before a transaction all stands as it did, whether the session ends or not
 pub stands_read : (ended : Bool) (s : State) (world : World) (request : Request) → GoesOn s world → Stands ended s world request
@@ -145,6 +154,12 @@ pub plan_keeps : {S : Type 0} (g : Ghosts S) (old new : Held S) (fault : Fault) 
     → IsFailure fault ⊎ KeepsAll (state g old) (state g new)
 plan_keeps g old new fault clean survives (inl failed) = inl failed
 plan_keeps g old new fault clean survives (inr same) = inr (keeps_as_before g old new clean survives same)
+
+-- with an answer of a plan that changes nothing
+pub idle_keeps : {S : Type 0} (g : Ghosts S) (old mid new : Held S) (answer : Answer) (changes : List Change) (r : Result Answer Fault) → changes ≡ [] → (changes ≡ [] → state g new ≡ state g mid)
+    → KeepsAll (state g old) (state g mid) → OnOk r (KeepsAll (state g old) (state g new))
+idle_keeps g old mid new answer changes (Ok given) none same kept = subst (λ s. KeepsAll (state g old) s) (sym (same none)) kept
+idle_keeps g old mid new answer changes (Err fault) none same kept = tt
 
 pub keeps_then : (a b c : State) → KeepsAll a b → KeepsAll b c → KeepsAll a c
 keeps_then a b c one two = record { now = two.now ∙ one.now; committed = two.committed ∙ one.committed; left = λ db may. one.left db (two.left db may) }

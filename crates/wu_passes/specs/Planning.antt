@@ -1,5 +1,5 @@
 -- The plan of a command: what it will answer and what it changes, before anything is changed.
-use Rattle.std.specs.Prelude.{◌≡◌, ◌≢◌, ◌⊎◌, ℕ, ◌+◌, ◌==◌, ◌&&◌, Bool, true, false, bytes_eq, if◌then◌else◌, List, [], ◌∷◌, ◌++◌, map, length, Some, None, Result, Ok, Err, find, IfErr, IfOk, IsTrue, MatchResult}
+use Rattle.std.specs.Prelude.{◌≡◌, ◌≢◌, ◌⊎◌, ℕ, ◌+◌, ◌==◌, ◌&&◌, Bool, true, false, bytes_eq, if◌then◌else◌, List, [], ◌∷◌, ◌++◌, map, length, Some, None, Result, Ok, Err, find, IfErr, IfOk, MatchResult}
 use Rattle.std.specs.List.{enumerate_from}
 use Rattle.sqlite.specs.Held.{Held, state}
 use Rattle.sqlite.specs.State.{HasCleanDisk}
@@ -12,7 +12,6 @@ use Rattle.wu_rules.specs.Cancelling.{cancelled}
 use Rattle.wu_rules.specs.Counts.{is_undecided}
 use Rattle.wu_core.specs.World.{World, is_import}
 use Rattle.wu_feed.specs.declared.jobs.Job.{Job}
-use Rattle.wu_core.specs.declared.import.ImportKind.{ImportKind}
 use Rattle.wu_core.specs.declared.import.ImportKind.TheVariants as kind
 use Rattle.wu_feed.specs.Jobs.{jobs_of_file}
 use Rattle.wu_feed.specs.Templates.{template_of}
@@ -31,11 +30,11 @@ use Rattle.wu_machine.specs.Batches.{all_applied, first_taken, is_one_of, job_na
 use Rattle.wu_store.specs.Changing.{AreRight, import_of_change, made_all}
 use Rattle.wu_machine.specs.Imports.{Given, first_answer, kept_import}
 use Rattle.wu_machine.specs.FileRows.{Rule, after_rows, row_verdicts}
-use Rattle.wu_machine.specs.Machine.{done}
+use Rattle.wu_machine.specs.Machine.{done, MakesNothing}
 use Rattle.wu_passes.specs.Touched.{AreDistinct, IsLeft}
 use Rattle.wu_machine.specs.declared.command.Answer.{Answer}
 use Rattle.wu_machine.specs.declared.command.Answer.TheVariants as answer
-use Rattle.wu_machine.specs.Requests.{Request, Cancelled, Imported}
+use Rattle.wu_machine.specs.Requests.{Request}
 use Rattle.wu_machine.specs.Commands.{request_of_batch, reply_of_answer}
 use Rattle.wu_machine.specs.Sound.{IsProject}
 
@@ -73,10 +72,12 @@ IsNew world name = find (is_import kind.Batch name) world.imports ≡ None
 abbrev pub TellsTaken : World → List Job → Fault → Type 0
 TellsTaken world jobs fault = (place : ℕ × List ℕ) × (first_taken world jobs ≡ Some place) × (fault ≡ WorkunitUsed (place.0 + 2))
 
--- its answer is the machine's reply, and its changes make of the world what the machine makes of it
+-- Its answer is the machine's reply, and its changes make of the world what the machine makes of it; where that is
+-- nothing there is none.
 pub record Plans (world : World) (request : Request) (answer : Answer) (changes : List Change) : Type 0 where
   pub done : done world request ≡ Ok (reply_of_answer answer, made_all changes world)
   pub right : AreRight changes world
+  pub idle : MakesNothing world request → changes ≡ []
 
 -- a plan, or the machine's refusal, or a fault of the store
 abbrev pub IsPlan : World → Request → Result Plan Fault → Type 0

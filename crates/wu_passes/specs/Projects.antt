@@ -1,20 +1,21 @@
 -- A project as its callers know it: what its connection shows, and whether its session has ended.
-use Rattle.std.specs.Prelude.{◌≡◌, ◌⊎◌, Bool, true, false, List, IfErr, IsTrue, None, OnOk, Result, Err}
+use Rattle.std.specs.Prelude.{◌≡◌, ◌⊎◌, ◌≤◌, Bool, true, false, List, IfErr, IsErrAnd, IsTrue, None, OnOk, Result, Err}
 use Rattle.sqlite.specs.Held.{Held, state}
 use Rattle.sqlite.specs.State.{State, HasCleanDisk}
 use Rattle.sqlite.specs.Store.{Ghosts}
 use Rattle.wu_core.specs.declared.fault.Fault.{Fault}
-use Rattle.wu_core.specs.declared.fault.Fault.TheVariants.{BadLimit, Ended}
+use Rattle.wu_core.specs.declared.fault.Fault.TheVariants.{BadLimit, Broken, Ended}
 use Rattle.wu_core.specs.World.{World}
+use Rattle.wu_schema.specs.Calls.{HasBroken}
 use Rattle.wu_schema.specs.Faults.{IsFailure}
 use Rattle.wu_schema.specs.StandsFor.{StandsFor}
 use Rattle.wu_store.specs.declared.changes.Change.{Change}
 use Rattle.wu_machine.specs.declared.command.Answer.{Answer}
 use Rattle.wu_machine.specs.declared.command.Command.{Command}
 use Rattle.wu_passes.specs.declared.project.Project.{Project}
-use Rattle.wu_machine.specs.Machine.{has_right_limits}
+use Rattle.wu_machine.specs.Machine.{has_right_limits, MakesNothing}
 use Rattle.wu_passes.specs.declared.imports.Plan.{Plan}
-use Rattle.wu_passes.specs.Planning.{Plans, PlansFor}
+use Rattle.wu_passes.specs.Planning.{NeverEnded, Plans, PlansFor}
 use Rattle.wu_machine.specs.Commands.{request_of}
 use Rattle.wu_machine.specs.Sound.{IsProject}
 use Rattle.wu_store.specs.Loading.{Asks, NotRefusedIn, OverWorlds, ServesUnlessFailed}
@@ -23,7 +24,7 @@ use Rattle.wu_store.specs.Summaries.{FindsAt, IsCountable}
 use Rattle.wu_store.specs.declared.lines.Summary.{Summary}
 use Rattle.wu_machine.specs.Requests.{Request}
 use Rattle.wu_passes.specs.Adopting.{KeepsAll}
-use Rattle.wu_passes.specs.Standing.{GoesOn, HasEnded, Runs, WhyNot}
+use Rattle.wu_passes.specs.Standing.{GoesOn, HasEnded, KeepsDoubt, MayEnd, Runs, WhyNot}
 
 -- the connection that a release gives back
 abbrev pub connection_of : {S : Type 0} {g : Ghosts S} → Project S g → Held S
@@ -67,6 +68,30 @@ FailsAgain {S} {g} old refusal =
 
 -- ---- a command
 
+-- the limit on steps is as it was: an adoption took it off
+abbrev pub KeepsLimit : {S : Type 0} {g : Ghosts S} → Project S g → Project S g → Type 0
+KeepsLimit old new = (state_of new).step_limit ≡ (state_of old).step_limit
+
+-- What a call keeps of a session, whatever it answers.
+pub record KeepsSession {S T : Type 0} {g : Ghosts S} (old new : Project S g) (result : Result T Fault) : Type 0 where
+  -- it ends with `Broken`, and else only for want of memory
+  pub ends : GoesStill old → IsOver new → IsErrAnd result MayEnd
+  pub broken : GoesStill old → result ≡ Err Broken → IsOver new
+  -- and one that went on is never said to have ended
+  pub never : GoesStill old → NeverEnded result
+  -- what is doubted of the disk stays doubted, and no fault of it is forgotten
+  pub clean : KeepsDoubt (state_of old) (state_of new)
+  pub counts : (state_of old).faults ≤ (state_of new).faults
+  pub limit : KeepsLimit old new
+
+-- the disk failed in this call, or the connection was not open
+abbrev pub Broke : {S : Type 0} {g : Ghosts S} → Project S g → Project S g → Type 0
+Broke {S} {g} old new = HasBroken g (connection_of old) (connection_of new)
+
+-- `Broken` tells of that
+abbrev pub BreaksOn : {S T : Type 0} {g : Ghosts S} → Project S g → Project S g → Result T Fault → Type 0
+BreaksOn old new result = HasCleanDisk (state_of new) → result ≡ Err Broken → Broke old new
+
 -- after the end of a session each call answers so, and touches nothing
 abbrev pub AnswersEnded : {S T : Type 0} {g : Ghosts S} → Project S g → Project S g → Result T Fault → Type 0
 AnswersEnded old new result = (result ≡ Err Ended) × (new ≡ old)
@@ -94,10 +119,6 @@ CarriesOut old new answer changes result =
     HasCleanDisk (state_of new) → (world : World) (request : Request) → StandsFor (state_of old).now world → GoesOn (state_of old) world
     → Plans world request answer changes → Runs world request (has_ended new) (state_of new) result
 
--- the limit on steps is as it was: an adoption took it off
-abbrev pub KeepsLimit : {S : Type 0} {g : Ghosts S} → Project S g → Project S g → Type 0
-KeepsLimit old new = (state_of new).step_limit ≡ (state_of old).step_limit
-
 -- after Ok, and after each fault but want of memory or of the disk, the connection is open
 abbrev pub ServesOn : {S T : Type 0} {g : Ghosts S} → Project S g → Result T Fault → Type 0
 ServesOn {S} {T} {g} new result = ServesUnlessFailed g (connection_of new) result
@@ -114,11 +135,18 @@ RefusesLimit old new command result = has_right_limits (request_of command) ≡ 
 abbrev pub LeavesUntouched : {S T : Type 0} {g : Ghosts S} → Project S g → Project S g → Result T Fault → Type 0
 LeavesUntouched old new result = HasCleanDisk (state_of new) → IfErr result (λ fault. IsFailure fault ⊎ KeepsAll (state_of old) (state_of new))
 
+-- with an answer so it is where the machine makes nothing of the world: an import that comes again, a pass that finds
+-- nothing
+abbrev pub LeavesIdle : {S T : Type 0} {g : Ghosts S} → Project S g → Project S g → Command → Result T Fault → Type 0
+LeavesIdle old new command result =
+    HasCleanDisk (state_of new) → (world : World) → IsProject world → GoesOn (state_of old) world → MakesNothing world (request_of command)
+    → OnOk result (KeepsAll (state_of old) (state_of new))
+
 -- over an adopted project it is told why a command was not done
 abbrev pub TellsWhy : {S T : Type 0} {g : Ghosts S} → Project S g → Project S g → Command → Result T Fault → Type 0
 TellsWhy old new command result =
     HasCleanDisk (state_of new) → IsUnlimited old → (world : World) → IsProject world → GoesOn (state_of old) world
-    → IfErr result (WhyNot (has_ended new) world (request_of command))
+    → IfErr result (WhyNot (Broke old new) (has_ended new) world (request_of command))
 
 -- ---- a question
 

@@ -9,7 +9,7 @@ use Rattle.wu_core.specs.World.{World}
 use Rattle.wu_schema.specs.StandsFor.{StandsFor}
 use Rattle.wu_machine.specs.declared.command.Answer.{Answer}
 use Rattle.wu_passes.specs.Committing.{FoundAs}
-use Rattle.wu_machine.specs.Machine.{present_version, reply, step}
+use Rattle.wu_machine.specs.Machine.{MakesNothing, present_version, reply, step}
 use Rattle.wu_machine.specs.Commands.{reply_of_answer}
 use Rattle.wu_store.specs.Loading.{IsStoreFault}
 use Rattle.wu_machine.specs.Requests.{Reply, Request}
@@ -45,12 +45,16 @@ MayEnd fault = (fault ≡ Memory) ⊎ (fault ≡ Broken)
 abbrev pub IsAnswered : World → Request → Type 0
 IsAnswered world request = (answer : Reply) × (reply world request ≡ Ok answer)
 
--- Why a command was not done. It ended the session: the disk failed, or memory was wanted for what the machine does.
--- It did not: the machine refuses it, memory was wanted, or a statement of what the machine does was refused.
-abbrev pub WhyNot : Bool → World → Request → Fault → Type 0
-WhyNot true world request fault = (fault ≡ Broken) ⊎ ((fault ≡ Memory) × IsAnswered world request)
-WhyNot false world request fault =
-    (reply world request ≡ Err fault) ⊎ ((fault ≡ Memory) ⊎ ((fault ≡ NotAProject) × IsAnswered world request))
+-- and makes something of the world
+abbrev pub MakesSome : World → Request → Type 0
+MakesSome world request = IsAnswered world request × ¬ MakesNothing world request
+
+-- Why a command was not done. It ended the session: what it read broke, or what the machine makes of the world could not
+-- be written. It did not: the machine refuses it, memory was wanted, or a statement of what the machine makes was refused.
+abbrev pub WhyNot : Type 0 → Bool → World → Request → Fault → Type 0
+WhyNot Broke true world request fault = ((fault ≡ Broken) × Broke) ⊎ (MayEnd fault × MakesSome world request)
+WhyNot Broke false world request fault =
+    (reply world request ≡ Err fault) ⊎ ((fault ≡ Memory) ⊎ ((fault ≡ NotAProject) × MakesSome world request))
 
 -- within a transaction a refused statement alone leaves the session on
 abbrev pub IsCutBy : Bool → Fault → Type 0

@@ -12,7 +12,7 @@ use Rattle.wu_store.specs.Loading.{IsRead, NotRefusedIn, StaysUnlessFailed}
 use Rattle.wu_passes.specs.contracts.project.Project as project
 use Rattle.wu_passes.specs.declared.project.Project.{Project}
 use Rattle.wu_passes.specs.declared.project.walk.LineWalk.{LineWalk}
-use Rattle.wu_passes.specs.Projects.{connection_of, GoesStill, has_ended, IsOver, KeepsLimit, ServesOn, state_of}
+use Rattle.wu_passes.specs.Projects.{BreaksOn, connection_of, GoesStill, has_ended, IsOver, KeepsLimit, ServesOn, state_of}
 
 -- the project that it borrows, as it stands
 abbrev pub walked : {S L : Type 0} {g : Ghosts S} → LineWalk S L g → Project S g
@@ -39,6 +39,7 @@ pub record RefusesWalk {S T : Type 0} {g : Ghosts S} (IsReadable : World → Typ
   pub reads : OnlyReads old new
   pub untouched : IsOver old → new ≡ old
   pub serves : GoesStill old → ServesOn new result
+  pub broke : BreaksOn old new result
   -- over a world whose values can be read it is for want of memory or of the disk
   pub unrefused : NotRefusedIn g (connection_of old) (connection_of new) result IsReadable
 

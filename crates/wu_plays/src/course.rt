@@ -1,6 +1,7 @@
 //! The course of a script over two files that do not stop.
 
-use crate::disks::Saved;
+use crate::disks::{MOST_CALLS, Saved, Side, after_stop};
+use crate::files::Pages;
 use crate::runs::{Reach, run_over, views_of};
 use crate::scripts::steps;
 use anyhow::{Context, Result, bail, ensure};
@@ -46,6 +47,15 @@ impl Act {
     }
 }
 
+/// How files are left between the acts.
+#[derive(Clone, Copy)]
+pub enum Between {
+    /// They are closed, so that the log is copied into the database.
+    Closed,
+    /// They are not, so that the next opening finds a log.
+    Unclosed,
+}
+
 /// What files hold, and all views of it.
 #[derive(Drop)]
 struct Stage {
@@ -53,12 +63,38 @@ struct Stage {
     views: Vec<u8>,
 }
 
-/// The stage that an act leads to.
-fn stage_after(alloc: Global, files: &Saved, action: Option<&Action>) -> Result<Stage> {
-    let left = run_over(alloc, files.files(alloc)?, action);
-    ensure!(left.reach == Reach::Done, "it ends with a fault");
+/// The files after an act, closed.
+fn closed_after(alloc: Global, files: &Saved, action: Option<&Action>) -> Result<Saved> {
+    let left = run_over(alloc, files.files(alloc)?, action, Pages::All)?;
+    ensure!(left.end.reach == Reach::Done, "it ends with a fault");
     ensure!(left.is_closed, "it is not closed");
-    let files = Saved::of(alloc, &left.files)?;
+    Ok(Saved::of(alloc, &left.files)?)
+}
+
+/// The files after an act that was answered, where the first call of the close on the database stops.
+fn unclosed_after(alloc: Global, files: &Saved, action: Option<&Action>) -> Result<Saved> {
+    for calls in 0..MOST_CALLS {
+        let files = files.stopping(alloc, Side::Database, calls)?;
+        let left = run_over(alloc, files, action, Pages::All)?;
+        if left.end.reach == Reach::Done {
+            ensure!(!left.is_closed, "it is closed");
+            return Ok(after_stop(alloc, left.files)?);
+        }
+    }
+    bail!("it is not answered")
+}
+
+/// The stage that an act leads to.
+fn stage_after(
+    alloc: Global,
+    files: &Saved,
+    action: Option<&Action>,
+    between: Between,
+) -> Result<Stage> {
+    let files = match between {
+        Between::Closed => closed_after(alloc, files, action)?,
+        Between::Unclosed => unclosed_after(alloc, files, action)?,
+    };
     let views = views_of(alloc, &files)?;
     Ok(Stage { files, views })
 }
@@ -69,9 +105,10 @@ fn act_from(
     stage: Stage,
     title: &str,
     action: Option<Action>,
+    between: Between,
 ) -> Result<(Act, Stage)> {
     let Stage { files, views } = stage;
-    let next = stage_after(alloc, &files, action.as_ref()).context(title)?;
+    let next = stage_after(alloc, &files, action.as_ref(), between).context(title)?;
     let act = Act {
         title: String::from_str(alloc, title)?,
         action,
@@ -95,18 +132,24 @@ fn line_at(text: &str, number: u64) -> &str {
 }
 
 /// The acts of a script, the adoption first.
-pub fn course(rt: &HostRuntime, text: &str) -> Result<Vec<Act>> {
+pub fn course(rt: &HostRuntime, text: &str, between: Between) -> Result<Vec<Act>> {
     let alloc = rt.alloc();
     let blank = Stage {
         files: Saved::empty(alloc),
         views: Vec::new(alloc),
     };
-    let (adoption, mut stage) = act_from(alloc, blank, "(an adoption of empty files)", None)?;
+    let (adoption, mut stage) = act_from(
+        alloc,
+        blank,
+        "(an adoption of empty files)",
+        None,
+        between,
+    )?;
     let mut acts = Vec::new(alloc);
     acts.push(adoption)?;
     for step in steps(rt, text)?.into_vec() {
         let title = line_at(text, step.number);
-        let (act, next) = act_from(alloc, stage, title, Some(step.action))?;
+        let (act, next) = act_from(alloc, stage, title, Some(step.action), between)?;
         acts.push(act)?;
         stage = next;
     }

@@ -62,6 +62,11 @@ impl Saved {
         self.log.as_slice() == other.log.as_slice() && self.db.as_slice() == other.db.as_slice()
     }
 
+    /// Whether the file of the database has the same bytes.
+    pub fn has_database_of(&self, other: &Saved) -> bool {
+        self.db.as_slice() == other.db.as_slice()
+    }
+
     /// Files that hold the same, where the calls on this one stop after so many.
     pub fn stopping(&self, alloc: Global, side: Side, calls: u64) -> io::Result<PlayFiles> {
         let (log_calls, db_calls) = match side {

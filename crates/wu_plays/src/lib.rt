@@ -4,6 +4,7 @@
 
 mod course;
 mod disks;
+mod files;
 mod lives;
 mod memory;
 mod narrow;
@@ -12,6 +13,7 @@ mod runs;
 mod scripts;
 mod sessions;
 mod stops;
+mod tally;
 mod way;
 
 pub use scripts::{write_comment, write_status};

@@ -1,8 +1,9 @@
 //! A play over two files that stop several times in one life: each named command is cut, found as it was before or after
 //! it, and done again before the rest.
 
-use crate::course::{Act, Found, course};
+use crate::course::{Act, Between, Found, course};
 use crate::disks::{MOST_CALLS, Saved, Side, after_stop, are_stopped};
+use crate::files::Pages;
 use crate::runs::{Reach, run_over, views_of};
 use anyhow::{Result, bail, ensure};
 use std::alloc::Global;
@@ -26,12 +27,12 @@ fn stop_after(
     calls: u64,
 ) -> Result<(Option<Stop>, bool)> {
     let files = files.stopping(alloc, Side::Log, calls)?;
-    let mut left = run_over(alloc, files, act.action.as_ref());
+    let mut left = run_over(alloc, files, act.action.as_ref(), Pages::All)?;
     let is_stopped = are_stopped(&mut left.files);
-    if left.reach != Reach::Cut(Fault::Broken) {
+    let reach = left.end.reach;
+    if reach != Reach::Cut(Fault::Broken) {
         return Ok((None, is_stopped));
     }
-    let reach = left.reach;
     let files = after_stop(alloc, left.files)?;
     if act.found(views_of(alloc, &files)?.as_slice(), reach)? == wanted {
         Ok((Some(Stop { files, calls }), is_stopped))
@@ -82,8 +83,12 @@ fn cut(
 
 /// Does an act that no call stops. What the files hold then.
 fn go_on(alloc: Global, files: &Saved, act: &Act) -> Result<Saved> {
-    let left = run_over(alloc, files.files(alloc)?, act.action.as_ref());
-    ensure!(left.reach == Reach::Done, "{} ends with a fault", act.title);
+    let left = run_over(alloc, files.files(alloc)?, act.action.as_ref(), Pages::All)?;
+    ensure!(
+        left.end.reach == Reach::Done,
+        "{} ends with a fault",
+        act.title
+    );
     Ok(Saved::of(alloc, &left.files)?)
 }
 
@@ -119,7 +124,7 @@ pub fn play(
     numbers: &[usize],
     transcript: &mut Vec<u8>,
 ) -> Result<()> {
-    let acts = course(rt, text)?;
+    let acts = course(rt, text, Between::Closed)?;
     for wanted in [Found::Before, Found::After] {
         live(rt.alloc(), acts.as_slice(), numbers, wanted, transcript)?;
     }

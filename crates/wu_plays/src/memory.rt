@@ -3,7 +3,7 @@
 use crate::scripts::{DATABASE, action, write_comment, write_refusal, write_status};
 use crate::sessions::{adopt, do_action};
 use anyhow::Result;
-use sqlite::{Alter, Connection, MemStore};
+use sqlite::{Alter, Connection};
 use std::io::Write;
 use wu_cli::{Entry, fault_status, read_lines, write_fault};
 use wu_drive::Project;
@@ -38,12 +38,12 @@ fn renewed<S: Alter + Drop>(project: Project<S>) -> Result<Project<S>> {
 }
 
 /// Plays a line of the script.
-fn play_line(
+fn play_line<S: Alter + Drop>(
     rt: &HostRuntime,
-    mut project: Project<MemStore>,
+    mut project: Project<S>,
     line: &str,
     transcript: &mut Vec<u8>,
-) -> Result<Project<MemStore>> {
+) -> Result<Project<S>> {
     write_comment(line, transcript)?;
     for entry in read_lines(rt.alloc(), DATABASE, line.as_bytes())?.into_vec() {
         writeln!(transcript, "> {line}")?;
@@ -53,11 +53,26 @@ fn play_line(
     renewed(project)
 }
 
-/// Plays a script over a fresh project.
-pub fn play(rt: &HostRuntime, text: &str, transcript: &mut Vec<u8>) -> Result<()> {
-    let mut project = adopt(Connection::open_in_memory(rt.alloc())?)?;
+/// Plays a script over the project in a database.
+fn play_over<S: Alter + Drop>(
+    rt: &HostRuntime,
+    conn: Connection<S>,
+    text: &str,
+    transcript: &mut Vec<u8>,
+) -> Result<()> {
+    let mut project = adopt(conn)?;
     for line in text.lines() {
         project = play_line(rt, project, line, transcript)?;
     }
     Ok(())
+}
+
+/// Plays a script over a fresh project.
+pub fn play(rt: &HostRuntime, text: &str, transcript: &mut Vec<u8>) -> Result<()> {
+    play_over(
+        rt,
+        Connection::open_in_memory(rt.alloc())?,
+        text,
+        transcript,
+    )
 }

@@ -1,4 +1,4 @@
-//! A writer that takes so many bytes.
+//! A writer that takes so many bytes, and so many flushes.
 
 use std::alloc::Global;
 use std::io::{self, ErrorKind, Write};
@@ -10,20 +10,25 @@ pub enum Full {
     TakesNone,
 }
 
-/// A writer that takes so many bytes, and then no more.
+/// A writer that takes so many bytes, and then no more. So many flushes go well, and then they fail.
 #[derive(Drop)]
 pub struct Narrow {
     pub taken: Vec<u8>,
     room: usize,
     full: Full,
+    /// How many bytes were taken at each flush that went well.
+    pub flushed: Vec<usize>,
+    flushes: usize,
 }
 
 impl Narrow {
-    pub fn new(alloc: Global, room: usize, full: Full) -> Narrow {
+    pub fn new(alloc: Global, room: usize, full: Full, flushes: usize) -> Narrow {
         Narrow {
             taken: Vec::new(alloc),
             room,
             full,
+            flushed: Vec::new(alloc),
+            flushes,
         }
     }
 }
@@ -40,6 +45,11 @@ impl Write for Narrow {
     }
 
     fn flush(&mut self) -> io::Result<()> {
+        if self.flushes == 0 {
+            return Err(io::Error::from(ErrorKind::Other));
+        }
+        self.flushes -= 1;
+        self.flushed.push(self.taken.len())?;
         Ok(())
     }
 }

@@ -1,36 +1,56 @@
-//! A play into writers that take so many bytes, for each number up to the length of all that the script prints.
+//! A play into writers that take so many bytes, for each number up to the length of all that the script prints, and into
+//! those that take so many flushes.
 
 use crate::narrow::{Full, Narrow};
 use crate::scripts::steps;
 use crate::sessions::adopt;
 use anyhow::{Context, Result, ensure};
-use sqlite::Connection;
+use sqlite::{Alter, Connection};
 use std::alloc::Global;
 use std::io::Write;
 use wu_cli::{Step, fault_status, perform_script};
 use wu_core::Fault;
 
-/// Runs the script over a fresh project into a writer, and answers its status and the fault that ended it.
-fn run<W: Write>(alloc: Global, steps: &[Step], out: &mut W) -> Result<(u8, Option<Fault>)> {
-    let mut project = adopt(Connection::open_in_memory(alloc)?)?;
+/// Runs the script over the project in a database into a writer, and answers its status and the fault that ended it.
+fn run_over<S: Alter + Drop>(
+    alloc: Global,
+    conn: Connection<S>,
+    steps: &[Step],
+    out: &mut Narrow,
+) -> Result<(u8, Option<Fault>)> {
+    let mut project = adopt(conn)?;
     let (status, end) = perform_script(alloc, &mut project, steps, out);
     Ok((status, end.map(|end| end.fault)))
 }
 
+/// Runs the script over a fresh project.
+fn run(alloc: Global, steps: &[Step], out: &mut Narrow) -> Result<(u8, Option<Fault>)> {
+    run_over(alloc, Connection::open_in_memory(alloc)?, steps, out)
+}
+
+/// Sees that the fault of the output ended a run.
+fn is_cut(status: u8, end: Option<Fault>) -> Result<()> {
+    ensure!(end == Some(Fault::Output), "no fault of the output");
+    ensure!(status == fault_status(Fault::Output), "another status");
+    Ok(())
+}
+
+/// Sees that the beginning of the whole output with so many bytes went out.
+fn went_out(out: &Narrow, whole: &[u8], count: usize) -> Result<()> {
+    let is_same = Some(out.taken.as_slice()) == whole.get(..count);
+    ensure!(is_same, "other bytes");
+    Ok(())
+}
+
 /// Sees what goes out into a writer with so much room: the beginning of the whole output, and a fault where that is cut.
 fn cut(alloc: Global, steps: &[Step], whole: &[u8], room: usize, full: Full) -> Result<()> {
-    let mut out = Narrow::new(alloc, room, full);
+    let mut out = Narrow::new(alloc, room, full, usize::MAX);
     let (status, end) = run(alloc, steps, &mut out)?;
-    ensure!(
-        Some(out.taken.as_slice()) == whole.get(..room),
-        "other bytes"
-    );
+    went_out(&out, whole, room)?;
     if room < whole.len() {
-        ensure!(end == Some(Fault::Output), "no fault of the output");
-        ensure!(status == fault_status(Fault::Output), "another status");
-    } else {
-        ensure!(end.is_none() && status == 0, "a fault");
+        return is_cut(status, end);
     }
+    ensure!(end.is_none() && status == 0, "a fault");
     Ok(())
 }
 
@@ -42,20 +62,50 @@ fn cut_both(alloc: Global, steps: &[Step], whole: &[u8], room: usize) -> Result<
     Ok(())
 }
 
+/// Runs the script into a writer that takes all of it, and is flushed each time.
+fn run_whole(alloc: Global, steps: &[Step]) -> Result<Narrow> {
+    let mut out = Narrow::new(alloc, usize::MAX, Full::Fails, usize::MAX);
+    let (_, end) = run(alloc, steps, &mut out)?;
+    ensure!(end.is_none(), "the script ends with a fault");
+    Ok(out)
+}
+
+/// Lets each flush fail in turn, and tells where they are.
+fn fail_flushes(
+    alloc: Global,
+    steps: &[Step],
+    whole: &Narrow,
+    transcript: &mut Vec<u8>,
+) -> Result<()> {
+    write!(transcript, "flushed behind so many bytes:")?;
+    for (number, count) in whole.flushed.iter().enumerate() {
+        let mut out = Narrow::new(alloc, usize::MAX, Full::Fails, number);
+        let (status, end) = run(alloc, steps, &mut out)?;
+        went_out(&out, whole.taken.as_slice(), *count)?;
+        is_cut(status, end)?;
+        write!(transcript, " {count}")?;
+    }
+    writeln!(transcript)?;
+    writeln!(
+        transcript,
+        "where one of these flushes fails: F17 Output, status 5, and the bytes before"
+    )?;
+    Ok(())
+}
+
 /// Plays a script.
 pub fn play(rt: &HostRuntime, text: &str, transcript: &mut Vec<u8>) -> Result<()> {
     let steps = steps(rt, text)?;
-    let mut whole = Vec::new(rt.alloc());
-    let (_, end) = run(rt.alloc(), steps.as_slice(), &mut whole)?;
-    ensure!(end.is_none(), "the script ends with a fault");
-    transcript.write_all(whole.as_slice())?;
-    for room in 0..=whole.len() {
-        cut_both(rt.alloc(), steps.as_slice(), whole.as_slice(), room)?;
+    let whole = run_whole(rt.alloc(), steps.as_slice())?;
+    let taken = whole.taken.as_slice();
+    transcript.write_all(taken)?;
+    for room in 0..=taken.len() {
+        cut_both(rt.alloc(), steps.as_slice(), taken, room)?;
     }
     writeln!(
         transcript,
         "cut after each of {} bytes, by either writer: F17 Output, status 5, and the bytes before",
-        whole.len()
+        taken.len()
     )?;
-    Ok(())
+    fail_flushes(rt.alloc(), steps.as_slice(), &whole, transcript)
 }

@@ -1,10 +1,10 @@
 //! Runs of one act over two files: the adoption, or a line of a script.
 
 use crate::disks::{PlayFiles, Saved};
+use crate::files::{self, Pages, Visit, options, visit_files};
 use crate::sessions::{adopt, do_action, views};
-use anyhow::{Result, bail, ensure};
-use sqlite::{Alter, Connection, FileStore, Files, Options};
-use sqlite_disk::Disk;
+use anyhow::{Result, bail};
+use sqlite::{Alter, Connection};
 use std::alloc::Global;
 use wu_cli::Action;
 use wu_core::Fault;
@@ -21,94 +21,147 @@ pub enum Reach {
     Done,
 }
 
-/// What a run left of its files, and how far it came.
+/// How an act ended.
 #[derive(Drop)]
-pub struct Left<D: Disk> {
-    pub files: Files<D>,
+pub struct End {
     pub reach: Reach,
+    /// All views of a session that was begun again over the same database, behind a fault that ended the first.
+    pub again: Option<Vec<u8>>,
+}
+
+/// What a run left of its files, and how its act ended.
+#[derive(Drop)]
+pub struct Left {
+    pub files: PlayFiles,
+    pub end: End,
     /// Whether the close was answered too.
     pub is_closed: bool,
 }
 
-/// Adopts the project of a database, and does what is asked for.
-fn act<S: Alter>(
+/// Begins a session again, and looks at its project, as far as the files let it.
+fn begin_again<S: Alter + Drop>(
     alloc: Global,
-    conn: Connection<S>,
+    project: Project<S>,
+) -> (Connection<S>, Option<Vec<u8>>) {
+    match project.begin_again() {
+        Ok(mut project) => {
+            let seen = views(alloc, &mut project).ok();
+            (project.release(), seen)
+        }
+        Err((conn, _)) => (conn, None),
+    }
+}
+
+/// Does what is asked for in a session, where anything is.
+fn act<S: Alter + Drop>(
+    alloc: Global,
+    mut project: Project<S>,
     action: Option<&Action>,
-) -> (Connection<S>, Reach) {
-    let mut project = match Project::adopt(conn) {
-        Ok(project) => project,
-        Err((conn, _)) => return (conn, Reach::Unbegun),
-    };
-    let end = match action {
+) -> (Connection<S>, End) {
+    let fault = match action {
         Some(action) => do_action(alloc, &mut project, action, &mut Vec::new(alloc)),
         None => None,
     };
-    let reach = match end {
+    let reach = match fault {
         Some(fault) => Reach::Cut(fault),
         None => Reach::Done,
     };
-    (project.release(), reach)
+    let (conn, again) = if project.ended() {
+        begin_again(alloc, project)
+    } else {
+        (project.release(), None)
+    };
+    (conn, End { reach, again })
 }
 
-/// Closes a database as far as its files let it.
-fn close<D: Disk + Drop>(conn: Connection<FileStore<D>>, reach: Reach) -> Left<D> {
-    match conn.close_files() {
-        Ok(files) => Left {
-            files,
-            reach,
-            is_closed: true,
-        },
-        Err((_, store)) => Left {
-            files: store.close(),
-            reach,
-            is_closed: false,
-        },
+/// A session that does an act.
+#[derive(Drop)]
+struct Acting<'a> {
+    action: Option<&'a Action>,
+}
+
+impl<'a> Visit for Acting<'a> {
+    type Told = End;
+
+    fn visit<S: Alter + Drop>(
+        self,
+        alloc: Global,
+        conn: Connection<S>,
+    ) -> Result<(Connection<S>, End)> {
+        match Project::adopt(conn) {
+            Ok(project) => Ok(act(alloc, project, self.action)),
+            Err((conn, _)) => Ok((conn, unbegun())),
+        }
+    }
+}
+
+/// The end of an act whose session did not begin.
+fn unbegun() -> End {
+    End {
+        reach: Reach::Unbegun,
+        again: None,
     }
 }
 
 /// Opens files, adopts the project in them, does what is asked for, and closes them, as far as they let it.
-pub fn run_over<D: Disk + Drop>(
+pub fn run_over(
     alloc: Global,
-    files: Files<D>,
+    files: PlayFiles,
     action: Option<&Action>,
-) -> Left<D> {
-    if !files.may_be_used() {
-        return Left {
-            files,
-            reach: Reach::Unbegun,
-            is_closed: false,
-        };
-    }
-    match Connection::open_files(alloc, files, Options::new(1)) {
-        Ok(conn) => {
-            let (conn, reach) = act(alloc, conn, action);
-            close(conn, reach)
-        }
-        Err((_, left)) => Left {
-            files: left.into_files(),
-            reach: Reach::Unbegun,
-            is_closed: false,
-        },
+    pages: Pages,
+) -> Result<Left> {
+    let visited = visit_files(alloc, files, options(1, pages), Acting { action })?;
+    let files::Left {
+        files,
+        told,
+        is_closed,
+    } = visited;
+    let end = match told {
+        Some(end) => end,
+        None => unbegun(),
+    };
+    Ok(Left {
+        files,
+        end,
+        is_closed,
+    })
+}
+
+/// A look at all views of a project.
+#[derive(Drop)]
+struct Looking;
+
+impl Visit for Looking {
+    type Told = Vec<u8>;
+
+    fn visit<S: Alter + Drop>(
+        self,
+        alloc: Global,
+        conn: Connection<S>,
+    ) -> Result<(Connection<S>, Vec<u8>)> {
+        let mut project = adopt(conn)?;
+        let seen = views(alloc, &mut project)?;
+        Ok((project.release(), seen))
     }
 }
 
-/// The database in files that do not stop.
-pub fn opened<D: Disk + Drop>(alloc: Global, files: Files<D>) -> Result<Connection<FileStore<D>>> {
-    ensure!(files.may_be_used(), "a file can't be used");
-    match Connection::open_files(alloc, files, Options::new(2)) {
-        Ok(conn) => Ok(conn),
-        Err((error, _)) => bail!("the opening: {error}"),
+/// What a visitor tells over files that do not stop.
+pub fn told_over<V: Visit>(alloc: Global, saved: &Saved, visitor: V) -> Result<V::Told> {
+    let files = saved.files(alloc)?;
+    let visited = visit_files(alloc, files, options(2, Pages::All), visitor)?;
+    let files::Left {
+        files,
+        told,
+        is_closed: _,
+    } = visited;
+    drop(files);
+    match told {
+        Some(told) => Ok(told),
+        None => bail!("the files can't be opened"),
     }
-}
-
-/// All views of the project in a database.
-fn views_in<S: Alter + Drop>(alloc: Global, conn: Connection<S>) -> Result<Vec<u8>> {
-    views(alloc, &mut adopt(conn)?)
 }
 
 /// All views of the project in files.
 pub fn views_of(alloc: Global, saved: &Saved) -> Result<Vec<u8>> {
-    let files: PlayFiles = saved.files(alloc)?;
-    views_in(alloc, opened(alloc, files)?)
+    told_over(alloc, saved, Looking)
 }

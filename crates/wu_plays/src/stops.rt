@@ -1,15 +1,16 @@
 //! A play over two files, where the calls on one of them stop after each number of calls in turn. What is left is opened
 //! again, looked at in every view, and the rest of the script is played on.
 
-use crate::course::{Act, Found, course};
+use crate::course::{Act, Between, Found, course};
 use crate::disks::{MOST_CALLS, Saved, Side, after_stop, are_stopped};
-use crate::runs::{Reach, opened, run_over};
+use crate::files::{Pages, Visit};
+use crate::runs::{End, Left, Reach, run_over, told_over};
 use crate::sessions::{adopt, do_action, is_blank, views};
-use anyhow::{Context, Result, ensure};
-use sqlite::{Alter, Connection, Files};
-use sqlite_disk::Disk;
+use crate::tally::{Find, Finds, Tally};
+use anyhow::{Context, Result, bail, ensure};
+use sqlite::{Alter, Connection};
 use std::alloc::Global;
-use std::io::{self, Write};
+use std::io::Write;
 use wu_core::Fault;
 use wu_drive::Project;
 
@@ -42,100 +43,52 @@ fn look<S: Alter + Drop>(alloc: Global, mut conn: Connection<S>) -> Result<(Proj
     Ok((project, seen))
 }
 
-/// Sees what is left of a cut act, does the act again and the rest, and sees that the end is that of the course.
-fn go_on<S: Alter + Drop>(
-    alloc: Global,
-    conn: Connection<S>,
-    cut: &Act,
-    rest: &[Act],
-    reach: Reach,
-) -> Result<Found> {
-    let (mut project, seen) = look(alloc, conn)?;
-    let found = cut.found(seen.as_slice(), reach)?;
-    do_act(alloc, &mut project, cut, found == Found::After)?;
-    let mut end = cut.after.as_slice();
-    for act in rest {
-        do_act(alloc, &mut project, act, false)?;
-        end = act.after.as_slice();
-    }
-    ensure!(views(alloc, &mut project)?.as_slice() == end, "another end");
-    Ok(found)
-}
-
-/// Opens what is left of a cut act, and goes on.
-fn go_on_over<D: Disk + Drop>(
-    alloc: Global,
-    files: Files<D>,
-    cut: &Act,
-    rest: &[Act],
-    reach: Reach,
-) -> Result<Found> {
-    go_on(alloc, opened(alloc, files)?, cut, rest, reach)
-}
-
-/// What is left of a cut act, and what was found there.
-#[derive(Drop)]
-struct Find {
-    files: Saved,
-    reach: Reach,
-    found: Found,
-}
-
-impl Find {
-    /// What was found, where the same was left.
-    fn known(&self, files: &Saved, reach: Reach) -> Option<Found> {
-        if self.reach == reach && self.files.is_same(files) {
-            Some(self.found)
-        } else {
-            None
-        }
-    }
-}
-
-/// What was found after the stops of an act.
-#[derive(Drop)]
-struct Counts {
-    before: u64,
-    after: u64,
-    /// The latest find. Where the next stop leaves the same, the same is found, and it is not played on again.
-    latest: Option<Find>,
-}
-
-impl Counts {
-    fn new() -> Counts {
-        Counts {
-            before: 0,
-            after: 0,
-            latest: None,
-        }
-    }
-
-    /// Counts a find.
-    fn count(&mut self, find: Find) {
-        match find.found {
-            Found::Before => self.before = self.before.saturating_add(1),
-            Found::After => self.after = self.after.saturating_add(1),
-        }
-        self.latest = Some(find);
-    }
-
-    /// Writes how many stops there were.
-    fn write(&self, transcript: &mut Vec<u8>) -> io::Result<()> {
-        let stops = self.before.saturating_add(self.after);
-        write!(
-            transcript,
-            "{stops} stops, {} before, {} after",
-            self.before, self.after
-        )
-    }
-}
-
 /// An act that is stopped, and those after it.
 #[derive(Clone, Copy)]
 struct Case<'a> {
     act: &'a Act,
     rest: &'a [Act],
     side: Side,
+    pages: Pages,
+}
+
+/// Does the act again and the rest, and sees that the end is that of the course.
+fn go_on<S: Alter>(
+    alloc: Global,
+    project: &mut Project<S>,
+    case: Case<'_>,
+    found: Found,
+) -> Result<()> {
+    do_act(alloc, project, case.act, found == Found::After)?;
+    let mut end = case.act.after.as_slice();
+    for act in case.rest {
+        do_act(alloc, project, act, false)?;
+        end = act.after.as_slice();
+    }
+    ensure!(views(alloc, project)?.as_slice() == end, "another end");
+    Ok(())
+}
+
+/// A session that goes on so.
+#[derive(Drop)]
+struct GoingOn<'a> {
+    case: Case<'a>,
+    reach: Reach,
+}
+
+impl<'a> Visit for GoingOn<'a> {
+    type Told = Found;
+
+    fn visit<S: Alter + Drop>(
+        self,
+        alloc: Global,
+        conn: Connection<S>,
+    ) -> Result<(Connection<S>, Found)> {
+        let (mut project, seen) = look(alloc, conn)?;
+        let found = self.case.act.found(seen.as_slice(), self.reach)?;
+        go_on(alloc, &mut project, self.case, found)?;
+        Ok((project.release(), found))
+    }
 }
 
 /// What the files that a stop left go on to, by the latest find where that was the same.
@@ -144,15 +97,11 @@ fn play_on(
     case: Case<'_>,
     files: Saved,
     reach: Reach,
-    latest: &Option<Find>,
+    finds: &Finds,
 ) -> Result<Find> {
-    let known = match latest {
-        Some(find) => find.known(&files, reach),
-        None => None,
-    };
-    let found = match known {
+    let found = match finds.known(&files, reach) {
         Some(found) => found,
-        None => go_on_over(alloc, files.files(alloc)?, case.act, case.rest, reach)?,
+        None => told_over(alloc, &files, GoingOn { case, reach })?,
     };
     Ok(Find {
         files,
@@ -161,73 +110,84 @@ fn play_on(
     })
 }
 
-/// Stops an act after so many calls, and goes on with either loss. Whether the calls stopped.
-fn stop(
-    alloc: Global,
-    case: Case<'_>,
-    calls: u64,
-    lost: &mut Counts,
-    kept: &mut Counts,
-) -> Result<bool> {
-    let files = case.act.files.stopping(alloc, case.side, calls)?;
-    let mut left = run_over(alloc, files, case.act.action.as_ref());
-    let is_stopped = are_stopped(&mut left.files);
-    let reach = left.reach;
+/// Sees that what was told of an act is right where calls stopped or not.
+fn is_right(case: Case<'_>, left: &Left, is_stopped: bool) -> Result<()> {
     ensure!(
-        is_stopped || reach == Reach::Done && left.is_closed,
+        is_stopped || left.end.reach == Reach::Done && left.is_closed,
         "a fault without a stop"
     );
-    if let Reach::Cut(fault) = reach {
+    if let Reach::Cut(fault) = left.end.reach {
         ensure!(fault == Fault::Broken, "{fault}");
     }
-    let written = Saved::of(alloc, &left.files)?;
-    let synced = after_stop(alloc, left.files)?;
-    let with_all = play_on(alloc, case, written, reach, &kept.latest)?;
-    let without = play_on(alloc, case, synced, reach, &lost.latest)?;
+    if let Some(seen) = &left.end.again {
+        ensure!(
+            seen.as_slice() == case.act.before.as_slice(),
+            "a session begins again over another state"
+        );
+    }
+    Ok(())
+}
+
+/// Stops an act after so many calls, and goes on with either loss. Whether the calls stopped.
+fn stop(alloc: Global, case: Case<'_>, calls: u64, tally: &mut Tally) -> Result<bool> {
+    let files = case.act.files.stopping(alloc, case.side, calls)?;
+    let mut left = run_over(alloc, files, case.act.action.as_ref(), case.pages)?;
+    let is_stopped = are_stopped(&mut left.files);
+    is_right(case, &left, is_stopped)?;
+    let Left { files, end, .. } = left;
+    let written = Saved::of(alloc, &files)?;
+    let synced = after_stop(alloc, files)?;
+    let has_bytes = written.has_database_of(&case.act.files);
+    let with_all = play_on(alloc, case, written, end.reach, &tally.kept)?;
+    let without = play_on(alloc, case, synced, end.reach, &tally.lost)?;
     if is_stopped {
-        kept.count(with_all);
-        lost.count(without);
+        tally.ends.count(&end, has_bytes);
+        tally.kept.count(with_all);
+        tally.lost.count(without);
     }
     Ok(is_stopped)
 }
 
-/// Stops an act after each number of calls on a file, up to one that it does not reach, and tells what was found.
-fn stop_each(alloc: Global, case: Case<'_>, transcript: &mut Vec<u8>) -> Result<()> {
-    let mut lost = Counts::new();
-    let mut kept = Counts::new();
-    let mut goes_on = true;
+/// Stops an act after each number of calls on a file, up to one that it does not reach: what was found.
+fn stop_each(alloc: Global, case: Case<'_>) -> Result<Tally> {
+    let mut tally = Tally::new();
     for calls in 0..MOST_CALLS {
-        let is_stopped = stop(alloc, case, calls, &mut lost, &mut kept).context(format_args!(
+        let is_stopped = stop(alloc, case, calls, &mut tally).context(format_args!(
             "after {calls} calls on the {}",
             case.side
         ))?;
         if !is_stopped {
-            goes_on = false;
-            break;
+            return Ok(tally);
         }
     }
-    ensure!(!goes_on, "the calls on the {} go on", case.side);
-    ensure!(lost.before > 0 && kept.before > 0, "no stop");
-    write!(transcript, "{}: ", case.side)?;
-    lost.write(transcript)?;
-    write!(transcript, "; where all that was written is kept ")?;
-    kept.write(transcript)?;
-    writeln!(transcript)?;
-    Ok(())
+    bail!("the calls on the {} go on", case.side)
 }
 
 /// Plays a script.
-pub fn play(rt: &HostRuntime, text: &str, transcript: &mut Vec<u8>) -> Result<()> {
-    let acts = course(rt, text)?;
+pub fn play(
+    rt: &HostRuntime,
+    text: &str,
+    between: Between,
+    pages: Pages,
+    transcript: &mut Vec<u8>,
+) -> Result<()> {
+    let acts = course(rt, text, between)?;
     for at in 0..acts.len() {
         let Some([act, rest @ ..]) = acts.as_slice().get(at..) else {
             break;
         };
         writeln!(transcript, "> {}", act.title)?;
-        let side = Side::Log;
-        stop_each(rt.alloc(), Case { act, rest, side }, transcript)?;
-        let side = Side::Database;
-        stop_each(rt.alloc(), Case { act, rest, side }, transcript)?;
+        for side in [Side::Log, Side::Database] {
+            let case = Case {
+                act,
+                rest,
+                side,
+                pages,
+            };
+            let tally = stop_each(rt.alloc(), case)?;
+            ensure!(tally.lost.before > 0 && tally.kept.before > 0, "no stop");
+            tally.write(case.act, side, transcript)?;
+        }
     }
     Ok(())
 }

@@ -1,5 +1,7 @@
 //! How a script is played.
 
+use crate::course::Between;
+use crate::files::Pages;
 use crate::{lives, memory, outputs, stops};
 use anyhow::{Result, bail};
 use std::alloc::Global;
@@ -9,8 +11,8 @@ use std::alloc::Global;
 pub enum Way {
     /// Over a database in memory, each line a command of its own.
     Memory,
-    /// Over two files that stop at each call.
-    Stops,
+    /// Over two files that stop at each call, left so between the acts, with so many pages in memory.
+    Stops(Between, Pages),
     /// Over two files that stop at the commands of these numbers, from 1.
     Lives(Vec<usize>),
     /// Into writers that fail after each byte.
@@ -31,7 +33,9 @@ impl Way {
     pub fn read<'a>(alloc: Global, name: &str, rest: &[&'a str]) -> Result<Way> {
         let way = match name {
             "memory" => Way::Memory,
-            "stops" => Way::Stops,
+            "stops" => Way::Stops(Between::Closed, Pages::All),
+            "few_pages" => Way::Stops(Between::Closed, Pages::Few),
+            "unclosed" => Way::Stops(Between::Unclosed, Pages::All),
             "lives" => Way::Lives(numbers(alloc, rest)?),
             "outputs" => Way::Outputs,
             _ => bail!("no way to play"),
@@ -43,7 +47,7 @@ impl Way {
     pub fn play(&self, rt: &HostRuntime, text: &str, transcript: &mut Vec<u8>) -> Result<()> {
         match self {
             Way::Memory => memory::play(rt, text, transcript),
-            Way::Stops => stops::play(rt, text, transcript),
+            Way::Stops(between, pages) => stops::play(rt, text, *between, *pages, transcript),
             Way::Lives(numbers) => lives::play(rt, text, numbers.as_slice(), transcript),
             Way::Outputs => outputs::play(rt, text, transcript),
         }

@@ -94,7 +94,7 @@ fn obey_here(rt: &HostRuntime, words: &[String]) -> u8 {
     }
 }
 
-/// The demonstration. On a fault it prints nothing more.
+/// The demonstration, and the status to end with: 0, or 1 on a fault.
 fn demonstrate(rt: &HostRuntime) -> u8 {
     match demo(rt.alloc(), &mut rt.stdout()) {
         None => 0,

@@ -1,5 +1,5 @@
 -- The lines that a walk hands out are written one after another.
-use Rattle.std.proofs.Common.{◌≡◌, ◌⊎◌, inl, inr, ℕ, List, [], ◌∷◌, ◌++◌, flat_map, Option, Some, None, arith, sym, ap, subst, ◌∙◌, append_assoc, append-nil}
+use Rattle.std.proofs.Common.{◌≡◌, ℕ, List, [], ◌∷◌, ◌++◌, flat_map, Option, Some, None, arith, sym, ap, subst, ◌∙◌, append_assoc, append-nil}
 use Rattle.std.proofs.KnownBytes.{Appends-trans}
 use Rattle.std.proofs.lemmas.List.Concat.{flat_map-append}
 use Rattle.std.specs.Prelude.{IsTrue}
@@ -7,21 +7,12 @@ use Rattle.std.specs.Io.KnownBytes.{Appends}
 use Rattle.std.specs.declared.vec.IntoIter.{IntoIter}
 use Rattle.sqlite.specs.State.{HasCleanDisk}
 use Rattle.sqlite_trees.specs.declared.store.Store.{Ghosts}
-use Rattle.wu_core.specs.declared.fault.Fault.{Fault}
-use Rattle.wu_core.specs.declared.fault.Fault.TheVariants.{NotAProject}
-use Rattle.wu_schema.specs.Faults.{IsFailure}
 use Rattle.wu_passes.proofs.WalkLemmas.{reads_then}
 use Rattle.wu_passes.specs.declared.project.walk.LineWalk.{LineWalk}
 use Rattle.wu_passes.specs.Projects.{state_of}
 use Rattle.wu_passes.specs.Walks.{HandsFirst, HasLeft, OnlyReads, walked}
 use Rattle.wu_report.proofs.WritingLemmas.{AppendsFront-after, AppendsFront-longer, AppendsFront-part}
 use Rattle.wu_report.specs.Writing.{AppendsFront}
-
--- what holds after each fault but want of memory or of the disk holds after a refusal
-pub refused_still : {Is : Type 0} (fault : Fault) → fault ≡ NotAProject → IsFailure fault ⊎ Is → Is
-refused_still fault refused (inl (inl memory)) = absurd (let no = sym refused ∙ memory in cc)
-refused_still fault refused (inl (inr broken)) = absurd (let no = sym refused ∙ broken in cc)
-refused_still fault refused (inr still) = still
 
 -- the lines that were there are those that were written, and then those that the walk has left
 abbrev pub HasShown : {S A T : Type 0} {g : Ghosts S} → (T → List ℕ) → LineWalk S (IntoIter T A) g → Option (List ℕ) → Option (List ℕ) → List T → Type 0

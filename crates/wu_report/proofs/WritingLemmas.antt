@@ -1,12 +1,13 @@
 -- One write after another.
-use Rattle.std.proofs.Common.{◌≡◌, ℕ, zero, ◌+◌, ◌-◌, ◌<◌, List, [], ◌∷◌, ◌++◌, length, take, drop, get_or, flat_map, Option, Result, Ok, Err, sym, ap, arith, subst, ◌∙◌, append_assoc, append-nil, take-append-drop}
-use Rattle.std.proofs.Math.Seq.{take-append_seam}
-use Rattle.std.proofs.lemmas.List.{take_rest, take_all, take_more, drop_more}
+use Rattle.std.proofs.Common.{◌≡◌, ℕ, zero, ◌+◌, ◌-◌, ◌<◌, List, [], ◌∷◌, ◌++◌, length, take, drop, get_or, flat_map, Option, Result, Ok, Err, sym, ap, arith, subst, ◌∙◌, append_assoc, append-nil, length-append, take-append-drop}
+use Rattle.std.proofs.Math.Seq.{take-append-add, take-append_seam}
+use Rattle.std.proofs.lemmas.List.{take-append-le, take_rest, take_all, take_more, drop_more}
 use Rattle.std.proofs.lemmas.List.Concat.{flat_map-append}
 use Rattle.std.proofs.KnownBytes.{Appends-nil, Appends-trans, Appends-kept}
 use Rattle.std.specs.Io.KnownBytes.{Appends, Keeps}
+use Rattle.std.specs.Prelude.{IfErr}
 use Rattle.std.specs.Result.{IsErr}
-use Rattle.wu_report.specs.Writing.{AppendsFront, Writes}
+use Rattle.wu_report.specs.Writing.{AppendsFront, IsCut, Writes}
 
 -- a front of the first part is a front of the whole
 pub AppendsFront-longer : (a b : Option (List ℕ)) (xs ys : List ℕ) → AppendsFront a b xs → AppendsFront a b (xs ++ ys)
@@ -39,9 +40,17 @@ Writes-after a b c xs ys (Err e) whole h = AppendsFront-after a b c xs ys whole 
 pub AppendsFront-part : (a b : Option (List ℕ)) (xs ys : List ℕ) → Appends a b xs → AppendsFront a b (xs ++ ys)
 AppendsFront-part a b xs ys h = (length xs, subst (Appends a b) (sym (take-append_seam xs ys)) h)
 
+-- what is kept has nothing more
+pub Appends-none : (a b : Option (List ℕ)) → Keeps a b → Appends a b []
+Appends-none a b kept = Appends-kept a a b [] (Appends-nil a) kept
+
+-- none was taken
+pub Appends-nought : (a b : Option (List ℕ)) (bytes : List ℕ) (n : ℕ) → n ≡ 0 → Appends a b (take n bytes) → Appends a b []
+Appends-nought a b bytes n is h = subst (λ m. Appends a b (take m bytes)) is h
+
 -- nothing was written
 pub AppendsFront-kept : (a b : Option (List ℕ)) (xs : List ℕ) → Keeps a b → AppendsFront a b xs
-AppendsFront-kept a b xs h = (zero, Appends-kept a a b [] (Appends-nil a) h)
+AppendsFront-kept a b xs h = (zero, Appends-none a b h)
 
 -- a call that failed after a front
 pub Writes-failed : {T E : Type 0} (a b : Option (List ℕ)) (bytes : List ℕ) (r : Result T E) → IsErr r → AppendsFront a b bytes → Writes a b bytes r
@@ -52,6 +61,35 @@ Writes-failed a b bytes (Err fault) failed h = h
 pub Writes-kept : {T E : Type 0} (a b c : Option (List ℕ)) (xs : List ℕ) (r : Result T E) → Appends a b xs → Keeps b c → Writes a c xs r
 Writes-kept a b c xs (Ok x) whole kept = Appends-kept a b c xs whole kept
 Writes-kept a b c xs (Err e) whole kept = (length xs, subst (Appends a c) (sym (take_all (length xs) xs (omega arith))) (Appends-kept a b c xs whole kept))
+
+-- ---- what is cut
+
+-- a part went out, and something is left
+pub IsCut-part : (a b c : Option (List ℕ)) (bytes done rest : List ℕ) → bytes ≡ done ++ rest → 0 < length rest → Appends a b done → Appends b c [] → IsCut a c bytes
+unfolding IsCut
+IsCut-part a b c bytes done rest is left part none =
+    let longer : length done < length (done ++ rest) = omega (arith, length-append done rest) in
+    let all : take (length done) (done ++ rest) ≡ done ++ [] = take-append_seam done rest ∙ sym (append-nil done) in
+    subst (IsCut a c) (sym is) (length done, longer, subst (Appends a c) (sym all) (Appends-trans a b c done [] part none))
+
+-- what is cut is cut with more behind it
+pub IsCut-longer : (a b : Option (List ℕ)) (xs ys : List ℕ) → IsCut a b xs → IsCut a b (xs ++ ys)
+unfolding IsCut
+IsCut-longer a b xs ys (count, less, h) =
+    let longer : count < length (xs ++ ys) = omega (arith, length-append xs ys, less) in
+    (count, longer, subst (Appends a b) (sym (take-append-le count xs ys (omega (arith, less)))) h)
+
+-- and with more before it
+pub IsCut-after : (a b c : Option (List ℕ)) (xs ys : List ℕ) → Appends a b xs → IsCut b c ys → IsCut a c (xs ++ ys)
+unfolding IsCut
+IsCut-after a b c xs ys whole (count, less, h) =
+    let longer : length xs + count < length (xs ++ ys) = omega (arith, length-append xs ys, less) in
+    (length xs + count, longer, subst (Appends a c) (sym (take-append-add xs ys count)) (Appends-trans a b c xs (take count ys) whole h))
+
+-- a call that failed, and cut the bytes
+pub cut_failed : {T E : Type 0} (a b : Option (List ℕ)) (bytes : List ℕ) (r : Result T E) → IsErr r → IsCut a b bytes → IfErr r (λ _. IsCut a b bytes)
+cut_failed a b bytes (Ok x) failed h = tt
+cut_failed a b bytes (Err fault) failed h = h
 
 -- a part is gone from the front of the rest
 pub moves_front : (all done rest : List ℕ) (n : ℕ) → all ≡ done ++ rest → all ≡ (done ++ take n rest) ++ take (length rest - n) (drop n rest)

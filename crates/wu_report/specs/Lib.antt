@@ -3,3 +3,4 @@ pub mod Writing
 pub mod Projects
 pub mod Views
 pub mod Examples
+pub mod Seeing

@@ -1,5 +1,5 @@
 -- What a call leaves in a writer, where what it holds is known.
-use Rattle.std.specs.Prelude.{ℕ, List, take, Option, Result, MatchResult}
+use Rattle.std.specs.Prelude.{ℕ, ◌<◌, List, length, take, Option, Result, IfErr, MatchResult}
 use Rattle.std.specs.Fmt.{decimal}
 use Rattle.std.specs.Io.KnownBytes.{Appends}
 use Rattle.hex.specs.Hex.{encode_lower}
@@ -18,6 +18,14 @@ Writes old new bytes result = MatchResult result (λ _. Appends old new bytes) (
 -- so it is with the contents of a writer before a call and after it
 abbrev pub WritesTo : {W T E : Type 0} → (W → Option (List ℕ)) → W → W → List ℕ → Result T E → Type 0
 WritesTo contents old new text result = Writes (contents old) (contents new) text result
+
+-- a beginning of the bytes was appended that is not all of them
+unfoldable pub IsCut : Option (List ℕ) → Option (List ℕ) → List ℕ → Type 0
+IsCut old new bytes = (count : ℕ) × (count < length bytes) × Appends old new (take count bytes)
+
+-- what fails has cut the text: one that went out whole is never told as failed
+abbrev pub CutsWhatFails : {W T E : Type 0} → (W → Option (List ℕ)) → W → W → List ℕ → Result T E → Type 0
+CutsWhatFails contents old new text result = IfErr result (λ _. IsCut (contents old) (contents new) text)
 
 -- the text of a piece
 abbrev pub piece_text : Piece → List ℕ

@@ -3,7 +3,7 @@
 ghost use Rattle.std.specs.Prelude.{◌≡◌, IsOkUnless};
 ghost use Rattle.wu_core.specs.declared.fault.Fault.TheVariants.{Output};
 ghost use Rattle.wu_report.specs.Texts.{bytes_text, or_dash, summary_lines};
-ghost use Rattle.wu_report.specs.Writing.{piece_text, WritesTo};
+ghost use Rattle.wu_report.specs.Writing.{CutsWhatFails, piece_text, WritesTo};
 
 use crate::output::{Piece, write_pieces};
 use std::io::Write;
@@ -14,7 +14,7 @@ use wu_store::{HostLine, ResultLine, Summary, WorkunitLine};
 pub trait Line: Drop {
     ghost use Rattle.std.specs.Prelude.{ℕ, List, IsOkUnless};
     ghost use Rattle.wu_core.specs.declared.fault.Fault.TheVariants.{Output};
-    ghost use Rattle.wu_report.specs.Writing.{WritesTo};
+    ghost use Rattle.wu_report.specs.Writing.{CutsWhatFails, WritesTo};
 
     /// The line, with its end.
     ghost text: { Self → List ℕ };
@@ -22,6 +22,7 @@ pub trait Line: Drop {
     /// Writes the line.
     fn write<W: Write>(&self, out: &mut W) -> Result<(), Fault>
         ensures bytes { WritesTo W.contents out.old out.new (text self.now) result }
+        ensures cut { CutsWhatFails W.contents out.old out.new (text self.now) result }
         ensures fault { IsOkUnless result Output };
 }
 
@@ -176,6 +177,7 @@ impl Line for Archived {
 /// Writes the eleven lines of a summary.
 pub fn write_summary<W: Write>(out: &mut W, summary: &Summary) -> Result<(), Fault>
     ensures bytes { WritesTo W.contents out.old out.new (summary_lines summary.now) result }
+    ensures cut { CutsWhatFails W.contents out.old out.new (summary_lines summary.now) result }
     ensures fault { IsOkUnless result Output }
 {
     write_pieces(

@@ -7,7 +7,7 @@ ghost use Rattle.hex.specs.Hex.{encode_lower};
 ghost use Rattle.wu_core.specs.Limits.{last_deadline};
 ghost use Rattle.wu_core.specs.declared.fault.Fault.TheVariants.{Output};
 ghost use Rattle.wu_report.specs.Texts.{moment_text};
-ghost use Rattle.wu_report.specs.Writing.{piece_text, WritesTo};
+ghost use Rattle.wu_report.specs.Writing.{CutsWhatFails, piece_text, WritesTo};
 
 use hex::encode_to_slice;
 use itoa::Buffer;
@@ -32,11 +32,12 @@ pub enum Piece<'a> {
     Hex(&'a [u8]),
 }
 
-/// Writes all bytes. A fault, or a `write` that takes no byte, is `Output`.
+/// Writes all bytes. A fault, or a `write` that takes no byte, is `Output`: some bytes were not written then.
 ///
 /// `write_all` does not say what it wrote before it failed; this says that it was a beginning of the bytes.
 fn write_bytes<W: Write>(out: &mut W, bytes: &[u8]) -> Result<(), Fault>
     ensures bytes { WritesTo W.contents out.old out.new bytes.now result }
+    ensures cut { CutsWhatFails W.contents out.old out.new bytes.now result }
     ensures fault { IsOkUnless result Output }
 {
     let mut rest = bytes;
@@ -53,6 +54,7 @@ fn write_bytes<W: Write>(out: &mut W, bytes: &[u8]) -> Result<(), Fault>
 /// Writes the number in decimal, without leading zeros.
 fn write_number<W: Write>(out: &mut W, number: u64) -> Result<(), Fault>
     ensures bytes { WritesTo W.contents out.old out.new (decimal number) result }
+    ensures cut { CutsWhatFails W.contents out.old out.new (decimal number) result }
     ensures fault { IsOkUnless result Output }
 {
     let mut digits = Buffer::new();
@@ -63,6 +65,7 @@ fn write_number<W: Write>(out: &mut W, number: u64) -> Result<(), Fault>
 fn write_seconds<W: Write>(out: &mut W, seconds: u64) -> Result<(), Fault>
     requires { seconds ≤ last_deadline }
     ensures bytes { WritesTo W.contents out.old out.new (moment_text seconds) result }
+    ensures cut { CutsWhatFails W.contents out.old out.new (moment_text seconds) result }
     ensures fault { IsOkUnless result Output }
 {
     let Ok(timestamp) = Timestamp::from_second(seconds as i64) else {
@@ -75,6 +78,7 @@ fn write_seconds<W: Write>(out: &mut W, seconds: u64) -> Result<(), Fault>
 /// Writes the two digits of a byte.
 fn write_hex_byte<W: Write>(out: &mut W, byte: u8) -> Result<(), Fault>
     ensures bytes { WritesTo W.contents out.old out.new (encode_lower (byte ∷ [])) result }
+    ensures cut { CutsWhatFails W.contents out.old out.new (encode_lower (byte ∷ [])) result }
     ensures fault { IsOkUnless result Output }
 {
     let mut digits = [0; 2];
@@ -87,6 +91,7 @@ fn write_hex_byte<W: Write>(out: &mut W, byte: u8) -> Result<(), Fault>
 /// Writes the digits of each byte.
 fn write_hex<W: Write>(out: &mut W, bytes: &[u8]) -> Result<(), Fault>
     ensures bytes { WritesTo W.contents out.old out.new (encode_lower bytes.now) result }
+    ensures cut { CutsWhatFails W.contents out.old out.new (encode_lower bytes.now) result }
     ensures fault { IsOkUnless result Output }
 {
     for byte in bytes {
@@ -98,6 +103,7 @@ fn write_hex<W: Write>(out: &mut W, bytes: &[u8]) -> Result<(), Fault>
 /// Writes a piece of a line.
 fn write_piece<W: Write>(out: &mut W, piece: &Piece<'_>) -> Result<(), Fault>
     ensures bytes { WritesTo W.contents out.old out.new (piece_text piece.now) result }
+    ensures cut { CutsWhatFails W.contents out.old out.new (piece_text piece.now) result }
     ensures fault { IsOkUnless result Output }
 {
     match piece {
@@ -114,6 +120,7 @@ fn write_piece<W: Write>(out: &mut W, piece: &Piece<'_>) -> Result<(), Fault>
 /// Writes the pieces in turn.
 pub fn write_pieces<W: Write>(out: &mut W, pieces: &[Piece<'_>]) -> Result<(), Fault>
     ensures bytes { WritesTo W.contents out.old out.new (flat_map piece_text pieces.now) result }
+    ensures cut { CutsWhatFails W.contents out.old out.new (flat_map piece_text pieces.now) result }
     ensures fault { IsOkUnless result Output }
 {
     for piece in pieces {

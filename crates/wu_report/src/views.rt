@@ -1,11 +1,11 @@
 //! The views of a project, as text.
 
-ghost use Rattle.std.specs.Prelude.{◌≡◌, Err, IfErr};
-ghost use Rattle.wu_report.specs.Projects.{EndsAsBroken, KeepsWorld};
+ghost use Rattle.std.specs.Prelude.{◌≡◌, IfErr};
+ghost use Rattle.wu_report.specs.Projects.{EndsAsBroken};
+ghost use Rattle.wu_report.specs.Seeing.{Sees};
 ghost use Rattle.wu_report.specs.Views.{FailsToWrite, IsViewFault, RefusesEnded, Shows, ShowsUnrefused, WritesLeft};
 ghost use Rattle.wu_store.specs.Loading.{IsRead};
-ghost use Rattle.wu_passes.specs.Projects.{GoesStill, IsOver, KeepsLimit, ServesOn, state_of};
-ghost use Rattle.wu_passes.specs.Standing.{KeepsDoubt};
+ghost use Rattle.wu_passes.specs.Projects.{BreaksOn, GoesStill, KeepsLimit, ServesOn, state_of};
 ghost use Rattle.wu_passes.specs.Walks.{OnlyReads, StaysServing, walked};
 
 use crate::lines::{Line, write_summary};
@@ -47,6 +47,7 @@ fn write_workunits<S: Alter, W: Write>(
     ensures text { Shows W.contents project.old project.new out.old out.new View.Workunits result }
     ensures fault { GoesStill project.old → IfErr result IsViewFault }
     ensures unrefused { ShowsUnrefused project.old project.new View.Workunits result }
+    ensures broke { BreaksOn project.old project.new result }
 {
     let mut walk = project.walk_workunits(alloc)?;
     write_lines(&mut walk, out)
@@ -64,6 +65,7 @@ fn write_results<S: Alter, W: Write>(
     ensures text { Shows W.contents project.old project.new out.old out.new View.Results result }
     ensures fault { GoesStill project.old → IfErr result IsViewFault }
     ensures unrefused { ShowsUnrefused project.old project.new View.Results result }
+    ensures broke { BreaksOn project.old project.new result }
 {
     let mut walk = project.walk_results(alloc)?;
     write_lines(&mut walk, out)
@@ -81,6 +83,7 @@ fn write_hosts<S: Alter, W: Write>(
     ensures text { Shows W.contents project.old project.new out.old out.new View.Hosts result }
     ensures fault { GoesStill project.old → IfErr result IsViewFault }
     ensures unrefused { ShowsUnrefused project.old project.new View.Hosts result }
+    ensures broke { BreaksOn project.old project.new result }
 {
     let mut walk = project.walk_hosts(alloc)?;
     write_lines(&mut walk, out)
@@ -98,12 +101,13 @@ fn write_archive<S: Alter, W: Write>(
     ensures text { Shows W.contents project.old project.new out.old out.new View.Archive result }
     ensures fault { GoesStill project.old → IfErr result IsViewFault }
     ensures unrefused { ShowsUnrefused project.old project.new View.Archive result }
+    ensures broke { BreaksOn project.old project.new result }
 {
     let mut walk = project.walk_archive(alloc)?;
     write_lines(&mut walk, out)
 }
 
-/// Writes the lines of the summary. `Broken` ends the session.
+/// Writes the lines of the summary. Only `Broken` ends the session.
 fn write_counts<S: Alter, W: Write>(project: &mut Project<S>, out: &mut W) -> Result<(), Fault>
     ensures ended { RefusesEnded W.contents project.old project.new out.old out.new result }
     ensures reads { IsRead (state_of project.old) (state_of project.new) }
@@ -113,6 +117,7 @@ fn write_counts<S: Alter, W: Write>(project: &mut Project<S>, out: &mut W) -> Re
     ensures text { Shows W.contents project.old project.new out.old out.new View.Summary result }
     ensures fault { GoesStill project.old → IfErr result IsViewFault }
     ensures unrefused { ShowsUnrefused project.old project.new View.Summary result }
+    ensures broke { BreaksOn project.old project.new result }
 {
     let summary = project.summary()?;
     write_summary(out, &summary)
@@ -133,6 +138,7 @@ fn write_view<S: Alter, W: Write>(
     ensures text { Shows W.contents project.old project.new out.old out.new view result }
     ensures fault { GoesStill project.old → IfErr result IsViewFault }
     ensures unrefused { ShowsUnrefused project.old project.new view result }
+    ensures broke { BreaksOn project.old project.new result }
 {
     match view {
         View::Workunits => write_workunits(alloc, project, out),
@@ -143,7 +149,8 @@ fn write_view<S: Alter, W: Write>(
     }
 }
 
-/// Writes the lines of a view, and flushes once. It changes no table; `Broken` ends the session.
+/// Writes the lines of a view, and flushes behind them, which no clause tells. It commits nothing; only `Broken` ends
+/// the session.
 ///
 /// With a fault, what was written is a beginning of the text.
 pub fn show<S: Alter, W: Write>(
@@ -152,17 +159,7 @@ pub fn show<S: Alter, W: Write>(
     view: View,
     out: &mut W,
 ) -> Result<(), Fault>
-    ensures text { Shows W.contents project.old project.new out.old out.new view result }
-    ensures goes { KeepsWorld project.old project.new }
-    ensures reads { IsRead (state_of project.old) (state_of project.new) }
-    ensures clean { KeepsDoubt (state_of project.old) (state_of project.new) }
-    ensures limit { KeepsLimit project.old project.new }
-    ensures ended { RefusesEnded W.contents project.old project.new out.old out.new result }
-    ensures ends { EndsAsBroken project.old project.new result }
-    ensures broken { result ≡ Err Fault.Broken → IsOver project.new }
-    ensures fault { GoesStill project.old → IfErr result IsViewFault }
-    ensures unrefused { ShowsUnrefused project.old project.new view result }
-    ensures opens { GoesStill project.old → ServesOn project.new result }
+    ensures { Sees W.contents project.old project.new out.old out.new view result }
 {
     match write_view(alloc, project, view, out) {
         Ok(()) => flush(out),

@@ -10,7 +10,7 @@ pub fn bounds_totals()
     ensures { BoundsTotals }
 {}
 
-/// Each view of a sound world can be read.
+/// Each view of a sound world of the present version can be read.
 pub fn can_all_be_shown()
     ensures { CanAllBeShown }
 {}

@@ -1,10 +1,9 @@
-//! Projects in memory and over files, and what they print.
+//! Projects, and what they print.
 
-use sqlite::{Alter, Connection, FileStore, Files, MemStore, Options};
-use sqlite_disk::Disk;
+use sqlite::{Alter, Connection, MemStore};
 use std::process::Abort;
-use wu_core::{Bytes, Fault, Moment, Name};
-use wu_drive::{Batch, Command, Project, RowsFile, Run, View, drive, show};
+use wu_core::{Bytes, Moment, Name};
+use wu_drive::{Batch, Command, Project, RowsFile, View, drive, show};
 
 /// A jobs file.
 pub const ONE_JOB: &[u8] = b"name,input\njob_1,00ff\n";
@@ -15,11 +14,7 @@ pub const SECOND_JOB: &[u8] = b"name,input\njob_2,\n";
 /// What the batch of the first prints.
 pub const FIRST_ADDED: &str = "batch b1: 1 added, first 1\n";
 
-/// The view of its workunit.
-pub const ONE_WORKUNIT: &str =
-    "1 job_1 input=2 quorum=2 target=2 max_error=3 max_total=10 max_success=6 delay=604800 credit=1 mask=0 canonical=- assimilate=INIT delete=INIT done=-\n";
-
-/// The view of that workunit, and of the other file's.
+/// The view of the workunits of both.
 pub const TWO_WORKUNITS: &str =
     "1 job_1 input=2 quorum=2 target=2 max_error=3 max_total=10 max_success=6 delay=604800 credit=1 mask=0 canonical=- assimilate=INIT delete=INIT done=-\n2 job_2 input=0 quorum=2 target=2 max_error=3 max_total=10 max_success=6 delay=604800 credit=1 mask=0 canonical=- assimilate=INIT delete=INIT done=-\n";
 
@@ -42,44 +37,11 @@ pub fn is_count(rt: &impl Abort, seen: usize, count: usize) {
     assert_eq!(rt; seen, count);
 }
 
-/// Sees that it is this fault.
-pub fn is_fault(rt: &impl Abort, seen: Fault, fault: Fault) {
-    assert_eq!(rt; seen, fault);
-}
-
-/// Sees how far a list of commands went.
-pub fn is_run(rt: &impl Abort, seen: Run, run: Run) {
-    assert_eq!(rt; seen, run);
-}
-
 /// The project of a connection.
 pub fn adopted<S: Alter>(rt: &impl Abort, conn: Connection<S>) -> Project<S> {
     match Project::adopt(conn) {
         Ok(project) => project,
         Err((_, fault)) => panic!(rt; "{fault}"),
-    }
-}
-
-/// The connection that comes back where it is no project, for this reason.
-pub fn refused(rt: &impl Abort, conn: Connection<MemStore>, why: Fault) -> Connection<MemStore> {
-    match Project::adopt(conn) {
-        Ok(_) => panic!(rt; "adopted"),
-        Err((conn, fault)) => {
-            is_fault(rt, fault, why);
-            conn
-        }
-    }
-}
-
-/// A connection over the files.
-pub fn opened<D: Disk + Drop>(
-    rt: &(impl Abort + AllocGlobal),
-    files: Files<D>,
-) -> Connection<FileStore<D>> {
-    assert!(rt; files.may_be_used());
-    match Connection::open_files(rt.alloc(), files, Options::new(1)) {
-        Ok(conn) => conn,
-        Err(_) => panic!(rt; "an open"),
     }
 }
 
@@ -162,26 +124,4 @@ fn workunits<S: Alter>(rt: &(impl Abort + AllocGlobal), project: &mut Project<S>
 /// Sees that this is the view of workunits.
 pub fn shows<S: Alter>(rt: &(impl Abort + AllocGlobal), project: &mut Project<S>, text: &str) {
     is_text(rt, workunits(rt, project).as_str(), text);
-}
-
-/// Sees that the view of workunits has so many lines.
-pub fn shows_lines<S: Alter>(
-    rt: &(impl Abort + AllocGlobal),
-    project: &mut Project<S>,
-    count: usize,
-) {
-    let seen = workunits(rt, project);
-    is_count(rt, seen.as_str().lines().count(), count);
-}
-
-/// Runs statements of a test's own.
-pub fn runs<S: Alter>(rt: &impl Abort, conn: &mut Connection<S>, sql: &str) {
-    conn.execute_batch(sql).expect(rt, "a statement")
-}
-
-/// Sees that a query of a test answers this number.
-pub fn answers<S: Alter>(rt: &impl Abort, conn: &mut Connection<S>, sql: &str, expected: i64) {
-    let row = conn.query_row(sql, &[]).expect(rt, "a row");
-    let seen: i64 = row.get(0).expect(rt, "a number");
-    assert_eq!(rt; seen, expected);
 }

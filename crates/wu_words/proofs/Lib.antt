@@ -1,3 +1,4 @@
+mod BothLemmas
 mod ContentLemmas
 mod NumberLemmas
 mod ParseLemmas

@@ -1,9 +1,10 @@
 -- Why words are no line.
-use Rattle.std.specs.Prelude.{◌≡◌, ◌≢◌, ◌⊎◌, ◌<◌, ◌^◌, ℕ, Bool, true, false, List, [], ◌∷◌, Option, Some, None, ⊤}
+use Rattle.std.specs.Prelude.{◌≡◌, ◌≢◌, ◌⊎◌, ◌<◌, ◌^◌, ℕ, Bool, true, false, List, [], ◌∷◌, Option, Some, None, Result, IfErr, ⊤}
 use Rattle.std.specs.Str.Parse.{IsNumeral, digits_value, without_leading_plus}
 use Rattle.clap.specs.Words.{Row, fault_of, kind_of, one_of, subcommand_of}
 use Rattle.clap.specs.declared.error.Error.{Error}
 use Rattle.clap.specs.declared.error.kind.ErrorKind.TheVariants.{OutOfMemory}
+use Rattle.wu_machine.specs.declared.view.View.{View}
 use Rattle.wu_words.specs.CommandLine.{is_number, is_required, option_name, options_of, program, subcommand_name, subcommand_named}
 use Rattle.wu_words.specs.Lines.{HasValues, IsScript, IsViewIn, subcommand_of_line, value_in}
 use Rattle.wu_words.specs.declared.line.Line.{Line}
@@ -11,7 +12,7 @@ use Rattle.wu_words.specs.declared.order.Order.{Order}
 use Rattle.wu_words.specs.declared.order.Order.TheVariants as order
 use Rattle.wu_words.specs.declared.order.ScriptFile.{ScriptFile}
 use Rattle.wu_words.specs.declared.option.LineOption.{LineOption}
-use Rattle.wu_words.specs.declared.option.LineOption.TheVariants.{View}
+use Rattle.wu_words.specs.declared.option.LineOption.TheVariants as option
 use Rattle.wu_words.specs.declared.subcommand.Subcommand.{Subcommand}
 use Rattle.wu_words.specs.declared.subcommand.Subcommand.TheVariants.{Script, Show}
 use Rattle.wu_words.specs.declared.usage.Usage.{Usage}
@@ -54,9 +55,25 @@ abbrev pub LacksOne : List Row → List LineOption → Type 0
 LacksOne found [] = ⊥
 LacksOne found (option ∷ more) = ((is_required option ≡ true) × Lacks found option) ⊎ LacksOne found more
 
--- it is told that a value is lacking, and it is; or memory is wanted
+-- the option has a value
+abbrev pub IsGiven : List Row → LineOption → Type 0
+IsGiven found option = (text : List ℕ) × (value_in found option ≡ Some text)
+
+-- what is to be shown is a view
+abbrev pub IsSeen : List Row → Type 0
+IsSeen found = (view : View) × IsViewIn found (Some view)
+
+-- it is told that a value is lacking, and it is
+abbrev pub TellsLack : Type 0 → Usage → Type 0
+TellsLack Lacking usage = (usage ≡ Incomplete) × Lacking
+
+-- so it is; or memory is wanted
 abbrev pub IsWithout : Type 0 → Usage → Type 0
-IsWithout Lacking usage = ((usage ≡ Incomplete) × Lacking) ⊎ (usage ≡ Memory)
+IsWithout Lacking usage = TellsLack Lacking usage ⊎ (usage ≡ Memory)
+
+-- memory is wanted only where this holds
+abbrev pub WantsOnly : {T : Type 0} → Result T Usage → Type 0 → Type 0
+WantsOnly result Fact = IfErr result (λ usage. usage ≡ Memory → Fact)
 
 -- of the options of a subcommand one that has to be given has no value, or memory is wanted
 abbrev pub IsLacking : List Row → Subcommand → Usage → Type 0
@@ -64,7 +81,7 @@ IsLacking found subcommand = IsWithout (LacksOne found (options_of subcommand))
 
 -- what is to be shown is no view, or has no value
 abbrev pub IsUnseen : List Row → Usage → Type 0
-IsUnseen found usage = IsWithout (LacksText found View) usage ⊎ ((usage ≡ UnknownView) × IsViewIn found None)
+IsUnseen found usage = TellsLack (LacksText found option.View) usage ⊎ ((usage ≡ UnknownView) × IsViewIn found None)
 
 -- why there is no line of a subcommand: an option that has to be given has no value, or what is to be shown is no view
 abbrev pub IsUnread : List Row → Subcommand → Usage → Type 0

@@ -1,5 +1,5 @@
 -- Scripts: their lines as lines of the command line, and what these ask of a project.
-use Rattle.std.specs.Prelude.{◌≡◌, ◌⊎◌, ℕ, List, [], ◌∷◌, ◌++◌, codes, Option, Result, Ok, Err, ⊤}
+use Rattle.std.specs.Prelude.{◌≡◌, ◌⊎◌, ℕ, List, [], ◌∷◌, ◌++◌, codes, Option, Result, Ok, Err, IsOk, ⊤}
 use Rattle.std.specs.declared.alloc.Global.{Global}
 use Rattle.std.specs.declared.vec.Vec.{Vec}
 use Rattle.wu_core.specs.declared.fault.Fault.{Fault}
@@ -98,6 +98,15 @@ prepared_script (fed ∷ script) = with_step (prepared_entry fed) (prepared_scri
 abbrev pub lacks_memory : ℕ → BadLine
 lacks_memory number = record { number = number; why = refusal.Fault Memory }
 
--- exactly this result, or want of memory for some line
-abbrev pub GivesSteps : {T : Type 0} → Result T BadLine → Result T BadLine → Type 0
-GivesSteps result expected = (result ≡ expected) ⊎ ((number : ℕ) × (result ≡ Err (lacks_memory number)))
+-- exactly this step, or want of memory for the entry's line, which can be run
+abbrev pub GivesStep : Result Step BadLine → FedEntry → Type 0
+GivesStep result fed = (result ≡ prepared_entry fed) ⊎ ((result ≡ Err (lacks_memory fed.entry.number)) × IsOk (prepared_entry fed))
+
+-- an entry with this number can be run, and so can each before it
+unfoldable pub RunsUpTo : List FedEntry → ℕ → Type 0
+RunsUpTo [] number = ⊥
+RunsUpTo (fed ∷ script) number = IsOk (prepared_entry fed) × ((fed.entry.number ≡ number) ⊎ RunsUpTo script number)
+
+-- exactly these steps, or want of memory for a line that can be run, as can each before it
+abbrev pub GivesSteps : Result (List Step) BadLine → List FedEntry → Type 0
+GivesSteps result script = (result ≡ prepared_script script) ⊎ ((number : ℕ) × (result ≡ Err (lacks_memory number)) × RunsUpTo script number)

@@ -2,10 +2,10 @@
 
 ghost use Rattle.std.specs.Prelude.{◌≡◌, drop};
 ghost use Rattle.std.specs.Vec.Iter.{into_iter_items};
-ghost use Rattle.wu_core.specs.Reads.{Gives};
+ghost use Rattle.wu_core.specs.Reads.{Gives, TellsRefusal};
 ghost use Rattle.wu_core.specs.Names.{name_of};
 ghost use Rattle.wu_feed.specs.Moments.{moment_of};
-ghost use Rattle.wu_words.specs.Actions.{all_of_cycle, batch, bytes_of, content_of, one, prepared, rows_file};
+ghost use Rattle.wu_words.specs.Actions.{all_of_cycle, batch, both, bytes_of, content_of, one, prepared, rows_file};
 
 use crate::line::Line;
 use crate::word::Word;
@@ -89,19 +89,44 @@ fn moment(text: &Word) -> Result<Moment, Fault>
 }
 
 fn name(alloc: Global, text: &Word) -> Result<Name, Fault>
-    ensures { Gives result (name_of text.now) }
+    ensures name { Gives result (name_of text.now) }
+    ensures told { TellsRefusal result (name_of text.now) }
 {
     Name::read(alloc, text.as_str().as_bytes())
 }
 
-/// The action of a batch: the contents are those of its jobs and of its template.
-fn batch(alloc: Global, text: &Word, contents: Vec<Option<Vec<u8>>>) -> Result<Action, Fault>
-    ensures { Gives result (batch text.now (bytes_of contents.items)) }
+/// Both values, or the first fault: want of memory is told only where the second has none.
+fn both<A: Drop, B: Drop>(
+    first: Result<A, Fault>,
+    second: Result<B, Fault>,
+) -> Result<(A, B), Fault>
+    ensures { result ≡ both first second }
+{
+    match (first, second) {
+        (Ok(first), Ok(second)) => Ok((first, second)),
+        (Err(Fault::Memory), Err(fault)) => Err(fault),
+        (Err(fault), _) => Err(fault),
+        (Ok(_), Err(fault)) => Err(fault),
+    }
+}
+
+/// The files of a batch: its jobs, and its template.
+fn batch_files(contents: Vec<Option<Vec<u8>>>) -> Result<(Bytes, Bytes), Fault>
+    ensures { result ≡ both (content_of (bytes_of contents.items) 0)
+        (content_of (bytes_of contents.items) 1) }
 {
     let mut contents = contents.into_iter();
-    let name = name(alloc, text)?;
-    let file = next_content(&mut contents)?;
-    let template = next_content(&mut contents)?;
+    let file = next_content(&mut contents);
+    let template = next_content(&mut contents);
+    both(file, template)
+}
+
+/// The action of a batch: the contents are those of its jobs and of its template.
+fn batch(alloc: Global, text: &Word, contents: Vec<Option<Vec<u8>>>) -> Result<Action, Fault>
+    ensures action { Gives result (batch text.now (bytes_of contents.items)) }
+    ensures told { TellsRefusal result (batch text.now (bytes_of contents.items)) }
+{
+    let (name, (file, template)) = both(name(alloc, text), batch_files(contents))?;
     one(
         alloc,
         Command::Batch(Batch {
@@ -114,16 +139,18 @@ fn batch(alloc: Global, text: &Word, contents: Vec<Option<Vec<u8>>>) -> Result<A
 
 /// A file of rows under its name.
 fn rows_file(alloc: Global, text: &Word, contents: Vec<Option<Vec<u8>>>) -> Result<RowsFile, Fault>
-    ensures { Gives result (rows_file text.now (bytes_of contents.items)) }
+    ensures file { Gives result (rows_file text.now (bytes_of contents.items)) }
+    ensures told { TellsRefusal result (rows_file text.now (bytes_of contents.items)) }
 {
-    let name = name(alloc, text)?;
-    let file = next_content(&mut contents.into_iter())?;
+    let file = next_content(&mut contents.into_iter());
+    let (name, file) = both(name(alloc, text), file)?;
     Ok(RowsFile { name, file })
 }
 
 /// The action of a cycle.
 fn all_of_cycle(alloc: Global, now: &Word, limit: u64, min_age: u64) -> Result<Action, Fault>
-    ensures { Gives result (all_of_cycle now.now limit min_age) }
+    ensures action { Gives result (all_of_cycle now.now limit min_age) }
+    ensures told { TellsRefusal result (all_of_cycle now.now limit min_age) }
 {
     let commands = cycle(alloc, moment(now)?, limit, min_age)?;
     Ok(Action::Commands(Commands::from_vec(commands)))
@@ -132,9 +159,10 @@ fn all_of_cycle(alloc: Global, now: &Word, limit: u64, min_age: u64) -> Result<A
 /// What a line asks of a project, with the contents of its files in the order of its usage line: None for one that could
 /// not be read, no bytes for a template that the line leaves out. It takes their bytes and copies none. It answers the
 /// first fault among the options from left to right: `BadName`, `BadMoment`, or for a file that was not read `BadFile`
-/// with row 0 and `Unreadable`. Limits and ages are not looked at.
+/// with row 0 and `Unreadable`; want of memory it tells only where there is none. Limits and ages are not looked at.
 pub fn prepare(alloc: Global, line: &Line, contents: Vec<Option<Vec<u8>>>) -> Result<Action, Fault>
-    ensures { Gives result (prepared line.now (bytes_of contents.items)) }
+    ensures action { Gives result (prepared line.now (bytes_of contents.items)) }
+    ensures told { TellsRefusal result (prepared line.now (bytes_of contents.items)) }
 {
     match line {
         Line::Batch { name, .. } => batch(alloc, name, contents),

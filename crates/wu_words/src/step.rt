@@ -2,7 +2,7 @@
 
 ghost use Rattle.std.specs.Prelude.{◌≡◌};
 ghost use Rattle.wu_words.specs.Statuses.{refusal_status};
-ghost use Rattle.wu_words.specs.Scripts.{fed, GivesSteps, lacks_memory, prepared_entry, prepared_script};
+ghost use Rattle.wu_words.specs.Scripts.{fed, GivesStep, GivesSteps, lacks_memory};
 
 use crate::action::{Action, prepare};
 use crate::entry::{Entry, Refusal};
@@ -114,7 +114,7 @@ pub fn feed(
 
 /// What an entry asks of a project, or why it can't be run.
 fn prepare_entry(alloc: Global, fed: FedEntry) -> Result<Step, BadLine>
-    ensures { GivesSteps result (prepared_entry fed) }
+    ensures { GivesStep result fed }
 {
     let FedEntry { entry, contents } = fed;
     let Entry { number, line } = entry;
@@ -134,7 +134,7 @@ fn prepare_entry(alloc: Global, fed: FedEntry) -> Result<Step, BadLine>
 /// What the entries of a script ask of a project, in their order, or the first of them that can't be run. It takes the
 /// bytes of their files and copies none.
 pub fn prepare_script(alloc: Global, script: Vec<FedEntry>) -> Result<Steps, BadLine>
-    ensures { GivesSteps result (prepared_script script.items) }
+    ensures { GivesSteps result script.items }
 {
     let mut steps = Vec::new(alloc);
     for fed in script {

@@ -12,7 +12,7 @@ use std::alloc::{AllocError, Global};
 /// Why words are no line.
 #[derive(Debug, Drop)]
 pub enum Usage {
-    /// `clap` refused the words, or they ask for help: its text.
+    /// `clap` refused the words, or they ask for help: the text of its error, of which no contract of `clap` speaks.
     Refused(Word),
     /// What is to be shown is no view.
     UnknownView,
@@ -31,7 +31,7 @@ impl From<AllocError> for Usage {
     }
 }
 
-/// The text of an error of `clap`, unless it is want of memory.
+/// The text of an error of `clap`, unless it is want of memory; memory may be wanted for the text too.
 pub fn told(alloc: Global, error: &Error) -> Usage
     ensures { IsTold error.now result }
 {

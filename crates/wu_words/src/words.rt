@@ -3,7 +3,7 @@
 ghost use Rattle.std.specs.Prelude.{◌≡◌, map, string_bytes, IfErr, IfOk};
 ghost use Rattle.clap.specs.Words.{found_of, rows_of};
 ghost use Rattle.wu_words.specs.Lines.{IsLine, IsOrder, IsScript};
-ghost use Rattle.wu_words.specs.Refusals.{Explains, IsLacking, IsOrderOf, IsUnread};
+ghost use Rattle.wu_words.specs.Refusals.{Explains, IsLacking, IsOrderOf, IsSeen, IsUnread, WantsOnly};
 
 use crate::line::Line;
 use crate::option::LineOption;
@@ -135,14 +135,15 @@ fn cycle(alloc: Global, found: &ArgMatches<'_>) -> Result<Line, Usage>
     })
 }
 
-/// The line of a view.
+/// The line of a view. That is looked at before memory is taken: an unknown view is never told as want of memory.
 fn show(alloc: Global, found: &ArgMatches<'_>) -> Result<Line, Usage>
     ensures line { IfOk result (IsLine (rows_of (found_of found.now)) Subcommand.Show) }
     ensures refused { IfErr result (IsUnread (rows_of (found_of found.now)) Subcommand.Show) }
+    ensures wants { WantsOnly result (IsSeen (rows_of (found_of found.now))) }
 {
     Ok(Line::Show {
-        db: text(alloc, found, LineOption::Database)?,
         view: view(found)?,
+        db: text(alloc, found, LineOption::Database)?,
     })
 }
 
@@ -171,6 +172,8 @@ fn script(alloc: Global, found: &ArgMatches<'_>) -> Result<ScriptFile, Usage>
 fn order_of(alloc: Global, subcommand: Subcommand, found: &ArgMatches<'_>) -> Result<Order, Usage>
     ensures order { IfOk result (IsOrder (rows_of (found_of found.now)) subcommand) }
     ensures refused { IfErr result (IsUnread (rows_of (found_of found.now)) subcommand) }
+    ensures wants { WantsOnly result
+        (subcommand ≡ Subcommand.Show → IsSeen (rows_of (found_of found.now))) }
 {
     let line = match subcommand {
         Subcommand::Batch => batch(alloc, found)?,
@@ -192,7 +195,7 @@ fn order_of(alloc: Global, subcommand: Subcommand, found: &ArgMatches<'_>) -> Re
 
 /// What the words ask for, of which the first is the program's name. `clap` takes them apart: one subcommand, each
 /// option given once, `--db` always; limits and ages are numbers of 64 bits. Other words, and a request for help, are
-/// `Refused` with the text of `clap`; a view that there is not is `UnknownView`.
+/// `Refused`; a view that there is not is `UnknownView`. Memory may be wanted for any words, by `clap` too.
 pub fn read_words(alloc: Global, words: &[String]) -> Result<Order, Usage>
     ensures order { IfOk result (IsOrderOf (map string_bytes words.now)) }
     ensures refused { IfErr result (Explains (map string_bytes words.now)) }

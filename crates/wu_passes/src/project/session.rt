@@ -1,15 +1,15 @@
 //! What a session does: its adoption, its commands, its release.
 
-ghost use Rattle.std.specs.Prelude.{◌≡◌, true, false, Err, IfErr, IfOk, IsErrAnd, IsTrue, OnOk};
+ghost use Rattle.std.specs.Prelude.{◌≡◌, true, false, [], Ok, Err, IfErr, IfOk, IsTrue, OnOk};
 ghost use Rattle.sqlite.specs.Held.{state};
 ghost use Rattle.wu_machine.specs.Machine.{has_right_limits};
 ghost use Rattle.wu_passes.specs.Planning.{NeverEnded, PlansFor};
 ghost use Rattle.wu_machine.specs.Commands.{request_of};
 ghost use Rattle.wu_machine.specs.Sound.{IsProject};
 ghost use Rattle.wu_store.specs.Loading.{Asks, NotRefusedIn, OverWorlds, ServesUnlessFailed};
-ghost use Rattle.wu_passes.specs.Standing.{IsCutBy, KeepsDoubt, MayEnd};
+ghost use Rattle.wu_passes.specs.Standing.{IsCutBy};
 ghost use Rattle.wu_passes.specs.Adopting.{Adopts, RefusesAdoption};
-ghost use Rattle.wu_passes.specs.Projects.{AnswersEnded, AsksOn, CarriesOut, connection_of, FailsAgain, GoesOnAgain, GoesStill, has_ended, IsOver, KeepsLimit, LeavesUntouched, PlansOn, ReadsUnrefused, RefusesLimit, RunsOn, ServesOn, ServesRight, state_of, TellsWhy};
+ghost use Rattle.wu_passes.specs.Projects.{AnswersEnded, AsksOn, CarriesOut, connection_of, FailsAgain, GoesOnAgain, GoesStill, has_ended, IsOver, KeepsSession, LeavesIdle, LeavesUntouched, PlansOn, ReadsUnrefused, RefusesLimit, RunsOn, ServesOn, ServesRight, state_of, TellsWhy};
 
 use crate::batch::plan_batch;
 use crate::cancel::plan_cancel;
@@ -165,19 +165,17 @@ impl<S: Alter> Project<S> {
     /// A pass whose limit or least age is out of range is `BadLimit`, and nothing is touched. All is computed before the
     /// transaction begins; a fault before it leaves the project as it was, and only `Broken` ends the session there. A
     /// statement that is refused within it is `NotAProject`, and is rolled back; `Memory` and `Broken` from within end the
-    /// session. After Ok, and after each fault of a command with right limits but these two, the connection is open.
+    /// session. After Ok, and after each fault of a command with right limits but these two, the connection is open. A
+    /// command that the machine makes nothing of, such as an import that comes again, begins no transaction.
     pub fn run(&mut self, alloc: Global, command: &Command) -> Result<Answer, Fault>
         ensures ended { IsOver self.old → AnswersEnded self.old self.new result }
-        ensures clean { KeepsDoubt (state_of self.old) (state_of self.new) }
-        ensures ends { GoesStill self.old → IsOver self.new → IsErrAnd result MayEnd }
-        ensures broken { GoesStill self.old → result ≡ Err Fault.Broken → IsOver self.new }
+        ensures session { KeepsSession self.old self.new result }
         ensures opens { GoesStill self.old → ServesRight self.new command.now result }
         ensures refused { GoesStill self.old → RefusesLimit self.old self.new command.now result }
-        ensures limit { KeepsLimit self.old self.new }
-        ensures never { GoesStill self.old → NeverEnded result }
         ensures runs { GoesStill self.old → RunsOn self.old self.new command.now result }
         ensures why { GoesStill self.old → TellsWhy self.old self.new command.now result }
         ensures untouched { LeavesUntouched self.old self.new result }
+        ensures idle { GoesStill self.old → LeavesIdle self.old self.new command.now result }
     {
         if self.has_ended {
             return Err(Fault::Ended);
@@ -220,15 +218,12 @@ impl<S: Alter> Project<S> {
     /// Makes the changes of a plan, if there are any, and gives its answer.
     fn carry_out(&mut self, answer: Answer, changes: &[Change<'_>]) -> Result<Answer, Fault>
         requires { GoesStill self.old }
-        ensures clean { KeepsDoubt (state_of self.old) (state_of self.new) }
-        ensures ends { IsOver self.new → IsErrAnd result MayEnd }
-        ensures broken { result ≡ Err Fault.Broken → IsOver self.new }
+        ensures session { KeepsSession self.old self.new result }
         ensures opens { IsTrue (state_of self.old).is_open → ServesOn self.new result }
         ensures cause { IfErr result (IsCutBy (has_ended self.new)) }
-        ensures limit { KeepsLimit self.old self.new }
-        ensures never { NeverEnded result }
         ensures done { CarriesOut self.old self.new answer changes.now result }
         ensures untouched { LeavesUntouched self.old self.new result }
+        ensures none { changes.now ≡ [] → (result ≡ Ok answer) × (self.new ≡ self.old) }
     {
         if changes.is_empty() {
             return Ok(answer);

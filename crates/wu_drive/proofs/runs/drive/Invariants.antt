@@ -1,9 +1,11 @@
-use Rattle.std.proofs.Common.{◌≡◌, IsTrue, true, false, List, length}
+use Rattle.std.proofs.Common.{◌≡◌, ◌≤◌, IsTrue, true, false, List, length, take}
 use Rattle.std.specs.Io.KnownBytes.{Appends}
 use Rattle.sqlite.specs.State.{HasCleanDisk}
 use Rattle.wu_core.specs.World.{World}
 use Rattle.wu_machine.specs.declared.command.Answer.{Answer}
 use Rattle.wu_drive.proofs.DrivingLemmas.{IsDriving}
+use Rattle.wu_drive.specs.Driving.{MakeNothing}
+use Rattle.wu_passes.specs.Adopting.{KeepsAll}
 use Rattle.wu_passes.specs.Projects.{GoesStill, has_ended, KeepsLimit, state_of}
 use Rattle.wu_passes.specs.Standing.{KeepsDoubt}
 use Rattle.wu_machine.specs.Sound.{IsProject}
@@ -18,8 +20,11 @@ invariant-loop-command g l =
     × (GoesStill l.initial.project → GoesStill l.project)
     × KeepsLimit l.initial.project l.project
     × (KeepsDoubt (state_of l.initial.project) (state_of l.project))
+    × ((state_of l.initial.project).faults ≤ (state_of l.project).faults)
     × (GoesStill l.initial.project → IsTrue (state_of l.initial.project).is_open → HasCleanDisk (state_of l.project) → IsTrue (state_of l.project).is_open)
     × (l.command-index ≡ 0 → l.project ≡ l.initial.project)
+    × (GoesStill l.initial.project → HasCleanDisk (state_of l.project) → (world : World) → IsProject world → GoesOn (state_of l.initial.project) world
+    → MakeNothing world (take l.command-index l.commands) → KeepsAll (state_of l.initial.project) (state_of l.project))
     × ((answers : List Answer) × (length answers ≡ l.acknowledged) × Appends (g.W.Write.contents l.initial.out) (g.W.Write.contents l.out) (answers_text answers)
     × (has_ended l.initial.project ≡ false → HasCleanDisk (state_of l.project) → (world : World) → IsProject world → GoesOn (state_of l.initial.project) world
     → IsDriving world l.commands answers l.command-index (has_ended l.project) (state_of l.project)))

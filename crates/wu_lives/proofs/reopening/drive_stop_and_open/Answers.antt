@@ -31,8 +31,7 @@ returns-in-Some g c =
             holds_none world c.args.commands.now _ _ (again clean) project run ended.2 (subst (λ p. GoesOn (file_state p.conn) world) (sym ended.0) goes)
         | inr going ↦ holds_beginning world c.args.commands.now _ _ (again clean) project answers run mid.has_ended (c.drive-run.ensures.ends going) (drives going (early clean) world project goes)
       ];
-      count = c.drive-run.ensures.count;
-      all = c.drive-run.ensures.all;
+      all = (c.drive-run.ensures.count, c.drive-run.ensures.all);
       ended = λ was. let (same, unwritten, none, why) = c.drive-run.ensures.ended was in (unwritten, none, why);
       ends = λ going clean world project goes. (drives going (early clean) world project goes).end;
       reopened = (

@@ -1,4 +1,4 @@
-use Rattle.std.proofs.Common.{rules, ◌+◌, ◌∙◌, Ok, Err, sym, ap, arith, inl, inr}
+use Rattle.std.proofs.Common.{rules, ◌+◌, ◌∙◌, sym, ap, arith, inl, inr}
 use Rattle.sqlite.specs.State.{HasCleanDisk}
 use Rattle.sqlite.specs.Held.{state}
 use Rattle.wu_core.specs.declared.fault.Fault.TheVariants.{WorkunitUsed}

@@ -1,11 +1,11 @@
-use Rattle.std.proofs.Common.{◌≡◌, ◌≢◌, true, false, Ok, Err, sym, ap, ◌∙◌, arith}
+use Rattle.std.proofs.Common.{◌≡◌, true, false, sym, ap, ◌∙◌, arith}
 use Rattle.std.specs.Prelude.{◌||◌}
 use Rattle.sqlite.specs.Held.{state}
 use Rattle.sqlite.specs.State.{HasCleanDisk}
 use Rattle.wu_store.specs.Answers.{has_name, was_archived}
 use Rattle.wu_schema.specs.StandsFor.{StandsFor}
 use Rattle.wu_schema.proofs.ReadLemmas.{if_ok}
-use Rattle.wu_passes.proofs.AskLemmas.{asks_made, asks_stands, asks_then, taken_is, told_or}
+use Rattle.wu_passes.proofs.AskLemmas.{asks_stands, asks_then, taken_is, told_or}
 use Rattle.wu_passes.proofs.batch.is_taken.Goals as goal
 
 pub returns-in-Ok-true-clause-taken : goal.returns-in-Ok-true-clause-taken

@@ -1,5 +1,4 @@
-use Rattle.std.proofs.Common.{arith, ◌∙◌, sym, subst}
-use Rattle.sqlite.specs.Effect.{Database}
+use Rattle.std.proofs.Common.{arith, ◌∙◌}
 use Rattle.sqlite.specs.Held.{state}
 use Rattle.sqlite.specs.State.{HasCleanDisk}
 use Rattle.wu_core.specs.declared.import.ImportKind.TheVariants as kind

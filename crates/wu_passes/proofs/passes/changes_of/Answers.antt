@@ -1,5 +1,4 @@
-use Rattle.std.proofs.Common.{arith, ◌++◌, ◌∙◌, ap, sym, subst}
-use Rattle.sqlite.specs.Effect.{Database}
+use Rattle.std.proofs.Common.{arith, ◌++◌, ◌∙◌, ap}
 use Rattle.sqlite.specs.Held.{state}
 use Rattle.sqlite.specs.State.{HasCleanDisk}
 use Rattle.wu_schema.specs.StandsFor.{StandsFor}

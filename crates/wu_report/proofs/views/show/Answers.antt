@@ -5,12 +5,38 @@ use Rattle.wu_report.proofs.WritingLemmas.{Writes-kept}
 use Rattle.wu_report.specs.Texts.{view_text}
 use Rattle.wu_report.proofs.views.show.Goals as goal
 
-pub returns-in-Ok-clause-text : goal.returns-in-Ok-clause-text
-returns-in-Ok-clause-text g c goes_on clean world goes =
-    Writes-kept _ _ _ (view_text world c.args.view) c.flush.result (c.in-Ok.ensures.text goes_on clean world goes) c.flush.ensures.bytes
+-- all lines were written, and then it was flushed
+pub returns-in-Ok : goal.returns-in-Ok
+returns-in-Ok g c = record {
+  text = λ going clean world goes. Writes-kept _ _ _ (view_text world c.args.view) c.flush.result (c.in-Ok.ensures.text going clean world goes) c.flush.ensures.bytes;
+  goes = λ clean world goes. goes_on (state_of c.args.project.now) _ world clean c.write_view.ensures.reads goes;
+  reads = c.write_view.ensures.reads;
+  clean = c.write_view.ensures.reads.survives.clean;
+  counts = c.write_view.ensures.reads.survives.counts;
+  limit = c.write_view.ensures.limit;
+  ended = search rules;
+  ends = search rules;
+  broken = search rules;
+  fault = search rules;
+  unrefused = search rules;
+  broke = search rules;
+  opens = search rules;
+}
 
-pub returns-in-Ok-clause-goes : goal.returns-in-Ok-clause-goes
-returns-in-Ok-clause-goes g c clean world goes = goes_on (state_of c.args.project.now) _ world clean (search rules) goes
-
-pub returns-else-eq-clause-goes : goal.returns-else-eq-clause-goes
-returns-else-eq-clause-goes g c clean world goes = goes_on (state_of c.args.project.now) _ world clean (search rules) goes
+-- a line was not, and the session goes on
+pub returns-else-eq : goal.returns-else-eq
+returns-else-eq g c = record {
+  text = search rules;
+  goes = λ clean world goes. goes_on (state_of c.args.project.now) _ world clean c.write_view.ensures.reads goes;
+  reads = c.write_view.ensures.reads;
+  clean = c.write_view.ensures.reads.survives.clean;
+  counts = c.write_view.ensures.reads.survives.counts;
+  limit = c.write_view.ensures.limit;
+  ended = search rules;
+  ends = search rules;
+  broken = search rules;
+  fault = search rules;
+  unrefused = search rules;
+  broke = search rules;
+  opens = search rules;
+}

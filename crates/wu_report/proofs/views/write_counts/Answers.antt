@@ -2,7 +2,8 @@ use Rattle.std.proofs.Common.{subst}
 use Rattle.wu_store.proofs.AskLemmas.{handed_on}
 use Rattle.wu_report.specs.Texts.{summary_lines}
 use Rattle.wu_report.specs.Writing.{WritesTo}
-use Rattle.wu_report.proofs.ViewLemmas.{refused_still}
+use Rattle.wu_passes.proofs.StandingLemmas.{refused_open}
+use Rattle.wu_passes.specs.Projects.{state_of}
 use Rattle.wu_report.proofs.views.write_counts.Goals as goal
 
 pub returns-clause-text : goal.returns-clause-text
@@ -13,5 +14,5 @@ returns-clause-text g c going clean world goes =
 pub returns-in_err-summary-clause-unrefused : goal.returns-in_err-summary-clause-unrefused
 returns-in_err-summary-clause-unrefused g c going clean unlimited world can goes =
     handed_on c.from_residual.result c.in_err-summary.field-0.0 c.from_residual.ensures.1 (λ refused.
-    let still = refused_still c.in_err-summary.field-0.0 refused (c.in_err-summary.ensures.opens going clean) in
+    let still = refused_open (state_of c.summary.new.self) c.in_err-summary.field-0.0 refused (c.in_err-summary.ensures.opens going clean) in
     c.in_err-summary.ensures.unrefused going clean world (goes.stands ((c.summary.ensures.asks.back clean).was_open still)).0 can unlimited refused)

@@ -1,4 +1,4 @@
-use Rattle.std.proofs.Common.{◌≡◌, inl, refl}
+use Rattle.std.proofs.Common.{◌≡◌, refl}
 use Rattle.std.specs.Prelude.{Some, None}
 use Rattle.clap.specs.Words.{found_of}
 use Rattle.wu_words.proofs.NumberLemmas.{number_lacks, number_read}
@@ -12,4 +12,4 @@ returns-in-Some-clause-value c =
 
 pub returns-in-None-clause-refused : goal.returns-in-None-clause-refused
 returns-in-None-clause-refused c =
-    inl (refl, number_lacks (found_of c.args.found.now) c.name.result.now c.args.option c.name.ensures (λ t some. (c.in-None.ensures.value t some).1.0))
+    (refl, number_lacks (found_of c.args.found.now) c.name.result.now c.args.option c.name.ensures (λ t some. (c.in-None.ensures.value t some).1.0))

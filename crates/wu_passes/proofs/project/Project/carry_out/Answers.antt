@@ -1,4 +1,4 @@
-use Rattle.std.proofs.Common.{rules, IsTrue, inr, refl, sym}
+use Rattle.std.proofs.Common.{rules, IsTrue, inr, sym}
 use Rattle.sqlite.specs.Held.{state}
 use Rattle.wu_schema.proofs.CallLemmas.{leaves_only}
 use Rattle.wu_passes.proofs.StandingLemmas.{changes_keep}

@@ -1,18 +1,16 @@
-use Rattle.std.proofs.Common.{Err, ap, sym, subst, arith, inl, inr, IsTrue, ◌∙◌}
-use Rattle.sqlite.specs.Effect.{Database}
+use Rattle.std.proofs.Common.{Err, ap, sym, arith, inl, inr, IsTrue, ◌∙◌}
 use Rattle.sqlite.specs.State.{HasCleanDisk}
 use Rattle.sqlite.specs.Held.{state}
 use Rattle.wu_schema.specs.StandsFor.{StandsFor}
 use Rattle.wu_schema.proofs.AskingLemmas.{asks_stands}
 use Rattle.wu_schema.proofs.ReadLemmas.{if_err}
 use Rattle.wu_store.proofs.LoadLemmas.{asks_read}
-use Rattle.wu_passes.proofs.StandingLemmas.{cut_why, error_is, goes_read, keeps_as_before, keeps_self, keeps_then, plan_keeps, plan_refused, refused_open, reply_is, stands_read, unplanned_why}
-use Rattle.wu_machine.specs.Commands.{reply_of_answer}
+use Rattle.wu_passes.proofs.StandingLemmas.{cut_why, error_is, goes_read, idle_keeps, keeps_as_before, keeps_self, keeps_then, plan_keeps, plan_refused, refused_open, stands_read, unplanned_why}
 use Rattle.wu_passes.proofs.project.Project.run.Goals as goal
 
 pub returns-in-Ok-clause-runs : goal.returns-in-Ok-clause-runs
 returns-in-Ok-clause-runs g c goes_on clean world project goes =
-    let before : HasCleanDisk (state g.S.Store c.prepare.new.self.conn) = omega (arith, c.carry_out.ensures.clean) in
+    let before : HasCleanDisk (state g.S.Store c.prepare.new.self.conn) = omega (arith, c.carry_out.ensures.session.clean) in
     let is_open : IsTrue (state g.S.Store c.args.self.now.conn).is_open = (c.prepare.ensures.asks.back before).was_open (c.in-Ok.ensures.opens before) in
     let stands = (goes.stands is_open).0 in
     let still : StandsFor (state g.S.Store c.prepare.new.self.conn).now world = asks_stands g.S.Store c.args.self.now.conn c.prepare.new.self.conn c.in-Ok.field-0 c.in-Ok.ensures.asks before world stands in
@@ -27,15 +25,16 @@ returns-in-Err-clause-runs g c goes_on clean world project goes = (
 
 pub returns-in-Ok-clause-why : goal.returns-in-Ok-clause-why
 returns-in-Ok-clause-why g c goes_on clean unlimited world project goes =
-    let before : HasCleanDisk (state g.S.Store c.prepare.new.self.conn) = omega (arith, c.carry_out.ensures.clean) in
+    let before : HasCleanDisk (state g.S.Store c.prepare.new.self.conn) = omega (arith, c.carry_out.ensures.session.clean) in
     let is_open : IsTrue (state g.S.Store c.args.self.now.conn).is_open = (c.prepare.ensures.asks.back before).was_open (c.in-Ok.ensures.opens before) in
     let planned = c.in-Ok.ensures.plan before world (goes.stands is_open).0 project in
-    cut_why _ world _ c.carry_out.result (reply_of_answer c.in-Ok.field-0.answer, reply_is world _ c.in-Ok.field-0.answer c.in-Ok.field-0.changes.items planned) c.carry_out.ensures.cause
+    cut_why _ _ world _ c.in-Ok.field-0.answer c.in-Ok.field-0.changes.items c.carry_out.result planned (λ empty. (c.carry_out.ensures.none (c.as_slice.ensures.value ∙ empty)).0) c.carry_out.ensures.cause
 
 pub returns-in-Err-clause-why : goal.returns-in-Err-clause-why
 returns-in-Err-clause-why g c goes_on clean unlimited world project goes =
     let told = plan_refused (state g.S.Store c.args.self.now.conn) (state g.S.Store c.prepare.new.self.conn) world _ c.in-Err.refusal goes (c.prepare.ensures.asks.back clean) (c.in-Err.ensures.opens clean) (λ stands. c.in-Err.ensures.plan clean world stands project) in
-    unplanned_why c.prepare.new.self.has_ended world _ c.in-Err.refusal (λ over. error_is _ _ (sym c.in-Err.is ∙ c.prepare.ensures.ends over)) (λ broken. c.prepare.ensures.broken (c.in-Err.is ∙ ap Err broken))
+    unplanned_why _ c.prepare.new.self.has_ended world _ c.in-Err.refusal (λ over. error_is _ _ (sym c.in-Err.is ∙ c.prepare.ensures.ends over)) (λ broken. c.prepare.ensures.broken (c.in-Err.is ∙ ap Err broken))
+    (λ broken. c.in-Err.ensures.asks.broken clean (ap Err broken))
     (λ refused.
     let still = refused_open (state g.S.Store c.prepare.new.self.conn) c.in-Err.refusal refused (c.in-Err.ensures.opens clean) in
     let stands = (goes.stands ((c.prepare.ensures.asks.back clean).was_open still)).0 in
@@ -48,7 +47,7 @@ returns-in-Err-clause-untouched g c clean =
 
 pub returns-in-Ok-clause-untouched : goal.returns-in-Ok-clause-untouched
 returns-in-Ok-clause-untouched g c clean =
-    let before : HasCleanDisk (state g.S.Store c.prepare.new.self.conn) = omega (arith, c.carry_out.ensures.clean) in
+    let before : HasCleanDisk (state g.S.Store c.prepare.new.self.conn) = omega (arith, c.carry_out.ensures.session.clean) in
     let kept = keeps_as_before g.S.Store c.args.self.now.conn c.prepare.new.self.conn before c.prepare.ensures.asks.crash (c.in-Ok.ensures.asks.answered before) in
     if_err c.carry_out.result _ _ (λ fault h. elim h [ inl failed ↦ inl failed | inr same ↦ inr (keeps_then _ _ _ kept same) ]) (c.carry_out.ensures.untouched clean)
 
@@ -57,3 +56,12 @@ returns-then-self-clause-untouched g c clean = inr (keeps_self _)
 
 pub returns-then-not-has_right_limits-clause-untouched : goal.returns-then-not-has_right_limits-clause-untouched
 returns-then-not-has_right_limits-clause-untouched g c clean = inr (keeps_self _)
+
+pub returns-in-Ok-clause-idle : goal.returns-in-Ok-clause-idle
+returns-in-Ok-clause-idle g c goes_on clean world project goes nothing =
+    let before : HasCleanDisk (state g.S.Store c.prepare.new.self.conn) = omega (arith, c.carry_out.ensures.session.clean) in
+    let is_open : IsTrue (state g.S.Store c.args.self.now.conn).is_open = (c.prepare.ensures.asks.back before).was_open (c.in-Ok.ensures.opens before) in
+    let planned = c.in-Ok.ensures.plan before world (goes.stands is_open).0 project in
+    let kept = keeps_as_before g.S.Store c.args.self.now.conn c.prepare.new.self.conn before c.prepare.ensures.asks.crash (c.in-Ok.ensures.asks.answered before) in
+    idle_keeps g.S.Store c.args.self.now.conn c.prepare.new.self.conn c.carry_out.new.self.conn c.in-Ok.field-0.answer c.in-Ok.field-0.changes.items c.carry_out.result (planned.idle nothing)
+    (λ empty. ap (λ p. state g.S.Store p.conn) (c.carry_out.ensures.none (c.as_slice.ensures.value ∙ empty)).1) kept

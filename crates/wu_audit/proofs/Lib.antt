@@ -1,0 +1,14 @@
+mod AnyOrderLemmas
+mod CountLemmas
+mod ExampleLemmas
+mod HeldLemmas
+mod ImportKeyLemmas
+pub mod KeyLemmas
+mod MovedLemmas
+pub mod OrderLemmas
+pub mod PlaceLemmas
+pub mod PlacingLemmas
+pub mod RecordLemmas
+pub mod SeenLemmas
+mod SetLemmas
+pub mod SoundLemmas

@@ -1,0 +1,86 @@
+-- Worked examples: a world that is sound, and what may be wrong with one.
+use Rattle.std.specs.Prelude.{List, ℕ, [], ◌∷◌, Some, None, true}
+use Rattle.wu_core.specs.declared.workunit.Archived.{Archived}
+use Rattle.wu_core.specs.declared.workunit.Workunit.{Workunit}
+use Rattle.wu_core.specs.declared.states.Assimilate.TheVariants as assimilate
+use Rattle.wu_core.specs.declared.states.ValidateState.TheVariants as validate
+use Rattle.wu_core.specs.declared.import.ImportKind.TheVariants as kind
+use Rattle.wu_core.specs.Mask.{no_errors}
+use Rattle.wu_core.specs.Parameters.{default_parameters}
+use Rattle.wu_core.specs.World.{World, Import, empty_world}
+use Rattle.wu_rules.specs.Examples.{aa, credit, h1, h2, job, reporting, success}
+
+-- two hosts agreed, and the workunit was assimilated
+abbrev pub agreed : Workunit
+agreed = record (job default_parameters (success h1 aa validate.Valid ∷ success h2 aa validate.Valid ∷ [])) {
+  canonical = Some 0;
+  assimilate = assimilate.Done;
+  done_at = Some reporting;
+}
+
+-- what is kept of it
+abbrev pub kept : Archived
+kept = record {
+  number = 1;
+  name = agreed.name;
+  error_mask = no_errors;
+  canonical = Some 0;
+  output = aa;
+  done_at = reporting;
+}
+
+-- with its two grants
+abbrev pub one_agreed : World
+one_agreed = record empty_world {
+  workunits = agreed ∷ [];
+  grants = credit 0 h1 ∷ credit 1 h2 ∷ [];
+  archived = kept ∷ [];
+  next_number = 2;
+}
+
+-- ---- rows that are wrong
+
+-- assimilated without a moment
+abbrev pub unstamped : Workunit
+unstamped = record agreed { done_at = None }
+
+-- with a number that no row has
+abbrev pub unstorable : Workunit
+unstorable = record agreed { number = 9223372036854775808 }
+
+-- decided and given up
+abbrev pub decided_and_given_up : Workunit
+decided_and_given_up = record agreed { error_mask = record no_errors { cancelled = true } }
+
+-- assimilated in the year 2100
+abbrev pub kept_too_late : Archived
+kept_too_late = record kept { done_at = 4102444800 }
+
+-- with another canonical result
+abbrev pub kept_otherwise : Archived
+kept_otherwise = record kept { canonical = Some 1 }
+
+-- a file of sends with this verdict
+abbrev pub sent_with : ℕ → Import
+sent_with verdict = record {
+  kind = kind.Sent;
+  name = h1;
+  template = [];
+  content = [];
+  first_number = 0;
+  verdicts = verdict ∷ [];
+}
+
+-- with the name of an archived workunit, and not assimilated
+abbrev pub named_again : Workunit
+named_again = record (job default_parameters []) { number = 2 }
+
+-- two rows with one key
+abbrev pub same_numbers : List Workunit
+same_numbers = agreed ∷ agreed ∷ []
+
+abbrev pub same_names : List Workunit
+same_names = agreed ∷ named_again ∷ []
+
+abbrev pub same_rows : List Archived
+same_rows = kept ∷ kept ∷ []

@@ -1,0 +1,11 @@
+pub mod Against
+pub mod Examples
+pub mod Keys
+pub mod Laws
+pub mod Parts
+pub mod Places
+pub mod Records
+pub mod Rows
+pub mod Sets
+pub mod Words
+pub mod Wrong

@@ -1,0 +1,45 @@
+-- Parts of what a sound world says of one workunit.
+use Rattle.std.specs.Prelude.{◌≡◌, ◌≢◌, ℕ, ◌<◌, ◌≤◌, ◌&&◌, true, false, length, All, IfSome, is_none, is_some, slice_get, Some}
+use Rattle.std.specs.List.{list_any}
+use Rattle.wu_core.specs.declared.workunit.Workunit.{Workunit}
+use Rattle.wu_core.specs.declared.states.Assimilate.TheVariants as assimilate
+use Rattle.wu_core.specs.declared.states.FileDelete.TheVariants as file_delete
+use Rattle.wu_core.specs.declared.states.ValidateState.TheVariants as validate
+use Rattle.wu_core.specs.Formed.{IsInstance}
+use Rattle.wu_rules.specs.Consistent.{IsPossible}
+use Rattle.wu_rules.specs.Counts.{is_clear}
+use Rattle.wu_rules.specs.Instances.{is_success, is_unsent}
+
+-- its instances are well formed, and no more than its parameters allow
+pub record HasFormedInstances (w : Workunit) : Type 0 where
+  pub instances : All IsInstance w.instances
+  pub within : length w.instances ≤ w.params.max_total_results
+
+-- the canonical instance, if there is one, is there
+abbrev pub IsCanonicalPlace : Workunit → Type 0
+IsCanonicalPlace w = (n : ℕ) → w.canonical ≡ Some n → n < length w.instances
+
+-- it has a moment exactly where it is assimilated
+pub record IsDoneWithMoment (w : Workunit) : Type 0 where
+  pub done : w.assimilate ≡ assimilate.Done → is_some w.done_at ≡ true
+  pub done_only : is_some w.done_at ≡ true → w.assimilate ≡ assimilate.Done
+
+-- no state stands that this project never sets
+pub record IsSettable (w : Workunit) : Type 0 where
+  pub instances : All IsPossible w.instances
+  pub deletable : w.file_delete ≢ file_delete.Error
+  pub sendable : w.error_mask.couldnt_send_result ≡ false
+  pub decidable : w.error_mask.no_canonical_result ≡ false
+
+-- it is undecided, given up or decided, and not two of them
+pub record IsInOneState (w : Workunit) : Type 0 where
+  pub given_up_or_decided : is_clear w.error_mask ≡ false → is_none w.canonical ≡ true
+  pub nothing_unsent : (is_clear w.error_mask && is_none w.canonical) ≡ false
+      → list_any is_unsent w.instances ≡ false
+  pub undecided : (is_clear w.error_mask && is_none w.canonical) ≡ true → w.assimilate ≡ assimilate.Init
+
+-- the canonical instance, if there is one, is a success that was found VALID
+abbrev pub IsCanonicalValid : Workunit → Type 0
+IsCanonicalValid w =
+    IfSome w.canonical (λ n. IfSome (slice_get w.instances n)
+    (λ i. (is_success i ≡ true) × (i.validate_state ≡ validate.Valid)))

@@ -1,0 +1,82 @@
+-- Of what is wrong: its table, its place there, and its words.
+use Rattle.std.specs.Prelude.{ℕ, List, Option, Some, None, codes}
+use Rattle.wu_audit.specs.declared.wrong.Table.{Table}
+use Rattle.wu_audit.specs.declared.wrong.Table.TheVariants as table
+use Rattle.wu_audit.specs.declared.wrong.Wrong.{Wrong}
+use Rattle.wu_audit.specs.declared.wrong.Wrong.TheVariants as wrong
+
+abbrev pub table_word : Table → List ℕ
+table_word table.Project = codes "project"
+table_word table.Workunit = codes "workunit"
+table_word table.CreditGrant = codes "credit_grant"
+table_word table.Archived = codes "archived"
+table_word table.Import = codes "import"
+
+-- the table whose row is wrong
+abbrev pub table_of : Wrong → Table
+table_of wrong.NextNumber = table.Project
+table_of (wrong.WorkunitForm place) = table.Workunit
+table_of (wrong.WorkunitValues place) = table.Workunit
+table_of (wrong.ArchivedValues place) = table.Archived
+table_of (wrong.ImportVerdicts place) = table.Import
+table_of (wrong.WorkunitStates place) = table.Workunit
+table_of (wrong.WorkunitNumber place) = table.Workunit
+table_of (wrong.WorkunitOrder place) = table.Workunit
+table_of (wrong.WorkunitTwice place) = table.Workunit
+table_of (wrong.ArchivedNumber place) = table.Archived
+table_of (wrong.ArchivedTwice place) = table.Archived
+table_of (wrong.ArchivedNameTwice place) = table.Archived
+table_of (wrong.GrantValues place) = table.CreditGrant
+table_of (wrong.GrantTwice place) = table.CreditGrant
+table_of (wrong.ImportTwice place) = table.Import
+table_of (wrong.GrantAstray place) = table.CreditGrant
+table_of (wrong.GrantMissing place) = table.Workunit
+table_of (wrong.ArchivedAstray place) = table.Archived
+table_of (wrong.ArchivedMissing place) = table.Workunit
+table_of (wrong.NameTaken place) = table.Workunit
+
+-- the place of that row
+abbrev pub place_of : Wrong → Option ℕ
+place_of wrong.NextNumber = None
+place_of (wrong.WorkunitForm place) = Some place
+place_of (wrong.WorkunitValues place) = Some place
+place_of (wrong.ArchivedValues place) = Some place
+place_of (wrong.ImportVerdicts place) = Some place
+place_of (wrong.WorkunitStates place) = Some place
+place_of (wrong.WorkunitNumber place) = Some place
+place_of (wrong.WorkunitOrder place) = Some place
+place_of (wrong.WorkunitTwice place) = Some place
+place_of (wrong.ArchivedNumber place) = Some place
+place_of (wrong.ArchivedTwice place) = Some place
+place_of (wrong.ArchivedNameTwice place) = Some place
+place_of (wrong.GrantValues place) = Some place
+place_of (wrong.GrantTwice place) = Some place
+place_of (wrong.ImportTwice place) = Some place
+place_of (wrong.GrantAstray place) = Some place
+place_of (wrong.GrantMissing place) = Some place
+place_of (wrong.ArchivedAstray place) = Some place
+place_of (wrong.ArchivedMissing place) = Some place
+place_of (wrong.NameTaken place) = Some place
+
+-- what is wrong with it
+abbrev pub wrong_word : Wrong → List ℕ
+wrong_word wrong.NextNumber = codes "has no next number in range"
+wrong_word (wrong.WorkunitForm place) = codes "is not well formed"
+wrong_word (wrong.WorkunitValues place) = codes "has a value out of its range"
+wrong_word (wrong.ArchivedValues place) = codes "has a value out of its range"
+wrong_word (wrong.ImportVerdicts place) = codes "has a verdict that such a file has not"
+wrong_word (wrong.WorkunitStates place) = codes "has states or verdicts that do not agree"
+wrong_word (wrong.WorkunitNumber place) = codes "has a number that was not given"
+wrong_word (wrong.WorkunitOrder place) = codes "has a number that is not above the one before"
+wrong_word (wrong.WorkunitTwice place) = codes "has the name of an earlier one"
+wrong_word (wrong.ArchivedNumber place) = codes "has a number that was not given"
+wrong_word (wrong.ArchivedTwice place) = codes "has the number of an earlier one"
+wrong_word (wrong.ArchivedNameTwice place) = codes "has the name of an earlier one"
+wrong_word (wrong.GrantValues place) = codes "has a value out of its range"
+wrong_word (wrong.GrantTwice place) = codes "is for the instance of an earlier one"
+wrong_word (wrong.ImportTwice place) = codes "has the kind and the name of an earlier one"
+wrong_word (wrong.GrantAstray place) = codes "is not for a valid instance, its host and its credit"
+wrong_word (wrong.GrantMissing place) = codes "has a valid instance without a grant"
+wrong_word (wrong.ArchivedAstray place) = codes "is not what is kept of its workunit"
+wrong_word (wrong.ArchivedMissing place) = codes "is assimilated without an archived row"
+wrong_word (wrong.NameTaken place) = codes "has the name of an archived one"

@@ -1,0 +1,169 @@
+//! Whether a world is sound, and what is wrong with it if not.
+
+ghost use Rattle.std.specs.Prelude.{◌≡◌, ◌↔◌, IfErr, IfOk, IfSome, IsNone, IsTrue};
+ghost use Rattle.wu_core.specs.Storable.{IsNextNumber};
+ghost use Rattle.wu_core.specs.World.{IsInOrder};
+ghost use Rattle.wu_core.specs.declared.fault.Fault.TheVariants.{Memory};
+ghost use Rattle.wu_machine.specs.Sound.{IsSound};
+ghost use Rattle.wu_audit.specs.Wrong.{FindsWrong, StandsAgainst, ToArchivedAstray, ToEnd, ToGrantAstray, ToGrantValues, ToNumber};
+
+use crate::firsts::{
+    first_inconsistent, first_unformed, first_ungiven, first_ungiven_archived, first_unstorable,
+    first_unstorable_archived, first_wrong_grant, first_wrong_import, know_hosts,
+};
+use crate::lacks::{first_taken, first_ungranted, first_unkept};
+use crate::loaded::Loaded;
+use crate::once::{
+    first_out_of_order, first_repeated_archived_name, first_repeated_grant, first_repeated_import,
+    first_repeated_name, first_repeated_number,
+};
+use crate::records::{first_unbacked_grant, first_unbacked_row};
+use crate::wrong::Wrong;
+use std::alloc::{AllocError, Global};
+use wu_core::{Fault, MOST_WORKUNITS};
+
+/// Whether the number is one that the next workunit may get, or that of none.
+fn is_next_number(number: u64) -> bool
+    ensures { IsTrue result ↔ IsNextNumber number }
+{
+    1 <= number && number <= MOST_WORKUNITS + 1
+}
+
+/// The first row that is wrong by itself.
+fn wrong_row(loaded: &Loaded) -> Option<Wrong>
+    ensures { FindsWrong ToNumber loaded.now result }
+{
+    if !is_next_number(loaded.next_number()) {
+        return Some(Wrong::NextNumber);
+    }
+    if let Some(place) = first_unformed(loaded.workunits()) {
+        return Some(Wrong::WorkunitForm(place));
+    }
+    if let Some(place) = first_unstorable(loaded.workunits()) {
+        return Some(Wrong::WorkunitValues(place));
+    }
+    if let Some(place) = first_unstorable_archived(loaded.archived()) {
+        return Some(Wrong::ArchivedValues(place));
+    }
+    if let Some(place) = first_wrong_import(loaded.imports()) {
+        return Some(Wrong::ImportVerdicts(place));
+    }
+    if let Some(place) = first_inconsistent(loaded.workunits()) {
+        return Some(Wrong::WorkunitStates(place));
+    }
+    None
+}
+
+/// The first workunit or archived row whose key is wrong: not given, out of order or another's.
+fn wrong_key(alloc: Global, loaded: &Loaded) -> Result<Option<Wrong>, AllocError>
+    requires { ToNumber loaded.now }
+    ensures { IfOk result (FindsWrong ToGrantValues loaded.now) }
+{
+    if let Some(place) = first_ungiven(loaded) {
+        return Ok(Some(Wrong::WorkunitNumber(place)));
+    }
+    if let Some(place) = first_out_of_order(loaded.workunits()) {
+        return Ok(Some(Wrong::WorkunitOrder(place)));
+    }
+    if let Some(place) = first_repeated_name(alloc, loaded.workunits())? {
+        return Ok(Some(Wrong::WorkunitTwice(place)));
+    }
+    if let Some(place) = first_ungiven_archived(loaded) {
+        return Ok(Some(Wrong::ArchivedNumber(place)));
+    }
+    if let Some(place) = first_repeated_number(alloc, loaded.archived())? {
+        return Ok(Some(Wrong::ArchivedTwice(place)));
+    }
+    if let Some(place) = first_repeated_archived_name(alloc, loaded.archived())? {
+        return Ok(Some(Wrong::ArchivedNameTwice(place)));
+    }
+    Ok(None)
+}
+
+/// The first grant with a value out of its range, or the first grant or import whose key is another's.
+fn wrong_grant_or_import(alloc: Global, loaded: &Loaded) -> Result<Option<Wrong>, AllocError>
+    requires { ToGrantValues loaded.now }
+    ensures { IfOk result (FindsWrong ToGrantAstray loaded.now) }
+{
+    if let Some(place) = first_wrong_grant(loaded) {
+        return Ok(Some(Wrong::GrantValues(place)));
+    }
+    if let Some(place) = first_repeated_grant(alloc, loaded.grants())? {
+        return Ok(Some(Wrong::GrantTwice(place)));
+    }
+    if let Some(place) = first_repeated_import(alloc, loaded.imports())? {
+        return Ok(Some(Wrong::ImportTwice(place)));
+    }
+    Ok(None)
+}
+
+/// The first grant that is not its workunit's, or the first workunit that lacks one.
+fn wrong_credit(alloc: Global, loaded: &Loaded) -> Result<Option<Wrong>, AllocError>
+    requires keyed { ToGrantAstray loaded.now }
+    requires order { IsInOrder loaded.now }
+    ensures { IfOk result (FindsWrong ToArchivedAstray loaded.now) }
+{
+    if let Some(place) = first_unbacked_grant(loaded.workunits(), loaded.grants()) {
+        return Ok(Some(Wrong::GrantAstray(place)));
+    }
+    if let Some(place) = first_ungranted(alloc, loaded.workunits(), loaded.grants())? {
+        return Ok(Some(Wrong::GrantMissing(place)));
+    }
+    Ok(None)
+}
+
+/// The first archived row that is not its workunit's, or the first workunit that lacks one, or whose name is one's.
+fn wrong_archive(alloc: Global, loaded: &Loaded) -> Result<Option<Wrong>, AllocError>
+    requires credited { ToArchivedAstray loaded.now }
+    requires order { IsInOrder loaded.now }
+    ensures { IfOk result (FindsWrong ToEnd loaded.now) }
+{
+    if let Some(place) = first_unbacked_row(loaded.workunits(), loaded.archived()) {
+        return Ok(Some(Wrong::ArchivedAstray(place)));
+    }
+    if let Some(place) = first_unkept(alloc, loaded.workunits(), loaded.archived())? {
+        return Ok(Some(Wrong::ArchivedMissing(place)));
+    }
+    if let Some(place) = first_taken(alloc, loaded.workunits(), loaded.archived())? {
+        return Ok(Some(Wrong::NameTaken(place)));
+    }
+    Ok(None)
+}
+
+/// The first row that does not agree with the others.
+fn wrong_record(alloc: Global, loaded: &Loaded) -> Result<Option<Wrong>, AllocError>
+    requires keyed { ToGrantAstray loaded.now }
+    requires order { IsInOrder loaded.now }
+    ensures { IfOk result (FindsWrong ToEnd loaded.now) }
+{
+    if let Some(wrong) = wrong_credit(alloc, loaded)? {
+        return Ok(Some(wrong));
+    }
+    wrong_archive(alloc, loaded)
+}
+
+/// The first thing that is wrong in the written order, if there is one.
+fn first_wrong(alloc: Global, loaded: &Loaded) -> Result<Option<Wrong>, AllocError>
+    ensures { IfOk result (FindsWrong ToEnd loaded.now) }
+{
+    if let Some(wrong) = wrong_row(loaded) {
+        return Ok(Some(wrong));
+    }
+    if let Some(wrong) = wrong_key(alloc, loaded)? {
+        return Ok(Some(wrong));
+    }
+    if let Some(wrong) = wrong_grant_or_import(alloc, loaded)? {
+        return Ok(Some(wrong));
+    }
+    wrong_record(alloc, loaded)
+}
+
+/// What is wrong with the world: none exactly where it is sound, else the first thing that stands against it.
+pub fn audit(alloc: Global, loaded: &Loaded) -> Result<Option<Wrong>, Fault>
+    ensures exact { IfOk result (λ wrong. IsNone wrong ↔ IsSound loaded.now) }
+    ensures told { IfOk result (λ wrong. IfSome wrong (StandsAgainst loaded.now)) }
+    ensures memory { IfErr result (λ fault. fault ≡ Memory) }
+{
+    know_hosts(loaded.grants());
+    Ok(first_wrong(alloc, loaded)?)
+}

@@ -1,0 +1,100 @@
+//! The first workunit, grant, archived row or import that may not stand in a world.
+
+ghost use Rattle.std.specs.Prelude.{◌≡◌, All};
+ghost use Rattle.wu_core.specs.Formed.{IsWorkunit};
+ghost use Rattle.wu_core.specs.Storable.{IsName, IsStorable, IsStoredArchived};
+ghost use Rattle.wu_rules.specs.Consistent.{IsConsistent};
+ghost use Rattle.wu_machine.specs.Sound.{IsGiven};
+ghost use Rattle.wu_audit.specs.Against.{FirstAgainst};
+ghost use Rattle.wu_audit.specs.Rows.{IsRightGrant, IsRightImport};
+
+use crate::loaded::{Imported, Loaded};
+use crate::rows::{is_given, is_right_grant, is_right_import, is_storable_archived};
+use crate::workunits::{is_consistent_workunit, is_formed_workunit, is_storable_workunit};
+use wu_core::{Archived, Grant, Workunit};
+
+/// The first workunit that is not well formed.
+pub fn first_unformed(workunits: &[Workunit]) -> Option<usize>
+    ensures { FirstAgainst IsWorkunit workunits.now result }
+{
+    workunits
+        .iter()
+        .position(|workunit| !is_formed_workunit(workunit))
+}
+
+/// The first workunit that cannot be stored.
+pub fn first_unstorable(workunits: &[Workunit]) -> Option<usize>
+    ensures { FirstAgainst IsStorable workunits.now result }
+{
+    for (place, workunit) in workunits.iter().enumerate() {
+        if !is_storable_workunit(workunit) {
+            return Some(place);
+        }
+    }
+    None
+}
+
+/// Each grant is to a host with a name.
+pub fn know_hosts(grants: &[Grant])
+    ensures { All (λ grant. IsName grant.host) grants.now }
+{
+    for grant in grants {
+        grant.host.as_bytes();
+    }
+}
+
+/// The first archived row that cannot be stored.
+pub fn first_unstorable_archived(archived: &[Archived]) -> Option<usize>
+    ensures { FirstAgainst IsStoredArchived archived.now result }
+{
+    archived.iter().position(|row| !is_storable_archived(row))
+}
+
+/// The first import with a verdict that no such file has.
+pub fn first_wrong_import(imports: &[Imported]) -> Option<usize>
+    ensures { FirstAgainst IsRightImport imports.now result }
+{
+    imports.iter().position(|import| !is_right_import(import))
+}
+
+/// The first workunit whose states and verdicts do not agree.
+pub fn first_inconsistent(workunits: &[Workunit]) -> Option<usize>
+    ensures { FirstAgainst IsConsistent workunits.now result }
+{
+    for (place, workunit) in workunits.iter().enumerate() {
+        if !is_consistent_workunit(workunit) {
+            return Some(place);
+        }
+    }
+    None
+}
+
+/// The first workunit with a number that was not given.
+pub fn first_ungiven(loaded: &Loaded) -> Option<usize>
+    ensures { FirstAgainst (λ w. IsGiven loaded.now w.number) loaded.now.workunits result }
+{
+    loaded
+        .workunits()
+        .iter()
+        .position(|workunit| !is_given(loaded, workunit.number))
+}
+
+/// The first archived row with a number that was not given.
+pub fn first_ungiven_archived(loaded: &Loaded) -> Option<usize>
+    ensures { FirstAgainst (λ row. IsGiven loaded.now row.number) loaded.now.archived result }
+{
+    loaded
+        .archived()
+        .iter()
+        .position(|row| !is_given(loaded, row.number))
+}
+
+/// The first grant for a number that was not given, or with a number or a credit out of its range.
+pub fn first_wrong_grant(loaded: &Loaded) -> Option<usize>
+    ensures { FirstAgainst (IsRightGrant loaded.now) loaded.now.grants result }
+{
+    loaded
+        .grants()
+        .iter()
+        .position(|grant| !is_right_grant(loaded, grant))
+}

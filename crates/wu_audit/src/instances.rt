@@ -1,0 +1,83 @@
+//! Whether an instance is well formed, can be stored, and is in a state that this project sets.
+
+ghost use Rattle.std.specs.Prelude.{◌≡◌, ◌↔◌, IsTrue, All};
+ghost use Rattle.wu_core.specs.Formed.{IsInstance};
+ghost use Rattle.wu_core.specs.Storable.{MayBeInstance, IsStoredInstance, IsHost, AreMoments};
+ghost use Rattle.wu_rules.specs.Consistent.{IsPossible};
+ghost use Rattle.wu_rules.specs.Instances.{is_success};
+
+use wu_core::{
+    FileDelete, Instance, LONGEST_OUTPUT, Moment, Name, Outcome, ServerState, ValidateState,
+};
+
+/// Whether the instance is over with a result.
+pub(crate) fn is_success(instance: &Instance) -> bool
+    ensures { result ≡ is_success instance.now }
+{
+    instance.server_state == ServerState::Over && instance.outcome == Outcome::Success
+}
+
+/// Whether host, sending and deadline are there together, and as the states want it.
+pub fn is_formed_instance(instance: &Instance) -> bool
+    ensures { IsTrue result ↔ IsInstance instance.now }
+{
+    let has_host = instance.host.is_some();
+    let is_unsent = instance.server_state == ServerState::Unsent;
+    let is_in_progress = instance.server_state == ServerState::InProgress;
+    instance.sent_at.is_some() == has_host
+        && instance.deadline.is_some() == has_host
+        && !(is_unsent && has_host)
+        && !(is_in_progress && !has_host)
+        && !(is_success(instance) && !has_host)
+}
+
+/// Whether no state stands that this project never sets, and a verdict only where there is a success.
+pub fn is_possible_instance(instance: &Instance) -> bool
+    ensures { IsTrue result ↔ IsPossible instance.now }
+{
+    instance.server_state != ServerState::Inactive
+        && instance.outcome != Outcome::CouldntSend
+        && instance.outcome != Outcome::ValidateError
+        && instance.file_delete != FileDelete::Error
+        && (is_success(instance) || instance.validate_state == ValidateState::Init)
+}
+
+/// A host's name is one.
+fn know_host(host: &Option<Name>)
+    ensures { IsHost host.now }
+{
+    if let Some(name) = host {
+        name.as_bytes();
+    }
+}
+
+/// The moments of an instance are in their ranges.
+fn know_moments(instance: &Instance)
+    ensures { AreMoments instance.now.sent_at instance.now.deadline instance.now.received_at }
+{
+    if let Some(sent_at) = instance.sent_at {
+        sent_at.seconds();
+    }
+    if let Some(deadline) = instance.deadline {
+        deadline.seconds();
+    }
+    if let Some(received_at) = instance.received_at {
+        received_at.seconds();
+    }
+}
+
+/// Whether the values of the instance are in their ranges: its output is not too long, and the rest is so by its type.
+fn may_be_instance(instance: &Instance) -> bool
+    ensures { IsTrue result ↔ MayBeInstance instance.now }
+{
+    know_host(&instance.host);
+    know_moments(instance);
+    instance.output.len() <= LONGEST_OUTPUT
+}
+
+/// Whether the instance is what a row of an instance stands for.
+pub fn is_stored_instance(instance: &Instance) -> bool
+    ensures { IsTrue result ↔ IsStoredInstance instance.now }
+{
+    may_be_instance(instance) && is_formed_instance(instance)
+}

@@ -1,0 +1,129 @@
+//! The first workunit that lacks a grant or an archived row, or whose name is an archived workunit's.
+
+ghost use Rattle.std.specs.Prelude.{◌≡◌, ◌↔◌, ◌≤◌, ◌<◌, IsTrue, IfOk, All};
+ghost use Rattle.std.specs.HashSet.{contains};
+ghost use Rattle.std.specs.Set.{is_member};
+ghost use Rattle.wu_audit.specs.Against.{FirstAgainst};
+ghost use Rattle.wu_audit.specs.Records.{IsGranted, IsArchivedIfDone, IsNameFree};
+ghost use Rattle.wu_audit.specs.Sets.{AreValidHeld, IsHeldIfDone, IsHeldIfValid, IsNotHeldUnlessDone};
+
+use crate::once::{archived_names_of, granted_of, numbers_of};
+use std::alloc::{AllocError, Global};
+use std::collections::HashSet;
+use std::hash::Hash;
+use wu_core::{Archived, Assimilate, Grant, ValidateState, Workunit};
+
+/// The set of the keys.
+fn set_of<K: Eq + Hash + Copy + Drop>(alloc: Global, keys: &[K]) -> Result<HashSet<K>, AllocError>
+    ensures { IfOk result (λ set. (q : K) → contains K.eq set q ≡ is_member K.eq keys.now q) }
+{
+    keys.iter().copied().collect(alloc)
+}
+
+/// Whether the instance of this number, with this verdict, is in the set where it is valid.
+fn is_held_if_valid(
+    granted: &HashSet<(u64, u32)>,
+    number: u64,
+    n: u32,
+    verdict: ValidateState,
+) -> bool
+    ensures { IsTrue result ↔ IsHeldIfValid granted.now number n verdict }
+{
+    verdict != ValidateState::Valid || granted.contains(&(number, n))
+}
+
+/// Whether each valid instance of the workunit is in the set.
+fn are_valid_held(granted: &HashSet<(u64, u32)>, workunit: &Workunit) -> bool
+    ensures { IsTrue result ↔ AreValidHeld granted.now workunit.now }
+{
+    let instances = workunit.instances.as_slice();
+    for (n, instance) in instances.iter().enumerate() {
+        if !is_held_if_valid(granted, workunit.number, n as u32, instance.validate_state) {
+            return false;
+        }
+    }
+    true
+}
+
+/// The first workunit with a valid instance that is not in the set.
+fn first_with_valid_unheld(granted: &HashSet<(u64, u32)>, workunits: &[Workunit]) -> Option<usize>
+    ensures { FirstAgainst (AreValidHeld granted.now) workunits.now result }
+{
+    for (place, workunit) in workunits.iter().enumerate() {
+        if !are_valid_held(granted, workunit) {
+            return Some(place);
+        }
+    }
+    None
+}
+
+/// The first workunit with a valid instance that has no grant.
+pub fn first_ungranted(
+    alloc: Global,
+    workunits: &[Workunit],
+    grants: &[Grant],
+) -> Result<Option<usize>, AllocError>
+    ensures { IfOk result (FirstAgainst (IsGranted grants.now) workunits.now) }
+{
+    let keys = granted_of(alloc, grants)?;
+    let granted = set_of(alloc, keys.as_slice())?;
+    Ok(first_with_valid_unheld(&granted, workunits))
+}
+
+/// Whether the workunit's number is in the set where it is assimilated.
+fn is_held_if_done(numbers: &HashSet<u64>, workunit: &Workunit) -> bool
+    ensures { IsTrue result ↔ IsHeldIfDone numbers.now workunit.now }
+{
+    workunit.assimilate != Assimilate::Done || numbers.contains(&workunit.number)
+}
+
+/// The first assimilated workunit whose number is not in the set.
+fn first_done_unheld(numbers: &HashSet<u64>, workunits: &[Workunit]) -> Option<usize>
+    ensures { FirstAgainst (IsHeldIfDone numbers.now) workunits.now result }
+{
+    workunits
+        .iter()
+        .position(|workunit| !is_held_if_done(numbers, workunit))
+}
+
+/// The first assimilated workunit without an archived row.
+pub fn first_unkept(
+    alloc: Global,
+    workunits: &[Workunit],
+    archived: &[Archived],
+) -> Result<Option<usize>, AllocError>
+    ensures { IfOk result (FirstAgainst (IsArchivedIfDone archived.now) workunits.now) }
+{
+    let keys = numbers_of(alloc, archived)?;
+    let numbers = set_of(alloc, keys.as_slice())?;
+    Ok(first_done_unheld(&numbers, workunits))
+}
+
+/// Whether the workunit's name is not in the set where it is not assimilated.
+fn is_not_held_unless_done(names: &HashSet<&str>, workunit: &Workunit) -> bool
+    ensures { IsTrue result ↔ IsNotHeldUnlessDone names.now workunit.now }
+{
+    workunit.assimilate == Assimilate::Done || !names.contains(&workunit.name.as_str())
+}
+
+/// The first workunit that is not assimilated and whose name is in the set.
+fn first_held(names: &HashSet<&str>, workunits: &[Workunit]) -> Option<usize>
+    ensures { FirstAgainst (IsNotHeldUnlessDone names.now) workunits.now result }
+{
+    workunits
+        .iter()
+        .position(|workunit| !is_not_held_unless_done(names, workunit))
+}
+
+/// The first workunit that is not assimilated and whose name is an archived workunit's.
+pub fn first_taken(
+    alloc: Global,
+    workunits: &[Workunit],
+    archived: &[Archived],
+) -> Result<Option<usize>, AllocError>
+    ensures { IfOk result (FirstAgainst (IsNameFree archived.now) workunits.now) }
+{
+    let keys = archived_names_of(alloc, archived)?;
+    let names = set_of(alloc, keys.as_slice())?;
+    Ok(first_held(&names, workunits))
+}

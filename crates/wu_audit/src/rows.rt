@@ -1,0 +1,64 @@
+//! Whether a grant, an archived row and an import may stand in a world.
+
+ghost use Rattle.std.specs.Prelude.{◌≡◌, ◌↔◌, ◌≤◌, IsTrue, All};
+ghost use Rattle.wu_core.specs.Storable.{AreVerdicts, IsName, IsPlace, IsStoredArchived};
+ghost use Rattle.wu_core.specs.World.{last_skip};
+ghost use Rattle.wu_machine.specs.Sound.{IsGiven};
+ghost use Rattle.wu_audit.specs.Rows.{IsRightGrant, IsRightImport};
+
+use crate::loaded::{Imported, Loaded};
+use crate::workunits::know_place;
+use wu_core::{Archived, Grant, ImportKind, LONGEST_OUTPUT, MOST_CREDIT, MOST_INSTANCES};
+
+/// Whether the number was given to a workunit.
+pub fn is_given(loaded: &Loaded, number: u64) -> bool
+    ensures { IsTrue result ↔ IsGiven loaded.now number }
+{
+    1 <= number && number < loaded.next_number()
+}
+
+/// Whether the grant is for a number that was given, and its number and its credit are in their ranges.
+pub fn is_right_grant(loaded: &Loaded, grant: &Grant) -> bool
+    ensures { IsTrue result ↔ IsRightGrant loaded.now grant.now }
+{
+    is_given(loaded, grant.workunit)
+        && grant.n < MOST_INSTANCES
+        && grant.credit <= u64::from(MOST_CREDIT)
+}
+
+/// Whether the archived row can be stored.
+pub fn is_storable_archived(archived: &Archived) -> bool
+    ensures { IsTrue result ↔ IsStoredArchived archived.now }
+{
+    archived.name.as_bytes();
+    know_place(archived.canonical);
+    archived.done_at.seconds();
+    archived.output.len() <= LONGEST_OUTPUT
+}
+
+/// The greatest number of a skip in a file of this kind.
+fn last_skip(kind: ImportKind) -> u8
+    ensures { result ≡ last_skip kind }
+{
+    match kind {
+        ImportKind::Batch => 0,
+        ImportKind::Sent => 3,
+        ImportKind::Reported => 5,
+    }
+}
+
+/// Whether each verdict is a number of one on a file of this kind.
+fn are_verdicts(kind: ImportKind, verdicts: &[u8]) -> bool
+    ensures { IsTrue result ↔ AreVerdicts kind verdicts.now }
+{
+    let last_skip = last_skip(kind);
+    verdicts.iter().all(|verdict| *verdict <= last_skip)
+}
+
+/// Whether the verdicts of the import are numbers of verdicts on such a file.
+pub fn is_right_import(import: &Imported) -> bool
+    ensures { IsTrue result ↔ IsRightImport import.now }
+{
+    import.name().as_bytes();
+    are_verdicts(import.kind(), import.verdicts().as_slice())
+}

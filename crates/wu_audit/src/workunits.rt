@@ -1,0 +1,196 @@
+//! Whether a workunit is well formed, can be stored, and is consistent.
+
+ghost use Rattle.std.specs.Prelude.{◌≡◌, ◌≢◌, ◌↔◌, ◌<◌, ◌≤◌, ◌&&◌, ℕ, true, false, IsTrue, IfSome, IfNone, Some, All, length, slice_get, is_some, is_none};
+ghost use Rattle.std.specs.List.{list_any};
+ghost use Rattle.wu_core.specs.Formed.{IsInstance, IsWorkunit};
+ghost use Rattle.wu_core.specs.Parameters.{IsParameters};
+ghost use Rattle.wu_core.specs.Storable.{IsStorable, IsStoredInstance, IsStoredWorkunit, IsMoment, IsPlace, AreStoredInstances, bare};
+ghost use Rattle.wu_core.specs.declared.states.Assimilate.TheVariants as assimilate;
+ghost use Rattle.wu_rules.specs.Consistent.{IsConsistent, IsPossible};
+ghost use Rattle.wu_rules.specs.Counts.{is_clear};
+ghost use Rattle.wu_rules.specs.Instances.{is_unsent};
+ghost use Rattle.wu_audit.specs.Parts.{HasFormedInstances, IsCanonicalPlace, IsCanonicalValid, IsDoneWithMoment, IsInOneState, IsSettable};
+
+use crate::instances::{is_formed_instance, is_possible_instance, is_stored_instance, is_success};
+use wu_core::{
+    Assimilate, ErrorMask, FileDelete, Instances, LONGEST_INPUT, Moment, Params, ServerState,
+    ValidateState, Workunit,
+};
+
+/// The parameters of a workunit are in their ranges.
+fn know_parameters(params: Params)
+    ensures { IsParameters params }
+{
+    params.min_quorum();
+    params.target_nresults();
+    params.max_error_results();
+    params.max_total_results();
+    params.max_success_results();
+    params.delay_bound();
+    params.credit();
+}
+
+/// Whether each instance is well formed.
+fn is_all_formed(instances: &Instances) -> bool
+    ensures { IsTrue result ↔ All IsInstance instances.now }
+{
+    instances
+        .iter()
+        .all(|instance| is_formed_instance(instance))
+}
+
+/// Whether the instances are well formed, and no more than the parameters allow.
+fn has_formed_instances(workunit: &Workunit) -> bool
+    ensures { IsTrue result ↔ HasFormedInstances workunit.now }
+{
+    is_all_formed(&workunit.instances)
+        && workunit.instances.len() <= workunit.params.max_total_results() as usize
+}
+
+/// Whether the canonical instance, if there is one, is there.
+fn is_canonical_there(workunit: &Workunit) -> bool
+    ensures { IsTrue result ↔ IsCanonicalPlace workunit.now }
+{
+    match workunit.canonical {
+        Some(n) => (n as usize) < workunit.instances.len(),
+        None => true,
+    }
+}
+
+/// The moment of a workunit is in its range.
+fn know_moment(done_at: Option<Moment>)
+    ensures { IsMoment done_at }
+{
+    if let Some(done_at) = done_at {
+        done_at.seconds();
+    }
+}
+
+/// Whether the workunit has a moment exactly where it is assimilated.
+fn is_stamped(workunit: &Workunit) -> bool
+    ensures { IsTrue result ↔ IsDoneWithMoment workunit.now }
+{
+    (workunit.assimilate == Assimilate::Done) == workunit.done_at.is_some()
+}
+
+/// Whether the workunit is well formed.
+pub fn is_formed_workunit(workunit: &Workunit) -> bool
+    ensures { IsTrue result ↔ IsWorkunit workunit.now }
+{
+    know_parameters(workunit.params);
+    has_formed_instances(workunit) && is_canonical_there(workunit) && is_stamped(workunit)
+}
+
+/// Whether each instance is what a row of an instance stands for.
+fn is_all_stored(instances: &Instances) -> bool
+    ensures { IsTrue result ↔ AreStoredInstances instances.now }
+{
+    instances
+        .iter()
+        .all(|instance| is_stored_instance(instance))
+}
+
+/// A number of an instance fits into 32 bits.
+pub(crate) fn know_place(place: Option<u32>)
+    ensures { IsPlace place }
+{
+    if let Some(n) = place {
+        let _n = n;
+    }
+}
+
+/// Whether the values of the workunit but its instances are in their ranges.
+fn is_stored_workunit(workunit: &Workunit) -> bool
+    ensures { IsTrue result ↔ IsStoredWorkunit (bare workunit.now) }
+{
+    workunit.name.as_bytes();
+    know_parameters(workunit.params);
+    know_place(workunit.canonical);
+    know_moment(workunit.done_at);
+    workunit.input.len() <= LONGEST_INPUT && is_stamped(workunit)
+}
+
+/// Whether the values of the workunit and of its instances are such as their rows are read as.
+pub fn is_storable_workunit(workunit: &Workunit) -> bool
+    ensures { IsTrue result ↔ IsStorable workunit.now }
+{
+    workunit.number <= i64::MAX as u64
+        && is_stored_workunit(workunit)
+        && is_all_stored(&workunit.instances)
+}
+
+/// Whether each instance is in a state that this project sets.
+fn is_all_possible(instances: &Instances) -> bool
+    ensures { IsTrue result ↔ All IsPossible instances.now }
+{
+    instances
+        .iter()
+        .all(|instance| is_possible_instance(instance))
+}
+
+/// Whether an instance waits to be sent.
+fn has_unsent(instances: &Instances) -> bool
+    ensures { result ≡ list_any is_unsent instances.now }
+{
+    instances
+        .iter()
+        .any(|instance| instance.server_state == ServerState::Unsent)
+}
+
+/// Whether no bit of the mask is set.
+fn is_clear(mask: ErrorMask) -> bool
+    ensures { result ≡ is_clear mask }
+{
+    mask.code() == 0
+}
+
+/// Whether the canonical instance, if there is one, is a success that was found valid.
+fn is_canonical_valid(workunit: &Workunit) -> bool
+    ensures { IsTrue result ↔ IsCanonicalValid workunit.now }
+{
+    let Some(n) = workunit.canonical else {
+        return true;
+    };
+    match workunit.instances.as_slice().get(n as usize) {
+        Some(instance) => {
+            is_success(instance) && instance.validate_state == ValidateState::Valid
+        }
+        None => true,
+    }
+}
+
+/// Whether no state stands that this project never sets.
+fn is_settable(workunit: &Workunit) -> bool
+    ensures { IsTrue result ↔ IsSettable workunit.now }
+{
+    is_all_possible(&workunit.instances)
+        && workunit.file_delete != FileDelete::Error
+        && !workunit.error_mask.couldnt_send_result
+        && !workunit.error_mask.no_canonical_result
+}
+
+/// Whether the workunit has neither a canonical result nor an error.
+fn is_undecided(workunit: &Workunit) -> bool
+    ensures { result ≡ (is_clear workunit.now.error_mask && is_none workunit.now.canonical) }
+{
+    is_clear(workunit.error_mask) && workunit.canonical.is_none()
+}
+
+/// Whether the workunit is undecided, given up or decided, and not two of them.
+fn is_in_one_state(workunit: &Workunit) -> bool
+    ensures { IsTrue result ↔ IsInOneState workunit.now }
+{
+    if is_undecided(workunit) {
+        workunit.assimilate == Assimilate::Init
+    } else {
+        let is_given_up = !is_clear(workunit.error_mask);
+        !(is_given_up && workunit.canonical.is_some()) && !has_unsent(&workunit.instances)
+    }
+}
+
+/// Whether the states and verdicts of the workunit agree.
+pub fn is_consistent_workunit(workunit: &Workunit) -> bool
+    ensures { IsTrue result ↔ IsConsistent workunit.now }
+{
+    is_settable(workunit) && is_in_one_state(workunit) && is_canonical_valid(workunit)
+}

@@ -1,0 +1,159 @@
+//! What is wrong with a world that is not sound.
+
+ghost use Rattle.std.specs.Prelude.{◌≡◌};
+ghost use Rattle.wu_audit.specs.Words.{place_of, table_of, table_word, wrong_word};
+
+/// A table of which a row is wrong.
+#[derive(Clone, Copy, Debug, PartialEq, Eq)]
+pub enum Table {
+    Project,
+    Workunit,
+    CreditGrant,
+    Archived,
+    Import,
+}
+
+impl Table {
+    /// The name of the table.
+    pub fn word(self) -> &'static str
+        ensures { result.now ≡ table_word self }
+    {
+        match self {
+            Table::Project => "project",
+            Table::Workunit => "workunit",
+            Table::CreditGrant => "credit_grant",
+            Table::Archived => "archived",
+            Table::Import => "import",
+        }
+    }
+}
+
+/// What is wrong with a world: one thing that a sound world has not. Each but the first tells a row by its place in its
+/// table, from 0.
+#[derive(Clone, Copy, Debug, PartialEq, Eq)]
+pub enum Wrong {
+    /// The next number is 0, or more than one above the greatest that there may be.
+    NextNumber,
+    /// The workunit is not well formed, by its states and moments or an instance's.
+    WorkunitForm(usize),
+    /// A value of the workunit or of an instance is out of its range.
+    WorkunitValues(usize),
+    /// A value of the archived row is out of its range.
+    ArchivedValues(usize),
+    /// A verdict of the import is none of such a file.
+    ImportVerdicts(usize),
+    /// The states and verdicts of the workunit do not agree.
+    WorkunitStates(usize),
+    /// The number of the workunit was not given.
+    WorkunitNumber(usize),
+    /// The number of the workunit is not above that of the one before it.
+    WorkunitOrder(usize),
+    /// An earlier workunit has the name of this one.
+    WorkunitTwice(usize),
+    /// The number of the archived row was not given.
+    ArchivedNumber(usize),
+    /// An earlier archived row has the number of this one.
+    ArchivedTwice(usize),
+    /// An earlier archived row has the name of this one.
+    ArchivedNameTwice(usize),
+    /// The workunit of the grant was given no number, or its number or its credit is out of its range.
+    GrantValues(usize),
+    /// An earlier grant is for the instance of this one.
+    GrantTwice(usize),
+    /// An earlier import has the kind and the name of this one.
+    ImportTwice(usize),
+    /// The workunit of the grant is there, and has no valid instance of its number, or another host or credit.
+    GrantAstray(usize),
+    /// A valid instance of the workunit has no grant.
+    GrantMissing(usize),
+    /// The workunit of the archived row is there, and is not assimilated, or has other values.
+    ArchivedAstray(usize),
+    /// The workunit is assimilated, and has no archived row.
+    ArchivedMissing(usize),
+    /// The workunit is not assimilated, and an archived row has its name.
+    NameTaken(usize),
+}
+
+impl Wrong {
+    /// The table whose row is wrong.
+    pub fn table(self) -> Table
+        ensures { result ≡ table_of self }
+    {
+        match self {
+            Wrong::NextNumber => Table::Project,
+            Wrong::WorkunitForm(_)
+            | Wrong::WorkunitValues(_)
+            | Wrong::WorkunitStates(_)
+            | Wrong::WorkunitNumber(_)
+            | Wrong::WorkunitOrder(_)
+            | Wrong::WorkunitTwice(_)
+            | Wrong::GrantMissing(_)
+            | Wrong::ArchivedMissing(_)
+            | Wrong::NameTaken(_) => Table::Workunit,
+            Wrong::GrantValues(_) | Wrong::GrantTwice(_) | Wrong::GrantAstray(_) =>
+                Table::CreditGrant,
+            Wrong::ArchivedValues(_)
+            | Wrong::ArchivedNumber(_)
+            | Wrong::ArchivedTwice(_)
+            | Wrong::ArchivedNameTwice(_)
+            | Wrong::ArchivedAstray(_) => Table::Archived,
+            Wrong::ImportVerdicts(_) | Wrong::ImportTwice(_) => Table::Import,
+        }
+    }
+
+    /// The place of the row in its table, from 0.
+    pub fn place(self) -> Option<usize>
+        ensures { result ≡ place_of self }
+    {
+        match self {
+            Wrong::NextNumber => None,
+            Wrong::WorkunitForm(place)
+            | Wrong::WorkunitValues(place)
+            | Wrong::ArchivedValues(place)
+            | Wrong::ImportVerdicts(place)
+            | Wrong::WorkunitStates(place)
+            | Wrong::WorkunitNumber(place)
+            | Wrong::WorkunitOrder(place)
+            | Wrong::WorkunitTwice(place)
+            | Wrong::ArchivedNumber(place)
+            | Wrong::ArchivedTwice(place)
+            | Wrong::ArchivedNameTwice(place)
+            | Wrong::GrantValues(place)
+            | Wrong::GrantTwice(place)
+            | Wrong::ImportTwice(place)
+            | Wrong::GrantAstray(place)
+            | Wrong::GrantMissing(place)
+            | Wrong::ArchivedAstray(place)
+            | Wrong::ArchivedMissing(place)
+            | Wrong::NameTaken(place) => Some(place),
+        }
+    }
+
+    /// What is wrong with the row, in words that go on after its table and its key.
+    pub fn word(self) -> &'static str
+        ensures { result.now ≡ wrong_word self }
+    {
+        match self {
+            Wrong::NextNumber => "has no next number in range",
+            Wrong::WorkunitForm(_) => "is not well formed",
+            Wrong::WorkunitValues(_) => "has a value out of its range",
+            Wrong::ArchivedValues(_) => "has a value out of its range",
+            Wrong::ImportVerdicts(_) => "has a verdict that such a file has not",
+            Wrong::WorkunitStates(_) => "has states or verdicts that do not agree",
+            Wrong::WorkunitNumber(_) => "has a number that was not given",
+            Wrong::WorkunitOrder(_) => "has a number that is not above the one before",
+            Wrong::WorkunitTwice(_) => "has the name of an earlier one",
+            Wrong::ArchivedNumber(_) => "has a number that was not given",
+            Wrong::ArchivedTwice(_) => "has the number of an earlier one",
+            Wrong::ArchivedNameTwice(_) => "has the name of an earlier one",
+            Wrong::GrantValues(_) => "has a value out of its range",
+            Wrong::GrantTwice(_) => "is for the instance of an earlier one",
+            Wrong::ImportTwice(_) => "has the kind and the name of an earlier one",
+            Wrong::GrantAstray(_) => "is not for a valid instance, its host and its credit",
+            Wrong::GrantMissing(_) => "has a valid instance without a grant",
+            Wrong::ArchivedAstray(_) => "is not what is kept of its workunit",
+            Wrong::ArchivedMissing(_) => "is assimilated without an archived row",
+            Wrong::NameTaken(_) => "has the name of an archived one",
+        }
+    }
+}

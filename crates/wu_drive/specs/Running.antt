@@ -1,0 +1,34 @@
+-- All that is known of a run of commands over a session.
+use Rattle.std.specs.Prelude.{◌≡◌, ◌≤◌, ℕ, List, length, Option, Some, None}
+use Rattle.sqlite_trees.specs.declared.store.Store.{Ghosts}
+use Rattle.wu_core.specs.declared.fault.Fault.TheVariants.{Broken}
+use Rattle.wu_machine.specs.declared.command.Answer.{Answer}
+use Rattle.wu_machine.specs.declared.command.Command.{Command}
+use Rattle.wu_passes.specs.declared.project.Project.{Project}
+use Rattle.wu_passes.specs.Projects.{GoesStill, IsOver, KeepsLimit, state_of}
+use Rattle.wu_passes.specs.Standing.{KeepsDoubt, MayEnd}
+use Rattle.wu_drive.specs.declared.runs.Run.{Run}
+use Rattle.wu_drive.specs.Driving.{DrivesNothing, DrivesProject, DrivesWhy, EndsBy, LeavesAll, LeavesAllIdle, LengthensLife, ServesUnlessEnded}
+use Rattle.wu_drive.specs.Writing.{WritesAnswers}
+
+-- The commands are run in order, up to the first fault.
+pub record Runs {S W : Type 0} {store : Ghosts S} (contents : W → Option (List ℕ)) (old new : Project S store) (out_old out_new : W) (commands : List Command) (run : Run) : Type 0 where
+  -- what was answered and written, and what the tables then stand for
+  pub answers : (answers : List Answer) × WritesAnswers (contents out_old) (contents out_new) answers run × DrivesProject old new commands answers run
+  pub why : DrivesWhy old new commands run
+  pub opens : ServesUnlessEnded old new run
+  pub lives : LengthensLife old new commands run
+  pub ended : DrivesNothing old new out_old out_new run
+  -- what was not changed
+  pub untouched : LeavesAll old new run
+  pub idle : LeavesAllIdle old new commands run
+  -- the session ends with `Broken`, and else only for want of memory
+  pub ends : GoesStill old → IsOver new → EndsBy run MayEnd
+  pub broken : GoesStill old → run.end ≡ Some Broken → IsOver new
+  -- what is doubted of the disk stays doubted, and no fault of it is forgotten
+  pub clean : KeepsDoubt (state_of old) (state_of new)
+  pub counts : (state_of old).faults ≤ (state_of new).faults
+  pub limit : KeepsLimit old new
+  -- no more are done than are there, and all where nothing ended it
+  pub count : run.acknowledged ≤ length commands
+  pub all : run.end ≡ None → run.acknowledged ≡ length commands

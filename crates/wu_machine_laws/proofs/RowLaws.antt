@@ -1,0 +1,192 @@
+-- Each row is taken in the world as the rows before it left it.
+use Rattle.std.proofs.Common.{◌≡◌, ◌≢◌, ℕ, suc, ◌==◌, nat_lt, Bool, true, false, List, [], ◌∷◌, slice_get, Option, Some, None, option_map, Result, Ok, Err, bytes_eq, refl, sym, ap, subst, ◌∙◌, inl, inr, eqb-true}
+use Rattle.std.proofs.lemmas.Bool.{cases_Bool, ne_eqb}
+use Rattle.std.proofs.lemmas.Slice.Eq.{bytes_eq-Decides}
+use Rattle.std.specs.Option.{IsSomeAnd, option_and_then, option_map_or}
+use Rattle.std.specs.Prelude.{◌&&◌, not, if◌then◌else◌, IfSome}
+use Rattle.wu_core.specs.World.{World}
+use Rattle.wu_core.specs.declared.fault.Fault.{Fault}
+use Rattle.wu_core.specs.declared.fault.Fault.TheVariants.{OldSchema}
+use Rattle.wu_core.specs.declared.import.ImportKind.{ImportKind}
+use Rattle.wu_core.specs.declared.import.ImportKind.TheVariants as kind
+use Rattle.wu_core.specs.declared.workunit.Instance.{Instance}
+use Rattle.wu_core.specs.declared.workunit.Workunit.{Workunit}
+use Rattle.wu_feed.specs.Reports.{reports_of_file}
+use Rattle.wu_feed.specs.Sends.{sends_of_file}
+use Rattle.wu_feed.specs.declared.reports.ReportRow.{ReportRow}
+use Rattle.wu_feed.specs.declared.sends.SendRow.{SendRow}
+use Rattle.wu_rules_laws.proofs.Told.{reports, sends}
+use Rattle.wu_rules_laws.specs.Rows.{IsReported, IsSent, MayBeReported, MayBeSent}
+use Rattle.wu_machine.specs.FileRows.{Rule, after_row, after_rows, report_rule, row_verdict, row_verdicts, send_rule, unknown}
+use Rattle.wu_machine.specs.Imports.{Done, Given, imported_after, import_of, reported_given, rows_read, sent_given}
+use Rattle.wu_machine.specs.Machine.{is_upgrade, present_version, reply_of, world_of}
+use Rattle.wu_machine.specs.Requests.{AskReported, AskSent, Imported}
+use Rattle.wu_machine.specs.Worlds.{with_named, workunit_named}
+use Rattle.wu_machine_laws.proofs.FileLaws.{found_passes, image_found, made, may_report, may_send, named_made, row_applied}
+use Rattle.wu_machine_laws.proofs.LeavingLaws.{Keeps, each_named, reports_keep, rows_change, sends_keep}
+use Rattle.wu_machine_laws.specs.Files.{OfInstance}
+use Rattle.wu_machine_laws.specs.Rows.{IsVerdict, LeavesAllBut, LeavesUnnamedInstances, MakesOf, NoneIsOf, RowByRow, RowsSeeRows, TakesReport, TakesSend, instance_in}
+
+-- ---- of any kind of rows
+
+-- which instance a row is of, and what it makes of it
+module _ {Row : Type 0} (rule : Rule Row) (keeps : Keeps rule) (place : Row → ℕ)
+    (only : (row : Row) (w : Workunit) (k : ℕ) → k ≢ place row → slice_get (rule.image row w).instances k ≡ slice_get w.instances k) where
+  -- the verdict is that of the workunit
+  verdict_told : (world : World) (row : Row) → IsVerdict world (rule.workunit row) (rule.verdict row) unknown (row_verdict rule world row)
+  verdict_told world row = record {
+    present = by (workunit_named world (rule.workunit row));
+    absent = λ none. ap (λ o. option_map_or (rule.verdict row) o unknown) none;
+  }
+    where
+      by : (o : Option Workunit) → IfSome o (λ w. option_map_or (rule.verdict row) o unknown ≡ rule.verdict row w)
+      by None = tt
+      by (Some w) = refl
+
+  -- a change of its workunit leaves an instance that the row is not of
+  made_leaves : (world : World) (row : Row) (name : List ℕ) (n : ℕ) → (name ≡ rule.workunit row → n ≢ place row)
+      → instance_in (with_named world (rule.workunit row) (rule.image row)) name n ≡ instance_in world name n
+  made_leaves world row name n off =
+      ap (option_and_then (λ (w : Workunit). slice_get w.instances n)) (named_made rule keeps world row name) ∙ by (workunit_named world name) refl
+    where
+      at : (w : Workunit) → w.name ≡ name → slice_get (made rule keeps row w).instances n ≡ slice_get w.instances n
+      at w is = elim (cases_Bool (bytes_eq w.name (rule.workunit row))) [
+        | inr other ↦ ap (λ b. slice_get (if b then rule.image row w else w).instances n) other
+        | inl same ↦
+            ap (λ b. slice_get (if b then rule.image row w else w).instances n) same
+            ∙ only row w n (off (sym is ∙ (bytes_eq-Decides w.name (rule.workunit row)).0 same))
+      ]
+
+      by : (o : Option Workunit) → workunit_named world name ≡ o
+          → option_and_then (λ (w : Workunit). slice_get w.instances n) (option_map (made rule keeps row) o) ≡ option_and_then (λ (w : Workunit). slice_get w.instances n) o
+      by None found = refl
+      by (Some w) found = at w ((bytes_eq-Decides w.name name).0 (found_passes (λ v. bytes_eq v.name name) world.workunits w found))
+
+  -- so does a row, whether it is applied or not
+  row_leaves : (world : World) (row : Row) (name : List ℕ) (n : ℕ) → (row_verdict rule world row ≡ 0 → name ≡ rule.workunit row → n ≢ place row)
+      → instance_in (after_row rule world row) name n ≡ instance_in world name n
+  row_leaves world row name n off = elim (cases_Bool (row_verdict rule world row == 0)) [
+    | inr skipped ↦ ap (λ b. instance_in (if b then with_named world (rule.workunit row) (rule.image row) else world) name n) skipped
+    | inl applied ↦
+        ap (λ b. instance_in (if b then with_named world (rule.workunit row) (rule.image row) else world) name n) applied
+        ∙ made_leaves world row name n (off (eqb-true _ _ applied))
+  ]
+
+  rows_leave : (rows : List Row) (world : World) (name : List ℕ) (n : ℕ) → NoneIsOf rule.workunit place rows (row_verdicts rule world rows) name n
+      → instance_in (after_rows rule world rows) name n ≡ instance_in world name n
+  rows_leave [] world name n none = refl
+  rows_leave (row ∷ rows) world name n none =
+      rows_leave rows (after_row rule world row) name n (λ k other here is. none (suc k) other here is)
+      ∙ row_leaves world row name n (λ nought. none 0 row refl (ap Some nought))
+
+  leaves_all_but : (world : World) (row : Row) → LeavesAllBut (rule.workunit row) (place row) world (after_row rule world row)
+  leaves_all_but world row = record {
+    instances = λ k differ. row_leaves world row (rule.workunit row) k (λ nought same. differ);
+    workunits = rows_change rule keeps (rule.workunit row ∷ []) (row ∷ []) (each_named rule.workunit (row ∷ [])) world;
+  }
+
+  row_skipped : (world : World) (row : Row) → row_verdict rule world row ≢ 0 → after_row rule world row ≡ world
+  row_skipped world row off =
+      ap (λ b. if b then with_named world (rule.workunit row) (rule.image row) else world) (ne_eqb (row_verdict rule world row) 0 off)
+
+  -- an applied row makes of its instance what its rule makes
+  row_makes : (Becomes : Row → Workunit → Instance → Instance → Type 0)
+      → ((row : Row) (w : Workunit) (i : Instance) → slice_get w.instances (place row) ≡ Some i → IsSomeAnd (slice_get (rule.image row w).instances (place row)) (Becomes row w i))
+      → (world : World) (row : Row) → row_verdict rule world row ≡ 0 → MakesOf world (after_row rule world row) (rule.workunit row) (place row) (Becomes row)
+  row_makes Becomes becomes world row nought w i found there =
+      subst (λ o. IsSomeAnd o (OfInstance (place row) (Becomes row w i))) (sym (image_found rule keeps world row w nought found)) (becomes row w i there)
+
+  -- ---- row by row
+
+  module _ (Takes : Row → ℕ → World → World → Type 0) (takes : (world : World) (row : Row) → Takes row (row_verdict rule world row) world (after_row rule world row)) where
+    row_by_row : (rows : List Row) (world after : World) → after.workunits ≡ (after_rows rule world rows).workunits
+        → RowByRow Takes rows (row_verdicts rule world rows) world after
+    unfolding RowByRow
+    row_by_row [] world after same = same
+    row_by_row (row ∷ rows) world after same = (after_row rule world row, takes world row, row_by_row rows (after_row rule world row) after same)
+
+    -- what is answered of a file
+    abbrev Follows : World → List Row → Result Done Fault → Type 0
+    Follows world rows result =
+        (k : ImportKind) (name verdicts : List ℕ) → reply_of result ≡ Ok (Imported k name 0 verdicts)
+        → RowByRow Takes rows verdicts world (world_of world result)
+        × ((workunit : List ℕ) (n : ℕ) → NoneIsOf rule.workunit place rows verdicts workunit n → instance_in (world_of world result) workunit n ≡ instance_in world workunit n)
+
+    file_follows : (world : World) (given : Given) (rows : List Row) (file : Result (List Row) Fault) → file ≡ Ok rows → Follows world rows (rows_read rule given world file)
+    file_follows world given rows file is =
+        subst (λ r. Follows world rows (rows_read rule given world r)) (sym is) (λ k name verdicts answered.
+        (let same : row_verdicts rule world rows ≡ verdicts = cc in
+        subst (λ vs. RowByRow Takes rows vs world (world_of world (rows_read rule given world (Ok rows)))
+        × ((workunit : List ℕ) (n : ℕ) → NoneIsOf rule.workunit place rows vs workunit n → instance_in (world_of world (rows_read rule given world (Ok rows))) workunit n ≡ instance_in world workunit n)) same
+        (row_by_row rows world (world_of world (rows_read rule given world (Ok rows))) refl, rows_leave rows world)))
+
+    unless_older : (b : Bool) (world : World) (rows : List Row) (fault : Fault) (result : Result Done Fault) → Follows world rows result
+        → Follows world rows (if b then Err fault else result)
+    unless_older true world rows fault result it k name verdicts answered = absurd (cc)
+    unless_older false world rows fault result it k name verdicts answered = it k name verdicts answered
+
+-- ---- sends
+
+only_sent : (row : SendRow) (w : Workunit) (k : ℕ) → k ≢ row.n → slice_get (send_rule.image row w).instances k ≡ slice_get w.instances k
+only_sent row w k differ = (sends w row.n row.host row.moment).only.others k differ
+
+takes_send : (world : World) (row : SendRow) → TakesSend row (row_verdict send_rule world row) world (after_row send_rule world row)
+takes_send world row = record {
+  told = verdict_told send_rule sends_keep (λ row. row.n) only_sent world row;
+  applied = row_applied send_rule sends_keep (λ row w. MayBeSent w row.n row.host) may_send world row;
+  sent = row_makes send_rule sends_keep (λ row. row.n) only_sent (λ row w. IsSent w row.host row.moment)
+      (λ row w i there. (sends w row.n row.host row.moment).sent i there) world row;
+  others = leaves_all_but send_rule sends_keep (λ row. row.n) only_sent world row;
+  skipped = row_skipped send_rule sends_keep (λ row. row.n) only_sent world row;
+}
+
+-- ---- reports
+
+only_reported : (row : ReportRow) (w : Workunit) (k : ℕ) → k ≢ row.n → slice_get (report_rule.image row w).instances k ≡ slice_get w.instances k
+only_reported row w k differ = (reports w row.n row.host row.moment row.status row.output).only.others k differ
+
+takes_report : (world : World) (row : ReportRow) → TakesReport row (row_verdict report_rule world row) world (after_row report_rule world row)
+takes_report world row = record {
+  told = verdict_told report_rule reports_keep (λ row. row.n) only_reported world row;
+  applied = row_applied report_rule reports_keep (λ row. OfInstance row.n (MayBeReported row.host row.moment)) may_report world row;
+  reported = row_makes report_rule reports_keep (λ row. row.n) only_reported (λ row w. IsReported row.moment row.status row.output)
+      (λ row w i there. (reports w row.n row.host row.moment row.status row.output).reported i there) world row;
+  others = leaves_all_but report_rule reports_keep (λ row. row.n) only_reported world row;
+  skipped = row_skipped report_rule reports_keep (λ row. row.n) only_reported world row;
+}
+
+-- ---- the laws
+
+sent_follows : (world : World) (name file verdicts : List ℕ) (rows : List SendRow) → import_of world (sent_given name file) ≡ None → sends_of_file file ≡ Ok rows
+    → Follows send_rule sends_keep (λ row. row.n) only_sent TakesSend takes_send world rows
+    (if nat_lt world.version present_version && not (is_upgrade (AskSent name file)) then Err (OldSchema world.version)
+    else imported_after world (sent_given name file) (import_of world (sent_given name file)))
+sent_follows world name file verdicts rows new is =
+    unless_older send_rule sends_keep (λ row. row.n) only_sent TakesSend takes_send
+    (nat_lt world.version present_version && not (is_upgrade (AskSent name file))) world rows (OldSchema world.version)
+    (imported_after world (sent_given name file) (import_of world (sent_given name file)))
+    (subst (λ earlier. Follows send_rule sends_keep (λ row. row.n) only_sent TakesSend takes_send world rows (imported_after world (sent_given name file) earlier)) (sym new)
+    (file_follows send_rule sends_keep (λ row. row.n) only_sent TakesSend takes_send world (sent_given name file) rows (sends_of_file file) is))
+
+reported_follows : (world : World) (name file verdicts : List ℕ) (rows : List ReportRow) → import_of world (reported_given name file) ≡ None → reports_of_file file ≡ Ok rows
+    → Follows report_rule reports_keep (λ row. row.n) only_reported TakesReport takes_report world rows
+    (if nat_lt world.version present_version && not (is_upgrade (AskReported name file)) then Err (OldSchema world.version)
+    else imported_after world (reported_given name file) (import_of world (reported_given name file)))
+reported_follows world name file verdicts rows new is =
+    unless_older report_rule reports_keep (λ row. row.n) only_reported TakesReport takes_report
+    (nat_lt world.version present_version && not (is_upgrade (AskReported name file))) world rows (OldSchema world.version)
+    (imported_after world (reported_given name file) (import_of world (reported_given name file)))
+    (subst (λ earlier. Follows report_rule reports_keep (λ row. row.n) only_reported TakesReport takes_report world rows (imported_after world (reported_given name file) earlier)) (sym new)
+    (file_follows report_rule reports_keep (λ row. row.n) only_reported TakesReport takes_report world (reported_given name file) rows (reports_of_file file) is))
+
+pub rows_see_rows : RowsSeeRows
+rows_see_rows world name file verdicts = record {
+  sent = λ rows new is answered. (sent_follows world name file verdicts rows new is kind.Sent name verdicts answered).0;
+  reported = λ rows new is answered. (reported_follows world name file verdicts rows new is kind.Reported name verdicts answered).0;
+}
+
+pub leaves_unnamed_instances : LeavesUnnamedInstances
+leaves_unnamed_instances world name file verdicts = record {
+  sent = λ rows new is answered. (sent_follows world name file verdicts rows new is kind.Sent name verdicts answered).1;
+  reported = λ rows new is answered. (reported_follows world name file verdicts rows new is kind.Reported name verdicts answered).1;
+}

@@ -1,0 +1,132 @@
+//! What is counted over the stops of an act.
+
+use crate::course::{Act, Found};
+use crate::disks::{Saved, Side};
+use crate::runs::{End, Reach};
+use std::io::{self, Write};
+
+/// What is left of a cut act, and what was found there.
+#[derive(Drop)]
+pub struct Find {
+    pub files: Saved,
+    pub reach: Reach,
+    pub found: Found,
+}
+
+/// What was found after the stops of an act.
+#[derive(Drop)]
+pub struct Finds {
+    pub before: u64,
+    pub after: u64,
+    /// The latest find. Where the next stop leaves the same, the same is found, and it is not played on again.
+    latest: Option<Find>,
+}
+
+impl Finds {
+    fn new() -> Finds {
+        Finds {
+            before: 0,
+            after: 0,
+            latest: None,
+        }
+    }
+
+    /// What was found, where the latest stop left the same.
+    pub fn known(&self, files: &Saved, reach: Reach) -> Option<Found> {
+        match &self.latest {
+            Some(find) if find.reach == reach && find.files.is_same(files) => Some(find.found),
+            _ => None,
+        }
+    }
+
+    pub fn count(&mut self, find: Find) {
+        match find.found {
+            Found::Before => self.before = self.before.saturating_add(1),
+            Found::After => self.after = self.after.saturating_add(1),
+        }
+        self.latest = Some(find);
+    }
+}
+
+/// How the act ended at each stop.
+#[derive(Drop)]
+pub struct Ends {
+    /// No session began.
+    unbegun: u64,
+    /// The act ended with a fault.
+    cut: u64,
+    /// Behind such a fault a session began again over the same database.
+    again: u64,
+    /// The act was answered.
+    answered: u64,
+    /// The file of the database had its bytes from before.
+    same: u64,
+}
+
+impl Ends {
+    fn new() -> Ends {
+        Ends {
+            unbegun: 0,
+            cut: 0,
+            again: 0,
+            answered: 0,
+            same: 0,
+        }
+    }
+
+    pub fn count(&mut self, end: &End, has_bytes: bool) {
+        match end.reach {
+            Reach::Unbegun => self.unbegun = self.unbegun.saturating_add(1),
+            Reach::Cut(_) => self.cut = self.cut.saturating_add(1),
+            Reach::Done => self.answered = self.answered.saturating_add(1),
+        }
+        if end.again.is_some() {
+            self.again = self.again.saturating_add(1);
+        }
+        if has_bytes {
+            self.same = self.same.saturating_add(1);
+        }
+    }
+}
+
+/// What is counted over the stops of an act.
+#[derive(Drop)]
+pub struct Tally {
+    pub ends: Ends,
+    /// What was found where a stop lost what was not synced.
+    pub lost: Finds,
+    /// What was found where it kept all that was written.
+    pub kept: Finds,
+}
+
+impl Tally {
+    pub fn new() -> Tally {
+        Tally {
+            ends: Ends::new(),
+            lost: Finds::new(),
+            kept: Finds::new(),
+        }
+    }
+
+    /// Writes the counts of an act that was stopped by the calls on this file. All faults were `Broken`.
+    pub fn write(&self, act: &Act, side: Side, transcript: &mut Vec<u8>) -> io::Result<()> {
+        let Tally { ends, lost, kept } = self;
+        write!(
+            transcript,
+            "{side}: {} without a session, {} Broken",
+            ends.unbegun, ends.cut
+        )?;
+        if ends.again > 0 {
+            write!(transcript, " ({} begun again)", ends.again)?;
+        }
+        write!(
+            transcript,
+            ", {} answered; {} before, {} after; with all that was written {} before, {} after",
+            ends.answered, lost.before, lost.after, kept.before, kept.after
+        )?;
+        if act.before.as_slice() == act.after.as_slice() {
+            write!(transcript, "; {} with the same database file", ends.same)?;
+        }
+        writeln!(transcript)
+    }
+}
