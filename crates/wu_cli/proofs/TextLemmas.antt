@@ -7,29 +7,29 @@ use Rattle.std.proofs.lemmas.List.{take_all}
 use Rattle.wu_core.specs.declared.fault.Fault.{Fault}
 use Rattle.wu_feed.specs.declared.script.LineCause.{LineCause}
 use Rattle.wu_report.proofs.WritingLemmas.{AppendsFront-longer}
-use Rattle.wu_report.specs.Writing.{AppendsFront, Writes}
+use Rattle.wu_report.specs.Writing.{AppendsFront, WritesBytes}
 use Rattle.wu_cli.specs.Endings.{cause_text, fault_line, usage_text}
 use Rattle.wu_words.specs.declared.usage.Usage.{Usage}
 
 -- all was written, and the flush wrote nothing
-pub flushed : {T E : Type 0} (a b c : Option (List ℕ)) (text : List ℕ) (r : Result T E) → Appends a b text → Keeps b c → Writes a c text r
+pub flushed : {T E : Type 0} (a b c : Option (List ℕ)) (text : List ℕ) (r : Result T E) → Appends a b text → Keeps b c → WritesBytes a c text r
 flushed a b c text (Ok x) whole kept = Appends-kept a b c text whole kept
 flushed a b c text (Err e) whole kept = (length text, subst (Appends a c) (sym (take_all (length text) text (omega arith))) (Appends-kept a b c text whole kept))
 
 -- what is written for a fault is written for the same fault by another name; so for a refusal of words
-pub told_as : {T E : Type 0} (a b : Option (List ℕ)) (r : Result T E) (fault other : Fault) → fault ≡ other → Writes a b (fault_line other) r → Writes a b (fault_line fault) r
-told_as a b r fault other is wrote = subst (λ (it : Fault). Writes a b (fault_line it) r) (sym is) wrote
+pub told_as : {T E : Type 0} (a b : Option (List ℕ)) (r : Result T E) (fault other : Fault) → fault ≡ other → WritesBytes a b (fault_line other) r → WritesBytes a b (fault_line fault) r
+told_as a b r fault other is wrote = subst (λ (it : Fault). WritesBytes a b (fault_line it) r) (sym is) wrote
 
-pub usage_told_as : {T E : Type 0} (a b : Option (List ℕ)) (r : Result T E) (usage other : Usage) → usage ≡ other → Writes a b (usage_text other) r → Writes a b (usage_text usage) r
-usage_told_as a b r usage other is wrote = subst (λ (it : Usage). Writes a b (usage_text it) r) (sym is) wrote
+pub usage_told_as : {T E : Type 0} (a b : Option (List ℕ)) (r : Result T E) (usage other : Usage) → usage ≡ other → WritesBytes a b (usage_text other) r → WritesBytes a b (usage_text usage) r
+usage_told_as a b r usage other is wrote = subst (λ (it : Usage). WritesBytes a b (usage_text it) r) (sym is) wrote
 
-pub cause_told_as : {T E : Type 0} (a b : Option (List ℕ)) (r : Result T E) (cause other : LineCause) → cause ≡ other → Writes a b (cause_text other) r → Writes a b (cause_text cause) r
-cause_told_as a b r cause other is wrote = subst (λ (it : LineCause). Writes a b (cause_text it) r) (sym is) wrote
+pub cause_told_as : {T E : Type 0} (a b : Option (List ℕ)) (r : Result T E) (cause other : LineCause) → cause ≡ other → WritesBytes a b (cause_text other) r → WritesBytes a b (cause_text cause) r
+cause_told_as a b r cause other is wrote = subst (λ (it : LineCause). WritesBytes a b (cause_text it) r) (sym is) wrote
 
 -- the first part failed, and with it the whole
-pub first_failed : {T E : Type 0} (a b : Option (List ℕ)) (xs ys : List ℕ) (first : Result T E) (e : E) → first ≡ Err e → Writes a b xs first → AppendsFront a b (xs ++ ys)
-first_failed a b xs ys first e is wrote = AppendsFront-longer a b xs ys (subst (λ r. Writes a b xs r) is wrote)
+pub first_failed : {T E : Type 0} (a b : Option (List ℕ)) (xs ys : List ℕ) (first : Result T E) (e : E) → first ≡ Err e → WritesBytes a b xs first → AppendsFront a b (xs ++ ys)
+first_failed a b xs ys first e is wrote = AppendsFront-longer a b xs ys (subst (λ r. WritesBytes a b xs r) is wrote)
 
 -- the first part was written
-pub first_written : {T E : Type 0} (a b : Option (List ℕ)) (xs : List ℕ) (first : Result T E) (t : T) → first ≡ Ok t → Writes a b xs first → Appends a b xs
-first_written a b xs first t is wrote = subst (λ r. Writes a b xs r) is wrote
+pub first_written : {T E : Type 0} (a b : Option (List ℕ)) (xs : List ℕ) (first : Result T E) (t : T) → first ≡ Ok t → WritesBytes a b xs first → Appends a b xs
+first_written a b xs first t is wrote = subst (λ r. WritesBytes a b xs r) is wrote

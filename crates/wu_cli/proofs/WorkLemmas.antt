@@ -14,7 +14,7 @@ use Rattle.wu_words.specs.declared.action.Action.{Action}
 use Rattle.wu_words.specs.declared.action.Action.TheVariants.{Commands, Look}
 use Rattle.wu_words.specs.declared.step.LineFault.{LineFault}
 use Rattle.wu_cli.specs.Performing.{Performs}
-use Rattle.wu_cli.specs.Working.{BeginsFrom, DoesAdopted, DoesNothing, DoesOver, DrivesOver, DrivesWork, line_end, PerformsWork, script_end}
+use Rattle.wu_cli.specs.Working.{BeginsFrom, DoesAdopted, DoesNothing, DoesOver, DrivesOver, DrivesWork, line_outcome, PerformsWork, script_outcome}
 use Rattle.wu_cli.specs.declared.trouble.Trouble.{Trouble}
 use Rattle.wu_cli.specs.declared.work.Work.{Work}
 use Rattle.wu_cli.specs.declared.work.Work.TheVariants as work
@@ -27,11 +27,11 @@ same_refusal {T} {A} {B} x y f g is =
     (ap (λ (p : A × B). p.0) both, ap (λ (p : A × B). p.1) both)
 
 -- where all went well no fault came
-line_whole : (end : Option Fault) (whole : Type 0) → (end ≡ None → whole) → OnOk (line_end end) whole
+line_whole : (end : Option Fault) (whole : Type 0) → (end ≡ None → whole) → OnOk (line_outcome end) whole
 line_whole None whole of_none = of_none refl
 line_whole (Some fault) whole of_none = tt
 
-script_whole : (end : Option LineFault) (whole : Type 0) → (end ≡ None → whole) → OnOk (script_end end) whole
+script_whole : (end : Option LineFault) (whole : Type 0) → (end ≡ None → whole) → OnOk (script_outcome end) whole
 script_whole None whole of_none = of_none refl
 script_whole (Some fault) whole of_none = tt
 
@@ -40,7 +40,7 @@ script_whole (Some fault) whole of_none = tt
 module _ {S W : Type 0} {store : Ghosts S} (contents : W → Option (List ℕ)) (old new : Project S store) (out_old out_new : W) where
   line_works : (action : Action) (end : Option Fault) → Performs contents old new out_old out_new action end
       → GoesStill old → HasCleanDisk (state_of new) → (world : World) → IsProject world → GoesOn (state_of old) world
-      → DrivesWork world (work.Line action) (line_end end) (state_of new)
+      → DrivesWork world (work.Line action) (line_outcome end) (state_of new)
   line_works (Commands commands) end (run, runs, is) going clean world project goes =
       let driven = runs.answers.2 going clean world project goes in
       record {

@@ -4,7 +4,7 @@ use Rattle.sqlite_trees.specs.declared.store.Store.{Ghosts}
 use Rattle.wu_core.specs.declared.fault.Fault.{Fault}
 use Rattle.wu_passes.specs.declared.project.Project.{Project}
 use Rattle.wu_drive.specs.declared.runs.Run.{Run}
-use Rattle.wu_drive.specs.Running.{Runs}
+use Rattle.wu_drive.specs.Running.{RunsList}
 use Rattle.wu_report.specs.Seeing.{Sees}
 use Rattle.wu_words.specs.declared.action.Action.{Action}
 use Rattle.wu_words.specs.declared.action.Action.TheVariants.{Commands, Look}
@@ -17,5 +17,5 @@ as_result (Some fault) = Err fault
 -- the commands of an action are run, or its view is shown; what ended that is told
 abbrev pub Performs : {S W : Type 0} {store : Ghosts S} → (W → Option (List ℕ)) → Project S store → Project S store → W → W → Action → Option Fault → Type 0
 Performs contents old new out_old out_new (Commands commands) end =
-    (run : Run) × Runs contents old new out_old out_new commands run × (run.end ≡ end)
+    (run : Run) × RunsList contents old new out_old out_new commands run × (run.end ≡ end)
 Performs contents old new out_old out_new (Look view) end = Sees contents old new out_old out_new view (as_result end)

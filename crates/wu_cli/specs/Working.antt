@@ -52,20 +52,20 @@ AsksOfScript script result = (given : Result (List Step) BadLine) × GivesSteps 
 -- ---- over a project
 
 -- how a line or a script ended
-abbrev pub line_end : Option Fault → Result (Unit {0}) Trouble
-line_end None = Ok tt
-line_end (Some fault) = Err (trouble.Fault fault)
+abbrev pub line_outcome : Option Fault → Result (Unit {0}) Trouble
+line_outcome None = Ok tt
+line_outcome (Some fault) = Err (trouble.Fault fault)
 
-abbrev pub script_end : Option LineFault → Result (Unit {0}) Trouble
-script_end None = Ok tt
-script_end (Some end) = Err (trouble.LineFault end)
+abbrev pub script_outcome : Option LineFault → Result (Unit {0}) Trouble
+script_outcome None = Ok tt
+script_outcome (Some end) = Err (trouble.LineFault end)
 
 -- the line or the steps of the script are done, and what ended them is told
 abbrev pub PerformsWork : {S W : Type 0} {store : Ghosts S} → (W → Option (List ℕ)) → Project S store → Project S store → W → W → Work → Result (Unit {0}) Trouble → Type 0
 PerformsWork contents old new out_old out_new (work.Line action) done =
-    (end : Option Fault) × Performs contents old new out_old out_new action end × (done ≡ line_end end)
+    (end : Option Fault) × Performs contents old new out_old out_new action end × (done ≡ line_outcome end)
 PerformsWork contents old new out_old out_new (work.Script steps) done =
-    (end : Option LineFault) × PerformsSteps contents old new out_old out_new steps end × (done ≡ script_end end)
+    (end : Option LineFault) × PerformsSteps contents old new out_old out_new steps end × (done ≡ script_outcome end)
 
 -- its commands in order: a view is none
 abbrev pub commands_of_work : Work → List Command

@@ -2,7 +2,7 @@
 
 ghost use Rattle.std.specs.Prelude.{◌≡◌};
 ghost use Rattle.wu_words.specs.Actions.{bytes_of};
-ghost use Rattle.wu_cli.specs.Working.{AsksOfLine, AsksOfScript, DoesOver, DrivesOver, line_end, PerformsWork, script_end};
+ghost use Rattle.wu_cli.specs.Working.{AsksOfLine, AsksOfScript, DoesOver, DrivesOver, line_outcome, PerformsWork, script_outcome};
 
 use crate::performing::{perform, perform_script};
 use crate::trouble::Trouble;
@@ -21,8 +21,8 @@ pub enum Work {
 }
 
 /// How a line ended.
-fn line_end(end: Option<Fault>) -> Result<(), Trouble>
-    ensures { result ≡ line_end end }
+fn line_outcome(end: Option<Fault>) -> Result<(), Trouble>
+    ensures { result ≡ line_outcome end }
 {
     match end {
         None => Ok(()),
@@ -31,8 +31,8 @@ fn line_end(end: Option<Fault>) -> Result<(), Trouble>
 }
 
 /// How a script ended.
-fn script_end(end: Option<LineFault>) -> Result<(), Trouble>
-    ensures { result ≡ script_end end }
+fn script_outcome(end: Option<LineFault>) -> Result<(), Trouble>
+    ensures { result ≡ script_outcome end }
 {
     match end {
         None => Ok(()),
@@ -76,9 +76,9 @@ impl Work {
             self.now result }
     {
         match self {
-            Work::Line(action) => line_end(perform(alloc, project, action, out).1),
+            Work::Line(action) => line_outcome(perform(alloc, project, action, out).1),
             Work::Script(steps) => {
-                script_end(perform_script(alloc, project, steps.as_slice(), out).1)
+                script_outcome(perform_script(alloc, project, steps.as_slice(), out).1)
             }
         }
     }

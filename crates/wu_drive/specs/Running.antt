@@ -12,7 +12,7 @@ use Rattle.wu_drive.specs.Driving.{DrivesNothing, DrivesProject, DrivesWhy, Ends
 use Rattle.wu_drive.specs.Writing.{WritesAnswers}
 
 -- The commands are run in order, up to the first fault.
-pub record Runs {S W : Type 0} {store : Ghosts S} (contents : W → Option (List ℕ)) (old new : Project S store) (out_old out_new : W) (commands : List Command) (run : Run) : Type 0 where
+pub record RunsList {S W : Type 0} {store : Ghosts S} (contents : W → Option (List ℕ)) (old new : Project S store) (out_old out_new : W) (commands : List Command) (run : Run) : Type 0 where
   -- what was answered and written, and what the tables then stand for
   pub answers : (answers : List Answer) × WritesAnswers (contents out_old) (contents out_new) answers run × DrivesProject old new commands answers run
   pub why : DrivesWhy old new commands run

@@ -2,7 +2,7 @@
 
 ghost use Rattle.std.specs.Prelude.{◌≡◌, IfNone, IfOk, OnOk};
 ghost use Rattle.wu_drive.specs.Demonstration.{demonstration, IsDemonstrated};
-ghost use Rattle.wu_drive.specs.Running.{Runs};
+ghost use Rattle.wu_drive.specs.Running.{RunsList};
 ghost use Rattle.wu_machine.specs.Commands.{request_of};
 
 use crate::replies::write_answer;
@@ -37,7 +37,7 @@ pub fn drive<S: Alter, W: Write>(
     commands: &[Command],
     out: &mut W,
 ) -> Run
-    ensures { Runs W.contents project.old project.new out.old out.new commands.now result }
+    ensures { RunsList W.contents project.old project.new out.old out.new commands.now result }
 {
     let mut acknowledged = 0;
     for command in commands {

@@ -1,5 +1,2 @@
-mod BeginningLemmas
 mod ReopeningLemmas
-mod LeftoverLemmas
-mod ClosingLemmas
 mod RunsLemmas

@@ -34,7 +34,7 @@ use Rattle.wu_passes.specs.Projects.{GoesStill, IsOver, state_of}
 use Rattle.wu_passes.specs.Standing.{GoesOn, MayEnd}
 use Rattle.wu_passes.specs.declared.project.Project.{Project}
 use Rattle.wu_lives.specs.Runs.{BeginsOver, HoldsBeginningIn, HoldsWorld, LeavesBeginnings, LivesOn, TellsFirst, told_by}
-use Rattle.wu_lives.proofs.BeginningLemmas.{empty_vacant, goes_from_trees, no_database}
+use Rattle.wu_stops.proofs.BeginningLemmas.{empty_vacant, goes_from_trees, no_database}
 use Rattle.wu_lives.proofs.ReopeningLemmas.{IsBeginning, answers_none, beginning_none, beginning_of, lived_more}
 
 -- a connection was let go, and its two files

@@ -1,15 +1,14 @@
 -- A project whose two files are opened again after a stop.
-use Rattle.std.specs.Prelude.{◌≡◌, ◌+◌, ◌<◌, ◌≤◌, ℕ, List, length, take, IfSome, IsTrue, None, Option, Some}
+use Rattle.std.specs.Prelude.{◌≡◌, ◌+◌, ◌<◌, ◌≤◌, ℕ, List, length, take, IfSome, None, Option, Some}
 use Rattle.sqlite_disk.specs.declared.Disk.{Ghosts}
 use Rattle.sqlite_store.specs.declared.store.FileStore.{FileStore}
-use Rattle.sqlite.specs.Effect.{IsDatabase}
 use Rattle.sqlite.specs.Files.{file_state, over_files}
 use Rattle.sqlite.specs.Held.{Held}
 use Rattle.sqlite.specs.State.{State, HasCleanDisk}
 use Rattle.sqlite_trees.specs.declared.store.Store as Store
 use Rattle.wu_core.specs.World.{World}
 use Rattle.wu_core.specs.declared.fault.Fault.TheVariants.{Broken, Ended}
-use Rattle.wu_schema.specs.Calls.{LeavesOnly}
+use Rattle.wu_stops.specs.Stopping.{FindsAgain}
 use Rattle.wu_drive.specs.Driving.{AnswerAll, EndsBy, EndsEarly, LengthensLife, world_after}
 use Rattle.wu_machine.specs.Sound.{IsProject}
 use Rattle.wu_passes.specs.Adopting.{Adopts}
@@ -20,27 +19,6 @@ use Rattle.wu_machine.specs.declared.command.Answer.{Answer}
 use Rattle.wu_machine.specs.declared.command.Command.{Command}
 use Rattle.wu_passes.specs.declared.project.Project.{Project}
 use Rattle.wu_drive.specs.declared.runs.Run.{Run}
-
--- a disk with no fault by the new state had none by the old one
-abbrev pub WasClean : State → State → Type 0
-WasClean old new = HasCleanDisk new → HasCleanDisk old
-
--- The connection is open over a database that is sound and committed, and a further stop leaves nothing else.
-pub record IsCommitted (s : State) : Type 0 where
-  pub is_open : IsTrue s.is_open
-  pub sound : IsDatabase s.now
-  pub committed : s.committed ≡ s.now
-  pub left : LeavesOnly s s.now.trees
-
--- what is found is what the stop could leave; where the connection was open, that is its last commit
-pub record IsReopened (old new : State) : Type 0 where
-  pub found : ∥ old.may_leave new.now.trees ∥₁
-  pub exactly : IsTrue old.is_open → new.now.trees ≡ old.committed.trees
-  pub whole : IsCommitted new
-
--- so it is, over a disk that had no fault by then
-abbrev pub FindsAgain : State → State → Type 0
-FindsAgain old new = HasCleanDisk new → IsReopened old new
 
 -- This holds of each world of a project that the old tables stood for, over a disk that had no fault by the new state.
 abbrev pub OfEachWorld : State → State → (World → Type 0) → Type 0
@@ -56,8 +34,8 @@ abbrev pub DoesAll : List Command → Run → Type 0
 DoesAll commands run = (run.acknowledged ≤ length commands) × (run.end ≡ None → run.acknowledged ≡ length commands)
 
 -- over a session that had ended nothing is done or written, and that is why the run ended, unless there was no command
-abbrev pub DoesNothing : {S W : Type 0} {g : Store.Ghosts S} → Project S g → W → W → Run → Type 0
-DoesNothing old out_old out_new run =
+abbrev pub TellsEnded : {S W : Type 0} {g : Store.Ghosts S} → Project S g → W → W → Run → Type 0
+TellsEnded old out_old out_new run =
     IsOver old → (out_new ≡ out_old) × (run.acknowledged ≡ 0) × IfSome run.end (λ fault. fault ≡ Ended)
 
 module _ {D : Type 0} {g : Ghosts D} where
@@ -66,7 +44,7 @@ module _ {D : Type 0} {g : Ghosts D} where
   TellsEnd old commands run new = GoesStill old → OfEachWorld (state_of old) new (λ world. EndsEarly world commands run)
 
   -- What a run left of a session: want of memory or the disk alone ended it, and the disk did wherever the run ended so.
-  pub record IsLeft (old : Project (FileStore D g) over_files) (commands : List Command) (run : Run) (left : Project (FileStore D g) over_files) : Type 0 where
+  pub record IsLeftByRun (old : Project (FileStore D g) over_files) (commands : List Command) (run : Run) (left : Project (FileStore D g) over_files) : Type 0 where
     pub ends : GoesStill old → IsOver left → EndsBy run MayEnd
     pub broken : GoesStill old → run.end ≡ Some Broken → IsOver left
     -- a session that had ended is as it was
@@ -77,7 +55,7 @@ module _ {D : Type 0} {g : Ghosts D} where
   -- after the stop, what the run left is found again
   abbrev pub FindsLeft : Project (FileStore D g) over_files → List Command → Run → State → Type 0
   FindsLeft old commands run new =
-      (left : Project (FileStore D g) over_files) × IsLeft old commands run left × FindsAgain (state_of left) new
+      (left : Project (FileStore D g) over_files) × IsLeftByRun old commands run left × FindsAgain (state_of left) new
 
   -- and the next session adopts what is found
   pub record AdoptsLeft (old : Project (FileStore D g) over_files) (commands : List Command) (run : Run) (new : Project (FileStore D g) over_files) : Type 0 where

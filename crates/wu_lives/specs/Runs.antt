@@ -23,9 +23,9 @@ use Rattle.wu_passes.specs.Committing.{FoundAs}
 use Rattle.wu_passes.specs.Projects.{connection_of, GoesStill, state_of}
 use Rattle.wu_passes.specs.Standing.{GoesOn}
 use Rattle.wu_passes.specs.declared.project.Project.{Project}
-use Rattle.wu_lives.specs.Closing.{IsNumbered}
+use Rattle.wu_stops.specs.Closing.{IsNumbered}
 use Rattle.wu_lives.specs.Lives.{HasLived, Told}
-use Rattle.wu_lives.specs.Reopening.{IsKept, IsLeft}
+use Rattle.wu_lives.specs.Reopening.{IsKept, IsLeftByRun}
 
 -- the two files, with these bytes, hold the tables of this world
 pub record HoldsWorld (image : Image) (world : World) : Type 0 where
@@ -58,7 +58,7 @@ module _ {D : Type 0} {g : Ghosts D} (old : Project (FileStore D g) over_files) 
   -- These are the two files of the first run: its session was let go, and then its store.
   pub record AreLeft (files : Files D) : Type 0 where
     pub left : Project (FileStore D g) over_files
-    pub is_left : IsLeft old commands run left
+    pub is_left : IsLeftByRun old commands run left
     pub store : FileStore D g
     pub quiet : IsQuiet view faults recovers is_shielded (connection_of left).store store
     pub files_are : (files.log, files.db) ≡ store_files store

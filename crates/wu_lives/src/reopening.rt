@@ -6,34 +6,15 @@ ghost use Rattle.std.specs.Prelude.{IfSome};
 ghost use Rattle.sqlite.specs.Files.{file_state};
 ghost use Rattle.wu_passes.specs.Projects.{GoesStill, state_of};
 ghost use Rattle.wu_lives.specs.Lives.{GoesOnAfter, RunsEach, TellsLives};
-ghost use Rattle.wu_lives.specs.Reopening.{AdoptsLeft, DoesAll, DoesNothing, FindsAgain, FindsBeginning, FindsLeft, TellsEnd, TellsReplies, WasClean};
+ghost use Rattle.wu_lives.specs.Reopening.{AdoptsLeft, DoesAll, TellsEnded, FindsBeginning, FindsLeft, TellsEnd, TellsReplies};
+ghost use Rattle.wu_stops.specs.Stopping.{WasClean};
 
-use sqlite::{Connection, FileStore, Files, Options};
+use sqlite::{Connection, FileStore, Options};
 use sqlite_disk::Crash;
 use std::alloc::Global;
 use std::io::Write;
 use wu_drive::{Command, Project, Run, drive};
-
-/// The machine stops, and the two files are opened again.
-///
-/// What is found is what a stop could leave, and where the connection was open, exactly its last commit. `None` where
-/// the open fails.
-pub fn stop_and_open<D: Crash + Drop>(
-    alloc: Global,
-    conn: Connection<FileStore<D>>,
-    options: Options,
-) -> Option<Connection<FileStore<D>>>
-    ensures reopened { IfSome result (λ again. FindsAgain (file_state conn) (file_state again)) }
-    ensures clean { IfSome result (λ again. WasClean (file_state conn) (file_state again)) }
-{
-    let Files { mut log, mut db } = conn.into_store().close();
-    log.crash();
-    db.crash();
-    match Connection::open_files(alloc, Files { log, db }, options) {
-        Ok(again) => Some(again),
-        Err(_) => None,
-    }
-}
+use wu_stops::stop_and_open;
 
 /// Runs a list of commands; then the machine stops, and the two files are opened again.
 ///
@@ -55,7 +36,7 @@ pub fn drive_stop_and_open<D: Crash + Drop, W: Write>(
     ensures found { IfSome result (λ r.
         FindsBeginning (state_of project) commands.now r.0 (file_state r.1)) }
     ensures all { IfSome result (λ r. DoesAll commands.now r.0) }
-    ensures ended { IfSome result (λ r. DoesNothing project out.old out.new r.0) }
+    ensures ended { IfSome result (λ r. TellsEnded project out.old out.new r.0) }
     ensures ends { IfSome result (λ r. TellsEnd project commands.now r.0 (file_state r.1)) }
     ensures reopened { IfSome result (λ r. FindsLeft project commands.now r.0 (file_state r.1)) }
 {
@@ -87,7 +68,7 @@ pub fn live<D: Crash + Drop, W: Write>(
     ensures found { IfSome result (λ r.
         FindsBeginning (state_of project) commands.now r.0 (state_of r.1)) }
     ensures all { IfSome result (λ r. DoesAll commands.now r.0) }
-    ensures ended { IfSome result (λ r. DoesNothing project out.old out.new r.0) }
+    ensures ended { IfSome result (λ r. TellsEnded project out.old out.new r.0) }
     ensures ends { IfSome result (λ r.
         TellsEnd project commands.now r.0 (state_of r.1)) }
     ensures reopened { IfSome result (λ r. AdoptsLeft project commands.now r.0 r.1) }

@@ -6,7 +6,7 @@
 ghost use Rattle.std.specs.Prelude.{IfErr, IfOk, IfSome};
 ghost use Rattle.sqlite_wal.specs.Files.{image_at};
 ghost use Rattle.wu_passes.specs.Projects.{GoesStill, state_of};
-ghost use Rattle.wu_lives.specs.Reopening.{DoesAll, DoesNothing};
+ghost use Rattle.wu_lives.specs.Reopening.{DoesAll, TellsEnded};
 ghost use Rattle.wu_lives.specs.Runs.{AnswersFirst, AreLeft, BeginsBlank, BeginsOver, EndsFirst, LeavesFirst, LeavesBeginnings, LeavesUnclosed, LivesOver, TellsAnswers, WhyEnded};
 
 use sqlite::{Connection, FileFrom, FileStore, Files, Start};
@@ -30,7 +30,7 @@ pub fn run_and_leave<D: Disk + Drop, W: Write>(
         (W.contents out.old) (W.contents out.new) result.1 }
     ensures left { LeavesBeginnings project commands.now result.0 result.1 }
     ensures all { DoesAll commands.now result.0 }
-    ensures ended { DoesNothing project out.old out.new result.0 }
+    ensures ended { TellsEnded project out.old out.new result.0 }
     ensures ends { WhyEnded project commands.now result.0 result.1 }
 {
     let run = drive(alloc, &mut project, commands, out);
@@ -54,7 +54,7 @@ pub fn run_and_close<D: Disk + Drop, W: Write>(
     ensures left { IfOk result.1 (LeavesBeginnings project commands.now result.0) }
     ensures unclosed { IfErr result.1 (LeavesUnclosed project commands.now result.0) }
     ensures all { DoesAll commands.now result.0 }
-    ensures ended { DoesNothing project out.old out.new result.0 }
+    ensures ended { TellsEnded project out.old out.new result.0 }
 {
     let run = drive(alloc, &mut project, commands, out);
     match project.release().close_files() {
@@ -107,7 +107,7 @@ pub fn run_and_begin_again<D: Disk + Drop, S: Start, W: Write>(
     ensures lives { IfSome result (λ r. LivesOver project commands.now r.0
         (W.contents out.old) (W.contents out.new) (image_at S.Start) (state_of r.1)) }
     ensures all { IfSome result (λ r. DoesAll commands.now r.0) }
-    ensures ended { IfSome result (λ r. DoesNothing project out.old out.new r.0) }
+    ensures ended { IfSome result (λ r. TellsEnded project out.old out.new r.0) }
     ensures ends { IfSome result (λ r. EndsFirst project commands.now r.0) }
 {
     let (run, files) = run_and_leave(rt.alloc(), project, commands, out);

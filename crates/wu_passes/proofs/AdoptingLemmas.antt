@@ -13,7 +13,7 @@ use Rattle.wu_schema.specs.Calls.{IsBack, IsDone, IsMade, IsRefused, IsUndone, L
 use Rattle.wu_schema.specs.Faults.{IsFailure}
 use Rattle.wu_schema.specs.Made.{MakesProject}
 use Rattle.wu_schema.specs.StandsFor.{StandsFor}
-use Rattle.wu_schema.specs.Versions.{HasProject, HasVersion}
+use Rattle.wu_schema.specs.Versions.{AnswersVersion, HasProject, HasVersion}
 use Rattle.wu_machine.specs.Machine.{present_version}
 use Rattle.wu_machine.specs.Requests.{Request}
 use Rattle.wu_machine.specs.Sound.{IsProject}
@@ -139,17 +139,15 @@ module _ (old asked : State) (crash : Survives old asked (λ _. ⊥)) (unlimited
   goes_asked world clean back goes = goes_read old asked world clean (record { survives = crash; back = λ _. back }) goes
 
   -- a version was found
-  module _ (found : Option ℕ) (version : ℕ) (is : found ≡ Some version) (same : HasCleanDisk asked → IsUnchanged old asked) (absent : HasCleanDisk asked → IsVacant old → found ≡ None)
-      (answers : HasCleanDisk asked → (has : HasProject old.now.schema) → (one : ℕ) × (found ≡ Some one) × HasVersion old.now has one)
-      (stored : HasCleanDisk asked → (world : World) → StandsFor old.now world → found ≡ Some world.version) where
+  module _ (found : Option ℕ) (version : ℕ) (is : found ≡ Some version) (same : HasCleanDisk asked → IsUnchanged old asked) (answers : HasCleanDisk asked → AnswersVersion old.now found) where
     there : HasCleanDisk asked → ¬ IsVacant old
-    there clean vacant = absurd (let no = sym is ∙ absent clean vacant in cc)
+    there clean vacant = absurd (let no = sym is ∙ (answers clean).absent vacant in cc)
 
     of_row : HasCleanDisk asked → (has : HasProject old.now.schema) → HasVersion old.now has version
-    of_row clean has = let (one, one_is, of) = answers clean has in let same : one ≡ version = let so = sym one_is ∙ is in cc in subst (λ n. HasVersion old.now has n) same of
+    of_row clean has = let (one, one_is, of) = (answers clean).of_row has in let same : one ≡ version = let so = sym one_is ∙ is in cc in subst (λ n. HasVersion old.now has n) same of
 
     of_world : HasCleanDisk asked → (world : World) → StandsFor old.now world → version ≡ world.version
-    of_world clean world stands = let so = sym is ∙ stored clean world stands in cc
+    of_world clean world stands = let so = sym is ∙ (answers clean).of_world world stands in cc
 
     known_adopts : version ≤ present_version → Adopts old asked
     known_adopts known = record {

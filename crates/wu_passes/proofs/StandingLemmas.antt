@@ -10,7 +10,7 @@ use Rattle.sqlite.specs.Held.{Held, state}
 use Rattle.sqlite.specs.Store.{Ghosts}
 use Rattle.wu_schema.specs.Asking.{IsAsBefore}
 use Rattle.wu_schema.specs.Calls.{LeavesOnly, IsBack, IsDone, IsMade, IsRefused, IsUndone}
-use Rattle.wu_passes.specs.Adopting.{KeepsAll}
+use Rattle.wu_passes.specs.Adopting.{KeepsAll, LeavesNoMore}
 use Rattle.wu_schema.specs.StandsFor.{StandsFor}
 use Rattle.wu_store.specs.Changing.{AreRight, made_all, MakesWorlds}
 use Rattle.wu_passes.specs.Committing.{FoundAs}
@@ -19,20 +19,26 @@ use Rattle.wu_passes.specs.Planning.{IsPlan, Plans}
 use Rattle.wu_machine.specs.Commands.{reply_of_answer}
 use Rattle.wu_store.specs.Loading.{IsRead, IsStoreFault}
 use Rattle.wu_machine.specs.Requests.{Request}
-use Rattle.wu_passes.specs.Standing.{GoesOn, HasEnded, IsCutBy, MakesSome, Stands, WhyNot}
+use Rattle.wu_passes.specs.Leaving.{LeavesAtMost, RunsFrom}
+use Rattle.wu_passes.specs.Standing.{GoesOn, HasEnded, IsCutBy, MakesSome, ShowsWorld, Stands, WhyNot}
 use Rattle.wu_passes.specs.declared.imports.Plan.{Plan}
 use Rattle.wu_machine.specs.declared.command.Answer.{Answer}
 use Rattle.wu_store.specs.declared.changes.Change.{Change}
 
 -- a call that reads
+pub shows_back : (old new : State) (world : World) → IsBack old new → ShowsWorld old world → ShowsWorld new world
+shows_back old new world back shows is_open =
+    let was = shows (back.was_open is_open) in
+    let now : new.now ≡ old.now = elim (back.now is_open) [ inl same ↦ same | inr last ↦ last ∙ was.1 ] in
+    (subst (λ (d : Database). StandsFor d world) (sym now) was.0, back.committed is_open ∙ was.1 ∙ sym now)
+
+pub leaves_read : (old new : State) → HasCleanDisk new → Survives old new (λ _. ⊥) → LeavesNoMore old new
+leaves_read old new clean survives db may = elim (survives.crash clean db may) [ inl before ↦ before | inr none ↦ absurd none ]
+
 pub goes_read : (old new : State) (world : World) → HasCleanDisk new → IsRead old new → GoesOn old world → GoesOn new world
 goes_read old new world clean read goes = record {
-  stands = λ is_open.
-      let back = read.back clean in
-      let was = goes.stands (back.was_open is_open) in
-      let now : new.now ≡ old.now = elim (back.now is_open) [ inl same ↦ same | inr last ↦ last ∙ was.1 ] in
-      (subst (λ (d : Database). StandsFor d world) (sym now) was.0, back.committed is_open ∙ was.1 ∙ sym now);
-  left = λ db may. elim (read.survives.crash clean db may) [ inl before ↦ goes.left db before | inr none ↦ absurd none ];
+  stands = shows_back old new world (read.back clean) goes.stands;
+  left = λ db may. goes.left db (leaves_read old new clean read.survives db may);
 }
 
 pub goes_ended : (s : State) (world : World) (request : Request) → GoesOn s world → HasEnded s world request
@@ -90,11 +96,11 @@ pub error_is : (f g : Fault) → ◌≡◌ {A = Result Plan Fault} (Err f) (Err 
 error_is f g is = cc
 
 -- a fault of a plan over a connection that was open, or for want of memory or of the disk
-pub plan_refused : (old new : State) (world : World) (request : Request) (fault : Fault) → GoesOn old world → IsBack old new
+pub plan_refused : (old new : State) (world : World) (request : Request) (fault : Fault) → ShowsWorld old world → IsBack old new
     → IsFailure fault ⊎ IsTrue new.is_open → (StandsFor old.now world → IsPlan world request (Err fault)) → (reply world request ≡ Err fault) ⊎ IsStoreFault fault
-plan_refused old new world request fault goes back (inl (inl memory)) plan = inr (inl memory)
-plan_refused old new world request fault goes back (inl (inr broken)) plan = inr (inr (inl broken))
-plan_refused old new world request fault goes back (inr still) plan = refused_is world request fault (plan (goes.stands (back.was_open still)).0)
+plan_refused old new world request fault shows back (inl (inl memory)) plan = inr (inl memory)
+plan_refused old new world request fault shows back (inl (inr broken)) plan = inr (inr (inl broken))
+plan_refused old new world request fault shows back (inr still) plan = refused_is world request fault (plan (shows (back.was_open still)).0)
 
 -- a plan that was cut makes something
 makes_some : (world : World) (request : Request) (answer : Answer) (changes : List Change) (fault : Fault) → Plans world request answer changes
@@ -171,3 +177,59 @@ changes_keep old new whole only refused = record {
   committed = refused.committed;
   left = λ db may. subst (λ t. old.may_leave t) (sym (refused.left.only db may)) only.stays;
 }
+
+-- ---- whatever a stop could leave before
+
+-- nothing was to be made
+pub from_nothing : (old new : State) (world : World) (request : Request) (answer : Answer) (changes : List Change) (ended : Bool) → changes ≡ [] → new ≡ old → Plans world request answer changes
+    → RunsFrom old world request ended new (Ok answer)
+from_nothing old new world request answer changes ended none same plans = (
+  reply_is world request answer changes plans,
+  inr (step_is world request answer changes plans ∙ ap (λ cs. made_all cs world) none, subst (λ s. KeepsAll old s) (sym same) (keeps_self old)),
+)
+
+-- the changes are done
+pub from_done : (old new : State) (world : World) (request : Request) (answer : Answer) (changes : List Change) (ended : Bool) → StandsFor old.now world → Plans world request answer changes
+    → IsDone (MakesWorlds changes) old new → RunsFrom old world request ended new (Ok answer)
+from_done old new world request answer changes ended stands plans is_done = (
+  reply_is world request answer changes plans,
+  inl (subst (λ w. GoesOn new w) (sym (step_is world request answer changes plans)) (goes_done old new world changes stands plans.right is_done)),
+)
+
+-- they were refused
+pub from_refused : (old new : State) (world : World) (request : Request) (fault : Fault) → ShowsWorld old world → IsStoreFault fault → IsUndone old new → IsRefused old new → KeepsAll old new
+    → RunsFrom old world request false new (Err fault)
+from_refused old new world request fault shows store undone refused kept =
+    let was = shows (undone.was_open refused.is_open) in
+    (inr store, λ is_open. (subst (λ (d : Database). StandsFor d world) (sym kept.now) was.0, kept.committed ∙ was.1 ∙ sym kept.now), kept.left)
+
+-- they were cut
+pub from_cut : (old new : State) (world : World) (request : Request) (answer : Answer) (changes : List Change) (fault : Fault) → HasCleanDisk new → StandsFor old.now world → ShowsWorld old world
+    → Plans world request answer changes → IsStoreFault fault → IsUndone old new → Survives old new (IsMade (MakesWorlds changes) old.now) → RunsFrom old world request true new (Err fault)
+from_cut old new world request answer changes fault clean stands shows plans store undone survives = (
+  inr store,
+  λ is_open.
+      let was = shows (undone.was_open is_open) in
+      let (now, committed) = undone.now is_open in
+      let same : new.now ≡ old.now = now ∙ was.1 in
+      (subst (λ (d : Database). StandsFor d world) (sym same) was.0, committed ∙ sym now),
+  λ db may. elim (survives.crash clean db may) [ inl before ↦ inl before | inr after ↦ inr (subst (λ w. FoundAs db w) (sym (step_is world request answer changes plans)) (record { database = after.0; same = after.1; stands = after.2 world stands plans.right })) ],
+)
+
+-- a plan was refused
+pub from_unplanned : (old new : State) (world : World) (request : Request) (ended : Bool) (fault : Fault) → HasCleanDisk new → ShowsWorld old world → IsBack old new → Survives old new (λ _. ⊥)
+    → (reply world request ≡ Err fault) ⊎ IsStoreFault fault → RunsFrom old world request ended new (Err fault)
+from_unplanned old new world request true fault clean shows back survives told = (told, shows_back old new world back shows, λ db may. inl (leaves_read old new clean survives db may))
+from_unplanned old new world request false fault clean shows back survives told = (told, shows_back old new world back shows, leaves_read old new clean survives)
+
+most_then : (ended : Bool) (old mid new : State) (world : World) (request : Request) → LeavesNoMore old mid → LeavesAtMost ended mid new world request → LeavesAtMost ended old new world request
+most_then true old mid new world request kept most = λ db may. elim (most db may) [ inl before ↦ inl (kept db before) | inr after ↦ inr after ]
+most_then false old mid new world request kept most = λ db may. kept db (most db may)
+
+-- what is carried out after a question
+pub from_then : (old mid new : State) (world : World) (request : Request) (ended : Bool) (r : Result Answer Fault) → KeepsAll old mid → RunsFrom mid world request ended new r → RunsFrom old world request ended new r
+from_then old mid new world request ended (Ok answer) kept runs = (
+  runs.0,
+  elim runs.1 [ inl goes ↦ inl goes | inr same ↦ inr (same.0, keeps_then old mid new kept same.1) ],
+)
+from_then old mid new world request ended (Err fault) kept runs = (runs.0, runs.1, most_then ended old mid new world request kept.left runs.2)

@@ -3,6 +3,7 @@ pub mod Committing
 pub mod Planning
 pub mod Standing
 pub mod Adopting
+pub mod Leaving
 pub mod Projects
 pub mod Walks
 pub mod PassPlans

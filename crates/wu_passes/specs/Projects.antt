@@ -24,7 +24,8 @@ use Rattle.wu_store.specs.Summaries.{FindsAt, IsCountable}
 use Rattle.wu_store.specs.declared.lines.Summary.{Summary}
 use Rattle.wu_machine.specs.Requests.{Request}
 use Rattle.wu_passes.specs.Adopting.{KeepsAll}
-use Rattle.wu_passes.specs.Standing.{GoesOn, HasEnded, KeepsDoubt, MayEnd, Runs, WhyNot}
+use Rattle.wu_passes.specs.Leaving.{RunsFrom}
+use Rattle.wu_passes.specs.Standing.{GoesOn, HasEnded, KeepsDoubt, MayEnd, Runs, ShowsWorld, WhyNot}
 
 -- the connection that a release gives back
 abbrev pub connection_of : {S : Type 0} {g : Ghosts S} → Project S g → Held S
@@ -101,6 +102,19 @@ abbrev pub RunsOn : {S : Type 0} {g : Ghosts S} → Project S g → Project S g 
 RunsOn old new command result =
     HasCleanDisk (state_of new) → (world : World) → IsProject world → GoesOn (state_of old) world → Runs world (request_of command) (has_ended new) (state_of new) result
 
+-- so it does whatever a stop could leave before it
+abbrev pub RunsFromAny : {S : Type 0} {g : Ghosts S} → Project S g → Project S g → Command → Result Answer Fault → Type 0
+RunsFromAny old new command result =
+    HasCleanDisk (state_of new) → (world : World) → IsProject world → ShowsWorld (state_of old) world
+    → RunsFrom (state_of old) world (request_of command) (has_ended new) (state_of new) result
+
+-- What a command makes of the world that the tables stand for.
+pub record RunsOver {S : Type 0} {g : Ghosts S} (old new : Project S g) (command : Command) (result : Result Answer Fault) : Type 0 where
+  -- where a stop could leave that world alone
+  pub goes : RunsOn old new command result
+  -- and whatever it could leave
+  pub from : RunsFromAny old new command result
+
 -- what its questions do to its connection
 abbrev pub AsksOn : {S T : Type 0} {g : Ghosts S} → Project S g → Project S g → Result T Fault → Type 0
 AsksOn {S} {T} {g} old new result = Asks g (connection_of old) (connection_of new) result
@@ -118,6 +132,12 @@ abbrev pub CarriesOut : {S : Type 0} {g : Ghosts S} → Project S g → Project 
 CarriesOut old new answer changes result =
     HasCleanDisk (state_of new) → (world : World) (request : Request) → StandsFor (state_of old).now world → GoesOn (state_of old) world
     → Plans world request answer changes → Runs world request (has_ended new) (state_of new) result
+
+-- so they are whatever a stop could leave before it
+abbrev pub CarriesOutFrom : {S : Type 0} {g : Ghosts S} → Project S g → Project S g → Answer → List Change → Result Answer Fault → Type 0
+CarriesOutFrom old new answer changes result =
+    HasCleanDisk (state_of new) → (world : World) (request : Request) → StandsFor (state_of old).now world → ShowsWorld (state_of old) world
+    → Plans world request answer changes → RunsFrom (state_of old) world request (has_ended new) (state_of new) result
 
 -- after Ok, and after each fault but want of memory or of the disk, the connection is open
 abbrev pub ServesOn : {S T : Type 0} {g : Ghosts S} → Project S g → Result T Fault → Type 0

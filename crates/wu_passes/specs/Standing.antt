@@ -14,9 +14,13 @@ use Rattle.wu_machine.specs.Commands.{reply_of_answer}
 use Rattle.wu_store.specs.Loading.{IsStoreFault}
 use Rattle.wu_machine.specs.Requests.{Reply, Request}
 
+-- while the connection is open, the tables stand for this world, and all is committed
+abbrev pub ShowsWorld : State → World → Type 0
+ShowsWorld s world = IsTrue s.is_open → StandsFor s.now world × (s.committed ≡ s.now)
+
 -- the tables stand for this world, all is committed, and a stop leaves nothing but tables that stand for it
 pub record GoesOn (s : State) (world : World) : Type 0 where
-  pub stands : IsTrue s.is_open → StandsFor s.now world × (s.committed ≡ s.now)
+  pub stands : ShowsWorld s world
   pub left : (db : Trees) → s.may_leave db → FoundAs db world
 
 -- The session ended during a request: a stop leaves the world before it or the world after it. While the connection is
@@ -31,7 +35,8 @@ Stands false s world asked = GoesOn s world
 Stands true s world asked = HasEnded s world asked
 
 -- Done: its answer is the machine's reply, and the tables stand for the machine's step. Or else a refusal of the
--- machine, or a fault of the store, after which the tables stand for the same world.
+-- machine, or a fault of the store, after which the tables stand for the same world, if the session ended while the
+-- connection is open.
 abbrev pub Runs : World → Request → Bool → State → Result Answer Fault → Type 0
 Runs world request has_ended new result =
     MatchResult result (λ answer. (reply world request ≡ Ok (reply_of_answer answer)) × (has_ended ≡ false) × GoesOn new (step world request))

@@ -24,8 +24,8 @@ impl<'a> Work for Changes<'a> {
 
 /// Makes all changes in one transaction.
 ///
-/// `NotAProject` says that a statement was refused, and that all is as before. After `Memory` or `Broken` an open may
-/// find what was, or all changes.
+/// `NotAProject` says that a statement was refused, and that all is as before. After `Memory` or `Broken` the tables are
+/// as before while the connection is open, and an open may find what it could have found before, or all changes.
 pub fn change_all<S: Alter>(conn: &mut Connection<S>, changes: &[Change<'_>]) -> Result<(), Fault>
     requires { conn.old.in_transaction ≡ false }
     ensures mode { conn.new.in_transaction ≡ false }

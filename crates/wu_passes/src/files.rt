@@ -26,7 +26,7 @@ pub struct Left {
     pub verdicts: Vec<u8>,
 }
 
-/// Sees that the workunit of this name is among the touched, if it is present. It is loaded once.
+/// Sees that the workunit of this name is among the touched, if it is present.
 fn touch<S: Alter>(
     conn: &mut Connection<S>,
     alloc: Global,

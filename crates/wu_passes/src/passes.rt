@@ -344,7 +344,8 @@ fn plan_taken<'a, S: Alter>(
     }
 }
 
-/// What a pass answers and changes. It takes the first workunits by number, up to its limit, that it changes.
+/// What a pass answers and changes. It takes the first workunits that it changes, up to its limit: the first by number,
+/// where the tables stand for a world whose list is in that order.
 pub fn plan_pass<'a, S: Alter>(
     conn: &mut Connection<S>,
     alloc: Global,

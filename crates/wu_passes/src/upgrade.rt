@@ -1,11 +1,8 @@
-//! The version of a project's schema: whether this program knows it, and what bringing it to the present one answers.
+//! What bringing a project's schema to the present version answers.
 
-ghost use Rattle.std.specs.Prelude.{◌≡◌, ◌≤◌, IfErr, OnOk};
-ghost use Rattle.wu_machine.specs.Machine.{present_version};
 ghost use Rattle.wu_passes.specs.Planning.{NeverEnded, PlansFor};
 ghost use Rattle.wu_machine.specs.Sound.{IsProject};
 ghost use Rattle.wu_machine.specs.Requests.{AskUpgrade};
-ghost use Rattle.wu_passes.specs.Standing.{TellsLater};
 ghost use Rattle.wu_store.specs.Loading.{Asks, NotRefusedIn, OverWorlds, ServesUnlessFailed};
 
 use crate::imports::Plan;
@@ -13,22 +10,10 @@ use sqlite::{Alter, Connection};
 use std::alloc::Global;
 use wu_core::Fault;
 use wu_machine::Answer;
-use wu_schema::{PRESENT_VERSION, version_of};
-
-/// Whether the project is of a version that this program knows.
-pub fn check_version(version: u64) -> Result<(), Fault>
-    ensures known { OnOk result (version ≤ present_version) }
-    ensures later { IfErr result (TellsLater version) }
-{
-    if version > PRESENT_VERSION {
-        Err(Fault::NewSchema(version))
-    } else {
-        Ok(())
-    }
-}
+use wu_schema::{PRESENT_VERSION, check_version, version_of};
 
 /// What an upgrade answers: the version that was found, and the present one. The first version is the present one, so
-/// nothing is changed.
+/// no change is planned.
 ///
 /// A later version is `NewSchema`. `NotAProject` where no project is there any more.
 pub fn plan_upgrade<'a, S: Alter>(

@@ -39,13 +39,13 @@ pub record AsksOfText (db : List ℕ) (asked : Result Work Trouble) : Type 0 whe
   pub asks : AsksOfScript script asked
 
 -- memory is wanted, maybe for the files of a line; or the script's file can't be read, or its text is no script
-abbrev pub IsUnread : Trouble → Type 0
-IsUnread (trouble.Fault fault) = (fault ≡ Memory) ⊎ ((fault ≡ BadFile 0 Unreadable) ⊎ ((text : List ℕ) × (script_of text ≡ Err fault)))
-IsUnread (trouble.BadLine bad) = (number : ℕ) × (bad ≡ lacks_memory number)
-IsUnread _ = ⊥
+abbrev pub IsUnreadScript : Trouble → Type 0
+IsUnreadScript (trouble.Fault fault) = (fault ≡ Memory) ⊎ ((fault ≡ BadFile 0 Unreadable) ⊎ ((text : List ℕ) × (script_of text ≡ Err fault)))
+IsUnreadScript (trouble.BadLine bad) = (number : ℕ) × (bad ≡ lacks_memory number)
+IsUnreadScript _ = ⊥
 
 abbrev pub AsksOfScriptFile : ScriptFile → Result Work Trouble → Type 0
-AsksOfScriptFile script asked = AsksOfText script.db asked ⊎ IsErrAnd asked IsUnread
+AsksOfScriptFile script asked = AsksOfText script.db asked ⊎ IsErrAnd asked IsUnreadScript
 
 -- ---- words
 

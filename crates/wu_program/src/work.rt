@@ -1,7 +1,7 @@
 //! What the words of the command line ask of a project, with all files read.
 
 ghost use Rattle.std.specs.Prelude.{◌≡◌, IfErr, IfOk, map, string_bytes};
-ghost use Rattle.wu_program.specs.Asking.{AsksFor, AsksOfFiles, AsksOfOrder, AsksOfScriptFile, database_in, IsUnread, RefusesWords};
+ghost use Rattle.wu_program.specs.Asking.{AsksFor, AsksOfFiles, AsksOfOrder, AsksOfScriptFile, database_in, IsUnreadScript, RefusesWords};
 ghost use Rattle.wu_program.specs.Contents.{AreFed};
 
 use crate::contents::{contents, fed, read_file};
@@ -23,7 +23,7 @@ fn work_of_line(rt: &HostRuntime, line: &Line) -> Result<Work, Trouble>
 /// The entries of a script with what their files hold, or the trouble of reading these, which is told of its line or not.
 fn feed_all(rt: &HostRuntime, entries: Entries) -> Result<Vec<FedEntry>, Trouble>
     ensures fed { IfOk result (λ script. AreFed entries script.items) }
-    ensures refused { IfErr result IsUnread }
+    ensures refused { IfErr result IsUnreadScript }
 {
     let mut script = Vec::new(rt.alloc());
     for entry in entries.into_vec() {

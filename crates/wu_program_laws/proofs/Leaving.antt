@@ -60,7 +60,7 @@ use Rattle.wu_words.specs.declared.usage.Usage.TheVariants as usage
 use Rattle.wu_cli.specs.Performing.{Performs}
 use Rattle.wu_cli.specs.Scripting.{PerformsEach, PerformsSteps, so_far}
 use Rattle.wu_cli.specs.Troubles.{trouble_status}
-use Rattle.wu_cli.specs.Working.{BeginsFrom, commands_of_work, DoesAdopted, DoesNothing, DoesOver, DrivesOver, DrivesWork, line_end, PerformsWork, RefusesWork}
+use Rattle.wu_cli.specs.Working.{BeginsFrom, commands_of_work, DoesAdopted, DoesNothing, DoesOver, DrivesOver, DrivesWork, line_outcome, PerformsWork, RefusesWork}
 use Rattle.wu_cli.specs.declared.trouble.Trouble.{Trouble}
 use Rattle.wu_cli.specs.declared.trouble.Trouble.TheVariants as trouble
 use Rattle.wu_cli.specs.declared.work.Work.{Work}
@@ -70,7 +70,7 @@ use Rattle.sqlite_disk.specs.declared.modelled.Modelled.{Modelled}
 use Rattle.sqlite_disk.specs.declared.start.Start as start
 use Rattle.sqlite_std_file.specs.declared.host.Host.{Host}
 use Rattle.sqlite_wal.specs.Files.{image_at}
-use Rattle.wu_lives.specs.Closing.{IsNumbered}
+use Rattle.wu_stops.specs.Closing.{IsNumbered}
 use Rattle.wu_lives.specs.Runs.{HoldsWorld}
 use Rattle.wu_program.specs.Opening.{IsOpenedAt}
 use Rattle.wu_program.specs.Running.{RunsWords, TellsTrouble}
@@ -176,7 +176,7 @@ module _ {D W : Type 0} {g : Ghosts D} (contents : W → Option (List ℕ)) (con
   abbrev ToldWork : World → Work → Type 0
   ToldWork world asked = (it : DrivesWork world asked done (file_state again)) × TellsDone (contents old) (contents new) asked it.answers it.count
 
-  line_whole : (end : Option Fault) (A : Type 0) → (end ≡ None → A) → OnOk (line_end end) A
+  line_whole : (end : Option Fault) (A : Type 0) → (end ≡ None → A) → OnOk (line_outcome end) A
   line_whole None A of_none = of_none refl
   line_whole (Some f) A of_none = tt
 

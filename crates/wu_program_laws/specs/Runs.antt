@@ -26,7 +26,7 @@ use Rattle.wu_words.specs.declared.order.Order.{Order}
 use Rattle.wu_cli.specs.Working.{commands_of_work}
 use Rattle.wu_cli.specs.declared.work.Work.{Work}
 use Rattle.wu_cli.specs.declared.work.Work.TheVariants as work
-use Rattle.wu_lives.specs.Closing.{IsNumbered}
+use Rattle.wu_stops.specs.Closing.{IsNumbered}
 use Rattle.wu_lives.specs.Runs.{HoldsWorld}
 use Rattle.wu_program.specs.Asking.{AsksFor}
 use Rattle.wu_program.specs.Running.{Obeys}

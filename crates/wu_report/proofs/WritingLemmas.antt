@@ -7,7 +7,7 @@ use Rattle.std.proofs.KnownBytes.{Appends-nil, Appends-trans, Appends-kept}
 use Rattle.std.specs.Io.KnownBytes.{Appends, Keeps}
 use Rattle.std.specs.Prelude.{IfErr}
 use Rattle.std.specs.Result.{IsErr}
-use Rattle.wu_report.specs.Writing.{AppendsFront, IsCut, Writes}
+use Rattle.wu_report.specs.Writing.{AppendsFront, IsCut, WritesBytes}
 
 -- a front of the first part is a front of the whole
 pub AppendsFront-longer : (a b : Option (List ℕ)) (xs ys : List ℕ) → AppendsFront a b xs → AppendsFront a b (xs ++ ys)
@@ -32,7 +32,7 @@ AppendsFront-after a b c xs ys whole (count, h) =
         ∙ take-append_seam (xs ++ take count ys) (drop count ys)
 
 -- one write, and then another
-pub Writes-after : {T E : Type 0} (a b c : Option (List ℕ)) (xs ys : List ℕ) (r : Result T E) → Appends a b xs → Writes b c ys r → Writes a c (xs ++ ys) r
+pub Writes-after : {T E : Type 0} (a b c : Option (List ℕ)) (xs ys : List ℕ) (r : Result T E) → Appends a b xs → WritesBytes b c ys r → WritesBytes a c (xs ++ ys) r
 Writes-after a b c xs ys (Ok x) whole h = Appends-trans a b c xs ys whole h
 Writes-after a b c xs ys (Err e) whole h = AppendsFront-after a b c xs ys whole h
 
@@ -53,12 +53,12 @@ pub AppendsFront-kept : (a b : Option (List ℕ)) (xs : List ℕ) → Keeps a b 
 AppendsFront-kept a b xs h = (zero, Appends-none a b h)
 
 -- a call that failed after a front
-pub Writes-failed : {T E : Type 0} (a b : Option (List ℕ)) (bytes : List ℕ) (r : Result T E) → IsErr r → AppendsFront a b bytes → Writes a b bytes r
+pub Writes-failed : {T E : Type 0} (a b : Option (List ℕ)) (bytes : List ℕ) (r : Result T E) → IsErr r → AppendsFront a b bytes → WritesBytes a b bytes r
 Writes-failed a b bytes (Ok x) failed h = cc
 Writes-failed a b bytes (Err fault) failed h = h
 
 -- all was written, and a call that writes nothing came after it
-pub Writes-kept : {T E : Type 0} (a b c : Option (List ℕ)) (xs : List ℕ) (r : Result T E) → Appends a b xs → Keeps b c → Writes a c xs r
+pub Writes-kept : {T E : Type 0} (a b c : Option (List ℕ)) (xs : List ℕ) (r : Result T E) → Appends a b xs → Keeps b c → WritesBytes a c xs r
 Writes-kept a b c xs (Ok x) whole kept = Appends-kept a b c xs whole kept
 Writes-kept a b c xs (Err e) whole kept = (length xs, subst (Appends a c) (sym (take_all (length xs) xs (omega arith))) (Appends-kept a b c xs whole kept))
 

@@ -11,11 +11,11 @@ use Rattle.wu_rules.specs.Assimilation.{archived_row}
 use Rattle.wu_rules.specs.Examples.{credit, h1, h2, job, masked, too_many_errors}
 
 -- a workunit as a batch adds it, and one with these instances
-abbrev pub new_job : Workunit
-new_job = job default_parameters []
+abbrev pub first_job : Workunit
+first_job = job default_parameters []
 
-abbrev pub job_of : List Instance → Workunit
-job_of instances = job default_parameters instances
+abbrev pub job_with : List Instance → Workunit
+job_with instances = job default_parameters instances
 
 -- a world of one workunit
 abbrev pub holding : Workunit → World
@@ -24,21 +24,21 @@ holding w = record empty_world { workunits = w ∷ []; next_number = 2 }
 -- after a batch of one job, and a transition that made two instances of it
 abbrev pub after_a_batch : World
 after_a_batch =
-    record (holding (job_of (fresh ∷ fresh ∷ []))) {
+    record (holding (job_with (fresh ∷ fresh ∷ []))) {
       imports = record { kind = Batch; name = []; template = []; content = []; first_number = 1; verdicts = 0 ∷ [] } ∷ [];
     }
 
 -- the archived row of a workunit that had too many errors, assimilated on 2026-03-02 at midnight
-abbrev pub given_up : Archived
-given_up = archived_row (masked too_many_errors new_job) 1772409600
+abbrev pub given_up_row : Archived
+given_up_row = archived_row (masked too_many_errors first_job) 1772409600
 
 -- the same of one that was decided, with an output of two bytes
-abbrev pub decided : Archived
-decided = record (archived_row new_job 1772409600) { canonical = Some 0; output = 0 ∷ 255 ∷ [] }
+abbrev pub decided_row : Archived
+decided_row = record (archived_row first_job 1772409600) { canonical = Some 0; output = 0 ∷ 255 ∷ [] }
 
 -- a world with one archived row
-abbrev pub keeping : Archived → World
-keeping row = record empty_world { archived = row ∷ [] }
+abbrev pub archiving : Archived → World
+archiving row = record empty_world { archived = row ∷ [] }
 
 -- three credits of two hosts
 abbrev pub three_grants : World

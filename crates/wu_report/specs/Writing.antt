@@ -12,12 +12,12 @@ abbrev pub AppendsFront : Option (List ℕ) → Option (List ℕ) → List ℕ �
 AppendsFront old new bytes = (count : ℕ) × Appends old new (take count bytes)
 
 -- with success exactly these bytes were appended, and else some beginning of them
-abbrev pub Writes : {T E : Type 0} → Option (List ℕ) → Option (List ℕ) → List ℕ → Result T E → Type 0
-Writes old new bytes result = MatchResult result (λ _. Appends old new bytes) (λ _. AppendsFront old new bytes)
+abbrev pub WritesBytes : {T E : Type 0} → Option (List ℕ) → Option (List ℕ) → List ℕ → Result T E → Type 0
+WritesBytes old new bytes result = MatchResult result (λ _. Appends old new bytes) (λ _. AppendsFront old new bytes)
 
 -- so it is with the contents of a writer before a call and after it
 abbrev pub WritesTo : {W T E : Type 0} → (W → Option (List ℕ)) → W → W → List ℕ → Result T E → Type 0
-WritesTo contents old new text result = Writes (contents old) (contents new) text result
+WritesTo contents old new text result = WritesBytes (contents old) (contents new) text result
 
 -- a beginning of the bytes was appended that is not all of them
 unfoldable pub IsCut : Option (List ℕ) → Option (List ℕ) → List ℕ → Type 0

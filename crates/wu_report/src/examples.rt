@@ -6,7 +6,7 @@ ghost use Rattle.wu_core.specs.World.{empty_world};
 ghost use Rattle.wu_core.specs.Workunit.{fresh};
 ghost use Rattle.wu_rules.specs.Examples.{h1, out, success};
 ghost use Rattle.wu_machine.specs.declared.view.View.TheVariants.{Archive, Hosts, Results, Summary, Workunits};
-ghost use Rattle.wu_report.specs.Examples.{after_a_batch, decided, given_up, holding, job_of, keeping, new_job, three_grants};
+ghost use Rattle.wu_report.specs.Examples.{after_a_batch, decided_row, given_up_row, holding, job_with, archiving, first_job, three_grants};
 ghost use Rattle.wu_report.specs.Texts.{moment_text, view_text};
 
 /// The first and the last moment, noon of a day, a leap day and the last deadline, as text.
@@ -20,20 +20,20 @@ pub fn prints_moments()
 
 /// The line of a new workunit.
 pub fn prints_a_workunit()
-    ensures { view_text (holding new_job) Workunits
+    ensures { view_text (holding first_job) Workunits
         ≡ codes "1 job_1 input=2 quorum=2 target=2 max_error=3 max_total=10 max_success=6"
         ++ codes " delay=604800 credit=1 mask=0 canonical=- assimilate=INIT delete=INIT done=-\n" }
 {}
 
 /// The lines of two instances, before they are sent; of one that is out; and of one that was found invalid.
 pub fn prints_instances()
-    ensures unsent { view_text (holding (job_of (fresh ∷ fresh ∷ []))) Results
+    ensures unsent { view_text (holding (job_with (fresh ∷ fresh ∷ []))) Results
         ≡ codes "job_1_0 UNSENT INIT INIT INIT host=- sent=- deadline=- received=- output=0\n"
         ++ codes "job_1_1 UNSENT INIT INIT INIT host=- sent=- deadline=- received=- output=0\n" }
-    ensures sent { view_text (holding (job_of (out h1 ∷ []))) Results
+    ensures sent { view_text (holding (job_with (out h1 ∷ []))) Results
         ≡ codes "job_1_0 IN_PROGRESS INIT INIT INIT host=h1 sent=2026-03-01T13:00:00Z"
         ++ codes " deadline=2026-03-08T13:00:00Z received=- output=0\n" }
-    ensures invalid { view_text (holding (job_of (success h1 (0 ∷ []) Invalid ∷ []))) Results
+    ensures invalid { view_text (holding (job_with (success h1 (0 ∷ []) Invalid ∷ []))) Results
         ≡ codes "job_1_0 OVER SUCCESS INVALID INIT host=h1 sent=2026-03-01T13:00:00Z"
         ++ codes " deadline=2026-03-08T13:00:00Z received=2026-03-01T14:00:00Z output=1\n" }
 {}
@@ -47,9 +47,9 @@ pub fn prints_hosts()
 
 /// The line of an archived workunit that was given up, and of one whose output has two bytes.
 pub fn prints_the_archive()
-    ensures without { view_text (keeping given_up) Archive
+    ensures without { view_text (archiving given_up_row) Archive
         ≡ codes "1 job_1 mask=2 canonical=- done=2026-03-02T00:00:00Z output=-\n" }
-    ensures output { view_text (keeping decided) Archive
+    ensures output { view_text (archiving decided_row) Archive
         ≡ codes "1 job_1 mask=0 canonical=0 done=2026-03-02T00:00:00Z output=00ff\n" }
 {}
 

@@ -14,12 +14,8 @@ use Rattle.wu_core.specs.declared.states.ServerState.TheVariants as server
 use Rattle.wu_core.specs.declared.states.ValidateState.{ValidateState}
 use Rattle.wu_core.specs.declared.states.ValidateState.TheVariants as validate
 use Rattle.wu_core.specs.Formed.{IsWorkunit}
-use Rattle.wu_rules.specs.declared.verdicts.ReportVerdict.TheVariants as report
-use Rattle.wu_rules.specs.declared.verdicts.SendVerdict.TheVariants as send
-use Rattle.wu_rules.specs.Assimilation.{archived}
 use Rattle.wu_rules.specs.Counts.{is_clear}
 use Rattle.wu_rules.specs.Instances.{is_done_assimilate, is_open_verdict, is_success, is_unsent}
-use Rattle.wu_rules.specs.Validation.{grants}
 
 -- no state stands that this project never sets, and only a success has a verdict
 pub record IsPossible (i : Instance) : Type 0 where

@@ -5,6 +5,7 @@ pub mod Counts
 pub mod Due
 pub mod Examples
 pub mod Instances
+pub mod Marks
 pub mod Reporting
 pub mod Sending
 pub mod Transition

@@ -19,7 +19,7 @@ pub fn is_clear(mask: ErrorMask) -> bool
     mask.code() == 0
 }
 
-/// Whether the workunit has neither a canonical result nor an error.
+/// Whether the workunit has no canonical result and no bit of its error mask is set.
 pub fn is_undecided(workunit: &Workunit) -> bool
     ensures { result ≡ is_undecided workunit.now }
 {
@@ -61,7 +61,8 @@ pub fn viable_count(workunit: &Workunit) -> usize
         .count()
 }
 
-/// Whether the instance counts as an error once what is overdue has timed out.
+/// Whether the instance counts as an error once what is overdue has timed out. One that timed out is no error here, so
+/// what is overdue never counts: a rule that made timeouts errors would change this test as well as `is_error`.
 fn is_error_at(instance: &Instance, now: Moment) -> bool
     ensures { result ≡ is_error (timed_out now instance.now) }
 {
@@ -117,8 +118,8 @@ pub fn has_new_success(workunit: &Workunit) -> bool
     workunit.instances.iter().any(|instance| is_new(instance))
 }
 
-/// Whether the validator looks at the workunit: it has no error and a new success, and has a canonical result already or
-/// successes enough for its quorum.
+/// Whether the validator looks at the workunit: its error mask is clear, it has a new success, and it has a canonical
+/// result already or as many viable successes as its quorum.
 pub fn wants_validation(workunit: &Workunit) -> bool
     ensures { result ≡ is_to_validate workunit.now }
 {

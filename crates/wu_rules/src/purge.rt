@@ -16,7 +16,7 @@ fn is_spent(instance: &Instance) -> bool
     is_over(instance) && instance.file_delete == FileDelete::Done
 }
 
-fn is_all_spent(instances: &Instances) -> bool
+pub fn is_all_spent(instances: &Instances) -> bool
     ensures { result ≡ list_all is_spent instances.now }
 {
     instances.iter().all(|instance| is_spent(instance))

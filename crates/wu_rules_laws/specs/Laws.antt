@@ -14,6 +14,9 @@ use Rattle.wu_rules.specs.declared.verdicts.ReportVerdict.TheVariants as report
 use Rattle.wu_rules.specs.Instances.{is_new, is_unsent, is_viable, is_open_verdict, is_ready_assimilate, is_ready_file}
 use Rattle.wu_rules.specs.Assimilation.{assimilated, archived, emptied, is_to_delete, is_purgeable}
 use Rattle.wu_rules.specs.Cancelling.{cancelled}
+use Rattle.wu_rules.specs.Due.{changes}
+use Rattle.wu_rules.specs.Marks.{marks, selects}
+use Rattle.wu_rules.specs.declared.due.Pass.{Pass}
 use Rattle.wu_rules.specs.Counts.{viable, agreeing, is_agreed, is_clear, is_undecided, has_new_success, consensus}
 use Rattle.wu_rules.specs.Reporting.{report_verdict_in, reported_in}
 use Rattle.wu_rules.specs.Sending.{sent_in}
@@ -74,6 +77,10 @@ pub record HoldsNothingReady (w : Workunit) : Type 0 where
   pub input : is_ready_file w.file_delete ≡ true → (emptied w).input ≡ []
   pub outputs : (n : ℕ) (i : Instance) → slice_get w.instances n ≡ Some i → is_ready_file i.file_delete ≡ true → option_map (λ j. j.output) (slice_get (emptied w).instances n) ≡ Some []
   pub others : (n : ℕ) (i : Instance) → slice_get w.instances n ≡ Some i → is_ready_file i.file_delete ≡ false → slice_get (emptied w).instances n ≡ Some i
+
+-- by its marks a pass selects, at every moment and age, exactly what it changes then
+abbrev pub SelectsByMarks : Type 0
+SelectsByMarks = (pass : Pass) (now min_age : ℕ) (w : Workunit) → selects pass now min_age (marks w) ≡ changes pass now min_age w
 
 -- neither the assimilator nor the file deleter would change a workunit that may be purged
 abbrev pub PurgesWhatIsThrough : Type 0

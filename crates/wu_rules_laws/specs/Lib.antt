@@ -1,4 +1,5 @@
 pub mod Laws
 pub mod Consistent
+pub mod Marking
 pub mod Transitions
 pub mod Rows

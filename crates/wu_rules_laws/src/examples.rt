@@ -1,5 +1,5 @@
 //! Worked examples, computed on the definitions: each function's contract is what the rules make of a workunit.
-#![tactic(auto, unfolding(wu_rules::specs::Transition::transitioned, wu_rules::specs::Waking::wake, wu_rules::specs::Validation::validated, wu_rules::specs::Validation::grants, wu_rules::specs::Assimilation::assimilated, wu_rules::specs::Assimilation::emptied, wu_rules::specs::Assimilation::is_purgeable, wu_rules::specs::Cancelling::cancelled))]
+#![tactic(auto, unfolding(wu_rules::specs::Transition::transitioned, wu_rules::specs::Waking::wake, wu_rules::specs::Validation::validated, wu_rules::specs::Validation::grants, wu_rules::specs::Assimilation::assimilated, wu_rules::specs::Assimilation::emptied, wu_rules::specs::Assimilation::is_purgeable, wu_rules::specs::Assimilation::is_to_delete, wu_rules::specs::Marks::marks, wu_rules::specs::Cancelling::cancelled))]
 
 ghost use Rattle.std.specs.Prelude.{◌≡◌, ◌∷◌, [], true, false, Some, None};
 ghost use Rattle.wu_core.specs.declared.states.Status.TheVariants as status;
@@ -12,7 +12,9 @@ ghost use Rattle.wu_rules.specs.Reporting.{report_verdict_in, reported_in};
 ghost use Rattle.wu_rules.specs.Sending.{send_verdict_in, sent_in};
 ghost use Rattle.wu_rules.specs.declared.verdicts.ReportVerdict.TheVariants as report;
 ghost use Rattle.wu_rules.specs.declared.verdicts.SendVerdict.TheVariants as send;
+ghost use Rattle.wu_rules.specs.Marks.{marks};
 ghost use Rattle.wu_rules.specs.Waking.{wake};
+ghost use Rattle.wu_rules_laws.specs.Marking.{wakes_at};
 ghost use Rattle.wu_rules.specs.Assimilation.{assimilated, emptied, is_purgeable};
 ghost use Rattle.wu_rules.specs.Examples.{noon, sending, due, a_second_late, reporting, h1, h2, h3, aa, credit, ready, masked, cancelled_mask};
 ghost use Rattle.wu_rules.specs.Examples.{new_job, two_unsent, one_out, one_lost, one_back, one_late, one_failed, two_differ, two_doubted, third_unsent, third_agrees, second_chosen, two_of_three, two_of_three_chosen, two_of_four, two_of_four_doubted, one_of_one, one_of_one_chosen, four_failed, ended_by_errors, last_out, ended_by_total, three_differ, three_doubted, one_left, ended_by_successes, two_agree, first_chosen, second_may_go, third_after_all, two_unneeded, two_may_go, one_may_go, one_gone_since, one_emptied};
@@ -70,6 +72,17 @@ pub fn wakes()
     ensures out { wake one_out ≡ Some a_second_late }
     ensures failed { wake one_failed ≡ Some 0 }
     ensures cancelled { wake (masked cancelled_mask new_job) ≡ Some 0 }
+{}
+
+/// The marks of a workunit in several states, from its making to its purge.
+pub fn marks_what_is_due()
+    ensures empty { marks new_job ≡ wakes_at (Some 0) }
+    ensures out { marks one_out ≡ wakes_at (Some a_second_late) }
+    ensures through { marks (one_gone_since 1000) ≡ record (wakes_at None) { purge_from = Some 1000 } }
+    ensures back { marks two_agree ≡ record (wakes_at (Some a_second_late)) { to_validate = true } }
+    ensures closed { marks two_unneeded ≡ wakes_at (Some 0) }
+    ensures deleting { marks one_may_go ≡ record (wakes_at None) { to_delete = true } }
+    ensures ended { marks (ready ended_by_total) ≡ record (wakes_at None) { to_assimilate = true } }
 {}
 
 /// Two results that differ are inconclusive, and a third is wanted; the third agrees with the second.

@@ -1,7 +1,7 @@
 //! Laws of the rules: each function's contract is one, for every workunit and every moment.
 
 ghost use Rattle.wu_core.specs.declared.workunit.Workunit.{Workunit};
-ghost use Rattle.wu_rules_laws.specs.Laws.{TransitionsOnce, TimesOutWhatIsLate, WakesInTime, LooksWhereItChanges, KeepsFinalVerdicts, AssimilatesWhatIsReady, ArchivesWhatWasRead, DeletesWhereItChanges, HoldsNothingReady, PurgesWhatIsThrough, StaysPurgeable, ChoosesByAgreement, ChoosesOnlyByQuorum, ChoosesWithoutHosts, AgreeFromDifferentHosts, DecidesByConsensus, DecidesWithItsQuorum, JudgesWhatComesLate, GrantsToTheValid, GrantsOnce, KeepsWorkunitsFormed, CancelsWhatIsUnsent, AsksForMoreOrGivesUp};
+ghost use Rattle.wu_rules_laws.specs.Laws.{TransitionsOnce, TimesOutWhatIsLate, WakesInTime, LooksWhereItChanges, KeepsFinalVerdicts, AssimilatesWhatIsReady, ArchivesWhatWasRead, DeletesWhereItChanges, HoldsNothingReady, SelectsByMarks, PurgesWhatIsThrough, StaysPurgeable, ChoosesByAgreement, ChoosesOnlyByQuorum, ChoosesWithoutHosts, AgreeFromDifferentHosts, DecidesByConsensus, DecidesWithItsQuorum, JudgesWhatComesLate, GrantsToTheValid, GrantsOnce, KeepsWorkunitsFormed, CancelsWhatIsUnsent, AsksForMoreOrGivesUp};
 
 /// A second transition at the same moment changes nothing.
 pub fn transitions_once()
@@ -46,6 +46,11 @@ pub fn deletes_where_it_changes()
 /// Of an input or output that was ready for deletion no byte is held, and each other output stays.
 pub fn holds_nothing_ready()
     ensures { (w : Workunit) → HoldsNothingReady w }
+{}
+
+/// By its marks a pass selects, at every moment and age, exactly what it changes then.
+pub fn selects_by_marks()
+    ensures { SelectsByMarks }
 {}
 
 /// Neither the assimilator nor the file deleter would change a workunit that may be purged.

@@ -153,17 +153,17 @@ module _ (all rows slice : List Row) (is : slice ≡ rows) (same : IsPermutation
   rows_stored found (version, at, positive, read) = (version, at, (positive, of_table all rows version same (subst (λ rs. AreOfVersion rs version) is read)))
 
   -- and nothing else is refused
-  pub rows_refused : (r : Result (Option ℕ) Fault) (version : ℕ) → (1 ≤ version) × AreOfVersion all version → ((version : ℕ) → 1 ≤ version → AreOfVersion slice version → Gives r (Ok (Some version))) → IfErr r IsFailure
-  rows_refused r version (positive, of) found = elim (found version positive (subst (λ rs. AreOfVersion rs version) (sym is) (of_answer all rows version same of))) [
-    | inl ok ↦ subst (λ x. IfErr x IsFailure) (sym ok) tt
-    | inr memory ↦ subst (λ x. IfErr x IsFailure) (sym memory) (inl refl)
+  pub rows_refused : (r : Result (Option ℕ) Fault) (version : ℕ) → (1 ≤ version) × AreOfVersion all version → ((version : ℕ) → 1 ≤ version → AreOfVersion slice version → Gives r (Ok (Some version))) → (fault : Fault) → r ≡ Err fault → IsFailure fault
+  rows_refused r version (positive, of) found fault told = elim (found version positive (subst (λ rs. AreOfVersion rs version) (sym is) (of_answer all rows version same of))) [
+    | inl ok ↦ absurd (let no = sym told ∙ ok in cc)
+    | inr memory ↦ inl (same_fault (sym told ∙ memory))
   ]
 
 -- of a world
 pub stored_is : (db : Database) (world : World) (s : StandsFor db world) (found : Option ℕ) → (version : ℕ) × (found ≡ Some version) × HasVersion db (project_of db world s) version → found ≡ Some world.version
 stored_is db world s found (version, at, (positive, of)) = at ∙ ap Some (one_version _ version world.version of (project_row db world s))
 
--- a clause of each fault, from one of the result
-pub none_fails : {A : Type 0} {B : A → Type 0} {C : (a : A) → B a → Type 0} (r : Result (Option ℕ) Fault) (unlimited : Type 0) → ((a : A) (b : B a) → C a b → IfErr r IsFailure) → IfErr r (λ fault. (a : A) (b : B a) → C a b → unlimited → IsFailure fault)
-none_fails (Ok found) unlimited fails = tt
-none_fails (Err fault) unlimited fails = λ a b c limit. fails a b c
+-- what holds of each fault that the result may be holds of its fault
+pub each_fault : {T E : Type 0} (r : Result T E) (P : E → Type 0) → ((fault : E) → r ≡ Err fault → P fault) → IfErr r P
+each_fault (Ok found) P holds = tt
+each_fault (Err fault) P holds = holds fault refl

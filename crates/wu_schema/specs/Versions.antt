@@ -99,30 +99,25 @@ TellsAbsence db e = LacksProject db.schema → TellsMissing e ⊎ IsFailure (fau
 abbrev pub IsMissingOnly : Database → Error → Type 0
 IsMissingOnly db e = TellsMissing e → LacksProject db.schema
 
--- over a project the answer is the version of its one row
-abbrev pub IsVersion : Database → Option ℕ → Type 0
-IsVersion db found = (has : HasProject db.schema) → (version : ℕ) × (found ≡ Some version) × HasVersion db has version
+-- What an answer says: over which tables it is a version, and over which it is none.
+pub record AnswersVersion (db : Database) (found : Option ℕ) : Type 0 where
+  -- over a project it is the version of its one row,
+  pub of_row : (has : HasProject db.schema)
+      → (version : ℕ) × (found ≡ Some version) × HasVersion db has version
+  -- and over tables that stand for a world that world's version
+  pub of_world : (world : World) → StandsFor db world → found ≡ Some world.version
+  -- where no project is, it is none,
+  pub absent : LacksProject db.schema → found ≡ None
+  -- and nowhere else
+  pub none : found ≡ None → LacksProject db.schema
 
--- it is the version of the world
-abbrev pub IsVersionOf : Option ℕ → World → Type 0
-IsVersionOf found world = found ≡ Some world.version
-
--- over a row of a project only a failure refuses, where steps have no limit
-abbrev pub FailsOnVersion : Option ℕ → Database → Fault → Type 0
-FailsOnVersion limit db fault = (has : HasProject db.schema) (version : ℕ) → HasVersion db has version → limit ≡ None → IsFailure fault
-
--- the same over tables that stand for a world
-abbrev pub FailsOnWorld : Option ℕ → Database → Fault → Type 0
-FailsOnWorld limit db fault = (world : World) → StandsFor db world → 1 ≤ world.version → limit ≡ None → IsFailure fault
-
--- where no project is, the answer is none,
-abbrev pub IsNoneWithout : Database → Option ℕ → Type 0
-IsNoneWithout db found = LacksProject db.schema → found ≡ None
-
--- only a failure refuses,
-abbrev pub FailsWithout : Database → Fault → Type 0
-FailsWithout db fault = LacksProject db.schema → IsFailure fault
-
--- and nowhere else the answer is none
-abbrev pub IsNoneOnlyWithout : Database → Option ℕ → Type 0
-IsNoneOnlyWithout db found = found ≡ None → LacksProject db.schema
+-- What a fault says, where steps have this limit: over which tables it tells of a failure.
+pub record RefusesVersion (limit : Option ℕ) (db : Database) (fault : Fault) : Type 0 where
+  -- over the one row of a project only a failure refuses, where steps have no limit,
+  pub of_row : (has : HasProject db.schema) (version : ℕ)
+      → HasVersion db has version → limit ≡ None → IsFailure fault
+  -- and so over tables that stand for a world of a version from 1
+  pub of_world : (world : World)
+      → StandsFor db world → 1 ≤ world.version → limit ≡ None → IsFailure fault
+  -- where no project is, only a failure refuses, whatever the limit
+  pub absent : LacksProject db.schema → IsFailure fault

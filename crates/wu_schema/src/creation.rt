@@ -117,8 +117,8 @@ impl Work for Creation {
 
 /// Makes a fresh project of the present version in a database where none of its tables is there yet.
 ///
-/// Tables of other names are left alone. Where a name is taken, the fault is `NotAProject` and nothing is changed.
-/// After `Memory` or `Broken` an open may find the database as it was, or the fresh project.
+/// Tables of other names are left alone. `NotAProject` says that the store refused a statement, and that all is as
+/// before: it does so where a name is taken, but no clause names its cause. After `Memory` or `Broken` an open may find the database as it was, or the fresh project.
 pub fn create<S: Alter>(conn: &mut Connection<S>) -> Result<(), Fault>
     requires { conn.old.in_transaction ≡ false }
     ensures mode { conn.new.in_transaction ≡ false }

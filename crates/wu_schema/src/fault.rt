@@ -9,7 +9,8 @@ use sqlite_resolve::CompileError;
 use sqlite_syntax::error::ParseError;
 use wu_core::Fault;
 
-/// Want of memory is `Memory`, a failure of the disk or of size is `Broken`, and any other refusal is `NotAProject`.
+/// Want of memory is `Memory`, a failure of the disk or what is too big for the store is `Broken`, and any other refusal
+/// is `NotAProject`.
 pub fn fault_of(error: &Error) -> Fault
     ensures { result ≡ fault_of error.now }
 {
@@ -58,7 +59,7 @@ fn probe<S: Alter>(conn: &mut Connection<S>) -> Fault
 /// The fault of a statement that was refused inside a transaction, which was then rolled back.
 ///
 /// `NotAProject` says that the connection still serves, outside any transaction; after any other fault it may not. Want
-/// of memory and a failure of the disk are told as such. A statement that is refused for another cause is `Broken` only
+/// of memory is told as such, and so is a failure of the disk or what is too big. A statement that is refused for another cause is `Broken` only
 /// where the disk then failed, or the connection was not open.
 pub fn fault_after<S: Alter>(conn: &mut Connection<S>, error: &Error) -> Fault
     ensures mode { conn.old.in_transaction ≡ false → conn.new.in_transaction ≡ false }

@@ -14,6 +14,6 @@ mod version;
 pub use asking::query;
 pub use columns::{number_at, read_column};
 pub use creation::create;
-pub use fault::{commit_fault_of, fault_after, fault_of};
+pub use fault::fault_of;
 pub use transaction::{Work, execute, transact};
-pub use version::{PRESENT_VERSION, version_of};
+pub use version::{PRESENT_VERSION, check_version, version_of};

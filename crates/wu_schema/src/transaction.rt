@@ -59,8 +59,8 @@ fn run_and_commit<S: Alter, W: Work>(conn: &mut Connection<S>, work: &W) -> Resu
 
 /// Does all of the work in one transaction.
 ///
-/// `NotAProject` says that a statement was refused, and that all is as before. After `Memory` or `Broken` an open may
-/// find what was, or what the work makes.
+/// `NotAProject` says that a statement was refused, and that all is as before. After `Memory` or `Broken` the tables are
+/// as before while the connection is open, and an open may find what it could have found before, or what the work makes.
 pub fn transact<S: Alter, W: Work>(conn: &mut Connection<S>, work: &W) -> Result<(), Fault>
     requires { conn.old.in_transaction ≡ false }
     ensures mode { conn.new.in_transaction ≡ false }

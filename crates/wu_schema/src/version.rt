@@ -1,11 +1,11 @@
-//! Which version a project has.
+//! Which version a project has, and whether this program knows it.
 
-ghost use Rattle.std.specs.Prelude.{◌≡◌, ◌⊎◌, ◌≤◌, ℕ, None, Some, Ok, IfSome, IfOk, IfErr};
+ghost use Rattle.std.specs.Prelude.{◌≡◌, ◌⊎◌, ◌≤◌, ◌<◌, ℕ, None, Some, Ok, IfSome, IfOk, IfErr, OnOk};
 ghost use Rattle.wu_core.specs.declared.fault.Fault.TheVariants.{Memory, NotAProject};
 ghost use Rattle.wu_schema.specs.Asking.{Asks, ServesUnlessFailed};
-ghost use Rattle.wu_schema.specs.Calls.{BreaksAfter, Reads, OnAnswer, OnFault, ServesAfter, Tells};
+ghost use Rattle.wu_schema.specs.Calls.{BreaksAfter, Reads, OnAnswer, OnFault, ServesAfter};
 ghost use Rattle.wu_schema.specs.Faults.{fault_of, IsStoreFault};
-ghost use Rattle.wu_schema.specs.Versions.{FailsOnVersion, FailsOnWorld, FailsToAsk, FailsWithout, IsMissingOnly, IsNoneOnlyWithout, IsNoneWithout, IsOtherFault, IsVersion, IsVersionIn, IsVersionOf, LacksProject, ReadsVersion, ShowsProject, TellsAbsence, TellsMissing};
+ghost use Rattle.wu_schema.specs.Versions.{AnswersVersion, FailsToAsk, IsMissingOnly, IsOtherFault, IsVersionIn, LacksProject, ReadsVersion, RefusesVersion, ShowsProject, TellsAbsence, TellsMissing};
 
 use crate::columns::version_from;
 use crate::fault::fault_of;
@@ -61,16 +61,25 @@ pub fn version_of<S: Alter>(conn: &mut Connection<S>) -> Result<Option<u64>, Fau
     ensures opens { ServesUnlessFailed S.Store conn.new result }
     ensures told { IfErr result IsStoreFault }
     ensures positive { IfOk result (λ found. IfSome found (λ version. 1 ≤ version)) }
-    ensures answers { OnAnswer S.Store conn.old conn.new result IsVersion }
-    ensures taken { OnFault S.Store conn.old conn.new result (FailsOnVersion conn.old.step_limit) }
-    ensures stored { Tells S.Store conn.old conn.new result IsVersionOf }
-    ensures refused { OnFault S.Store conn.old conn.new result (FailsOnWorld conn.old.step_limit) }
-    ensures absent { OnAnswer S.Store conn.old conn.new result IsNoneWithout }
-    ensures failed { OnFault S.Store conn.old conn.new result FailsWithout }
-    ensures none { OnAnswer S.Store conn.old conn.new result IsNoneOnlyWithout }
+    ensures answers { OnAnswer S.Store conn.old conn.new result AnswersVersion }
+    ensures refuses { OnFault S.Store conn.old conn.new result
+        (RefusesVersion conn.old.step_limit) }
 {
     match project_rows(conn) {
         Ok(rows) => version_in(rows.as_slice()),
         Err(error) => version_after(&error),
+    }
+}
+
+/// Whether the project is of a version that this program knows.
+pub fn check_version(version: u64) -> Result<(), Fault>
+    ensures known { OnOk result (version ≤ PRESENT_VERSION) }
+    ensures later { IfErr result
+        (λ fault. (fault ≡ Fault.NewSchema version) × (PRESENT_VERSION < version)) }
+{
+    if version > PRESENT_VERSION {
+        Err(Fault::NewSchema(version))
+    } else {
+        Ok(())
     }
 }

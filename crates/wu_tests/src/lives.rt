@@ -11,7 +11,8 @@ use sqlite::{Alter, Connection, Files, Options};
 use sqlite_disk::{Crash, Fuse, Memory};
 use std::process::Abort;
 use wu_drive::{Command, Project};
-use wu_lives::{adopt_stop_and_adopt, live_all, open_and_adopt, stop_and_open_left};
+use wu_lives::live_all;
+use wu_stops::{adopt_stop_and_adopt, open_and_adopt, stop_and_open_left};
 
 /// Two empty files, where the calls on the log stop after so many.
 fn files(rt: &(impl Abort + AllocGlobal), log_calls: u64) -> Files<Fuse<Memory>> {

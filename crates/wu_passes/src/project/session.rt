@@ -9,7 +9,7 @@ ghost use Rattle.wu_machine.specs.Sound.{IsProject};
 ghost use Rattle.wu_store.specs.Loading.{Asks, NotRefusedIn, OverWorlds, ServesUnlessFailed};
 ghost use Rattle.wu_passes.specs.Standing.{IsCutBy};
 ghost use Rattle.wu_passes.specs.Adopting.{Adopts, RefusesAdoption};
-ghost use Rattle.wu_passes.specs.Projects.{AnswersEnded, AsksOn, CarriesOut, connection_of, FailsAgain, GoesOnAgain, GoesStill, has_ended, IsOver, KeepsSession, LeavesIdle, LeavesUntouched, PlansOn, ReadsUnrefused, RefusesLimit, RunsOn, ServesOn, ServesRight, state_of, TellsWhy};
+ghost use Rattle.wu_passes.specs.Projects.{AnswersEnded, AsksOn, CarriesOut, CarriesOutFrom, connection_of, FailsAgain, GoesOnAgain, GoesStill, has_ended, IsOver, KeepsSession, LeavesIdle, LeavesUntouched, PlansOn, ReadsUnrefused, RefusesLimit, RunsOver, ServesOn, ServesRight, state_of, TellsWhy};
 
 use crate::batch::plan_batch;
 use crate::cancel::plan_cancel;
@@ -18,12 +18,12 @@ use crate::files::{plan_reported, plan_sent};
 use crate::imports::Plan;
 use crate::passes::{Ask, plan_pass};
 use crate::project::Project;
-use crate::upgrade::{check_version, plan_upgrade};
+use crate::upgrade::plan_upgrade;
 use sqlite::{Alter, Connection};
 use std::alloc::Global;
 use wu_core::Fault;
 use wu_machine::{Answer, Command};
-use wu_schema::{create, version_of};
+use wu_schema::{check_version, create, version_of};
 use wu_store::Change;
 
 /// Finds the project of the database, or makes a fresh one where none of its tables is there; a limit on steps is taken
@@ -165,14 +165,15 @@ impl<S: Alter> Project<S> {
     /// A pass whose limit or least age is out of range is `BadLimit`, and nothing is touched. All is computed before the
     /// transaction begins; a fault before it leaves the project as it was, and only `Broken` ends the session there. A
     /// statement that is refused within it is `NotAProject`, and is rolled back; `Memory` and `Broken` from within end the
-    /// session. After Ok, and after each fault of a command with right limits but these two, the connection is open. A
-    /// command that the machine makes nothing of, such as an import that comes again, begins no transaction.
+    /// session. For a command with right limits the connection is open after Ok and after each fault but `Memory` and
+    /// `Broken`; after a `Memory` that leaves the session on it may be closed. A command that the machine makes nothing of,
+    /// such as an import that comes again, begins no transaction.
     pub fn run(&mut self, alloc: Global, command: &Command) -> Result<Answer, Fault>
         ensures ended { IsOver self.old → AnswersEnded self.old self.new result }
         ensures session { KeepsSession self.old self.new result }
         ensures opens { GoesStill self.old → ServesRight self.new command.now result }
         ensures refused { GoesStill self.old → RefusesLimit self.old self.new command.now result }
-        ensures runs { GoesStill self.old → RunsOn self.old self.new command.now result }
+        ensures runs { GoesStill self.old → RunsOver self.old self.new command.now result }
         ensures why { GoesStill self.old → TellsWhy self.old self.new command.now result }
         ensures untouched { LeavesUntouched self.old self.new result }
         ensures idle { GoesStill self.old → LeavesIdle self.old self.new command.now result }
@@ -222,6 +223,7 @@ impl<S: Alter> Project<S> {
         ensures opens { IsTrue (state_of self.old).is_open → ServesOn self.new result }
         ensures cause { IfErr result (IsCutBy (has_ended self.new)) }
         ensures done { CarriesOut self.old self.new answer changes.now result }
+        ensures from { CarriesOutFrom self.old self.new answer changes.now result }
         ensures untouched { LeavesUntouched self.old self.new result }
         ensures none { changes.now ≡ [] → (result ≡ Ok answer) × (self.new ≡ self.old) }
     {

@@ -59,7 +59,7 @@ loop-command-preserved g c =
             let before : HasCleanDisk (state_of c.loop-command.project) = omega (arith, c.run.ensures.session.clean) in
             let so_far = driving going before world project goes in
             driving_more world c.args.commands.now answers c.loop-command.command-index _ _ so_far c.command-item.result c.command-item.result c.loop-command-test.true (sym c.command-item.is) c.commands_keep_projects.ensures answer _ _
-            (c.in-Ok.ensures.runs so_far.going clean _ so_far.project so_far.goes),
+            ((c.in-Ok.ensures.runs so_far.going).goes clean _ so_far.project so_far.goes),
       ),
     )
 
@@ -71,7 +71,7 @@ returns-in-Err g c =
     let drives : DrivesProject c.args.project.now c.run.new.self c.args.commands.now answers _ = λ going clean world project goes.
     let so_far = driving going (before clean) world project goes in
     drives_cut world c.args.commands.now answers c.loop-command.command-index _ _ so_far c.command-item.result c.command-item.result c.loop-command-test.true (sym c.command-item.is) c.commands_keep_projects.ensures c.in-Err.fault _ _ _ index refl
-    (c.in-Err.ensures.runs so_far.going clean _ so_far.project so_far.goes) in
+    ((c.in-Err.ensures.runs so_far.going).goes clean _ so_far.project so_far.goes) in
     record {
       answers = (answers, all_written _ _ answers _ counted whole, drives);
       why = λ going clean unlimited world project goes fault told.
@@ -111,7 +111,7 @@ returns-in-Err-write_answer g c =
     drives_so_far world c.args.commands.now (answers ++ answer ∷ []) (c.loop-command.command-index + 1) _ _ _ (omega (arith, c.loop-command-test.true)) (ap (λ k. k + 1) index)
     (λ fault told. (one_fault fault Output (sym told ∙ ap Some c.in-Err-write_answer.ensures.fault), omega arith))
     (driving_more world c.args.commands.now answers c.loop-command.command-index _ _ so_far c.command-item.result c.command-item.result c.loop-command-test.true (sym c.command-item.is) c.commands_keep_projects.ensures answer _ _
-    (c.in-Ok.ensures.runs so_far.going clean _ so_far.project so_far.goes)) in
+    ((c.in-Ok.ensures.runs so_far.going).goes clean _ so_far.project so_far.goes)) in
     record {
       answers = (
         answers ++ answer ∷ [],

@@ -3,7 +3,7 @@ use Rattle.std.proofs.lemmas.Bool.{cases_Bool}
 use Rattle.sqlite.specs.State.{HasCleanDisk}
 use Rattle.sqlite.specs.Files.{file_state}
 use Rattle.wu_passes.specs.Standing.{GoesOn}
-use Rattle.wu_lives.specs.Reopening.{IsReopened}
+use Rattle.wu_stops.specs.Stopping.{IsReopened}
 use Rattle.wu_lives.proofs.ReopeningLemmas.{answers_none, holds_beginning, holds_none}
 use Rattle.wu_lives.proofs.reopening.drive_stop_and_open.Goals as goal
 

@@ -2,7 +2,7 @@ use Rattle.std.proofs.Common.{◌≡◌, ◌⊎◌, ◌≤◌, length, take}
 use Rattle.sqlite.specs.Files.{file_state}
 use Rattle.wu_passes.specs.Projects.{GoesStill}
 use Rattle.wu_lives.specs.Lives.{TellsLives}
-use Rattle.wu_lives.specs.Reopening.{WasClean}
+use Rattle.wu_stops.specs.Stopping.{WasClean}
 use Rattle.wu_lives.proofs.reopening.live_all.Given as goal
 
 abbrev pub invariant-loop-commands : goal.invariant-loop-commands

@@ -1,27 +1,51 @@
-use Rattle.std.proofs.Common.{Err, ap, sym, arith, inl, inr, IsTrue, ◌∙◌}
+use Rattle.std.proofs.Common.{Err, ap, sym, arith, inl, inr, IsTrue, ◌∙◌, ◌≡◌, ◌⊎◌}
 use Rattle.sqlite.specs.State.{HasCleanDisk}
 use Rattle.sqlite.specs.Held.{state}
 use Rattle.wu_schema.specs.StandsFor.{StandsFor}
 use Rattle.wu_schema.proofs.AskingLemmas.{asks_stands}
 use Rattle.wu_schema.proofs.ReadLemmas.{if_err}
 use Rattle.wu_store.proofs.LoadLemmas.{asks_read}
-use Rattle.wu_passes.proofs.StandingLemmas.{cut_why, error_is, goes_read, idle_keeps, keeps_as_before, keeps_self, keeps_then, plan_keeps, plan_refused, refused_open, stands_read, unplanned_why}
+use Rattle.wu_core.specs.World.{World}
+use Rattle.wu_machine.specs.Commands.{request_of}
+use Rattle.wu_machine.specs.Machine.{reply}
+use Rattle.wu_machine.specs.Sound.{IsProject}
+use Rattle.wu_passes.specs.Standing.{ShowsWorld}
+use Rattle.wu_store.specs.Loading.{IsStoreFault}
+use Rattle.wu_passes.proofs.StandingLemmas.{cut_why, error_is, from_then, from_unplanned, goes_read, shows_back, idle_keeps, keeps_as_before, keeps_self, keeps_then, plan_keeps, plan_refused, refused_open, stands_read, unplanned_why}
 use Rattle.wu_passes.proofs.project.Project.run.Goals as goal
 
 pub returns-in-Ok-clause-runs : goal.returns-in-Ok-clause-runs
-returns-in-Ok-clause-runs g c goes_on clean world project goes =
-    let before : HasCleanDisk (state g.S.Store c.prepare.new.self.conn) = omega (arith, c.carry_out.ensures.session.clean) in
-    let is_open : IsTrue (state g.S.Store c.args.self.now.conn).is_open = (c.prepare.ensures.asks.back before).was_open (c.in-Ok.ensures.opens before) in
-    let stands = (goes.stands is_open).0 in
-    let still : StandsFor (state g.S.Store c.prepare.new.self.conn).now world = asks_stands g.S.Store c.args.self.now.conn c.prepare.new.self.conn c.in-Ok.field-0 c.in-Ok.ensures.asks before world stands in
-    let goes_still = goes_read _ _ world before (asks_read g.S.Store _ _ _ c.prepare.ensures.asks) goes in
-    c.carry_out.ensures.done clean world _ still goes_still (rw c.as_slice.ensures.value (c.in-Ok.ensures.plan before world stands project))
+returns-in-Ok-clause-runs g c goes_on =
+    let was = state g.S.Store c.args.self.now.conn in
+    let mid = state g.S.Store c.prepare.new.self.conn in
+    let before : HasCleanDisk (state g.S.Store c.carry_out.new.self.conn) → HasCleanDisk mid = λ clean. omega (arith, c.carry_out.ensures.session.clean) in
+    let is_open : HasCleanDisk mid → IsTrue was.is_open = λ clean. (c.prepare.ensures.asks.back clean).was_open (c.in-Ok.ensures.opens clean) in
+    let still : HasCleanDisk mid → (world : World) → StandsFor was.now world → StandsFor mid.now world = λ clean world stands. asks_stands g.S.Store c.args.self.now.conn c.prepare.new.self.conn c.in-Ok.field-0 c.in-Ok.ensures.asks clean world stands in
+    record {
+      goes = λ clean world project goes.
+          let stands = (goes.stands (is_open (before clean))).0 in
+          let goes_still = goes_read _ _ world (before clean) (asks_read g.S.Store _ _ _ c.prepare.ensures.asks) goes in
+          c.carry_out.ensures.done clean world _ (still (before clean) world stands) goes_still (rw c.as_slice.ensures.value (c.in-Ok.ensures.plan (before clean) world stands project));
+      from = λ clean world project shows.
+          let stands = (shows (is_open (before clean))).0 in
+          let kept = keeps_as_before g.S.Store c.args.self.now.conn c.prepare.new.self.conn (before clean) c.prepare.ensures.asks.crash (c.in-Ok.ensures.asks.answered (before clean)) in
+          let shows_still = shows_back was mid world (c.prepare.ensures.asks.back (before clean)) shows in
+          from_then was mid _ world _ _ c.carry_out.result kept (c.carry_out.ensures.from clean world _ (still (before clean) world stands) shows_still (rw c.as_slice.ensures.value (c.in-Ok.ensures.plan (before clean) world stands project)));
+    }
 
 pub returns-in-Err-clause-runs : goal.returns-in-Err-clause-runs
-returns-in-Err-clause-runs g c goes_on clean world project goes = (
-  plan_refused (state g.S.Store c.args.self.now.conn) (state g.S.Store c.prepare.new.self.conn) world _ c.in-Err.refusal goes (c.prepare.ensures.asks.back clean) (c.in-Err.ensures.opens clean) (λ stands. c.in-Err.ensures.plan clean world stands project),
-  stands_read c.prepare.new.self.has_ended _ world _ (goes_read _ _ world clean (asks_read g.S.Store _ _ _ c.prepare.ensures.asks) goes),
-)
+returns-in-Err-clause-runs g c goes_on =
+    let was = state g.S.Store c.args.self.now.conn in
+    let now = state g.S.Store c.prepare.new.self.conn in
+    let told : HasCleanDisk now → (world : World) → IsProject world → ShowsWorld was world → (reply world (request_of c.args.command.now) ≡ Err c.in-Err.refusal) ⊎ IsStoreFault c.in-Err.refusal =
+    λ clean world project shows. plan_refused was now world _ c.in-Err.refusal shows (c.prepare.ensures.asks.back clean) (c.in-Err.ensures.opens clean) (λ stands. c.in-Err.ensures.plan clean world stands project) in
+    record {
+      goes = λ clean world project goes. (
+        told clean world project goes.stands,
+        stands_read c.prepare.new.self.has_ended _ world _ (goes_read _ _ world clean (asks_read g.S.Store _ _ _ c.prepare.ensures.asks) goes),
+      );
+      from = λ clean world project shows. from_unplanned was now world _ c.prepare.new.self.has_ended c.in-Err.refusal clean shows (c.prepare.ensures.asks.back clean) c.prepare.ensures.asks.crash (told clean world project shows);
+    }
 
 pub returns-in-Ok-clause-why : goal.returns-in-Ok-clause-why
 returns-in-Ok-clause-why g c goes_on clean unlimited world project goes =
@@ -32,7 +56,7 @@ returns-in-Ok-clause-why g c goes_on clean unlimited world project goes =
 
 pub returns-in-Err-clause-why : goal.returns-in-Err-clause-why
 returns-in-Err-clause-why g c goes_on clean unlimited world project goes =
-    let told = plan_refused (state g.S.Store c.args.self.now.conn) (state g.S.Store c.prepare.new.self.conn) world _ c.in-Err.refusal goes (c.prepare.ensures.asks.back clean) (c.in-Err.ensures.opens clean) (λ stands. c.in-Err.ensures.plan clean world stands project) in
+    let told = plan_refused (state g.S.Store c.args.self.now.conn) (state g.S.Store c.prepare.new.self.conn) world _ c.in-Err.refusal goes.stands (c.prepare.ensures.asks.back clean) (c.in-Err.ensures.opens clean) (λ stands. c.in-Err.ensures.plan clean world stands project) in
     unplanned_why _ c.prepare.new.self.has_ended world _ c.in-Err.refusal (λ over. error_is _ _ (sym c.in-Err.is ∙ c.prepare.ensures.ends over)) (λ broken. c.prepare.ensures.broken (c.in-Err.is ∙ ap Err broken))
     (λ broken. c.in-Err.ensures.asks.broken clean (ap Err broken))
     (λ refused.

@@ -1,0 +1,32 @@
+-- A command over a world that the tables stand for, whatever a stop could leave before it.
+use Rattle.std.specs.Prelude.{◌≡◌, ◌⊎◌, Bool, true, false, Result, Ok, Err, MatchResult}
+use Rattle.sqlite.specs.State.{State}
+use Rattle.sqlite.specs.Tree.{Trees}
+use Rattle.wu_core.specs.declared.fault.Fault.{Fault}
+use Rattle.wu_core.specs.World.{World}
+use Rattle.wu_machine.specs.declared.command.Answer.{Answer}
+use Rattle.wu_machine.specs.Commands.{reply_of_answer}
+use Rattle.wu_machine.specs.Machine.{reply, step}
+use Rattle.wu_machine.specs.Requests.{Request}
+use Rattle.wu_passes.specs.Adopting.{KeepsAll, LeavesNoMore}
+use Rattle.wu_passes.specs.Committing.{FoundAs}
+use Rattle.wu_passes.specs.Standing.{GoesOn, ShowsWorld}
+use Rattle.wu_store.specs.Loading.{IsStoreFault}
+
+-- Done: a stop leaves the machine's step alone; or there was nothing to make, and all is as it was.
+abbrev pub LeavesStepAlone : State → State → World → Request → Type 0
+LeavesStepAlone old new world request =
+    GoesOn new (step world request) ⊎ ((step world request ≡ world) × KeepsAll old new)
+
+-- Not done: a stop leaves no more than it could before; where the session ended, that or the machine's step.
+abbrev pub LeavesAtMost : Bool → State → State → World → Request → Type 0
+LeavesAtMost false old new world request = LeavesNoMore old new
+LeavesAtMost true old new world request =
+    (db : Trees) → new.may_leave db → old.may_leave db ⊎ FoundAs db (step world request)
+
+-- done, with the machine's reply; or not done, and the tables stand for the same world
+abbrev pub RunsFrom : State → World → Request → Bool → State → Result Answer Fault → Type 0
+RunsFrom old world request has_ended new result =
+    MatchResult result
+    (λ answer. (reply world request ≡ Ok (reply_of_answer answer)) × LeavesStepAlone old new world request)
+    (λ fault. ((reply world request ≡ Err fault) ⊎ IsStoreFault fault) × ShowsWorld new world × LeavesAtMost has_ended old new world request)

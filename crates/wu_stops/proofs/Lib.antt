@@ -1,0 +1,4 @@
+pub mod BeginningLemmas
+pub mod ClosingLemmas
+mod LeftoverLemmas
+pub mod StoppingLemmas

@@ -1,0 +1,4 @@
+pub mod Beginning
+pub mod Closing
+pub mod Leftovers
+pub mod Stopping
