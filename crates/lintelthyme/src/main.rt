@@ -1,4 +1,5 @@
-//! The program: a line of an operator over a project in a database file, or with no word after its name the demonstration.
+//! The program: a line of an operator over a project in a database file, or with no word after its name the
+//! demonstration.
 #![tactic(auto)]
 
 use std::process::ExitCode;

@@ -1,6 +1,6 @@
 //! Plays the scripts that `plays` names, over databases in memory, over files that stop, into writers that fail and by
-//! whole command lines, and prints what they answer. A play that goes wrong prints a line that begins with `FAILED: `, and
-//! the program then ends with status 1.
+//! whole command lines, and prints what they answer. A play that goes wrong prints a line that begins with `FAILED: `,
+//! and the program then ends with status 1.
 #![tactic(auto)]
 
 mod plays;

@@ -18,7 +18,7 @@ use Rattle.wu_audit.specs.Records.{AreBacked, HasKeys, IsBackedGrant, IsArchived
 use Rattle.wu_audit.specs.Rows.{IsRightGrant, IsRightImport}
 use Rattle.wu_audit.specs.Keys.{AreApart}
 use Rattle.wu_audit.specs.Against.{IsFirstPairAgainst}
-use Rattle.wu_audit.specs.Examples.{agreed, decided_and_given_up, kept, kept_otherwise, kept_too_late, named_again, one_agreed, sent_with, unstamped, unstorable}
+use Rattle.wu_audit.specs.Examples.{agreed, decided_and_given_up, kept_row, kept_otherwise, kept_too_late, named_again, one_agreed, sent_with, unstamped, unstorable}
 use Rattle.wu_audit.proofs.RecordLemmas.{recorded_from_backed}
 
 all_one : {X : Type 0} (P : X → Type 0) (x : X) → P x → All P (x ∷ [])
@@ -117,8 +117,8 @@ consistent_agreed = record {
 keys_agreed : HasKeys one_agreed
 keys_agreed = record {
   granted_once = pairs_two AreApart _ _ (λ same other. omega (arith, other));
-  archived_once = pairs_one (λ (one other : Archived). one.number ≢ other.number) kept;
-  archived_names = pairs_one (λ (one other : Archived). one.name ≢ other.name) kept;
+  archived_once = pairs_one (λ (one other : Archived). one.number ≢ other.number) kept_row;
+  archived_names = pairs_one (λ (one other : Archived). one.name ≢ other.name) kept_row;
 }
 
 granted_agreed : IsGranted one_agreed.grants agreed
@@ -132,8 +132,8 @@ backed_agreed = record {
       (all_one (λ (w : Workunit). 1 ≡ w.number → IsGrantOf w (credit 0 h1)) agreed (λ same. record { own = record { host = refl; credit = refl }; valid = refl }))
       (all_one (λ (w : Workunit). 1 ≡ w.number → IsGrantOf w (credit 1 h2)) agreed (λ same. record { own = record { host = refl; credit = refl }; valid = refl }));
   granted = all_one (IsGranted one_agreed.grants) agreed granted_agreed;
-  rows = all_one (IsBackedRow one_agreed.workunits) kept (all_one (λ (w : Workunit). 1 ≡ w.number → IsArchivedOf w kept) agreed (λ same. record { done = refl; values = (refl, refl, refl); name = refl }));
-  kept = all_one (IsArchivedIfDone one_agreed.archived) agreed (λ done. (0, kept, omega arith, refl, refl));
+  rows = all_one (IsBackedRow one_agreed.workunits) kept_row (all_one (λ (w : Workunit). 1 ≡ w.number → IsArchivedOf w kept_row) agreed (λ same. record { done = refl; values = (refl, refl, refl); name = refl }));
+  kept = all_one (IsArchivedIfDone one_agreed.archived) agreed (λ done. (0, kept_row, omega arith, refl, refl));
   free = all_one (IsNameFree one_agreed.archived) agreed (λ undone. absurd (true≢false undone));
 }
 
@@ -143,14 +143,14 @@ sound_agreed = record {
   formed = all_one IsWorkunit agreed formed_agreed;
   storable = all_one IsStorable agreed storable_agreed;
   granted_to = all_two (λ (grant : Grant). IsName grant.host) _ _ refl refl;
-  archivable = all_one IsStoredArchived kept (record { name = refl; canonical = omega arith; output = omega arith; done_at = omega arith });
+  archivable = all_one IsStoredArchived kept_row (record { name = refl; canonical = omega arith; output = omega arith; done_at = omega arith });
   imports = λ k d lt. absurd (omega (arith, lt));
   consistent = all_one IsConsistent agreed consistent_agreed;
   recorded = recorded_from_backed one_agreed keys_agreed backed_agreed;
   given = all_one (λ (w : Workunit). IsGiven one_agreed w.number) agreed (omega arith, omega arith);
   ascending = pairs_one (λ (one other : Workunit). one.number < other.number) agreed;
   names = pairs_one (λ (one other : Workunit). one.name ≢ other.name) agreed;
-  archived = all_one (λ (row : Archived). IsGiven one_agreed row.number) kept (omega arith, omega arith);
+  archived = all_one (λ (row : Archived). IsGiven one_agreed row.number) kept_row (omega arith, omega arith);
   archived_once = keys_agreed.archived_once;
   archived_names = keys_agreed.archived_names;
   grants = all_two (IsRightGrant one_agreed) _ _ ((omega arith, omega arith), omega arith, omega arith) ((omega arith, omega arith), omega arith, omega arith);
@@ -201,4 +201,4 @@ pub unkept_wrong : ¬ IsArchivedIfDone [] agreed
 unkept_wrong kept = let has = kept refl in absurd (omega (arith, has.2))
 
 pub name_taken_wrong : ¬ IsNameFree one_agreed.archived named_again
-name_taken_wrong free = free refl 0 kept (omega arith) refl
+name_taken_wrong free = free refl 0 kept_row (omega arith) refl

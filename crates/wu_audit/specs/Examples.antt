@@ -19,8 +19,8 @@ agreed = record (job default_parameters (success h1 aa validate.Valid ∷ succes
 }
 
 -- what is kept of it
-abbrev pub kept : Archived
-kept = record {
+abbrev pub kept_row : Archived
+kept_row = record {
   number = 1;
   name = agreed.name;
   error_mask = no_errors;
@@ -34,7 +34,7 @@ abbrev pub one_agreed : World
 one_agreed = record empty_world {
   workunits = agreed ∷ [];
   grants = credit 0 h1 ∷ credit 1 h2 ∷ [];
-  archived = kept ∷ [];
+  archived = kept_row ∷ [];
   next_number = 2;
 }
 
@@ -54,11 +54,11 @@ decided_and_given_up = record agreed { error_mask = record no_errors { cancelled
 
 -- assimilated in the year 2100
 abbrev pub kept_too_late : Archived
-kept_too_late = record kept { done_at = 4102444800 }
+kept_too_late = record kept_row { done_at = 4102444800 }
 
 -- with another canonical result
 abbrev pub kept_otherwise : Archived
-kept_otherwise = record kept { canonical = Some 1 }
+kept_otherwise = record kept_row { canonical = Some 1 }
 
 -- a file of sends with this verdict
 abbrev pub sent_with : ℕ → Import
@@ -83,4 +83,4 @@ abbrev pub same_names : List Workunit
 same_names = agreed ∷ named_again ∷ []
 
 abbrev pub same_rows : List Archived
-same_rows = kept ∷ kept ∷ []
+same_rows = kept_row ∷ kept_row ∷ []

@@ -36,27 +36,27 @@ table_of (wrong.ArchivedMissing place) = table.Workunit
 table_of (wrong.NameTaken place) = table.Workunit
 
 -- the place of that row
-abbrev pub place_of : Wrong → Option ℕ
-place_of wrong.NextNumber = None
-place_of (wrong.WorkunitForm place) = Some place
-place_of (wrong.WorkunitValues place) = Some place
-place_of (wrong.ArchivedValues place) = Some place
-place_of (wrong.ImportVerdicts place) = Some place
-place_of (wrong.WorkunitStates place) = Some place
-place_of (wrong.WorkunitNumber place) = Some place
-place_of (wrong.WorkunitOrder place) = Some place
-place_of (wrong.WorkunitTwice place) = Some place
-place_of (wrong.ArchivedNumber place) = Some place
-place_of (wrong.ArchivedTwice place) = Some place
-place_of (wrong.ArchivedNameTwice place) = Some place
-place_of (wrong.GrantValues place) = Some place
-place_of (wrong.GrantTwice place) = Some place
-place_of (wrong.ImportTwice place) = Some place
-place_of (wrong.GrantAstray place) = Some place
-place_of (wrong.GrantMissing place) = Some place
-place_of (wrong.ArchivedAstray place) = Some place
-place_of (wrong.ArchivedMissing place) = Some place
-place_of (wrong.NameTaken place) = Some place
+abbrev pub place_of_wrong : Wrong → Option ℕ
+place_of_wrong wrong.NextNumber = None
+place_of_wrong (wrong.WorkunitForm place) = Some place
+place_of_wrong (wrong.WorkunitValues place) = Some place
+place_of_wrong (wrong.ArchivedValues place) = Some place
+place_of_wrong (wrong.ImportVerdicts place) = Some place
+place_of_wrong (wrong.WorkunitStates place) = Some place
+place_of_wrong (wrong.WorkunitNumber place) = Some place
+place_of_wrong (wrong.WorkunitOrder place) = Some place
+place_of_wrong (wrong.WorkunitTwice place) = Some place
+place_of_wrong (wrong.ArchivedNumber place) = Some place
+place_of_wrong (wrong.ArchivedTwice place) = Some place
+place_of_wrong (wrong.ArchivedNameTwice place) = Some place
+place_of_wrong (wrong.GrantValues place) = Some place
+place_of_wrong (wrong.GrantTwice place) = Some place
+place_of_wrong (wrong.ImportTwice place) = Some place
+place_of_wrong (wrong.GrantAstray place) = Some place
+place_of_wrong (wrong.GrantMissing place) = Some place
+place_of_wrong (wrong.ArchivedAstray place) = Some place
+place_of_wrong (wrong.ArchivedMissing place) = Some place
+place_of_wrong (wrong.NameTaken place) = Some place
 
 -- what is wrong with it
 abbrev pub wrong_word : Wrong → List ℕ

@@ -7,7 +7,7 @@ ghost use Rattle.wu_rules.specs.Consistent.{IsConsistent};
 ghost use Rattle.wu_rules.specs.Examples.{credit, h1, h2};
 ghost use Rattle.wu_machine.specs.Sound.{IsSound};
 ghost use Rattle.wu_audit.specs.Against.{IsFirstPairAgainst};
-ghost use Rattle.wu_audit.specs.Examples.{agreed, decided_and_given_up, kept, kept_otherwise, kept_too_late, named_again, one_agreed, same_names, same_numbers, same_rows, sent_with, unstamped, unstorable};
+ghost use Rattle.wu_audit.specs.Examples.{agreed, decided_and_given_up, kept_row, kept_otherwise, kept_too_late, named_again, one_agreed, same_names, same_numbers, same_rows, sent_with, unstamped, unstorable};
 ghost use Rattle.wu_audit.specs.Keys.{AreApart, AreOtherImports};
 ghost use Rattle.wu_audit.specs.Records.{IsBackedGrant, IsBackedRow, IsGranted, IsArchivedIfDone, IsNameFree};
 ghost use Rattle.wu_audit.specs.Rows.{IsRightGrant, IsRightImport};

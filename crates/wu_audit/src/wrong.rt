@@ -1,7 +1,7 @@
 //! What is wrong with a world that is not sound.
 
 ghost use Rattle.std.specs.Prelude.{◌≡◌};
-ghost use Rattle.wu_audit.specs.Words.{place_of, table_of, table_word, wrong_word};
+ghost use Rattle.wu_audit.specs.Words.{place_of_wrong, table_of, table_word, wrong_word};
 
 /// A table of which a row is wrong.
 #[derive(Clone, Copy, Debug, PartialEq, Eq)]
@@ -103,7 +103,7 @@ impl Wrong {
 
     /// The place of the row in its table, from 0.
     pub fn place(self) -> Option<usize>
-        ensures { result ≡ place_of self }
+        ensures { result ≡ place_of_wrong self }
     {
         match self {
             Wrong::NextNumber => None,

@@ -18,10 +18,10 @@ use Rattle.wu_passes.specs.declared.project.Project.{Project}
 use Rattle.wu_machine.specs.Machine.{fold_steps, step}
 use Rattle.wu_machine.specs.Commands.{request_of}
 use Rattle.wu_machine.specs.Sound.{IsProject}
-use Rattle.wu_passes.specs.Projects.{GoesStill, has_ended, state_of}
+use Rattle.wu_passes.specs.Projects.{IsSessionOpen, has_ended, state_of}
 use Rattle.wu_machine.specs.Requests.{Request}
 use Rattle.wu_machine.specs.Sessions.{world_of_life}
-use Rattle.wu_passes.specs.Standing.{GoesOn, HasEnded, KeepsDoubt}
+use Rattle.wu_passes.specs.Standing.{GoesOn, HasEnded, FaultsOnlyGrow}
 use Rattle.wu_cli.specs.Performing.{Performs}
 use Rattle.wu_cli.specs.Scripting.{commands_of_action, commands_of_steps, DrivesSteps, LengthensBySteps, PerformsEach, PerformsSteps, PerformsUntil, so_far}
 use Rattle.wu_words.specs.declared.action.Action.{Action}
@@ -141,7 +141,7 @@ commands_around before one after = flat_map-append (λ (s : Step). commands_of_a
 -- ---- one step
 
 module _ {S W : Type 0} {store : Ghosts S} (contents : W → Option (List ℕ)) (old new : Project S store) (out_old out_new : W) where
-  one_goes : (action : Action) → Performs contents old new out_old out_new action None → GoesStill old → GoesStill new
+  one_goes : (action : Action) → Performs contents old new out_old out_new action None → IsSessionOpen old → IsSessionOpen new
   one_goes (Commands commands) (run, runs, end) going = elim (cases_Bool (has_ended new)) [
     | inl over ↦
         let ends = runs.ends going over in
@@ -153,13 +153,13 @@ module _ {S W : Type 0} {store : Ghosts S} (contents : W → Option (List ℕ)) 
     | inr still ↦ still
   ]
 
-  pub one_clean : (action : Action) (end : Option Fault) → Performs contents old new out_old out_new action end → KeepsDoubt (state_of old) (state_of new)
+  pub one_clean : (action : Action) (end : Option Fault) → Performs contents old new out_old out_new action end → FaultsOnlyGrow (state_of old) (state_of new)
   one_clean (Commands commands) end (run, runs, is) = runs.clean
   one_clean (Look view) end sees = sees.clean
 
   -- what a step does of its commands
   pub one_drives : (action : Action) (end : Option Fault) → Performs contents old new out_old out_new action end
-      → GoesStill old → HasCleanDisk (state_of new) → (world : World) → IsProject world → GoesOn (state_of old) world
+      → IsSessionOpen old → HasCleanDisk (state_of new) → (world : World) → IsProject world → GoesOn (state_of old) world
       → (answers : List Answer) × (run : Run) × (is_cut : Bool) × Drives world (commands_of_action action) answers run is_cut (state_of new)
   one_drives (Commands commands) end (run, runs, is) going clean world project goes =
       (runs.answers.0, run, has_ended new, runs.answers.2 going clean world project goes)
@@ -180,7 +180,7 @@ module _ {S W : Type 0} {store : Ghosts S} (contents : W → Option (List ℕ)) 
 
   -- and all of them, where it ends without a fault
   one_done : (action : Action) → Performs contents old new out_old out_new action None
-      → GoesStill old → HasCleanDisk (state_of new) → (world : World) → IsProject world → GoesOn (state_of old) world
+      → IsSessionOpen old → HasCleanDisk (state_of new) → (world : World) → IsProject world → GoesOn (state_of old) world
       → (answers : List Answer) × AnswerAll world (commands_of_action action) answers
       × GoesOn (state_of new) (world_of world (commands_of_action action)) × IsProject (world_of world (commands_of_action action))
   one_done (Commands commands) (run, runs, end) going clean world project goes =
@@ -196,22 +196,22 @@ module _ {S W : Type 0} {store : Ghosts S} (contents : W → Option (List ℕ)) 
 -- ---- all steps
 
 module _ {S W : Type 0} {store : Ghosts S} (contents : W → Option (List ℕ)) where
-  each_clean : (old new : Project S store) (out_old out_new : W) (steps : List Step) → PerformsEach contents old new out_old out_new steps → KeepsDoubt (state_of old) (state_of new)
+  each_clean : (old new : Project S store) (out_old out_new : W) (steps : List Step) → PerformsEach contents old new out_old out_new steps → FaultsOnlyGrow (state_of old) (state_of new)
   unfolding PerformsEach
-  each_clean old new out_old out_new [] each = subst (λ p. KeepsDoubt (state_of old) (state_of p)) (sym each.0) (omega arith)
+  each_clean old new out_old out_new [] each = subst (λ p. FaultsOnlyGrow (state_of old) (state_of p)) (sym each.0) (omega arith)
   each_clean old new out_old out_new (one ∷ steps) each =
       let first = one_clean contents old each.0 out_old each.1 one.action None each.2 in
       let rest = each_clean each.0 new each.1 out_new steps each.3 in
       omega (arith, first, rest)
 
-  each_goes : (old new : Project S store) (out_old out_new : W) (steps : List Step) → PerformsEach contents old new out_old out_new steps → GoesStill old → GoesStill new
+  each_goes : (old new : Project S store) (out_old out_new : W) (steps : List Step) → PerformsEach contents old new out_old out_new steps → IsSessionOpen old → IsSessionOpen new
   unfolding PerformsEach
-  each_goes old new out_old out_new [] each going = subst (λ p. GoesStill p) (sym each.0) going
+  each_goes old new out_old out_new [] each going = subst (λ p. IsSessionOpen p) (sym each.0) going
   each_goes old new out_old out_new (one ∷ steps) each going =
       each_goes each.0 new each.1 out_new steps each.3 (one_goes contents old each.0 out_old each.1 one.action each.2 going)
 
   each_done : (old new : Project S store) (out_old out_new : W) (steps : List Step) → PerformsEach contents old new out_old out_new steps
-      → GoesStill old → HasCleanDisk (state_of new) → (world : World) → IsProject world → GoesOn (state_of old) world
+      → IsSessionOpen old → HasCleanDisk (state_of new) → (world : World) → IsProject world → GoesOn (state_of old) world
       → (answers : List Answer) × AnswerAll world (commands_of_steps steps) answers
       × GoesOn (state_of new) (world_of world (commands_of_steps steps)) × IsProject (world_of world (commands_of_steps steps))
   unfolding PerformsEach
@@ -231,7 +231,7 @@ module _ {S W : Type 0} {store : Ghosts S} (contents : W → Option (List ℕ)) 
         subst (λ w. IsProject w) both rest.3,
       )
 
-  pub steps_clean : (old new : Project S store) (out_old out_new : W) (steps : List Step) (end : Option LineFault) → PerformsSteps contents old new out_old out_new steps end → KeepsDoubt (state_of old) (state_of new)
+  pub steps_clean : (old new : Project S store) (out_old out_new : W) (steps : List Step) (end : Option LineFault) → PerformsSteps contents old new out_old out_new steps end → FaultsOnlyGrow (state_of old) (state_of new)
   steps_clean old new out_old out_new steps None each = each_clean old new out_old out_new steps each
   steps_clean old new out_old out_new steps (Some end) until =
       let first = each_clean old until.mid out_old until.out_mid until.before until.each in

@@ -1,13 +1,12 @@
 -- What is written of a text, and a flush after it.
-use Rattle.std.proofs.Common.{◌≡◌, ℕ, ◌++◌, List, length, sym, subst, arith}
+use Rattle.std.proofs.Common.{◌≡◌, ℕ, List, length, sym, subst, arith}
 use Rattle.std.specs.Prelude.{Option, Result, Ok, Err}
 use Rattle.std.specs.Io.KnownBytes.{Appends, Keeps}
 use Rattle.std.proofs.KnownBytes.{Appends-kept}
 use Rattle.std.proofs.lemmas.List.{take_all}
 use Rattle.wu_core.specs.declared.fault.Fault.{Fault}
 use Rattle.wu_feed.specs.declared.script.LineCause.{LineCause}
-use Rattle.wu_report.proofs.WritingLemmas.{AppendsFront-longer}
-use Rattle.wu_report.specs.Writing.{AppendsFront, WritesBytes}
+use Rattle.wu_report.specs.Writing.{WritesBytes}
 use Rattle.wu_cli.specs.Endings.{cause_text, fault_line, usage_text}
 use Rattle.wu_words.specs.declared.usage.Usage.{Usage}
 
@@ -25,11 +24,3 @@ usage_told_as a b r usage other is wrote = subst (λ (it : Usage). WritesBytes a
 
 pub cause_told_as : {T E : Type 0} (a b : Option (List ℕ)) (r : Result T E) (cause other : LineCause) → cause ≡ other → WritesBytes a b (cause_text other) r → WritesBytes a b (cause_text cause) r
 cause_told_as a b r cause other is wrote = subst (λ (it : LineCause). WritesBytes a b (cause_text it) r) (sym is) wrote
-
--- the first part failed, and with it the whole
-pub first_failed : {T E : Type 0} (a b : Option (List ℕ)) (xs ys : List ℕ) (first : Result T E) (e : E) → first ≡ Err e → WritesBytes a b xs first → AppendsFront a b (xs ++ ys)
-first_failed a b xs ys first e is wrote = AppendsFront-longer a b xs ys (subst (λ r. WritesBytes a b xs r) is wrote)
-
--- the first part was written
-pub first_written : {T E : Type 0} (a b : Option (List ℕ)) (xs : List ℕ) (first : Result T E) (t : T) → first ≡ Ok t → WritesBytes a b xs first → Appends a b xs
-first_written a b xs first t is wrote = subst (λ r. WritesBytes a b xs r) is wrote

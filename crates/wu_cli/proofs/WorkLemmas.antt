@@ -8,8 +8,8 @@ use Rattle.wu_core.specs.declared.fault.Fault.{Fault}
 use Rattle.wu_core.specs.World.{World}
 use Rattle.wu_machine.specs.Sound.{IsProject}
 use Rattle.wu_passes.specs.declared.project.Project.{Project}
-use Rattle.wu_passes.specs.Projects.{GoesStill, has_ended, state_of}
-use Rattle.wu_passes.specs.Standing.{GoesOn, KeepsDoubt}
+use Rattle.wu_passes.specs.Projects.{IsSessionOpen, has_ended, state_of}
+use Rattle.wu_passes.specs.Standing.{GoesOn, FaultsOnlyGrow}
 use Rattle.wu_words.specs.declared.action.Action.{Action}
 use Rattle.wu_words.specs.declared.action.Action.TheVariants.{Commands, Look}
 use Rattle.wu_words.specs.declared.step.LineFault.{LineFault}
@@ -39,7 +39,7 @@ script_whole (Some fault) whole of_none = tt
 
 module _ {S W : Type 0} {store : Ghosts S} (contents : W → Option (List ℕ)) (old new : Project S store) (out_old out_new : W) where
   line_works : (action : Action) (end : Option Fault) → Performs contents old new out_old out_new action end
-      → GoesStill old → HasCleanDisk (state_of new) → (world : World) → IsProject world → GoesOn (state_of old) world
+      → IsSessionOpen old → HasCleanDisk (state_of new) → (world : World) → IsProject world → GoesOn (state_of old) world
       → DrivesWork world (work.Line action) (line_outcome end) (state_of new)
   line_works (Commands commands) end (run, runs, is) going clean world project goes =
       let driven = runs.answers.2 going clean world project goes in
@@ -74,13 +74,13 @@ module _ {S W : Type 0} {store : Ghosts S} (contents : W → Option (List ℕ)) 
     whole = line_whole end _ (λ none. refl);
   }
 
-  work_clean : (asked : Work) (done : Result (Unit {0}) Trouble) → PerformsWork contents old new out_old out_new asked done → KeepsDoubt (state_of old) (state_of new)
+  work_clean : (asked : Work) (done : Result (Unit {0}) Trouble) → PerformsWork contents old new out_old out_new asked done → FaultsOnlyGrow (state_of old) (state_of new)
   work_clean (work.Line action) done (end, does, is) = one_clean contents old new out_old out_new action end does
   work_clean (work.Script steps) done (end, does, is) = steps_clean contents old new out_old out_new steps end does
 
   -- a beginning of its commands is done over each world that the session goes on over
   work_drives : (asked : Work) (done : Result (Unit {0}) Trouble) → PerformsWork contents old new out_old out_new asked done
-      → GoesStill old → HasCleanDisk (state_of new) → (world : World) → IsProject world → GoesOn (state_of old) world
+      → IsSessionOpen old → HasCleanDisk (state_of new) → (world : World) → IsProject world → GoesOn (state_of old) world
       → DrivesWork world asked done (state_of new)
   work_drives (work.Line action) done (end, does, is) going clean world project goes =
       subst (λ d. DrivesWork world (work.Line action) d (state_of new)) (sym is) (line_works action end does going clean world project goes)

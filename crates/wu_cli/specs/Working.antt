@@ -5,14 +5,14 @@ use Rattle.sqlite.specs.State.{State, HasCleanDisk}
 use Rattle.sqlite.specs.Store.{Ghosts}
 use Rattle.wu_core.specs.declared.fault.Fault.{Fault}
 use Rattle.wu_core.specs.declared.fault.Fault.TheVariants.{NotAProject}
-use Rattle.wu_core.specs.Reads.{Gives, TellsRefusal}
+use Rattle.wu_core.specs.Reads.{IsOrWantsMemory, TellsRefusal}
 use Rattle.wu_core.specs.World.{World, empty_world}
 use Rattle.wu_machine.specs.declared.command.Answer.{Answer}
 use Rattle.wu_machine.specs.declared.command.Command.{Command}
 use Rattle.wu_machine.specs.Sound.{IsProject}
 use Rattle.wu_passes.specs.declared.project.Project.{Project}
 use Rattle.wu_passes.specs.Adopting.{Adopts, IsAdoptionFault, IsVacant, RefusesAdoption}
-use Rattle.wu_passes.specs.Projects.{connection_of, GoesStill, state_of}
+use Rattle.wu_passes.specs.Projects.{connection_of, IsSessionOpen, state_of}
 use Rattle.wu_passes.specs.Standing.{GoesOn}
 use Rattle.wu_drive.specs.Driving.{Drives}
 use Rattle.wu_words.specs.Actions.{prepared}
@@ -43,7 +43,7 @@ work_of_script (Err bad) = Err (trouble.BadLine bad)
 -- what a line asks for, with the contents of its files, or the fault of it
 abbrev pub AsksOfLine : Line → List (Option (List ℕ)) → Result Work Trouble → Type 0
 AsksOfLine line contents result =
-    (given : Result Action Fault) × Gives given (prepared line contents) × TellsRefusal given (prepared line contents) × (result ≡ work_of_line given)
+    (given : Result Action Fault) × IsOrWantsMemory given (prepared line contents) × TellsRefusal given (prepared line contents) × (result ≡ work_of_line given)
 
 -- what the lines of a script ask for, or the first that can't be run
 abbrev pub AsksOfScript : List FedEntry → Result Work Trouble → Type 0
@@ -89,7 +89,7 @@ module _ {S W : Type 0} (g : Ghosts S) (contents : W → Option (List ℕ)) (con
     pub old : Project S g
     pub new : Project S g
     pub idle : conn.in_transaction ≡ false
-    pub begins : GoesStill old
+    pub begins : IsSessionOpen old
     pub adopts : Adopts (state g conn) (state_of old)
     pub does : PerformsWork contents old new out_old out_new asked done
     pub released : again ≡ connection_of new

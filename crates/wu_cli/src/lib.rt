@@ -15,6 +15,6 @@ pub use work::Work;
 pub use wu_words::{
     Action, BadLine, Commands, Entries, Entry, FedEntry, Line, LineFault, LineFile, LineOption,
     Order, Refusal, ScriptFile, Step, Steps, Subcommand, UNOPENED, Usage, Word, absent,
-    fault_status, feed, prepare, prepare_script, read_lines, read_up_to, read_words, status_of,
+    exit_status, fault_status, feed, prepare, prepare_script, read_lines, read_up_to, read_words,
     text_of_script, unread,
 };

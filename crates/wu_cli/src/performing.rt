@@ -3,16 +3,17 @@
 ghost use Rattle.std.specs.Prelude.{◌≡◌};
 ghost use Rattle.wu_cli.specs.Performing.{Performs};
 ghost use Rattle.wu_cli.specs.Scripting.{DrivesSteps, LengthensBySteps, PerformsSteps};
-ghost use Rattle.wu_words.specs.Statuses.{status_of, status_of_line};
+ghost use Rattle.wu_words.specs.Statuses.{exit_status, status_of_line};
 
 use sqlite::Alter;
 use std::alloc::Global;
 use std::io::Write;
 use wu_core::Fault;
 use wu_drive::{Project, drive, show};
-use wu_words::{Action, LineFault, Step, status_of};
+use wu_words::{Action, LineFault, Step, exit_status};
 
-/// Runs the commands of an action, or shows its view. It answers the status of the program, and the fault that ended it.
+/// Runs the commands of an action, or shows its view. It answers the status of the program, and the fault that ended
+/// it.
 pub fn perform<S: Alter, W: Write>(
     alloc: Global,
     project: &mut Project<S>,
@@ -21,7 +22,7 @@ pub fn perform<S: Alter, W: Write>(
 ) -> (u8, Option<Fault>)
     ensures does { Performs W.contents project.old project.new out.old out.new
         action.now result.1 }
-    ensures status { result.0 ≡ status_of result.1 }
+    ensures status { result.0 ≡ exit_status result.1 }
 {
     let end = match action {
         Action::Commands(commands) => drive(alloc, project, commands.as_slice(), out).end,
@@ -30,11 +31,11 @@ pub fn perform<S: Alter, W: Write>(
             Err(fault) => Some(fault),
         },
     };
-    (status_of(end), end)
+    (exit_status(end), end)
 }
 
-/// Does what the steps of a script ask for, in order, up to the first fault. It answers the status of the program, and the
-/// fault that ended it with its line.
+/// Does what the steps of a script ask for, in order, up to the first fault. It answers the status of the program, and
+/// the fault that ended it with its line.
 pub fn perform_script<S: Alter, W: Write>(
     alloc: Global,
     project: &mut Project<S>,

@@ -31,8 +31,8 @@ fn unheard(alloc: Global, error: &io::Error) -> Trouble
     }
 }
 
-/// What the program does with the words of its process, of which the first is its name: with no other the demonstration,
-/// else what they ask for. Words that are no UTF-8 text are refused, with status 2.
+/// What the program does with the words of its process, of which the first is its name: with no other the
+/// demonstration, else what they ask for. Words that are no UTF-8 text are refused, with status 2.
 pub fn start_of(alloc: Global, words: io::Result<Vec<String>>) -> Result<Start, Trouble>
     ensures { StartsBy words result }
 {

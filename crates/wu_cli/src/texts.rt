@@ -174,24 +174,20 @@ fn text_of_refusal<W: Write>(out: &mut W, why: &Refusal) -> Result<(), Fault>
 fn line_of_bad_line<W: Write>(out: &mut W, bad: &BadLine) -> Result<(), Fault>
     ensures { WritesTo W.contents out.old out.new (bad_line_text bad.now) result }
 {
-    match line_number(out, bad.number) {
-        Ok(()) => text_of_refusal(out, &bad.why),
-        Err(fault) => Err(fault),
-    }
+    line_number(out, bad.number)?;
+    text_of_refusal(out, &bad.why)
 }
 
 /// Writes the line of a script whose fault ended it, with the line of the fault.
 fn line_of_line_fault<W: Write>(out: &mut W, end: LineFault) -> Result<(), Fault>
     ensures { WritesTo W.contents out.old out.new (line_fault_text end) result }
 {
-    match line_number(out, end.number) {
-        Ok(()) => line_of_fault(out, end.fault),
-        Err(fault) => Err(fault),
-    }
+    line_number(out, end.number)?;
+    line_of_fault(out, end.fault)
 }
 
-/// Writes which line of a script can't be run, why, and flushes, without taking memory. It answers whether all of it went
-/// out.
+/// Writes which line of a script can't be run, why, and flushes, without taking memory. It answers whether all of it
+/// went out.
 pub fn write_bad_line<W: Write>(bad: &BadLine, out: &mut W) -> bool
     ensures { WritesAll (W.contents out.old) (W.contents out.new) (bad_line_text bad.now) result }
 {

@@ -13,7 +13,8 @@ use wu_core::Fault;
 use wu_drive::Project;
 use wu_words::{Action, FedEntry, Line, LineFault, Steps, prepare, prepare_script};
 
-/// What is asked of a project. It holds what the files of the words hold, so that all of them are read before it is done.
+/// What is asked of a project. It holds what the files of the words hold, so that all of them are read before it is
+/// done.
 #[derive(Debug, Drop)]
 pub enum Work {
     Line(Action),
@@ -83,8 +84,8 @@ impl Work {
         }
     }
 
-    /// Adopts the project in an open database, does what is asked over it, up to the first fault, and gives the database
-    /// back. Where nothing is adopted, no command is done and nothing is written.
+    /// Adopts the project in an open database, does what is asked over it, up to the first fault, and gives the
+    /// database back. Where nothing is adopted, no command is done and nothing is written.
     pub fn perform_over<S: Alter, W: Write>(
         &self,
         alloc: Global,

@@ -7,7 +7,7 @@ use Rattle.wu_core.specs.declared.fault.Fault.{Fault}
 use Rattle.wu_core.specs.declared.fault.Fault.TheVariants.{BadName}
 use Rattle.wu_core.specs.declared.name.ResultName.{ResultName}
 use Rattle.wu_core.specs.Names.{is_name, name_of, place_of}
-use Rattle.wu_core.specs.Reads.{Gives, TellsRefusal}
+use Rattle.wu_core.specs.Reads.{IsOrWantsMemory, TellsRefusal}
 use Rattle.wu_core.specs.ResultNames.{is_underscore, instance_of, result_name_of, IsFreeFrom, IsLastUnderscore}
 
 none_from : (text : List ℕ) → ((k : ℕ) → k < length text → is_underscore (slice_index text k) ≡ false) → list_any is_underscore text ≡ false
@@ -71,26 +71,26 @@ no_place false name o e = refl
 pub result_name_of-no_place : (text : List ℕ) (i : ℕ) → IsLastUnderscore text i → None ≡ place_of (tail_of text i) → result_name_of text ≡ Err BadName
 result_name_of-no_place text i last e = parts text i last ∙ no_place (is_name (take i text)) (take i text) _ e
 
-no_name : (b : Bool) (name : List ℕ) (o : Option ℕ) (fault : Fault) → Gives (Err fault) (if b then Ok name else Err BadName)
-    → Gives (Err fault) (if b then instance_of name o else Err BadName)
+no_name : (b : Bool) (name : List ℕ) (o : Option ℕ) (fault : Fault) → IsOrWantsMemory (Err fault) (if b then Ok name else Err BadName)
+    → IsOrWantsMemory (Err fault) (if b then instance_of name o else Err BadName)
 no_name true name o fault (inl e) = cc e
 no_name true name o fault (inr e) = inr (cc e)
 no_name false name o fault (inl e) = inl (cc e)
 no_name false name o fault (inr e) = inr (cc e)
 
-pub result_name_of-no_name : (text : List ℕ) (i : ℕ) (fault : Fault) → IsLastUnderscore text i → Gives {T = List ℕ} (Err fault) (name_of (take i text))
-    → Gives {T = ResultName} (Err fault) (result_name_of text)
+pub result_name_of-no_name : (text : List ℕ) (i : ℕ) (fault : Fault) → IsLastUnderscore text i → IsOrWantsMemory {T = List ℕ} (Err fault) (name_of (take i text))
+    → IsOrWantsMemory {T = ResultName} (Err fault) (result_name_of text)
 result_name_of-no_name text i fault last e = rw (parts text i last) (no_name (is_name (take i text)) (take i text) _ fault e)
 
-both : (b : Bool) (name found : List ℕ) (o : Option ℕ) (n : ℕ) → Some n ≡ o → Gives (Ok found) (if b then Ok name else Err BadName)
-    → Gives (Ok (record { workunit = found; n = n })) (if b then instance_of name o else Err BadName)
+both : (b : Bool) (name found : List ℕ) (o : Option ℕ) (n : ℕ) → Some n ≡ o → IsOrWantsMemory (Ok found) (if b then Ok name else Err BadName)
+    → IsOrWantsMemory (Ok (record { workunit = found; n = n })) (if b then instance_of name o else Err BadName)
 both true name found o n p (inl e) = let same : found ≡ name = cc e in inl (rw (← p, same) refl)
 both true name found o n p (inr e) = cc e
 both false name found o n p (inl e) = cc e
 both false name found o n p (inr e) = cc e
 
 pub result_name_of-both : (text : List ℕ) (i : ℕ) (name : List ℕ) (n : ℕ) → IsLastUnderscore text i → Some n ≡ place_of (tail_of text i)
-    → Gives (Ok name) (name_of (take i text)) → Gives (Ok (record { workunit = name; n = n })) (result_name_of text)
+    → IsOrWantsMemory (Ok name) (name_of (take i text)) → IsOrWantsMemory (Ok (record { workunit = name; n = n })) (result_name_of text)
 result_name_of-both text i name n last p e = rw (parts text i last) (both (is_name (take i text)) (take i text) name _ n p e)
 
 -- ---- want of memory is told of a name's text alone
@@ -104,7 +104,7 @@ pub result_name_of-told : (text : List ℕ) (i : ℕ) (n : ℕ) (fault : Fault) 
     → TellsRefusal {T = List ℕ} (Err fault) (name_of (take i text)) → TellsRefusal {T = ResultName} (Err fault) (result_name_of text)
 result_name_of-told text i n fault last p e = rw (parts text i last) (told (is_name (take i text)) (take i text) _ n fault p e)
 
-pub given_told : {T : Type 0} (x : T) (r : Result T Fault) → Gives (Ok x) r → TellsRefusal (Ok x) r
+pub given_told : {T : Type 0} (x : T) (r : Result T Fault) → IsOrWantsMemory (Ok x) r → TellsRefusal (Ok x) r
 given_told x (Ok y) it = tt
 given_told x (Err fault) (inl is) = cc is
 given_told x (Err fault) (inr is) = cc is

@@ -7,7 +7,8 @@ use Rattle.wu_core.specs.declared.states.ServerState.TheVariants as server
 use Rattle.wu_core.specs.declared.states.Outcome.TheVariants as outcome
 use Rattle.wu_core.specs.declared.states.Assimilate.TheVariants as assimilate
 
--- host, sending and deadline are there together: not before the instance is sent, and surely while it is in progress and once it succeeded
+-- host, sending and deadline are there together: not before the instance is sent, and surely while it is in progress
+-- and once it succeeded
 pub record IsInstance (i : Instance) : Type 0 where
   pub sent_with_host : is_some i.sent_at ≡ is_some i.host
   pub due_with_host : is_some i.deadline ≡ is_some i.host
@@ -15,7 +16,8 @@ pub record IsInstance (i : Instance) : Type 0 where
   pub in_progress : i.server_state ≡ server.InProgress → is_some i.host ≡ true
   pub success : i.server_state ≡ server.Over → i.outcome ≡ outcome.Success → is_some i.host ≡ true
 
--- parameters in range, no more instances than they allow, a canonical one among them, and a moment exactly where the workunit is assimilated
+-- parameters in range, no more instances than they allow, a canonical one among them, and a moment exactly where the
+-- workunit is assimilated
 pub record IsWorkunit (w : Workunit) : Type 0 where
   pub parameters : IsParameters w.params
   pub instances : All IsInstance w.instances

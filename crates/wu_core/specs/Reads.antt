@@ -8,8 +8,8 @@ abbrev pub FailsForMemory : {T : Type 0} → Result T Fault → Type 0
 FailsForMemory result = IfErr result (λ fault. fault ≡ Memory)
 
 -- exactly this result, or want of memory
-abbrev pub Gives : {T : Type 0} → Result T Fault → Result T Fault → Type 0
-Gives result expected = (result ≡ expected) ⊎ (result ≡ Err Memory)
+abbrev pub IsOrWantsMemory : {T : Type 0} → Result T Fault → Result T Fault → Type 0
+IsOrWantsMemory result expected = (result ≡ expected) ⊎ (result ≡ Err Memory)
 
 -- what is refused is told as what it is refused for, and never as want of memory
 abbrev pub TellsRefusal : {T : Type 0} → Result T Fault → Result T Fault → Type 0

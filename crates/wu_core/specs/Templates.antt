@@ -17,7 +17,8 @@ abbrev pub number_of : Option ℤ → ℕ
 number_of (Some value) = unsigned_abs value
 number_of None = 0
 
--- each key with whether its value is in the range of a template, in the order of the fields; the target is at least the quorum
+-- each key with whether its value is in the range of a template, in the order of the fields; the target is at least the
+-- quorum
 abbrev pub range_tests : (TemplateKey → Option ℤ) → List (TemplateKey × Bool)
 range_tests value =
     (key.MinQuorum, is_whole_between 1 highest_quorum (value key.MinQuorum))

@@ -25,8 +25,8 @@ fresh = record {
 }
 
 -- the instance of this number changed
-abbrev pub with_instance : Workunit → ℕ → Instance → Workunit
-with_instance w n instance = record w { instances = slice_set w.instances n instance }
+abbrev pub with_instance_set : Workunit → ℕ → Instance → Workunit
+with_instance_set w n instance = record w { instances = slice_set w.instances n instance }
 
 -- the list with its first places as written; what is written in place has the list's length, so it is all of it
 abbrev pub overwritten : List Instance → List Instance → List Instance

@@ -28,7 +28,8 @@ last_skip kind.Batch = 0
 last_skip kind.Sent = 3
 last_skip kind.Reported = 5
 
--- workunits in order of number, grants and archived rows in order of their making, imports in order of their first coming
+-- workunits in order of number, grants and archived rows in order of their making, imports in order of their first
+-- coming
 pub record World : Type 0 where
   pub workunits : List Workunit
   pub grants : List Grant

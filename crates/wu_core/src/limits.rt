@@ -1,4 +1,5 @@
-//! The limits of this project's profile, each in one place. `specs/Limits.antt` has the same numbers under the same names.
+//! The limits of this project's profile, each in one place. `specs/Limits.antt` has the same numbers under the same
+//! names.
 
 /// The longest name of a workunit, a host or an import, in bytes.
 pub const LONGEST_NAME: usize = 64;

@@ -3,7 +3,7 @@
 ghost use Rattle.std.specs.Prelude.{◌≡◌, ℕ, List, true, string_bytes, IfOk, IfSome, IfNone};
 ghost use Rattle.std.specs.List.{list_all};
 ghost use Rattle.wu_core.specs.Names.{is_name, is_name_byte, name_of, place_of};
-ghost use Rattle.wu_core.specs.Reads.{Gives, TellsRefusal};
+ghost use Rattle.wu_core.specs.Reads.{IsOrWantsMemory, TellsRefusal};
 ghost use Rattle.wu_core.specs.ResultNames.{result_name_of, IsFreeFrom, IsLastUnderscore};
 
 use crate::fault::Fault;
@@ -53,7 +53,7 @@ fn is_name(text: &[u8]) -> bool
 impl Name {
     /// The text as a name. Any other text is `BadName`, whatever memory there is.
     pub fn read(alloc: Global, text: &[u8]) -> Result<Self, Fault>
-        ensures name { Gives result (name_of text.now) }
+        ensures name { IsOrWantsMemory result (name_of text.now) }
         ensures told { TellsRefusal result (name_of text.now) }
     {
         if !is_name(text) {
@@ -164,7 +164,7 @@ impl ResultName {
     /// The text as a name of an instance: a workunit's name, `_` and the place in decimal, 0 to 99, without leading
     /// zeros. Any other text is `BadName`, whatever memory there is.
     pub fn read(alloc: Global, text: &[u8]) -> Result<Self, Fault>
-        ensures name { Gives result (result_name_of text.now) }
+        ensures name { IsOrWantsMemory result (result_name_of text.now) }
         ensures told { TellsRefusal result (result_name_of text.now) }
     {
         let Some(cut) = last_underscore(text) else {

@@ -8,7 +8,7 @@ use Rattle.sqlite.specs.State.{State, HasCleanDisk}
 use Rattle.sqlite.specs.Steps.{IsEmpty}
 use Rattle.sqlite_trees.specs.declared.store.Store.{Ghosts}
 use Rattle.wu_core.specs.Names.{name_of}
-use Rattle.wu_core.specs.Reads.{Gives}
+use Rattle.wu_core.specs.Reads.{IsOrWantsMemory}
 use Rattle.wu_core.specs.World.{empty_world}
 use Rattle.wu_core.specs.declared.fault.Fault.{Fault}
 use Rattle.wu_machine.specs.Commands.{reply_of_answer, request_of}
@@ -18,10 +18,10 @@ use Rattle.wu_machine.specs.declared.command.Answer.{Answer}
 use Rattle.wu_machine.specs.declared.command.Command.{Command}
 use Rattle.wu_machine.specs.declared.view.View.TheVariants.{Workunits}
 use Rattle.wu_schema.proofs.VersionLemmas.{free_lacks}
-use Rattle.wu_schema.specs.StandsFor.{IsFree}
+use Rattle.wu_schema.specs.Refines.{IsFree}
 use Rattle.wu_passes.specs.declared.project.Project.{Project}
 use Rattle.wu_passes.specs.Adopting.{IsVacant}
-use Rattle.wu_passes.specs.Projects.{GoesStill, IsOver, has_ended, state_of}
+use Rattle.wu_passes.specs.Projects.{IsSessionOpen, IsSessionEnded, has_ended, state_of}
 use Rattle.wu_passes.specs.Standing.{GoesOn, MayEnd}
 use Rattle.wu_report.specs.Texts.{line_end, view_text}
 use Rattle.wu_report.specs.Views.{Shows}
@@ -35,11 +35,11 @@ use Rattle.wu_drive.proofs.DrivingLemmas.{empty_project}
 
 -- ---- what is asked
 
-its_name : (name : List ℕ) → Gives (Ok name) (name_of (codes "b1")) → name ≡ codes "b1"
+its_name : (name : List ℕ) → IsOrWantsMemory (Ok name) (name_of (codes "b1")) → name ≡ codes "b1"
 its_name name (inl is) = cc
 its_name name (inr is) = cc
 
-pub is_demonstration : (name file : List ℕ) → Gives (Ok name) (name_of (codes "b1")) → file ≡ codes "name,input" ++ line_end ++ codes "job_1,00ff" ++ line_end
+pub is_demonstration : (name file : List ℕ) → IsOrWantsMemory (Ok name) (name_of (codes "b1")) → file ≡ codes "name,input" ++ line_end ++ codes "job_1,00ff" ++ line_end
     → AskBatch name [] file ≡ demonstration
 unfolding demonstration
 is_demonstration name file named is = ap (λ n. AskBatch n [] file) (its_name name named) ∙ ap (AskBatch (codes "b1") []) is
@@ -60,9 +60,9 @@ one_answer command (answer ∷ []) all = (answer, refl, all.0)
 one_answer command (answer ∷ other ∷ answers) all = absurd all.1
 
 module _ {S W : Type 0} {store : Ghosts S} (contents : W → Option (List ℕ)) (fresh mid new : Project S store) (out_old out_mid out_new : W) (command : Command) (run : Run)
-    (asked : request_of command ≡ demonstration) (going : GoesStill fresh) (over_empty : GoesOn (state_of fresh) empty_world)
+    (asked : request_of command ≡ demonstration) (going : IsSessionOpen fresh) (over_empty : GoesOn (state_of fresh) empty_world)
     (mid_clean : HasCleanDisk (state_of mid)) (new_clean : HasCleanDisk (state_of new)) (whole : run.end ≡ None) (all : run.end ≡ None → run.acknowledged ≡ 1)
-    (ends : GoesStill fresh → IsOver mid → EndsBy run MayEnd)
+    (ends : IsSessionOpen fresh → IsSessionEnded mid → EndsBy run MayEnd)
     (answers : (answers : List Answer) × WritesAnswers (contents out_old) (contents out_mid) answers run × DrivesProject fresh mid (command ∷ []) answers run) where
   driven : Drives empty_world (command ∷ []) answers.0 run (has_ended mid) (state_of mid)
   driven = answers.2 going mid_clean empty_world empty_project over_empty
@@ -70,7 +70,7 @@ module _ {S W : Type 0} {store : Ghosts S} (contents : W → Option (List ℕ)) 
   one : run.acknowledged ≡ 1
   one = all whole
 
-  still : GoesStill mid
+  still : IsSessionOpen mid
   still = elim (cases_Bool (has_ended mid)) [
     | inr on ↦ on
     | inl over ↦ let by = ends going over in absurd (let no = sym by.1 ∙ whole in cc)

@@ -26,7 +26,7 @@ use Rattle.wu_passes.specs.Projects.{AnswersEnded, Broke, IsOpen, RefusesLimit, 
 use Rattle.wu_machine.specs.Laws.{KeepsProjects}
 use Rattle.wu_passes.specs.declared.project.Project.{Project}
 use Rattle.wu_machine.specs.Requests.{Request}
-use Rattle.wu_passes.specs.Standing.{GoesOn, Runs, Stands, WhyNot}
+use Rattle.wu_passes.specs.Standing.{GoesOn, Runs, RefinesAfterFault, FailureCause}
 
 pub fold_more : (world : World) (requests : List Request) (one : Request) → fold_steps world (requests ++ one ∷ []) ≡ step (fold_steps world requests) one
 fold_more world [] one = refl
@@ -73,7 +73,7 @@ same_command : (one other : Command) → ◌≡◌ {A = Option Command} (Some on
 same_command one other same = cc
 
 -- what broke in a part of a call broke in the call
-why_from : (Before After : Type 0) → (Before → After) → (is : Bool) (world : World) (request : Request) (fault : Fault) → WhyNot Before is world request fault → WhyNot After is world request fault
+why_from : (Before After : Type 0) → (Before → After) → (is : Bool) (world : World) (request : Request) (fault : Fault) → FailureCause Before is world request fault → FailureCause After is world request fault
 why_from Before After from true world request fault (inl (broken, broke)) = inl (broken, from broke)
 why_from Before After from true world request fault (inr cut) = inr cut
 why_from Before After from false world request fault why = why
@@ -89,11 +89,11 @@ broke_after old mid new rises opened (inr shut) = elim (cases_Bool (state_of old
 
 -- the command at this place was not done
 pub not_done : (Before After : Type 0) → (Before → After) → (world : World) (commands : List Command) (i : ℕ) (command d : Command) → i < length commands → get_or commands i d ≡ command → (run : Run) → run.acknowledged ≡ i
-    → (fault other : Fault) (is : Bool) → run.end ≡ Some other → run.end ≡ Some fault → WhyNot Before is (world_after world commands i) (request_of command) fault → NotDone After world commands run is other
+    → (fault other : Fault) (is : Bool) → run.end ≡ Some other → run.end ≡ Some fault → FailureCause Before is (world_after world commands i) (request_of command) fault → NotDone After world commands run is other
 not_done Before After from world commands i command d low there run count fault other is told told_so why =
     let same : fault ≡ other = one_fault fault other (sym told_so ∙ told) in
     let first = why_from Before After from is (world_after world commands i) (request_of command) fault why in
-    subst (λ k. NotDone After world commands (record run { acknowledged = k }) is other) (sym count) (command, there_is commands i command d low there, subst (λ f. WhyNot After is (world_after world commands i) (request_of command) f) same first)
+    subst (λ k. NotDone After world commands (record run { acknowledged = k }) is other) (sym count) (command, there_is commands i command d low there, subst (λ f. FailureCause After is (world_after world commands i) (request_of command) f) same first)
 
 -- so it is on the way, after so many commands
 pub record IsDriving (world : World) (commands : List Command) (answers : List Answer) (count : ℕ) (has_ended : Bool) (new : State) : Type 0 where
@@ -126,8 +126,8 @@ module _ (world : World) (commands : List Command) (answers : List Answer) (i : 
     end = λ other told_so.
         let same : fault ≡ other = one_fault fault other (sym end ∙ told_so) in
         inl (command, there_is commands i command d low there, subst (λ f. (reply (world_after world commands i) (request_of command) ≡ Err f) ⊎ IsStoreFault f) same told);
-    goes = λ going. subst (λ b. Stands b new (world_after world commands i) (request_of command)) going stands;
-    ended = λ ended. (command, there_is commands i command d low there, subst (λ b. Stands b new (world_after world commands i) (request_of command)) ended stands);
+    goes = λ going. subst (λ b. RefinesAfterFault b new (world_after world commands i) (request_of command)) going stands;
+    ended = λ ended. (command, there_is commands i command d low there, subst (λ b. RefinesAfterFault b new (world_after world commands i) (request_of command)) ended stands);
     project = driving.project;
     cut_project = λ ended cut cut_there. subst (λ c. IsProject (step (world_after world commands i) (request_of c))) (same_command command cut (sym (there_is commands i command d low there) ∙ cut_there)) (keeps (world_after world commands i) driving.project);
   })

@@ -14,11 +14,11 @@ use Rattle.wu_machine.specs.Machine.{fold_steps, MakesNothing, reply, step}
 use Rattle.wu_machine.specs.Commands.{request_of, reply_of_answer}
 use Rattle.wu_machine.specs.Sound.{IsProject}
 use Rattle.wu_store.specs.Loading.{IsStoreFault}
-use Rattle.wu_passes.specs.Standing.{GoesOn, HasEnded, WhyNot}
+use Rattle.wu_passes.specs.Standing.{GoesOn, HasEnded, FailureCause}
 use Rattle.wu_machine.specs.declared.command.Answer.{Answer}
 use Rattle.wu_machine.specs.declared.command.Command.{Command}
 use Rattle.wu_passes.specs.declared.project.Project.{Project}
-use Rattle.wu_passes.specs.Projects.{Broke, GoesStill, has_ended, IsOver, IsUnlimited, state_of}
+use Rattle.wu_passes.specs.Projects.{Broke, IsSessionOpen, has_ended, IsSessionEnded, IsUnlimited, state_of}
 use Rattle.wu_drive.specs.declared.runs.Run.{Run}
 
 -- the answers are the machine's replies, one after another
@@ -71,14 +71,14 @@ Lengthens start life session new =
 -- so a run drives a project of any world over which its session goes on, where the disk does not fail
 abbrev pub DrivesProject : {S : Type 0} {store : Ghosts S} → Project S store → Project S store → List Command → List Answer → Run → Type 0
 DrivesProject old new commands answers run =
-    GoesStill old → HasCleanDisk (state_of new) → (world : World) → IsProject world → GoesOn (state_of old) world
+    IsSessionOpen old → HasCleanDisk (state_of new) → (world : World) → IsProject world → GoesOn (state_of old) world
     → Drives world commands answers run (has_ended new) (state_of new)
 
 -- why the next command was not done
 abbrev pub NotDone : Type 0 → World → List Command → Run → Bool → Fault → Type 0
 NotDone Broke world commands run has_ended fault =
     (next : Command) × (slice_get commands run.acknowledged ≡ Some next)
-    × WhyNot Broke has_ended (world_after world commands run.acknowledged) (request_of next) fault
+    × FailureCause Broke has_ended (world_after world commands run.acknowledged) (request_of next) fault
 
 -- the text of the last command that was done could not be written, and the session goes on
 abbrev pub NotWritten : Run → Bool → Fault → Type 0
@@ -87,23 +87,23 @@ NotWritten run has_ended fault = (fault ≡ Output) × (1 ≤ run.acknowledged) 
 -- over an adopted project a run that ended early tells why
 abbrev pub DrivesWhy : {S : Type 0} {store : Ghosts S} → Project S store → Project S store → List Command → Run → Type 0
 DrivesWhy old new commands run =
-    GoesStill old → HasCleanDisk (state_of new) → IsUnlimited old → (world : World) → IsProject world → GoesOn (state_of old) world
+    IsSessionOpen old → HasCleanDisk (state_of new) → IsUnlimited old → (world : World) → IsProject world → GoesOn (state_of old) world
     → (fault : Fault) → run.end ≡ Some fault → NotDone (Broke old new) world commands run (has_ended new) fault ⊎ NotWritten run (has_ended new) fault
 
 -- and lengthens any life that led to that world
 abbrev pub LengthensLife : {S : Type 0} {store : Ghosts S} → Project S store → Project S store → List Command → Run → Type 0
 LengthensLife old new commands run =
-    GoesStill old → HasCleanDisk (state_of new) → (start : World) (life : List Lived) → IsProject (world_of_life start life)
+    IsSessionOpen old → HasCleanDisk (state_of new) → (start : World) (life : List Lived) → IsProject (world_of_life start life)
     → GoesOn (state_of old) (world_of_life start life)
     → Lengthens start life (session_of commands run (has_ended new)) (state_of new)
 
 -- over a session that had ended nothing is done or written, and that is why the run ended, unless there was no command
 abbrev pub DrivesNothing : {S W : Type 0} {store : Ghosts S} → Project S store → Project S store → W → W → Run → Type 0
 DrivesNothing old new out_old out_new run =
-    IsOver old → (new ≡ old) × (out_new ≡ out_old) × (run.acknowledged ≡ 0) × IfSome run.end (λ fault. fault ≡ Ended)
+    IsSessionEnded old → (new ≡ old) × (out_new ≡ out_old) × (run.acknowledged ≡ 0) × IfSome run.end (λ fault. fault ≡ Ended)
 
--- where the first command was not done, but for want of memory or of the disk, all is as it was: every table, and what a
--- stop may leave
+-- where the first command was not done, but for want of memory or of the disk, all is as it was: every table, and what
+-- a stop may leave
 abbrev pub LeavesAll : {S : Type 0} {store : Ghosts S} → Project S store → Project S store → Run → Type 0
 LeavesAll old new run =
     HasCleanDisk (state_of new) → run.acknowledged ≡ 0
@@ -122,11 +122,11 @@ MakeNothing world (command ∷ commands) =
 -- so it is where it makes nothing by all that were done
 abbrev pub LeavesAllIdle : {S : Type 0} {store : Ghosts S} → Project S store → Project S store → List Command → Run → Type 0
 LeavesAllIdle old new commands run =
-    GoesStill old → HasCleanDisk (state_of new) → (world : World) → IsProject world → GoesOn (state_of old) world
+    IsSessionOpen old → HasCleanDisk (state_of new) → (world : World) → IsProject world → GoesOn (state_of old) world
     → MakeNothing world (take run.acknowledged commands) → EndsBy run IsFailure ⊎ KeepsAll (state_of old) (state_of new)
 
 -- over a session that went on an open connection stays so, but where the run ended for want of memory or of the disk
 abbrev pub ServesUnlessEnded : {S : Type 0} {store : Ghosts S} → Project S store → Project S store → Run → Type 0
 ServesUnlessEnded old new run =
-    GoesStill old → IsTrue (state_of old).is_open → HasCleanDisk (state_of new)
+    IsSessionOpen old → IsTrue (state_of old).is_open → HasCleanDisk (state_of new)
     → EndsBy run IsFailure ⊎ IsTrue (state_of new).is_open

@@ -5,8 +5,8 @@ use Rattle.wu_core.specs.declared.fault.Fault.TheVariants.{Broken}
 use Rattle.wu_machine.specs.declared.command.Answer.{Answer}
 use Rattle.wu_machine.specs.declared.command.Command.{Command}
 use Rattle.wu_passes.specs.declared.project.Project.{Project}
-use Rattle.wu_passes.specs.Projects.{GoesStill, IsOver, KeepsLimit, state_of}
-use Rattle.wu_passes.specs.Standing.{KeepsDoubt, MayEnd}
+use Rattle.wu_passes.specs.Projects.{IsSessionOpen, IsSessionEnded, KeepsLimit, state_of}
+use Rattle.wu_passes.specs.Standing.{FaultsOnlyGrow, MayEnd}
 use Rattle.wu_drive.specs.declared.runs.Run.{Run}
 use Rattle.wu_drive.specs.Driving.{DrivesNothing, DrivesProject, DrivesWhy, EndsBy, LeavesAll, LeavesAllIdle, LengthensLife, ServesUnlessEnded}
 use Rattle.wu_drive.specs.Writing.{WritesAnswers}
@@ -23,10 +23,10 @@ pub record RunsList {S W : Type 0} {store : Ghosts S} (contents : W → Option (
   pub untouched : LeavesAll old new run
   pub idle : LeavesAllIdle old new commands run
   -- the session ends with `Broken`, and else only for want of memory
-  pub ends : GoesStill old → IsOver new → EndsBy run MayEnd
-  pub broken : GoesStill old → run.end ≡ Some Broken → IsOver new
+  pub ends : IsSessionOpen old → IsSessionEnded new → EndsBy run MayEnd
+  pub broken : IsSessionOpen old → run.end ≡ Some Broken → IsSessionEnded new
   -- what is doubted of the disk stays doubted, and no fault of it is forgotten
-  pub clean : KeepsDoubt (state_of old) (state_of new)
+  pub clean : FaultsOnlyGrow (state_of old) (state_of new)
   pub counts : (state_of old).faults ≤ (state_of new).faults
   pub limit : KeepsLimit old new
   -- no more are done than are there, and all where nothing ended it

@@ -28,9 +28,10 @@ pub struct Run {
 /// An acknowledged command is one that was answered, also where its text could not be written. The run ends early with
 /// the refusal of the next command, with a fault of the store, or with `Output` for the text of the last one done. It
 /// ends the session with `Broken`, and else only with `Memory`; after any end but these a connection that was open is
-/// open. Over a session that had ended it answers `Ended` at once. Where the first command was not done, or the machine makes nothing by all that
-/// were, every table is as it was, but for want of memory or of the disk. Where a stop before it could leave one world
-/// alone, the worlds that a stop may leave after it are those of the acknowledged commands, with the cut one or without.
+/// open. Over a session that had ended it answers `Ended` at once. Where the first command was not done, or the machine
+/// makes nothing by all that were, every table is as it was, but for want of memory or of the disk. Where a stop before
+/// it could leave one world alone, the worlds that a stop may leave after it are those of the acknowledged commands,
+/// with the cut one or without.
 pub fn drive<S: Alter, W: Write>(
     alloc: Global,
     project: &mut Project<S>,
@@ -93,8 +94,8 @@ fn run_demo<W: Write>(alloc: Global, out: &mut W) -> Result<(), Fault>
     }
 }
 
-/// The demonstration: a batch of one job in a database in memory, and the view of workunits. Without a fault, all that it
-/// prints went out.
+/// The demonstration: a batch of one job in a database in memory, and the view of workunits. Without a fault, all that
+/// it prints went out.
 pub fn demo<W: Write>(alloc: Global, out: &mut W) -> Option<Fault>
     ensures { IfNone result (IsDemonstrated (W.contents out.old) (W.contents out.new)) }
 {

@@ -7,7 +7,7 @@ use Rattle.wu_core.specs.Statuses.{status_of}
 use Rattle.wu_core.specs.declared.name.ResultName.{ResultName}
 use Rattle.wu_core.specs.declared.states.Status.{Status}
 use Rattle.wu_core.specs.Parameters.{Parameters}
-use Rattle.wu_core.specs.Reads.{Gives}
+use Rattle.wu_core.specs.Reads.{IsOrWantsMemory}
 use Rattle.wu_core.specs.Templates.{parameters_of, range_tests, template_parameters, unless_failed}
 use Rattle.wu_core.specs.declared.fault.Fault.{Fault}
 use Rattle.wu_core.specs.declared.fault.Fault.TheVariants.{BadFile, BadTemplate}
@@ -24,7 +24,7 @@ use Rattle.wu_feed.specs.declared.reports.ReportRow.{ReportRow}
 use Rattle.wu_feed.specs.Reports.{report_of, report_of_fields, report_with, reported_output, reports_header, reports_of_file}
 use Rattle.wu_feed.specs.declared.sends.SendRow.{SendRow}
 use Rattle.wu_feed.specs.Sends.{send_of, send_of_fields, sends_header, sends_of_file}
-use Rattle.wu_feed.specs.Templates.{document_parameters, has_only_keys, IsTemplateFault, value_in}
+use Rattle.wu_feed.specs.Templates.{document_parameters, has_only_keys, IsTemplateFault, value_of_key}
 use Rattle.wu_feed.specs.declared.jobs.Job.{Job}
 
 -- the first key that is out of range
@@ -36,8 +36,8 @@ range_told None params = tt
 pub document_told : (document : Members) → IfErr (document_parameters document) IsTemplateFault
 document_told document = by (has_only_keys document)
   where
-    by : (only : Bool) → IfErr (if only then template_parameters (value_in document) else Err (BadTemplate key.Unknown)) IsTemplateFault
-    by true = range_told (find (λ test. not test.1) (range_tests (value_in document))) (parameters_of (value_in document))
+    by : (only : Bool) → IfErr (if only then template_parameters (value_of_key document) else Err (BadTemplate key.Unknown)) IsTemplateFault
+    by true = range_told (find (λ test. not test.1) (range_tests (value_of_key document))) (parameters_of (value_of_key document))
     by false = inr (key.Unknown, refl)
 
 first_told : {R : Type 0} (read : Result R Fault) (rest : Result (List R) Fault) → IfErr read IsFileFault → IfErr rest IsFileFault → IfErr (with_first read rest) IsFileFault
@@ -87,12 +87,12 @@ two_told number None = inr (number, cause.Fields, refl)
 
 -- a file of rows, each of which tells such a fault
 read_told : {R : Type 0} (row_of : ℕ → List (List ℕ) → Result R Fault) → ((number : ℕ) (fields : List (List ℕ)) → IfErr (row_of number fields) IsFileFault)
-    → (names : List (List ℕ)) (file : List ℕ) (result : Result (List R) Fault) → Gives result (rows_of_file names row_of file) → IfErr result IsFileFault
+    → (names : List (List ℕ)) (file : List ℕ) (result : Result (List R) Fault) → IsOrWantsMemory result (rows_of_file names row_of file) → IfErr result IsFileFault
 read_told row_of row_told names file result (inl same) = rw same (file_told row_of row_told names file)
 read_told row_of row_told names file result (inr wanted) = rw wanted (inl refl)
 
 -- a file of jobs
-pub jobs_told : (file : List ℕ) (result : Result (List Job) Fault) → Gives result (jobs_of_file file) → IfErr result IsFileFault
+pub jobs_told : (file : List ℕ) (result : Result (List Job) Fault) → IsOrWantsMemory result (jobs_of_file file) → IfErr result IsFileFault
 jobs_told = read_told job_of (λ number fields. two_told number (two_of fields)) jobs_header
 
 send_fields_told : (number : ℕ) (name : Result ResultName Fault) (host : Result (List ℕ) Fault) (moment : Result ℕ Fault) → IfErr (send_of_fields number name host moment) IsFileFault
@@ -109,7 +109,7 @@ send_told number (a ∷ b ∷ c ∷ []) = send_fields_told number (result_name_o
 send_told number (a ∷ b ∷ c ∷ d ∷ more) = inr (number, cause.Fields, refl)
 
 -- a file of sends
-pub sends_told : (file : List ℕ) (result : Result (List SendRow) Fault) → Gives result (sends_of_file file) → IfErr result IsFileFault
+pub sends_told : (file : List ℕ) (result : Result (List SendRow) Fault) → IsOrWantsMemory result (sends_of_file file) → IfErr result IsFileFault
 sends_told = read_told send_of send_told sends_header
 
 report_with_told : (number : ℕ) (sent : SendRow) (how : Status) (output : Option (List ℕ)) → IfErr (report_with number sent how output) IsFileFault
@@ -131,5 +131,5 @@ report_told number (a ∷ b ∷ c ∷ d ∷ e ∷ []) = report_fields_told numbe
 report_told number (a ∷ b ∷ c ∷ d ∷ e ∷ f ∷ more) = inr (number, cause.Fields, refl)
 
 -- a file of reports
-pub reports_told : (file : List ℕ) (result : Result (List ReportRow) Fault) → Gives result (reports_of_file file) → IfErr result IsFileFault
+pub reports_told : (file : List ℕ) (result : Result (List ReportRow) Fault) → IsOrWantsMemory result (reports_of_file file) → IfErr result IsFileFault
 reports_told = read_told report_of report_told reports_header

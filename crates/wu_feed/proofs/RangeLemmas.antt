@@ -8,7 +8,7 @@ use Rattle.hex.specs.Hex.{decode_of}
 use Rattle.wu_core.specs.Limits.{highest_quorum, highest_target, last_moment, longest_input, longest_delay, longest_output, most_credit, most_instances}
 use Rattle.wu_core.specs.Names.{is_name, name_of, place_of}
 use Rattle.wu_core.specs.Parameters.{IsParameters, Parameters, is_between}
-use Rattle.wu_core.specs.Reads.{Gives}
+use Rattle.wu_core.specs.Reads.{IsOrWantsMemory}
 use Rattle.wu_core.specs.ResultNames.{instance_of, is_underscore, result_name_of}
 use Rattle.wu_core.specs.Statuses.{status_of}
 use Rattle.wu_core.specs.Templates.{is_whole_between, number_of, parameters_of, range_tests, template_parameters, unless_failed}
@@ -28,7 +28,7 @@ use Rattle.wu_feed.specs.Moments.{four_at, has_shape, is_civil_date, is_clock_ti
 use Rattle.wu_feed.specs.Ranges.{IsJob, IsReportRow, IsSendRow}
 use Rattle.wu_feed.specs.Reports.{report_of, report_of_fields, report_with, reported_output, reports_header, reports_of_file}
 use Rattle.wu_feed.specs.Sends.{send_of, send_of_fields, sends_header, sends_of_file}
-use Rattle.wu_feed.specs.Templates.{document_of, has_only_keys, parameters_if, template_of, value_in}
+use Rattle.wu_feed.specs.Templates.{document_of, has_only_keys, parameters_if, template_of, value_of_key}
 use Rattle.wu_feed.specs.declared.jobs.Job.{Job}
 use Rattle.wu_feed.specs.declared.reports.ReportRow.{ReportRow}
 use Rattle.wu_feed.specs.declared.sends.SendRow.{SendRow}
@@ -54,7 +54,7 @@ job_of-ranged row fields job e = two (two_of fields) e
     two (Some pair) e = named (is_name pair.0) pair refl e
     two None e = cc e
 
-pub jobs_read : (file : List ℕ) (result : Result (List Job) Fault) → Gives result (jobs_of_file file) → IfOk result (All IsJob)
+pub jobs_read : (file : List ℕ) (result : Result (List Job) Fault) → IsOrWantsMemory result (jobs_of_file file) → IfOk result (All IsJob)
 jobs_read = rows_of_file-each job_of IsJob job_of-ranged jobs_header
 
 -- the jobs of a file
@@ -146,7 +146,7 @@ send_of-ranged row (a ∷ b ∷ c ∷ []) send e =
     send_fields-ranged row (result_name_of a) (name_of b) (moment_of c) send (result_name_placed a) (name_is_one b) (moment_within c) e
 send_of-ranged row (a ∷ b ∷ c ∷ d ∷ more) send e = cc e
 
-pub sends_read : (file : List ℕ) (result : Result (List SendRow) Fault) → Gives result (sends_of_file file) → IfOk result (All IsSendRow)
+pub sends_read : (file : List ℕ) (result : Result (List SendRow) Fault) → IsOrWantsMemory result (sends_of_file file) → IfOk result (All IsSendRow)
 sends_read = rows_of_file-each send_of IsSendRow send_of-ranged sends_header
 
 -- the sends of a file
@@ -188,7 +188,7 @@ report_of-ranged row (a ∷ b ∷ c ∷ d ∷ f ∷ []) report e =
     report_fields-ranged row (send_of row (a ∷ b ∷ c ∷ [])) (status_of d) f report (λ sent is. send_of-ranged row (a ∷ b ∷ c ∷ []) sent is) e
 report_of-ranged row (a ∷ b ∷ c ∷ d ∷ f ∷ g ∷ more) report e = cc e
 
-pub reports_read : (file : List ℕ) (result : Result (List ReportRow) Fault) → Gives result (reports_of_file file) → IfOk result (All IsReportRow)
+pub reports_read : (file : List ℕ) (result : Result (List ReportRow) Fault) → IsOrWantsMemory result (reports_of_file file) → IfOk result (All IsReportRow)
 reports_read = rows_of_file-each report_of IsReportRow report_of-ranged reports_header
 
 -- the reports of a file
@@ -241,8 +241,8 @@ template_parameters-ranged value params e = by (find (λ test. not test.1) (rang
 pub template_ranged : (text : List ℕ) (params : Parameters) → template_of text ≡ Ok params → IsParameters params
 template_ranged text params e = by (document_of text) e
   where
-    only : (document : Members) (b : Bool) → (if b then template_parameters (value_in document) else Err (BadTemplate key.Unknown)) ≡ Ok params → IsParameters params
-    only document true e = template_parameters-ranged (value_in document) params e
+    only : (document : Members) (b : Bool) → (if b then template_parameters (value_of_key document) else Err (BadTemplate key.Unknown)) ≡ Ok params → IsParameters params
+    only document true e = template_parameters-ranged (value_of_key document) params e
     only document false e = cc e
 
     by : (document : Option Members) → parameters_if document ≡ Ok params → IsParameters params

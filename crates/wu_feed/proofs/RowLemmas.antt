@@ -4,7 +4,7 @@ use Rattle.std.proofs.lemmas.Bool.Decides.{nat_tests}
 use Rattle.std.proofs.lemmas.List.{append-nil, drop_all, drop_more}
 use Rattle.std.proofs.lemmas.List.Elements.{All-cons, All-nil}
 use Rattle.csv.specs.Records.{Row, fields_of}
-use Rattle.wu_core.specs.Reads.{Gives}
+use Rattle.wu_core.specs.Reads.{IsOrWantsMemory}
 use Rattle.wu_core.specs.declared.fault.Fault.{Fault}
 use Rattle.wu_core.specs.declared.fault.Fault.TheVariants.{BadFile}
 use Rattle.wu_core.specs.declared.fault.FileCause.TheVariants as cause
@@ -25,12 +25,12 @@ push : {R : Type 0} (front : List R) (row : R) (rest : Result (List R) Fault) �
 push front row (Ok rows) = ap Ok (append_assoc front (row ∷ []) rows)
 push front row (Err fault) = refl
 
-is_read : {R : Type 0} (row : R) (read : Result R Fault) → Gives (Ok row) read → read ≡ Ok row
+is_read : {R : Type 0} (row : R) (read : Result R Fault) → IsOrWantsMemory (Ok row) read → read ≡ Ok row
 is_read row read (inl e) = sym e
 is_read row read (inr e) = cc e
 
-refusal : {R : Type 0} (front : List R) (fault : Fault) (read : Result R Fault) (rest whole : Result (List R) Fault) → Gives (Err fault) read
-    → with_all front (with_first read rest) ≡ whole → Gives (Err fault) whole
+refusal : {R : Type 0} (front : List R) (fault : Fault) (read : Result R Fault) (rest whole : Result (List R) Fault) → IsOrWantsMemory (Err fault) read
+    → with_all front (with_first read rest) ≡ whole → IsOrWantsMemory (Err fault) whole
 refusal front fault read rest whole (inl e) so_far = inl (rw (← e) at so_far)
 refusal front fault read rest whole (inr e) so_far = inr (cc e)
 
@@ -48,7 +48,7 @@ module _ {R : Type 0} (row_of : ℕ → List (List ℕ) → Result R Fault) wher
   rows_at number rows i r within is = rw (drop_more rows i r within, ← is) refl
 
   pub one_more : (front : List R) (row : R) (number : ℕ) (rows : List Row) (i : ℕ) (r : Row) (whole : Result (List R) Fault) → i < length rows → r ≡ get_or rows i r
-      → Gives (Ok row) (row_at row_of number (fields_of r)) → with_all front (rows_from row_of number (map fields_of (drop i rows))) ≡ whole
+      → IsOrWantsMemory (Ok row) (row_at row_of number (fields_of r)) → with_all front (rows_from row_of number (map fields_of (drop i rows))) ≡ whole
       → with_all (front ++ row ∷ []) (rows_from row_of (number + 1) (map fields_of (drop (i + 1) rows))) ≡ whole
   one_more front row number rows i r whole within is gave so_far =
       let at = rows_at number rows i r within is in
@@ -57,7 +57,7 @@ module _ {R : Type 0} (row_of : ℕ → List (List ℕ) → Result R Fault) wher
 
   -- a row that is refused
   pub refused : (front : List R) (fault : Fault) (number : ℕ) (rows : List Row) (i : ℕ) (r : Row) (whole : Result (List R) Fault) → i < length rows → r ≡ get_or rows i r
-      → Gives (Err fault) (row_at row_of number (fields_of r)) → with_all front (rows_from row_of number (map fields_of (drop i rows))) ≡ whole → Gives (Err fault) whole
+      → IsOrWantsMemory (Err fault) (row_at row_of number (fields_of r)) → with_all front (rows_from row_of number (map fields_of (drop i rows))) ≡ whole → IsOrWantsMemory (Err fault) whole
   refused front fault number rows i r whole within is gave so_far =
       let at = rows_at number rows i r within is in
       refusal front fault (row_at row_of number (fields_of r)) _ whole gave (rw at at so_far)
@@ -71,7 +71,7 @@ module _ {R : Type 0} (row_of : ℕ → List (List ℕ) → Result R Fault) wher
       ap Ok (sym (append-nil front)) ∙ rw none at so_far
 
   -- a row that was read is not after the last one
-  pub row_within : (row : R) (number : ℕ) (fields : List (List ℕ)) → Gives (Ok row) (row_at row_of number fields) → number ≤ last_row
+  pub row_within : (row : R) (number : ℕ) (fields : List (List ℕ)) → IsOrWantsMemory (Ok row) (row_at row_of number fields) → number ≤ last_row
   row_within row number fields gave = by (nat_lt last_row number) refl (is_read row (row_at row_of number fields) gave)
     where
       by : (b : Bool) → nat_lt last_row number ≡ b → row_at row_of number fields ≡ Ok row → number ≤ last_row
@@ -93,7 +93,7 @@ module _ {R : Type 0} (row_of : ℕ → List (List ℕ) → Result R Fault) wher
 
   -- a file that is not too long
   pub file_read : (names : List (List ℕ)) (file : List ℕ) (rows : List (List (List ℕ))) (result : Result (List R) Fault) → length file ≤ longest_file
-      → rows ≡ first_records_of file → Gives result (rows_under names row_of rows) → Gives result (rows_of_file names row_of file)
+      → rows ≡ first_records_of file → IsOrWantsMemory result (rows_under names row_of rows) → IsOrWantsMemory result (rows_of_file names row_of file)
   file_read names file rows result within taken gave =
       let short : nat_lt longest_file (length file) ≡ false = grind (arith, nat_tests) in
       rw short (rw (taken, rows_under-take names (records_of file)) at gave)
@@ -125,7 +125,7 @@ module _ {R : Type 0} (row_of : ℕ → List (List ℕ) → Result R Fault) wher
       by true e = cc e
       by false e = rows_under-few names (records_of file) rows e
 
-  pub rows_of_file-few : (names : List (List ℕ)) (file : List ℕ) (result : Result (List R) Fault) → Gives result (rows_of_file names row_of file) → IfOk result (λ rows. length rows ≤ most_rows)
+  pub rows_of_file-few : (names : List (List ℕ)) (file : List ℕ) (result : Result (List R) Fault) → IsOrWantsMemory result (rows_of_file names row_of file) → IfOk result (λ rows. length rows ≤ most_rows)
   rows_of_file-few names file (Ok rows) (inl e) = file_few names file rows (sym e)
   rows_of_file-few names file (Ok rows) (inr e) = cc e
   rows_of_file-few names file (Err why) gave = tt
@@ -164,7 +164,7 @@ module _ {R : Type 0} (row_of : ℕ → List (List ℕ) → Result R Fault) (P :
       by true e = cc e
       by false e = rows_under-each names (records_of file) rows e
 
-  pub rows_of_file-each : (names : List (List ℕ)) (file : List ℕ) (result : Result (List R) Fault) → Gives result (rows_of_file names row_of file) → IfOk result (All P)
+  pub rows_of_file-each : (names : List (List ℕ)) (file : List ℕ) (result : Result (List R) Fault) → IsOrWantsMemory result (rows_of_file names row_of file) → IfOk result (All P)
   rows_of_file-each names file (Ok rows) (inl e) = file_each names file rows (sym e)
   rows_of_file-each names file (Ok rows) (inr e) = cc e
   rows_of_file-each names file (Err why) gave = tt

@@ -7,7 +7,7 @@ use Rattle.std.proofs.lemmas.List.{append-nil, drop_all}
 use Rattle.std.proofs.lemmas.Str.{IsUtf8-from_is_utf8, is_utf8-from_IsUtf8}
 use Rattle.csv.specs.Machine.{line_feed}
 use Rattle.csv.specs.Records.{field_at}
-use Rattle.wu_feed.specs.Scripts.{field_cause, has_bytes, line_of, words_among, words_unless}
+use Rattle.wu_feed.specs.Scripts.{field_cause, has_bytes, script_line_of, words_among, words_unless}
 use Rattle.wu_feed.specs.declared.script.LineCause.{LineCause}
 use Rattle.wu_feed.specs.declared.script.LineCause.TheVariants as cause
 use Rattle.wu_feed.specs.declared.script.ScriptLine.{ScriptLine}
@@ -85,7 +85,7 @@ all_words front fields i whole none so_far =
 
 -- the lines from a place on, of which the first has the number after this one
 abbrev pub lines_from : ℕ → List (List ℕ) → List ScriptLine
-lines_from number lines = filter_map line_of (enumerate_from (number + 1) lines)
+lines_from number lines = filter_map script_line_of (enumerate_from (number + 1) lines)
 
 -- no line is left
 pub all_lines : (front : List ScriptLine) (number : ℕ) (lines : List (Bor (List ℕ))) (i : ℕ) (whole : List ScriptLine) → length lines ≤ i

@@ -12,7 +12,7 @@ use Rattle.toml.specs.declared.value.Value.{Value}
 use Rattle.wu_core.specs.Templates.{template_parameters, whole_at}
 use Rattle.wu_core.specs.declared.fault.TemplateKey.TheVariants as key
 use Rattle.wu_feed.specs.Limits.{longest_template}
-use Rattle.wu_feed.specs.Templates.{document_of, has_only_keys, is_key, value_in}
+use Rattle.wu_feed.specs.Templates.{document_of, has_only_keys, is_key, value_of_key}
 
 short_text : (text : List ℕ) → length text ≤ 65536 → nat_le (length text) longest_template ≡ true
 short_text text short = grind (arith, nat_tests)
@@ -33,8 +33,8 @@ has_only_keys-view [] = refl
 has_only_keys-view (entry ∷ more) = rw (has_only_keys-view more) refl
 
 -- the values of the keys, in the order of the fields
-pub values_in : (document : Members) (a b c d e f g : Option ℤ) → a ≡ value_in document key.MinQuorum → b ≡ value_in document key.TargetNresults
-    → c ≡ value_in document key.MaxErrorResults → d ≡ value_in document key.MaxTotalResults → e ≡ value_in document key.MaxSuccessResults
-    → f ≡ value_in document key.DelayBound → g ≡ value_in document key.Credit
-    → template_parameters (whole_at (a ∷ b ∷ c ∷ d ∷ e ∷ f ∷ g ∷ [])) ≡ template_parameters (value_in document)
+pub values_in : (document : Members) (a b c d e f g : Option ℤ) → a ≡ value_of_key document key.MinQuorum → b ≡ value_of_key document key.TargetNresults
+    → c ≡ value_of_key document key.MaxErrorResults → d ≡ value_of_key document key.MaxTotalResults → e ≡ value_of_key document key.MaxSuccessResults
+    → f ≡ value_of_key document key.DelayBound → g ≡ value_of_key document key.Credit
+    → template_parameters (whole_at (a ∷ b ∷ c ∷ d ∷ e ∷ f ∷ g ∷ [])) ≡ template_parameters (value_of_key document)
 values_in document a b c d e f g ea eb ec ed ee ef eg = rw (ea, eb, ec, ed, ee, ef, eg) refl

@@ -64,8 +64,8 @@ line_with number (Ok words) = Some (with_words number words)
 line_with number (Err why) = Some (at_fault number why)
 
 -- what a numbered line is; one without a byte is none
-abbrev pub line_of : ℕ × List ℕ → Option ScriptLine
-line_of line = if has_bytes line.1 then line_with line.0 (words_at line.0 line.1) else None
+abbrev pub script_line_of : ℕ × List ℕ → Option ScriptLine
+script_line_of line = if has_bytes line.1 then line_with line.0 (words_at line.0 line.1) else None
 
 -- the lines of a text, with their numbers
 abbrev pub numbered_lines : List ℕ → List (ℕ × List ℕ)
@@ -73,4 +73,4 @@ numbered_lines text = enumerate_from 1 (slice_split (λ byte. byte == line_feed)
 
 -- the lines of a script
 abbrev pub script_of : List ℕ → Result (List ScriptLine) Fault
-script_of text = if nat_lt longest_file (length text) then Err (BadFile 0 file.TooLong) else Ok (filter_map line_of (numbered_lines text))
+script_of text = if nat_lt longest_file (length text) then Err (BadFile 0 file.TooLong) else Ok (filter_map script_line_of (numbered_lines text))

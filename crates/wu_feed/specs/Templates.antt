@@ -37,20 +37,20 @@ value_or default None = Some (pos default)
 value_or default (Some value) = as_integer value
 
 -- the value of each key
-abbrev pub value_in : Members → TemplateKey → Option ℤ
-value_in document key.MinQuorum = value_or default_parameters.min_quorum (get_member (codes "min_quorum") document)
-value_in document key.TargetNresults = value_or default_parameters.target_nresults (get_member (codes "target_nresults") document)
-value_in document key.MaxErrorResults = value_or default_parameters.max_error_results (get_member (codes "max_error_results") document)
-value_in document key.MaxTotalResults = value_or default_parameters.max_total_results (get_member (codes "max_total_results") document)
-value_in document key.MaxSuccessResults = value_or default_parameters.max_success_results (get_member (codes "max_success_results") document)
-value_in document key.DelayBound = value_or default_parameters.delay_bound (get_member (codes "delay_bound") document)
-value_in document key.Credit = value_or default_parameters.credit (get_member (codes "credit") document)
-value_in document key.Document = None
-value_in document key.Unknown = None
+abbrev pub value_of_key : Members → TemplateKey → Option ℤ
+value_of_key document key.MinQuorum = value_or default_parameters.min_quorum (get_member (codes "min_quorum") document)
+value_of_key document key.TargetNresults = value_or default_parameters.target_nresults (get_member (codes "target_nresults") document)
+value_of_key document key.MaxErrorResults = value_or default_parameters.max_error_results (get_member (codes "max_error_results") document)
+value_of_key document key.MaxTotalResults = value_or default_parameters.max_total_results (get_member (codes "max_total_results") document)
+value_of_key document key.MaxSuccessResults = value_or default_parameters.max_success_results (get_member (codes "max_success_results") document)
+value_of_key document key.DelayBound = value_or default_parameters.delay_bound (get_member (codes "delay_bound") document)
+value_of_key document key.Credit = value_or default_parameters.credit (get_member (codes "credit") document)
+value_of_key document key.Document = None
+value_of_key document key.Unknown = None
 
 -- the parameters that a document sets
 abbrev pub document_parameters : Members → Result Parameters Fault
-document_parameters document = if has_only_keys document then template_parameters (value_in document) else Err (BadTemplate key.Unknown)
+document_parameters document = if has_only_keys document then template_parameters (value_of_key document) else Err (BadTemplate key.Unknown)
 
 abbrev pub parameters_if : Option Members → Result Parameters Fault
 parameters_if (Some document) = document_parameters document

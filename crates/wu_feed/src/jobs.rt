@@ -2,7 +2,7 @@
 
 ghost use Rattle.std.specs.Prelude.{◌≡◌, ◌≤◌, All, IfErr, IfOk, length};
 ghost use Rattle.csv.specs.Records.{fields_of};
-ghost use Rattle.wu_core.specs.Reads.{Gives};
+ghost use Rattle.wu_core.specs.Reads.{IsOrWantsMemory};
 ghost use Rattle.wu_feed.specs.Limits.{most_rows};
 ghost use Rattle.wu_feed.specs.Ranges.{IsJob};
 ghost use Rattle.wu_feed.specs.Rows.{IsFileFault};
@@ -27,7 +27,7 @@ pub type Jobs = Rows<Job>;
 
 /// The job of a row: its name, and then its input. The first cause for which there is none is that of `BadFile`.
 fn read_job(alloc: Global, number: u32, row: &ByteRecord) -> Result<Job, Fault>
-    ensures { Gives result (job_of number (fields_of row.now)) }
+    ensures { IsOrWantsMemory result (job_of number (fields_of row.now)) }
 {
     let Some((name, input)) = records::two_fields(row) else {
         return Err(records::fault_at(number, FileCause::Fields));
@@ -74,7 +74,7 @@ impl Row for Job {
 /// input of at most 4,096 bytes in hex. Any other file is `BadFile` with its first faulty row (records numbered from 1,
 /// the header; 0 for the file's length) and the first cause there, from left to right.
 pub fn read_jobs(alloc: Global, file: &[u8]) -> Result<Jobs, Fault>
-    ensures exact { Gives result (jobs_of_file file.now) }
+    ensures exact { IsOrWantsMemory result (jobs_of_file file.now) }
     ensures told { IfErr result IsFileFault }
     ensures few { IfOk result (λ jobs. length jobs ≤ most_rows) }
     ensures ranged { IfOk result (All IsJob) }

@@ -2,7 +2,7 @@
 
 ghost use Rattle.std.specs.Prelude.{◌≡◌, ◌≤◌, All, IfErr, IfOk, length};
 ghost use Rattle.csv.specs.Records.{fields_of};
-ghost use Rattle.wu_core.specs.Reads.{Gives};
+ghost use Rattle.wu_core.specs.Reads.{IsOrWantsMemory};
 ghost use Rattle.wu_feed.specs.Limits.{most_rows};
 ghost use Rattle.wu_feed.specs.Ranges.{IsReportRow};
 ghost use Rattle.wu_feed.specs.Reports.{report_of, reported_output, reports_header, reports_of_file};
@@ -34,7 +34,7 @@ pub type Reports = Rows<ReportRow>;
 
 /// The output of a success, in hex; of any other status there is none, and the text is empty.
 fn read_output(alloc: Global, status: Status, text: &[u8]) -> Result<Option<Bytes>, Fault>
-    ensures { Gives result (Ok (reported_output status text.now)) }
+    ensures { IsOrWantsMemory result (Ok (reported_output status text.now)) }
 {
     if status == Status::Success {
         read_hex(alloc, text, LONGEST_OUTPUT)
@@ -45,9 +45,10 @@ fn read_output(alloc: Global, status: Status, text: &[u8]) -> Result<Option<Byte
     }
 }
 
-/// The report of a row: the instance, the host, the moment, the status and the output. The first field at fault decides.
+/// The report of a row: the instance, the host, the moment, the status and the output. The first field at fault
+/// decides.
 fn read_report(alloc: Global, number: u32, row: &ByteRecord) -> Result<ReportRow, Fault>
-    ensures { Gives result (report_of number (fields_of row.now)) }
+    ensures { IsOrWantsMemory result (report_of number (fields_of row.now)) }
 {
     let Some((name, host, moment, status, output)) = five_fields(row) else {
         return Err(fault_at(number, FileCause::Fields));
@@ -94,12 +95,12 @@ impl Row for ReportRow {
     }
 }
 
-/// The reports of a file of at most 1,048,576 bytes: a header `result,host,moment,status,output` and at most 1,000 rows,
-/// each the name of an instance, a host, a moment, a status and an output of at most 4,096 bytes in hex, which is empty
-/// unless the status is `success`. Any other file is `BadFile` with its first faulty row (records numbered from 1, the
-/// header; 0 for the file's length) and the first cause there, from left to right.
+/// The reports of a file of at most 1,048,576 bytes: a header `result,host,moment,status,output` and at most 1,000
+/// rows, each the name of an instance, a host, a moment, a status and an output of at most 4,096 bytes in hex, which is
+/// empty unless the status is `success`. Any other file is `BadFile` with its first faulty row (records numbered from
+/// 1, the header; 0 for the file's length) and the first cause there, from left to right.
 pub fn read_reports(alloc: Global, file: &[u8]) -> Result<Reports, Fault>
-    ensures exact { Gives result (reports_of_file file.now) }
+    ensures exact { IsOrWantsMemory result (reports_of_file file.now) }
     ensures told { IfErr result IsFileFault }
     ensures few { IfOk result (λ reports. length reports ≤ most_rows) }
     ensures ranged { IfOk result (All IsReportRow) }

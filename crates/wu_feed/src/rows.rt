@@ -4,7 +4,7 @@ ghost use Rattle.std.specs.Prelude.{◌≡◌, ◌↔◌, ◌≤◌, ◌<◌, �
 ghost use Rattle.std.specs.Iterator.Adapters.{IterYieldsInOrder};
 ghost use Rattle.std.specs.Slice.Iter.{iter_rest};
 ghost use Rattle.csv.specs.Records.{fields_of};
-ghost use Rattle.wu_core.specs.Reads.{Gives};
+ghost use Rattle.wu_core.specs.Reads.{IsOrWantsMemory};
 ghost use Rattle.wu_feed.specs.Limits.{most_rows};
 ghost use Rattle.wu_feed.specs.Rows.{is_header, row_at, rows_from, rows_under, rows_of_file};
 
@@ -88,12 +88,12 @@ pub trait Row: Drop {
 
     /// The row of this number, or the first cause for which there is none.
     fn read(alloc: Global, number: u32, row: &ByteRecord) -> Result<Self, Fault>
-        ensures { Gives result (row_of number (fields_of row.now)) };
+        ensures { IsOrWantsMemory result (row_of number (fields_of row.now)) };
 }
 
 /// The row of this number, where a file may have one.
 fn read_row<R: Row>(alloc: Global, number: u32, row: &ByteRecord) -> Result<R, Fault>
-    ensures { Gives result (row_at R.row_of number (fields_of row.now)) }
+    ensures { IsOrWantsMemory result (row_at R.row_of number (fields_of row.now)) }
 {
     if number > LAST_ROW {
         return Err(fault_at(number, FileCause::TooManyRows));
@@ -103,7 +103,7 @@ fn read_row<R: Row>(alloc: Global, number: u32, row: &ByteRecord) -> Result<R, F
 
 /// The rows below the header, which are numbered from 2. The first faulty row decides.
 fn read_rows<R: Row>(alloc: Global, rows: &[ByteRecord]) -> Result<Rows<R>, Fault>
-    ensures { Gives result (rows_from R.row_of 2 (map fields_of rows.now)) }
+    ensures { IsOrWantsMemory result (rows_from R.row_of 2 (map fields_of rows.now)) }
 {
     let mut items = Vec::new(alloc);
     let mut number = 2;
@@ -117,7 +117,7 @@ fn read_rows<R: Row>(alloc: Global, rows: &[ByteRecord]) -> Result<Rows<R>, Faul
 
 /// The rows of a file's records, of which the first is the header.
 fn read_records<R: Row>(alloc: Global, records: &[ByteRecord]) -> Result<Rows<R>, Fault>
-    ensures { Gives result (rows_under R.names R.row_of (map fields_of records.now)) }
+    ensures { IsOrWantsMemory result (rows_under R.names R.row_of (map fields_of records.now)) }
 {
     match records {
         [header, rows @ ..] if R::is_header(header) => read_rows(alloc, rows),
@@ -125,10 +125,10 @@ fn read_records<R: Row>(alloc: Global, records: &[ByteRecord]) -> Result<Rows<R>
     }
 }
 
-/// The rows of a file of at most 1,048,576 bytes: its header and at most 1,000 rows. Any other file is `BadFile` with its
-/// first faulty row (records numbered from 1, the header; 0 for the file's length) and the first cause there.
+/// The rows of a file of at most 1,048,576 bytes: its header and at most 1,000 rows. Any other file is `BadFile` with
+/// its first faulty row (records numbered from 1, the header; 0 for the file's length) and the first cause there.
 pub fn read_file<R: Row>(alloc: Global, file: &[u8]) -> Result<Rows<R>, Fault>
-    ensures exact { Gives result (rows_of_file R.names R.row_of file.now) }
+    ensures exact { IsOrWantsMemory result (rows_of_file R.names R.row_of file.now) }
     ensures few { IfOk result (λ rows. length rows ≤ most_rows) }
 {
     if file.len() > LONGEST_FILE {

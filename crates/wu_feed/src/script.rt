@@ -5,9 +5,9 @@ ghost use Rattle.std.specs.List.{enumerate_from, filter_map, slice_split};
 ghost use Rattle.std.specs.Str.Lines.{strip_carriage_return};
 ghost use Rattle.csv.specs.Machine.{line_feed};
 ghost use Rattle.csv.specs.Records.{fields_of};
-ghost use Rattle.wu_core.specs.Reads.{FailsForMemory, Gives};
+ghost use Rattle.wu_core.specs.Reads.{FailsForMemory, IsOrWantsMemory};
 ghost use Rattle.wu_feed.specs.Rows.{IsFileFault};
-ghost use Rattle.wu_feed.specs.Scripts.{field_cause, fields_in, line_of, script_of, words_among, words_at};
+ghost use Rattle.wu_feed.specs.Scripts.{field_cause, fields_in, script_line_of, script_of, words_among, words_at};
 
 use crate::limits::{LONGEST_FILE, MOST_LINES};
 use crate::records::{fault_at, fault_of};
@@ -86,7 +86,7 @@ fn read_word(field: &[u8]) -> Result<&str, LineCause>
 
 /// The words among the fields of a line: those with bytes. The first field that is no word decides.
 fn words_among(alloc: Global, row: &ByteRecord) -> Result<Result<Words, LineCause>, Fault>
-    ensures { Gives result (Ok (words_among (fields_of row.now))) }
+    ensures { IsOrWantsMemory result (Ok (words_among (fields_of row.now))) }
 {
     let mut words = Vec::new(alloc);
     for field in row {
@@ -103,7 +103,7 @@ fn words_among(alloc: Global, row: &ByteRecord) -> Result<Result<Words, LineCaus
 
 /// The words of the line of this number, or the cause for which it has none.
 fn read_words(alloc: Global, number: u64, line: &[u8]) -> Result<Result<Words, LineCause>, Fault>
-    ensures { Gives result (Ok (words_at number line.now)) }
+    ensures { IsOrWantsMemory result (Ok (words_at number line.now)) }
 {
     if number > MOST_LINES as u64 {
         return Ok(Err(LineCause::TooManyLines));
@@ -114,7 +114,7 @@ fn read_words(alloc: Global, number: u64, line: &[u8]) -> Result<Result<Words, L
 
 /// What the line of this number is: none without words.
 fn read_line(alloc: Global, number: u64, line: &[u8]) -> Result<Option<ScriptLine>, Fault>
-    ensures { Gives result (Ok (line_of (number, line.now))) }
+    ensures { IsOrWantsMemory result (Ok (script_line_of (number, line.now))) }
 {
     if line.is_empty() {
         return Ok(None);
@@ -127,7 +127,7 @@ fn read_line(alloc: Global, number: u64, line: &[u8]) -> Result<Option<ScriptLin
 
 /// The lines of a text that are numbered from 1. The only fault is `Memory`.
 fn read_lines(alloc: Global, lines: &[&[u8]]) -> Result<Rows<ScriptLine>, Fault>
-    ensures { Gives result (Ok (filter_map line_of
+    ensures { IsOrWantsMemory result (Ok (filter_map script_line_of
         (enumerate_from 1 (map (λ line. line.now) lines.now)))) }
 {
     let mut items = Vec::new(alloc);
@@ -155,7 +155,7 @@ fn split_lines(alloc: Global, text: &[u8]) -> Result<Vec<&[u8]>, AllocError>
 /// quote, a word that is no text, or, whatever it has, a place after the thousandth line. A longer text is `BadFile`
 /// with row 0 and `TooLong`.
 pub fn read_script(alloc: Global, text: &[u8]) -> Result<Rows<ScriptLine>, Fault>
-    ensures exact { Gives result (script_of text.now) }
+    ensures exact { IsOrWantsMemory result (script_of text.now) }
     ensures told { IfErr result IsFileFault }
 {
     if text.len() > LONGEST_FILE {

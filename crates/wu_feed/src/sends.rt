@@ -2,7 +2,7 @@
 
 ghost use Rattle.std.specs.Prelude.{◌≡◌, ◌≤◌, ◌∷◌, [], All, IfErr, IfOk, length};
 ghost use Rattle.csv.specs.Records.{fields_of};
-ghost use Rattle.wu_core.specs.Reads.{Gives};
+ghost use Rattle.wu_core.specs.Reads.{IsOrWantsMemory};
 ghost use Rattle.wu_feed.specs.Limits.{most_rows};
 ghost use Rattle.wu_feed.specs.Ranges.{IsSendRow};
 ghost use Rattle.wu_feed.specs.Rows.{is_header, IsFileFault};
@@ -36,7 +36,7 @@ pub fn read_send(
     host: &[u8],
     moment: &[u8],
 ) -> Result<SendRow, Fault>
-    ensures { Gives result (send_of number (name.now ∷ host.now ∷ moment.now ∷ [])) }
+    ensures { IsOrWantsMemory result (send_of number (name.now ∷ host.now ∷ moment.now ∷ [])) }
 {
     let ResultName { workunit, n } = match ResultName::read(alloc, name) {
         Ok(name) => name,
@@ -85,11 +85,11 @@ impl Row for SendRow {
     }
 }
 
-/// The sends of a file of at most 1,048,576 bytes: a header `result,host,moment` and at most 1,000 rows, each the name of
-/// an instance, a host and a moment. Any other file is `BadFile` with its first faulty row (records numbered from 1, the
-/// header; 0 for the file's length) and the first cause there, from left to right.
+/// The sends of a file of at most 1,048,576 bytes: a header `result,host,moment` and at most 1,000 rows, each the name
+/// of an instance, a host and a moment. Any other file is `BadFile` with its first faulty row (records numbered from 1,
+/// the header; 0 for the file's length) and the first cause there, from left to right.
 pub fn read_sends(alloc: Global, file: &[u8]) -> Result<Sends, Fault>
-    ensures exact { Gives result (sends_of_file file.now) }
+    ensures exact { IsOrWantsMemory result (sends_of_file file.now) }
     ensures told { IfErr result IsFileFault }
     ensures few { IfOk result (λ sends. length sends ≤ most_rows) }
     ensures ranged { IfOk result (All IsSendRow) }

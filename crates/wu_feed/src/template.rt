@@ -5,7 +5,7 @@ ghost use Rattle.std.specs.BTreeMap.{keys};
 ghost use Rattle.std.specs.List.{list_all};
 ghost use Rattle.toml.specs.Data.{get_member};
 ghost use Rattle.toml.specs.View.{table_view};
-ghost use Rattle.wu_core.specs.Reads.{Gives};
+ghost use Rattle.wu_core.specs.Reads.{IsOrWantsMemory};
 ghost use Rattle.wu_core.specs.declared.fault.Fault.TheVariants.{Memory};
 ghost use Rattle.wu_feed.specs.Templates.{IsNoDocument, IsTemplateFault, document_of, document_parameters, is_key, template_of, value_or};
 
@@ -78,10 +78,11 @@ fn read_table(table: &Table) -> Result<Params, Fault>
 }
 
 /// The parameters that a template of at most 65,536 bytes sets; absent keys have their defaults. `BadTemplate` has the
-/// first of: `Document`, for a text that is too long or no TOML document; `Unknown`, for one with a key that no template
-/// has; the first key, in the order of the fields of `Params`, whose value is no whole number or out of its range.
+/// first of: `Document`, for a text that is too long or no TOML document; `Unknown`, for one with a key that no
+/// template has; the first key, in the order of the fields of `Params`, whose value is no whole number or out of its
+/// range.
 pub fn read_template(alloc: Global, text: &[u8]) -> Result<Params, Fault>
-    ensures exact { Gives result (template_of text.now) }
+    ensures exact { IsOrWantsMemory result (template_of text.now) }
     ensures told { IfErr result IsTemplateFault }
 {
     let table = read_document(alloc, text)?;

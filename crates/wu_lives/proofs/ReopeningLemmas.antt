@@ -23,7 +23,7 @@ use Rattle.sqlite.specs.Files.{Finds, IsOpened, file_state}
 use Rattle.sqlite.proofs.Theorems.{next_run}
 use Rattle.wu_core.specs.World.{World}
 use Rattle.wu_schema.specs.Calls.{LeavesOnly}
-use Rattle.wu_schema.specs.StandsFor.{StandsFor}
+use Rattle.wu_schema.specs.Refines.{Refines}
 use Rattle.wu_schema.proofs.StandsLemmas.{stands_again}
 use Rattle.wu_passes.specs.Committing.{FoundAs}
 use Rattle.wu_drive.specs.Driving.{AnswerAll, Drives, EndsBy, world_after}
@@ -34,7 +34,7 @@ use Rattle.wu_passes.specs.Standing.{GoesOn, MayEnd}
 use Rattle.wu_machine.specs.declared.command.Answer.{Answer}
 use Rattle.wu_machine.specs.declared.command.Command.{Command}
 use Rattle.wu_drive.specs.declared.runs.Run.{Run}
-use Rattle.wu_lives.specs.Lives.{AreOf, AreSessionsOf, commands_of, HasLived, IsSessionOf, Told, WritesTold}
+use Rattle.wu_lives.specs.Lives.{AreOf, AreSessionsOf, commands_of, HasLived, IsSessionOf, Transcript, WritesTold}
 use Rattle.wu_lives.specs.Reopening.{HoldsBeginning, IsKept}
 use Rattle.wu_stops.specs.Stopping.{IsCommitted, IsReopened}
 use Rattle.wu_stops.proofs.StoppingLemmas.{goes_again}
@@ -103,7 +103,7 @@ answers_none world commands (answer ∷ answers) run none count = absurd (omega 
 
 -- ---- the next session of a life
 
-sessions_more : (world : World) (told : List Told) (life : List Lived) (next : Told) (lived : Lived) → AreSessionsOf world told life → IsSessionOf (world_of_life world life) next lived
+sessions_more : (world : World) (told : List Transcript) (life : List Lived) (next : Transcript) (lived : Lived) → AreSessionsOf world told life → IsSessionOf (world_of_life world life) next lived
     → AreSessionsOf world (told ++ next ∷ []) (life ++ lived ∷ [])
 sessions_more world [] [] next lived all it = (it, tt)
 sessions_more world [] (l ∷ life) next lived all it = absurd all
@@ -114,12 +114,12 @@ pub lived_none : (world : World) (s : State) → IsProject world → GoesOn s wo
 lived_none world s project goes = record { life = []; sessions = tt; goes = goes; project = project }
 
 -- a beginning of its commands is found, so it is lived
-record IsFoundAs (world : World) (told : Told) (after : World) : Type 0 where
+record IsFoundAs (world : World) (told : Transcript) (after : World) : Type 0 where
   pub lived : Lived
   pub is : IsSessionOf world told lived
   pub left : world_lived world lived ≡ after
 
-found_as : (world : World) (told : Told) (count : ℕ) → IsKept told.commands told.run count → AnswerAll world (take told.run.acknowledged told.commands) told.answers → IsFoundAs world told (world_after world told.commands count)
+found_as : (world : World) (told : Transcript) (count : ℕ) → IsKept told.commands told.run count → AnswerAll world (take told.run.acknowledged told.commands) told.answers → IsFoundAs world told (world_after world told.commands count)
 found_as world told count kept answered = elim (nat_cases count told.run.acknowledged kept.has_acknowledged kept.at_most_one_more) [
   | inl same ↦ record {
     lived = record { session = session_of told.commands told.run false; is_cut_in = false };
@@ -146,7 +146,7 @@ found_as world told count kept answered = elim (nat_cases count told.run.acknowl
     at_place (command ∷ more) zero low = (command, refl)
     at_place (command ∷ more) (suc i) low = at_place more i (omega (arith, low))
 
-pub lived_more : (world : World) (told : List Told) (next : Told) (old new : State) → (lived : HasLived world told old) → HoldsBeginning (world_of_life world lived.life) next.commands next.run new
+pub lived_more : (world : World) (told : List Transcript) (next : Transcript) (old new : State) → (lived : HasLived world told old) → HoldsBeginning (world_of_life world lived.life) next.commands next.run new
     → AnswerAll (world_of_life world lived.life) (take next.run.acknowledged next.commands) next.answers → HasLived world (told ++ next ∷ []) new
 lived_more world told next old new lived holds answered =
     let it = found_as (world_of_life world lived.life) next holds.count holds.kept answered in
@@ -158,7 +158,7 @@ lived_more world told next old new lived holds answered =
       project = subst IsProject (sym left) holds.project;
     }
 
-pub written_more : (old mid new : Option (List ℕ)) (told : List Told) (next : Told) → WritesTold old mid told → WritesAnswers mid new next.answers next.run → WritesTold old new (told ++ next ∷ [])
+pub written_more : (old mid new : Option (List ℕ)) (told : List Transcript) (next : Transcript) → WritesTold old mid told → WritesAnswers mid new next.answers next.run → WritesTold old new (told ++ next ∷ [])
 written_more old mid new [] next same written = (new, subst (λ o. WritesAnswers o new next.answers next.run) same written, refl)
 written_more old mid new (t ∷ told) next (first, one, rest) written = (first, one, written_more first mid new told next rest written)
 
@@ -168,11 +168,11 @@ commands_more lives i life d low there =
     sym (ap (λ ls. commands_of ls) (take_more lives i d low ∙ ap (λ l. take i lives ++ l ∷ []) there) ∙ map-append (λ l. l.items) (take i lives) (life ∷ []))
 
 -- one more of a list of lives
-pub of_more : (lives : List (Vec Command Global)) (i : ℕ) (life d : Vec Command Global) (runs more : List Run) (told : List Told) (next : Told) → i < length lives → get_or lives i d ≡ life → next.commands ≡ life.items
+pub of_more : (lives : List (Vec Command Global)) (i : ℕ) (life d : Vec Command Global) (runs more : List Run) (told : List Transcript) (next : Transcript) → i < length lives → get_or lives i d ≡ life → next.commands ≡ life.items
     → more ≡ runs ++ next.run ∷ [] → AreOf (commands_of (take i lives)) runs told → AreOf (commands_of (take (i + 1) lives)) more (told ++ next ∷ [])
 of_more lives i life d runs more told next low there same pushed are = record {
-  their_commands = map-append (λ (t : Told). t.commands) told (next ∷ []) ∙ ap (λ cs. cs ++ next.commands ∷ []) are.their_commands ∙ ap (λ c. commands_of (take i lives) ++ c ∷ []) same ∙ commands_more lives i life d low there;
-  their_runs = map-append (λ (t : Told). t.run) told (next ∷ []) ∙ ap (λ rs. rs ++ next.run ∷ []) are.their_runs ∙ sym pushed;
+  their_commands = map-append (λ (t : Transcript). t.commands) told (next ∷ []) ∙ ap (λ cs. cs ++ next.commands ∷ []) are.their_commands ∙ ap (λ c. commands_of (take i lives) ++ c ∷ []) same ∙ commands_more lives i life d low there;
+  their_runs = map-append (λ (t : Transcript). t.run) told (next ∷ []) ∙ ap (λ rs. rs ++ next.run ∷ []) are.their_runs ∙ sym pushed;
 }
 
 -- and one more run

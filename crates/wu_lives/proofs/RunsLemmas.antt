@@ -30,7 +30,7 @@ use Rattle.wu_machine.specs.declared.command.Answer.{Answer}
 use Rattle.wu_machine.specs.declared.command.Command.{Command}
 use Rattle.wu_passes.specs.Adopting.{IsVacant}
 use Rattle.wu_passes.specs.Committing.{FoundAs}
-use Rattle.wu_passes.specs.Projects.{GoesStill, IsOver, state_of}
+use Rattle.wu_passes.specs.Projects.{IsSessionOpen, IsSessionEnded, state_of}
 use Rattle.wu_passes.specs.Standing.{GoesOn, MayEnd}
 use Rattle.wu_passes.specs.declared.project.Project.{Project}
 use Rattle.wu_lives.specs.Runs.{BeginsOver, HoldsBeginningIn, HoldsWorld, LeavesBeginnings, LivesOn, TellsFirst, told_by}
@@ -69,7 +69,7 @@ beginning_copied old files stays copied world commands run each image may =
 
 -- what a run left of its session stands for the world after a beginning of its list
 module _ {D : Type 0} {g : Ghosts D} (old mid : Project (FileStore D g) over_files) (commands : List Command) (answers : List Answer) (run : Run) (counted : length answers ≡ run.acknowledged)
-    (drives : DrivesProject old mid commands answers run) (ends : GoesStill old → IsOver mid → EndsBy run MayEnd) (ended : IsOver old → (mid ≡ old) × (run.acknowledged ≡ 0)) (clean : HasCleanDisk (state_of mid)) (world : World) (project : IsProject world) (goes : GoesOn (state_of old) world) where
+    (drives : DrivesProject old mid commands answers run) (ends : IsSessionOpen old → IsSessionEnded mid → EndsBy run MayEnd) (ended : IsSessionEnded old → (mid ≡ old) × (run.acknowledged ≡ 0)) (clean : HasCleanDisk (state_of mid)) (world : World) (project : IsProject world) (goes : GoesOn (state_of old) world) where
   pub begins_at : (db : Trees) → (state_of mid).may_leave db → IsBeginning world commands run db
   begins_at db may = elim (cases_Bool old.has_ended) [
     | inl was ↦

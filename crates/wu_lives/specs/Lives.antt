@@ -11,20 +11,20 @@ use Rattle.wu_machine.specs.declared.command.Answer.{Answer}
 use Rattle.wu_machine.specs.declared.command.Command.{Command}
 use Rattle.wu_passes.specs.declared.project.Project.{Project}
 use Rattle.wu_machine.specs.Sound.{IsProject}
-use Rattle.wu_passes.specs.Projects.{GoesStill}
+use Rattle.wu_passes.specs.Projects.{IsSessionOpen}
 use Rattle.wu_machine.specs.Sessions.{Lived, world_lived, world_of_life}
 use Rattle.wu_passes.specs.Standing.{GoesOn, MayEnd}
 use Rattle.wu_lives.specs.Reopening.{OfEachWorld}
 
 -- what a session told: the commands that it was given, its answers, and how far it went
-pub record Told : Type 0 where
+pub record Transcript : Type 0 where
   pub commands : List Command
   pub answers : List Answer
   pub run : Run
 
 -- It is a session of this life: what it acknowledged is the machine's, and its cut command is one during which want of
 -- memory or the disk ended it.
-pub record IsSessionOf (world : World) (told : Told) (lived : Lived) : Type 0 where
+pub record IsSessionOf (world : World) (told : Transcript) (lived : Lived) : Type 0 where
   pub within : told.run.acknowledged ≤ length told.commands
   pub answered : AnswerAll world (take told.run.acknowledged told.commands) told.answers
   pub has_ended : Bool
@@ -32,21 +32,21 @@ pub record IsSessionOf (world : World) (told : Told) (lived : Lived) : Type 0 wh
   pub ends : has_ended ≡ true → EndsBy told.run MayEnd
 
 -- each session goes on from the world that the one before it left
-abbrev pub AreSessionsOf : World → List Told → List Lived → Type 0
+abbrev pub AreSessionsOf : World → List Transcript → List Lived → Type 0
 AreSessionsOf world [] [] = ⊤
 AreSessionsOf world [] (lived ∷ life) = ⊥
 AreSessionsOf world (told ∷ more) [] = ⊥
 AreSessionsOf world (told ∷ more) (lived ∷ life) = IsSessionOf world told lived × AreSessionsOf (world_lived world lived) more life
 
 -- the tables stand for the world after a life of these sessions, so that a further one goes on from there
-pub record HasLived (world : World) (told : List Told) (found : State) : Type 0 where
+pub record HasLived (world : World) (told : List Transcript) (found : State) : Type 0 where
   pub life : List Lived
   pub sessions : AreSessionsOf world told life
   pub goes : GoesOn found (world_of_life world life)
   pub project : IsProject (world_of_life world life)
 
 -- the texts of the answers of each session, one after another
-abbrev pub WritesTold : Option (List ℕ) → Option (List ℕ) → List Told → Type 0
+abbrev pub WritesTold : Option (List ℕ) → Option (List ℕ) → List Transcript → Type 0
 WritesTold old new [] = new ≡ old
 WritesTold old new (told ∷ more) = (mid : Option (List ℕ)) × WritesAnswers old mid told.answers told.run × WritesTold mid new more
 
@@ -55,14 +55,14 @@ abbrev pub commands_of : List (Vec Command Global) → List (List Command)
 commands_of lives = map (λ life. life.items) lives
 
 -- these sessions had the commands of each life, and ran so
-pub record AreOf (lives : List (List Command)) (runs : List Run) (told : List Told) : Type 0 where
+pub record AreOf (lives : List (List Command)) (runs : List Run) (told : List Transcript) : Type 0 where
   pub their_commands : map (λ t. t.commands) told ≡ lives
   pub their_runs : map (λ t. t.run) told ≡ runs
 
 -- what the lives told is written, and what they left is found
 abbrev pub TellsLives : Option (List ℕ) → Option (List ℕ) → State → List (Vec Command Global) → List Run → State → Type 0
 TellsLives before after old lives runs new =
-    (told : List Told) × AreOf (commands_of lives) runs told × WritesTold before after told
+    (told : List Transcript) × AreOf (commands_of lives) runs told × WritesTold before after told
     × OfEachWorld old new (λ world. ∥ HasLived world told new ∥₁)
 
 -- a run for each life
@@ -71,4 +71,4 @@ RunsEach lives runs = length runs ≡ length lives
 
 -- after at least one life the session goes on, and over one that went on after any
 abbrev pub GoesOnAfter : {S : Type 0} {g : Store.Ghosts S} → Project S g → List (Vec Command Global) → Project S g → Type 0
-GoesOnAfter old lives new = GoesStill old ⊎ (1 ≤ length lives) → GoesStill new
+GoesOnAfter old lives new = IsSessionOpen old ⊎ (1 ≤ length lives) → IsSessionOpen new

@@ -12,7 +12,7 @@ use Rattle.wu_stops.specs.Stopping.{FindsAgain}
 use Rattle.wu_drive.specs.Driving.{AnswerAll, EndsBy, EndsEarly, LengthensLife, world_after}
 use Rattle.wu_machine.specs.Sound.{IsProject}
 use Rattle.wu_passes.specs.Adopting.{Adopts}
-use Rattle.wu_passes.specs.Projects.{GoesStill, IsOver, state_of}
+use Rattle.wu_passes.specs.Projects.{IsSessionOpen, IsSessionEnded, state_of}
 use Rattle.wu_passes.specs.Standing.{GoesOn, MayEnd}
 use Rattle.wu_drive.specs.Writing.{WritesAnswers}
 use Rattle.wu_machine.specs.declared.command.Answer.{Answer}
@@ -36,19 +36,20 @@ DoesAll commands run = (run.acknowledged ≤ length commands) × (run.end ≡ No
 -- over a session that had ended nothing is done or written, and that is why the run ended, unless there was no command
 abbrev pub TellsEnded : {S W : Type 0} {g : Store.Ghosts S} → Project S g → W → W → Run → Type 0
 TellsEnded old out_old out_new run =
-    IsOver old → (out_new ≡ out_old) × (run.acknowledged ≡ 0) × IfSome run.end (λ fault. fault ≡ Ended)
+    IsSessionEnded old → (out_new ≡ out_old) × (run.acknowledged ≡ 0) × IfSome run.end (λ fault. fault ≡ Ended)
 
 module _ {D : Type 0} {g : Ghosts D} where
   -- over a session that went on, why the run ended early
   abbrev pub TellsEnd : Project (FileStore D g) over_files → List Command → Run → State → Type 0
-  TellsEnd old commands run new = GoesStill old → OfEachWorld (state_of old) new (λ world. EndsEarly world commands run)
+  TellsEnd old commands run new = IsSessionOpen old → OfEachWorld (state_of old) new (λ world. EndsEarly world commands run)
 
-  -- What a run left of a session: want of memory or the disk alone ended it, and the disk did wherever the run ended so.
+  -- What a run left of a session: want of memory or the disk alone ended it, and the disk did wherever the run ended
+  -- so.
   pub record IsLeftByRun (old : Project (FileStore D g) over_files) (commands : List Command) (run : Run) (left : Project (FileStore D g) over_files) : Type 0 where
-    pub ends : GoesStill old → IsOver left → EndsBy run MayEnd
-    pub broken : GoesStill old → run.end ≡ Some Broken → IsOver left
+    pub ends : IsSessionOpen old → IsSessionEnded left → EndsBy run MayEnd
+    pub broken : IsSessionOpen old → run.end ≡ Some Broken → IsSessionEnded left
     -- a session that had ended is as it was
-    pub same : IsOver old → left ≡ old
+    pub same : IsSessionEnded old → left ≡ old
     -- each world that a stop may leave is that of a life with this session
     pub lives : LengthensLife old left commands run
 

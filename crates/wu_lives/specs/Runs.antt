@@ -20,11 +20,11 @@ use Rattle.wu_machine.specs.Sound.{IsProject}
 use Rattle.wu_machine.specs.declared.command.Answer.{Answer}
 use Rattle.wu_machine.specs.declared.command.Command.{Command}
 use Rattle.wu_passes.specs.Committing.{FoundAs}
-use Rattle.wu_passes.specs.Projects.{connection_of, GoesStill, state_of}
+use Rattle.wu_passes.specs.Projects.{connection_of, IsSessionOpen, state_of}
 use Rattle.wu_passes.specs.Standing.{GoesOn}
 use Rattle.wu_passes.specs.declared.project.Project.{Project}
 use Rattle.wu_stops.specs.Closing.{IsNumbered}
-use Rattle.wu_lives.specs.Lives.{HasLived, Told}
+use Rattle.wu_lives.specs.Lives.{HasLived, Transcript}
 use Rattle.wu_lives.specs.Reopening.{IsKept, IsLeftByRun}
 
 -- the two files, with these bytes, hold the tables of this world
@@ -33,7 +33,8 @@ pub record HoldsWorld (image : Image) (world : World) : Type 0 where
   pub holds : HoldsDatabase image trees
   pub found : FoundAs trees world
 
--- They hold those of the machine's world after the first so many commands: every acknowledged one, and at most one more.
+-- They hold those of the machine's world after the first so many commands: every acknowledged one, and at most one
+-- more.
 pub record HoldsBeginningIn (world : World) (commands : List Command) (run : Run) (image : Image) : Type 0 where
   pub count : ℕ
   pub kept : IsKept commands run count
@@ -51,7 +52,7 @@ BeginsOver image new =
     (world : World) → 1 ≤ world.version → HoldsWorld image world → HasCleanDisk new → GoesOn new world × (world.version ≡ present_version)
 
 -- what a run told
-abbrev pub told_by : List Command → List Answer → Run → Told
+abbrev pub told_by : List Command → List Answer → Run → Transcript
 told_by commands answers run = record { commands = commands; answers = answers; run = run }
 
 module _ {D : Type 0} {g : Ghosts D} (old : Project (FileStore D g) over_files) (commands : List Command) (run : Run) where
@@ -77,7 +78,7 @@ module _ {D : Type 0} {g : Ghosts D} (old : Project (FileStore D g) over_files) 
 
   -- over a session that went on, why it ended early
   abbrev pub WhyEnded : Files D → Type 0
-  WhyEnded files = GoesStill old → OfFirst files (λ world. EndsEarly world commands run)
+  WhyEnded files = IsSessionOpen old → OfFirst files (λ world. EndsEarly world commands run)
 
   -- each image that a stop may leave of its files holds the world after a beginning of the list
   abbrev pub LeavesBeginnings : Files D → Type 0
@@ -90,7 +91,7 @@ module _ {D : Type 0} {g : Ghosts D} (old : Project (FileStore D g) over_files) 
   -- where such an image began the second, that goes on from the world of the life over both
   abbrev pub LivesOn : List Answer → Files D → Image → State → Type 0
   LivesOn answers files image new =
-      AreClean g files.log files.db → outcomes g files.log files.db image → HasCleanDisk new → (world : World) (told : List Told) → HasLived world told (state_of old)
+      AreClean g files.log files.db → outcomes g files.log files.db image → HasCleanDisk new → (world : World) (told : List Transcript) → HasLived world told (state_of old)
       → ∥ HasLived world (told ++ told_by commands answers run ∷ []) new ∥₁
 
   -- what the first run told

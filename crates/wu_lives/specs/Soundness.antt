@@ -4,10 +4,11 @@ use Rattle.wu_core.specs.World.{World}
 use Rattle.wu_machine.specs.Sessions.{Lived, world_of_life}
 use Rattle.wu_machine.specs.Sound.{IsSound}
 use Rattle.wu_sound_laws.specs.Laws.{HaveValues}
-use Rattle.wu_lives.specs.Lives.{AreSessionsOf, Told}
+use Rattle.wu_lives.specs.Lives.{AreSessionsOf, Transcript}
 
--- where the world before was sound, the one that a life of these sessions left is, whichever of its cut commands were done
+-- where the world before was sound, the one that a life of these sessions left is, whichever of its cut commands were
+-- done
 abbrev pub LeavesSound : Type 0
 LeavesSound =
-    (world : World) (told : List Told) (life : List Lived) → All (λ t. HaveValues t.commands) told → IsSound world
+    (world : World) (told : List Transcript) (life : List Lived) → All (λ t. HaveValues t.commands) told → IsSound world
     → AreSessionsOf world told life → IsSound (world_of_life world life)

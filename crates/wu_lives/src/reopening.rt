@@ -4,7 +4,7 @@
 
 ghost use Rattle.std.specs.Prelude.{IfSome};
 ghost use Rattle.sqlite.specs.Files.{file_state};
-ghost use Rattle.wu_passes.specs.Projects.{GoesStill, state_of};
+ghost use Rattle.wu_passes.specs.Projects.{IsSessionOpen, state_of};
 ghost use Rattle.wu_lives.specs.Lives.{GoesOnAfter, RunsEach, TellsLives};
 ghost use Rattle.wu_lives.specs.Reopening.{AdoptsLeft, DoesAll, TellsEnded, FindsBeginning, FindsLeft, TellsEnd, TellsReplies};
 ghost use Rattle.wu_stops.specs.Stopping.{WasClean};
@@ -18,10 +18,10 @@ use wu_stops::stop_and_open;
 
 /// Runs a list of commands; then the machine stops, and the two files are opened again.
 ///
-/// What is found stands for the world after a beginning of the list: every acknowledged command, and one more only where
-/// the run ended with `Memory` or `Broken` during it. It is what the stop could leave of the session after the run, and
-/// where the connection was open then, its last commit; it is open, and all of it is committed. Why the run ended is as
-/// of `drive`. `None` where the open fails.
+/// What is found stands for the world after a beginning of the list: every acknowledged command, and one more only
+/// where the run ended with `Memory` or `Broken` during it. It is what the stop could leave of the session after the
+/// run, and where the connection was open then, its last commit; it is open, and all of it is committed. Why the run
+/// ended is as of `drive`. `None` where the open fails.
 pub fn drive_stop_and_open<D: Crash + Drop, W: Write>(
     alloc: Global,
     mut project: Project<FileStore<D>>,
@@ -49,9 +49,9 @@ pub fn drive_stop_and_open<D: Crash + Drop, W: Write>(
 
 /// A life of a project: a list of commands, a stop of the machine, and a session over what is found.
 ///
-/// The session goes on from the world after a beginning of the list, which has every acknowledged command. A project that
-/// is found after the stop is adopted as it stands. Why the run ended is as of `drive`. `None` where the open or the
-/// adoption fails.
+/// The session goes on from the world after a beginning of the list, which has every acknowledged command. A project
+/// that is found after the stop is adopted as it stands. Why the run ended is as of `drive`. `None` where the open or
+/// the adoption fails.
 pub fn live<D: Crash + Drop, W: Write>(
     alloc: Global,
     project: Project<FileStore<D>>,
@@ -61,7 +61,7 @@ pub fn live<D: Crash + Drop, W: Write>(
 ) -> Option<(Run, Project<FileStore<D>>)>
     ensures clean { IfSome result (λ r.
         WasClean (state_of project) (state_of r.1)) }
-    ensures begins { IfSome result (λ r. GoesStill r.1) }
+    ensures begins { IfSome result (λ r. IsSessionOpen r.1) }
     ensures answers { IfSome result (λ r.
         TellsReplies (W.contents out.old) (W.contents out.new) (state_of project)
         commands.now r.0 (state_of r.1)) }
@@ -84,10 +84,9 @@ pub fn live<D: Crash + Drop, W: Write>(
 
 /// A list of lives, each of which goes on from what the one before it left; a run for each life.
 ///
-/// The texts of the answers are written, session by session; each answer is the machine's reply, and what is found is the
-/// world after a life of these sessions, each cut command in or out.
-/// After at least one life the session goes on, also where the first one had ended. `None` where an open or an adoption
-/// fails, or memory for the runs is refused.
+/// The texts of the answers are written, session by session; each answer is the machine's reply, and what is found is
+/// the world after a life of these sessions, each cut command in or out. After at least one life the session goes on,
+/// also where the first one had ended. `None` where an open or an adoption fails, or memory for the runs is refused.
 pub fn live_all<D: Crash + Drop, W: Write>(
     alloc: Global,
     mut project: Project<FileStore<D>>,

@@ -1,11 +1,11 @@
 //! Two runs of the program over one file: a stop ends the first, and the second opens what it left.
 //!
-//! A disk may fail at any call and from then on, so a stop amid a command is one of these stops. No code can tell what a
-//! file holds, so the second run is one over whatever bytes `S` supposes of it.
+//! A disk may fail at any call and from then on, so a stop amid a command is one of these stops. No code can tell what
+//! a file holds, so the second run is one over whatever bytes `S` supposes of it.
 
 ghost use Rattle.std.specs.Prelude.{IfErr, IfOk, IfSome};
 ghost use Rattle.sqlite_wal.specs.Files.{image_at};
-ghost use Rattle.wu_passes.specs.Projects.{GoesStill, state_of};
+ghost use Rattle.wu_passes.specs.Projects.{IsSessionOpen, state_of};
 ghost use Rattle.wu_lives.specs.Reopening.{DoesAll, TellsEnded};
 ghost use Rattle.wu_lives.specs.Runs.{AnswersFirst, AreLeft, BeginsBlank, BeginsOver, EndsFirst, LeavesFirst, LeavesBeginnings, LeavesUnclosed, LivesOver, TellsAnswers, WhyEnded};
 
@@ -18,7 +18,8 @@ use wu_drive::{Command, Project, Run, drive};
 /// Runs a list of commands over a project, and lets its two files go.
 ///
 /// Each image that a stop may leave of these files holds the world after a beginning of the list: every acknowledged
-/// command, and one more only where the run ended with `Memory` or `Broken` during it. Why the run ended is as of `drive`.
+/// command, and one more only where the run ended with `Memory` or `Broken` during it. Why the run ended is as of
+/// `drive`.
 pub fn run_and_leave<D: Disk + Drop, W: Write>(
     alloc: Global,
     mut project: Project<FileStore<D>>,
@@ -40,8 +41,8 @@ pub fn run_and_leave<D: Disk + Drop, W: Write>(
 /// Runs a list of commands over a project, and closes its database, as the program does.
 ///
 /// Where the close ended well, each image that a stop may leave of the files holds the world after a beginning of the
-/// list, as of `run_and_leave`; with a close that failed its store is left, and the same is said of the files of one that
-/// is numbered. So `begin_at` goes on from there.
+/// list, as of `run_and_leave`; with a close that failed its store is left, and the same is said of the files of one
+/// that is numbered. So `begin_at` goes on from there.
 pub fn run_and_close<D: Disk + Drop, W: Write>(
     alloc: Global,
     mut project: Project<FileStore<D>>,
@@ -65,14 +66,14 @@ pub fn run_and_close<D: Disk + Drop, W: Write>(
 
 /// Opens the file at a path and begins a session over the project in it.
 ///
-/// Where its database has no byte it is a fresh project, which stands for the empty world; where the file holds the tables
-/// of a world it goes on from that world. `None` where the open or the adoption fails.
+/// Where its database has no byte it is a fresh project, which stands for the empty world; where the file holds the
+/// tables of a world it goes on from that world. `None` where the open or the adoption fails.
 pub fn begin_at<S: Start>(
     rt: &HostRuntime,
     path: &str,
     start: S,
 ) -> Option<Project<FileStore<FileFrom<S>>>>
-    ensures begins { IfSome result GoesStill }
+    ensures begins { IfSome result IsSessionOpen }
     ensures blank { IfSome result (λ project. BeginsBlank (image_at S.Start) (state_of project)) }
     ensures found { IfSome result (λ project. BeginsOver (image_at S.Start) (state_of project)) }
 {
@@ -88,9 +89,9 @@ pub fn begin_at<S: Start>(
 /// Two runs of the program: the first runs a list of commands over an adopted project, and a stop ends it; the second
 /// opens the file and adopts the project in it.
 ///
-/// Each image that the stop may leave holds the world after a beginning of the list, which has every acknowledged command.
-/// Where the second run found such an image, it goes on from that world, and the tables stand for the world of the life
-/// over both runs. Why the first ended is as of `drive`. `None` where the open or the adoption fails.
+/// Each image that the stop may leave holds the world after a beginning of the list, which has every acknowledged
+/// command. Where the second run found such an image, it goes on from that world, and the tables stand for the world of
+/// the life over both runs. Why the first ended is as of `drive`. `None` where the open or the adoption fails.
 pub fn run_and_begin_again<D: Disk + Drop, S: Start, W: Write>(
     rt: &HostRuntime,
     project: Project<FileStore<D>>,
@@ -99,7 +100,7 @@ pub fn run_and_begin_again<D: Disk + Drop, S: Start, W: Write>(
     path: &str,
     start: S,
 ) -> Option<(Run, Project<FileStore<FileFrom<S>>>)>
-    ensures begins { IfSome result (λ r. GoesStill r.1) }
+    ensures begins { IfSome result (λ r. IsSessionOpen r.1) }
     ensures found { IfSome result (λ r. BeginsOver (image_at S.Start) (state_of r.1)) }
     ensures answers { IfSome result (λ r.
         AnswersFirst project commands.now r.0 (W.contents out.old) (W.contents out.new)) }

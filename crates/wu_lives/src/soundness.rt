@@ -2,7 +2,8 @@
 
 ghost use Rattle.wu_lives.specs.Soundness.{LeavesSound};
 
-/// Where the world before was sound, the one that lives left is: verdicts, grants, totals and archived rows agree in it.
+/// Where the world before was sound, the one that lives left is: verdicts, grants, totals and archived rows agree in
+/// it.
 pub fn leaves_sound()
     ensures { LeavesSound }
 {}

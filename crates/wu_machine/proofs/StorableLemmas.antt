@@ -10,7 +10,7 @@ use Rattle.std.specs.Option.{option_map_or}
 use Rattle.std.specs.Prelude.{find, if◌then◌else◌, slice_get, IfSome}
 use Rattle.wu_core.specs.Limits.{last_moment, longest_output}
 use Rattle.wu_core.specs.Names.{is_name}
-use Rattle.wu_core.specs.Workunit.{with_instance}
+use Rattle.wu_core.specs.Workunit.{with_instance_set}
 use Rattle.wu_core.specs.World.{World, Import, last_skip}
 use Rattle.wu_core.specs.declared.fault.Fault.{Fault}
 use Rattle.wu_core.specs.declared.fault.Fault.TheVariants.{NameUsed}
@@ -138,20 +138,20 @@ module _ {Row : Type 0} (rule : Rule Row) where
 -- ---- an instance changed at its place
 
 abbrev changed_at : Workunit → ℕ → (Instance → Instance) → Workunit
-changed_at w n change = option_map_or (λ (i : Instance). with_instance w n (change i)) (slice_get w.instances n) w
+changed_at w n change = option_map_or (λ (i : Instance). with_instance_set w n (change i)) (slice_get w.instances n) w
 
 module _ (w : Workunit) (n : ℕ) (change : Instance → Instance) where
   at_number : (changed_at w n change).number ≡ w.number
   at_number = by (slice_get w.instances n)
     where
-      by : (found : Option Instance) → (option_map_or (λ (i : Instance). with_instance w n (change i)) found w).number ≡ w.number
+      by : (found : Option Instance) → (option_map_or (λ (i : Instance). with_instance_set w n (change i)) found w).number ≡ w.number
       by (Some i) = refl
       by None = refl
 
   at_name : (changed_at w n change).name ≡ w.name
   at_name = by (slice_get w.instances n)
     where
-      by : (found : Option Instance) → (option_map_or (λ (i : Instance). with_instance w n (change i)) found w).name ≡ w.name
+      by : (found : Option Instance) → (option_map_or (λ (i : Instance). with_instance_set w n (change i)) found w).name ≡ w.name
       by (Some i) = refl
       by None = refl
 
@@ -161,7 +161,7 @@ module _ (w : Workunit) (n : ℕ) (change : Instance → Instance) where
   at_storable : IsStorable w → ((i : Instance) → slice_get w.instances n ≡ Some i → IsStoredInstance i → IsStoredInstance (change i)) → IsStorable (changed_at w n change)
   at_storable storable keeps = by (slice_get w.instances n) refl
     where
-      by : (found : Option Instance) → slice_get w.instances n ≡ found → IsStorable (option_map_or (λ (i : Instance). with_instance w n (change i)) found w)
+      by : (found : Option Instance) → slice_get w.instances n ≡ found → IsStorable (option_map_or (λ (i : Instance). with_instance_set w n (change i)) found w)
       by (Some i) at = record {
         number = storable.number;
         row = storable.row;

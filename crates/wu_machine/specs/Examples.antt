@@ -20,27 +20,27 @@ abbrev pub with_workunits : List Workunit → World
 with_workunits workunits = record empty_world { workunits = workunits; next_number = 10 }
 
 -- the workunit of this number and name, with these instances
-abbrev pub numbered : ℕ → List ℕ → List Instance → Workunit
-numbered number name instances = record (job default_parameters instances) { number = number; name = name }
+abbrev pub workunit_numbered : ℕ → List ℕ → List Instance → Workunit
+workunit_numbered number name instances = record (job default_parameters instances) { number = number; name = name }
 
 -- sent to this host an hour after noon, half an hour later or earlier
-abbrev pub due_at : ℕ → Instance
-due_at deadline = record (out h1) { deadline = Some deadline }
+abbrev pub out_until : ℕ → Instance
+out_until deadline = record (out h1) { deadline = Some deadline }
 
 -- three workunits whose instances are late, the third one first
 abbrev pub three_late : World
 three_late = with_workunits
-    (numbered 1 (codes "a1") (due_at 1772973000 ∷ fresh ∷ [])
-    ∷ numbered 2 (codes "a2") (due_at 1772973000 ∷ fresh ∷ [])
-    ∷ numbered 3 (codes "a3") (due_at 1772971200 ∷ fresh ∷ [])
+    (workunit_numbered 1 (codes "a1") (out_until 1772973000 ∷ fresh ∷ [])
+    ∷ workunit_numbered 2 (codes "a2") (out_until 1772973000 ∷ fresh ∷ [])
+    ∷ workunit_numbered 3 (codes "a3") (out_until 1772971200 ∷ fresh ∷ [])
     ∷ [])
 
 abbrev pub numbers_of : List Workunit → List ℕ
 numbers_of = map (λ w. w.number)
 
 -- one instance is out to the first host, the other waits
-abbrev pub one_out : World
-one_out = with_workunits (job default_parameters (out h1 ∷ fresh ∷ []) ∷ [])
+abbrev pub world_of_one_out : World
+world_of_one_out = with_workunits (job default_parameters (out h1 ∷ fresh ∷ []) ∷ [])
 
 abbrev pub sent_row : ℕ → List ℕ → SendRow
 sent_row n host = record { workunit = job_1; n = n; host = host; moment = 1772370000 }

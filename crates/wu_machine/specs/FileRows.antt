@@ -10,8 +10,8 @@ use Rattle.wu_rules.specs.Sending.{send_verdict_in, sent_in}
 use Rattle.wu_rules.specs.Verdicts.{report_verdict_code, send_verdict_code}
 use Rattle.wu_machine.specs.Worlds.{workunit_named, with_named}
 
--- What a kind of rows says: the name of a row's workunit, the number of the verdict on it (0 where it is applied, else why
--- it is skipped), and what it makes of the workunit.
+-- What a kind of rows says: the name of a row's workunit, the number of the verdict on it (0 where it is applied, else
+-- why it is skipped), and what it makes of the workunit.
 pub record Rule (Row : Type 0) : Type 0 where
   pub workunit : Row → List ℕ
   pub verdict : Row → Workunit → ℕ

@@ -39,7 +39,8 @@ abbrev pub has_right_limits : Request → Bool
 has_right_limits (AskPass pass now limit min_age) = is_limit_right pass limit min_age
 has_right_limits _ = true
 
--- the values of what is asked are in their ranges: an import has a name, and the moment of a pass is not after the last one
+-- the values of what is asked are in their ranges: an import has a name, and the moment of a pass is not after the last
+-- one
 abbrev pub HasValues : Request → Type 0
 HasValues (AskBatch name template file) = IsName name
 HasValues (AskSent name file) = IsName name

@@ -1,4 +1,5 @@
--- Sound worlds: verdicts, grants and archived rows agree, numbers and names are used once, and values are in their ranges.
+-- Sound worlds: verdicts, grants and archived rows agree, numbers and names are used once, and values are in their
+-- ranges.
 use Rattle.std.specs.Prelude.{◌≡◌, ◌≢◌, ◌↔◌, ℕ, ◌<◌, ◌≤◌, ◌+◌, ◌==◌, ◌&&◌, List, filter, length, All, AllPairs}
 use Rattle.wu_core.specs.declared.workunit.Grant.{Grant}
 use Rattle.wu_core.specs.declared.workunit.Workunit.{Workunit}

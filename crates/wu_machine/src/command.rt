@@ -20,8 +20,8 @@ pub struct RowsFile {
 
 /// What a project is asked to do. Each command is done whole or not at all.
 ///
-/// A pass changes the first workunits of the world's list, up to its limit of 1 to 1000, that are due for it; in a sound
-/// world they are the first by number. The least age of a purge is at most a year of 365 days.
+/// A pass changes the first workunits of the world's list, up to its limit of 1 to 1000, that are due for it; in a
+/// sound world they are the first by number. The least age of a purge is at most a year of 365 days.
 #[derive(Debug, Drop)]
 pub enum Command {
     /// Adds the jobs of a batch.

@@ -5,7 +5,7 @@ ghost use Rattle.wu_core.specs.declared.fault.Fault.TheVariants.{WorkunitUsed, U
 ghost use Rattle.wu_core.specs.Parameters.{default_parameters};
 ghost use Rattle.wu_core.specs.World.{empty_world};
 ghost use Rattle.wu_machine.specs.Batches.{jobs_added};
-ghost use Rattle.wu_machine.specs.Examples.{job_1, three_late, numbers_of, one_out, three_sends, six_reports, one_archived, one_job};
+ghost use Rattle.wu_machine.specs.Examples.{job_1, three_late, numbers_of, world_of_one_out, three_sends, six_reports, one_archived, one_job};
 ghost use Rattle.wu_machine.specs.Machine.{reply};
 ghost use Rattle.wu_rules.specs.Due.{chosen};
 ghost use Rattle.wu_machine.specs.Requests.{AskPass, AskCancel};
@@ -20,12 +20,12 @@ pub fn passes_go_by_number()
 
 /// A host gets one instance of a workunit, and an instance that is out is not sent again.
 pub fn sends_one_instance_a_host()
-    ensures { row_verdicts send_rule one_out three_sends ≡ 3 ∷ 2 ∷ 0 ∷ [] }
+    ensures { row_verdicts send_rule world_of_one_out three_sends ≡ 3 ∷ 2 ∷ 0 ∷ [] }
 {}
 
 /// Why rows of reports are skipped: no such instance, never sent, another host, before it was sent, and over already.
 pub fn skips_five_reports()
-    ensures { row_verdicts report_rule one_out six_reports ≡ 1 ∷ 2 ∷ 3 ∷ 4 ∷ 0 ∷ 5 ∷ [] }
+    ensures { row_verdicts report_rule world_of_one_out six_reports ≡ 1 ∷ 2 ∷ 3 ∷ 4 ∷ 0 ∷ 5 ∷ [] }
 {}
 
 /// The name of a workunit that was purged stays taken, and it can't be cancelled any more.

@@ -19,8 +19,8 @@ use Rattle.wu_machine.specs.Sound.{IsRecorded, IsSound}
 use Rattle.wu_machine_laws.proofs.Middles.{around, count_none}
 use Rattle.wu_machine_laws.proofs.SoundParts.{is_row_of}
 
--- what became of a workunit has its number, its name, its canonical result if there is one, its final verdicts and the hosts
--- of its instances, is given up where it was, and its hosts are apart where they were
+-- what became of a workunit has its number, its name, its canonical result if there is one, its final verdicts and the
+-- hosts of its instances, is given up where it was, and its hosts are apart where they were
 pub record Continues (w v : Workunit) : Type 0 where
   pub number : v.number ≡ w.number
   pub name : v.name ≡ w.name

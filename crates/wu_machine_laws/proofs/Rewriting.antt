@@ -13,7 +13,7 @@ use Rattle.wu_core.specs.declared.workunit.Archived.{Archived}
 use Rattle.wu_core.specs.declared.workunit.Grant.{Grant}
 use Rattle.wu_core.specs.declared.workunit.Instance.{Instance}
 use Rattle.wu_core.specs.declared.workunit.Workunit.{Workunit}
-use Rattle.wu_rules.specs.Consistent.{host_at, IsConsistent, IsGrantFor, IsRowOf, is_done, is_valid_at, one_if, Rewrites}
+use Rattle.wu_rules.specs.Consistent.{instance_host, IsConsistent, IsGrantFor, IsRowOf, is_done, is_valid_at, one_if, Rewrites}
 use Rattle.wu_rules_laws.proofs.Rewriting.{canonical_stays}
 use Rattle.wu_core.specs.Storable.{AreStoredInstances, IsHost, IsName, IsStoredArchived, IsStoredInstance, IsStorable}
 use Rattle.wu_machine.specs.Sound.{IsGiven, IsRecorded, IsSound}
@@ -64,7 +64,7 @@ both_true p q one other = rw (one, other) refl
 -- ---- the host of a place
 
 -- a place that has a host is one of an instance
-place_within : (instances : List Instance) (n : ℕ) (host : List ℕ) → host_at instances n ≡ Some host → n < length instances
+place_within : (instances : List Instance) (n : ℕ) (host : List ℕ) → instance_host instances n ≡ Some host → n < length instances
 place_within instances n host is = by (slice_get instances n) refl is
   where
     by : (found : Option Instance) → slice_get instances n ≡ found → option_map_or (λ (i : Instance). i.host) found None ≡ Some host → n < length instances
@@ -72,7 +72,7 @@ place_within instances n host is = by (slice_get instances n) refl is
     by None at here = absurd cc
 
 -- the host of a stored instance is a name
-host_named : (instances : List Instance) (n : ℕ) (host : List ℕ) → AreStoredInstances instances → host_at instances n ≡ Some host → IsName host
+host_named : (instances : List Instance) (n : ℕ) (host : List ℕ) → AreStoredInstances instances → instance_host instances n ≡ Some host → IsName host
 host_named instances n host stored is = by (slice_get instances n) refl is
   where
     named : (found : Option (List ℕ)) → IsHost found → found ≡ Some host → IsName host

@@ -38,8 +38,8 @@ HandlesUpToTheLimit =
 abbrev pub SoundWorldsAreInOrder : Type 0
 SoundWorldsAreInOrder = (world : World) → IsSound world → IsInOrder world
 
--- all that a pass changes, in order, are the ones taken, up to the limit, and then the ones left: none where the limit was
--- not reached, and each of them of a greater number than each taken
+-- all that a pass changes, in order, are the ones taken, up to the limit, and then the ones left: none where the limit
+-- was not reached, and each of them of a greater number than each taken
 pub record IsTaken (pass : Pass) (now min_age limit : ℕ) (world : World) (taken : List Workunit) : Type 0 where
   pub left : List Workunit
   pub all : filter (changes pass now min_age) world.workunits ≡ taken ++ left
@@ -95,8 +95,8 @@ new_grants pass now min_age limit world = flat_map (granted pass) (chosen pass n
 abbrev pub is_listed : List Grant → List ℕ → Bool
 is_listed grants host = list_any (λ one. bytes_eq one host) (hosts_of grants)
 
--- a host has the credit that it had and that of its new grants, and so with their number; it is listed where it was, or is
--- newly granted
+-- a host has the credit that it had and that of its new grants, and so with their number; it is listed where it was, or
+-- is newly granted
 pub record AddsUp (host : List ℕ) (old more new : List Grant) : Type 0 where
   pub credit : credit_of new host ≡ credit_of old host + credit_of more host
   pub number : grants_of new host ≡ grants_of old host + grants_of more host

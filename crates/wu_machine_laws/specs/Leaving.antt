@@ -54,8 +54,8 @@ PurgedIsGone =
 abbrev pub unnamed : List (List ℕ) → World → List Workunit
 unnamed names world = filter (λ w. not (is_one_of names w.name)) world.workunits
 
--- The workunits that have none of these names are as they were; none comes or goes, and each keeps its number and its name.
--- Nothing is granted or archived.
+-- The workunits that have none of these names are as they were; none comes or goes, and each keeps its number and its
+-- name. Nothing is granted or archived.
 pub record ChangesNamed (names : List (List ℕ)) (old new : World) : Type 0 where
   pub others : unnamed names new ≡ unnamed names old
   pub numbers : map (λ w. w.number) new.workunits ≡ map (λ w. w.number) old.workunits
@@ -65,8 +65,8 @@ pub record ChangesNamed (names : List (List ℕ)) (old new : World) : Type 0 whe
   pub next_number : new.next_number ≡ old.next_number
   pub version : new.version ≡ old.version
 
--- A file changes the workunits that its rows name alone, a cancel the one of its name; a batch leaves all that are present,
--- an upgrade all, and what is refused leaves the world.
+-- A file changes the workunits that its rows name alone, a cancel the one of its name; a batch leaves all that are
+-- present, an upgrade all, and what is refused leaves the world.
 pub record LeavesOthers (world : World) : Type 0 where
   pub sent : (name file : List ℕ) (rows : List SendRow) → sends_of_file file ≡ Ok rows
       → ChangesNamed (map (λ row. row.workunit) rows) world (step world (AskSent name file))
@@ -93,8 +93,8 @@ pub record IsNewOf (params : Parameters) (job : Job) (number : ℕ) (w : Workuni
   pub not_done : (w.assimilate ≡ assimilate.Init) × (w.file_delete ≡ file_delete.Init)
       × (w.done_at ≡ None)
 
--- A batch's workunits come behind those that are there, one for each job, with consecutive numbers from the next one. Its
--- first number is the first of these, or 0 where it has no job.
+-- A batch's workunits come behind those that are there, one for each job, with consecutive numbers from the next one.
+-- Its first number is the first of these, or 0 where it has no job.
 pub record Numbers (old new : World) (params : Parameters) (jobs : List Job) (first : ℕ) : Type 0 where
   pub added : List Workunit
   pub behind : new.workunits ≡ old.workunits ++ added
@@ -116,8 +116,8 @@ NumbersBatches =
 
 -- ---- what is cancelled, and an upgrade
 
--- A cancel that is answered was of a workunit that was present and undecided, and it is then cancelled; an upgrade answers
--- the version that it found, and the world is then at the present one.
+-- A cancel that is answered was of a workunit that was present and undecided, and it is then cancelled; an upgrade
+-- answers the version that it found, and the world is then at the present one.
 pub record DoesAsAnswered (world : World) : Type 0 where
   pub cancelled : (name : List ℕ) → reply world (AskCancel name) ≡ Ok (Cancelled name)
       → IsSomeAnd (workunit_named world name) (λ w. (is_undecided w ≡ true)

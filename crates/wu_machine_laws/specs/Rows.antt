@@ -42,8 +42,8 @@ MakesOf old new name n Becomes =
     (w : Workunit) (i : Instance) → workunit_named old name ≡ Some w → slice_get w.instances n ≡ Some i
     → OfNamed new name (OfInstance n (Becomes w i))
 
--- A send gets the verdict that its workunit gives, is applied exactly where it may be, and changes its instance alone, as it
--- says; a send that is skipped leaves the world.
+-- A send gets the verdict that its workunit gives, is applied exactly where it may be, and changes its instance alone,
+-- as it says; a send that is skipped leaves the world.
 pub record TakesSend (row : SendRow) (verdict : ℕ) (old new : World) : Type 0 where
   pub told : IsVerdict old row.workunit (λ w. send_verdict_code (send_verdict_in w row.n row.host))
       (send_verdict_code send.Unknown) verdict

@@ -3,8 +3,8 @@
 ghost use Rattle.wu_machine_laws.specs.Files.{AppliesFiles};
 ghost use Rattle.wu_machine_laws.specs.Rows.{LeavesUnnamedInstances, RowsSeeRows};
 
-/// A new file has a verdict for each row; its first row is applied exactly where it may be, after the file each row that
-/// was applied holds, and where none was, the workunits are as they were.
+/// A new file has a verdict for each row; its first row is applied exactly where it may be, after the file each row
+/// that was applied holds, and where none was, the workunits are as they were.
 pub fn applies_files()
     ensures { AppliesFiles }
 {}

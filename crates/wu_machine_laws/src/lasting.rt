@@ -47,8 +47,8 @@ pub fn hosts_last()
     ensures { HostsLast }
 {}
 
-/// Where a world is sound and no host has two instances of one of its workunits, no host ever gets a second one, nor two of
-/// a workunit that comes later.
+/// Where a world is sound and no host has two instances of one of its workunits, no host ever gets a second one, nor
+/// two of a workunit that comes later.
 pub fn hosts_stay_apart()
     ensures { HostsStayApart }
 {}

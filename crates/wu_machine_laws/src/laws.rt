@@ -17,7 +17,8 @@ pub fn sound_worlds_are_in_order()
     ensures { SoundWorldsAreInOrder }
 {}
 
-/// A pass takes the first workunits of the world's list (by number, in a sound world), and leaves none that it changes while its limit is not reached.
+/// A pass takes the first workunits of the world's list (by number, in a sound world), and leaves none that it changes
+/// while its limit is not reached.
 pub fn takes_the_first()
     ensures { TakesTheFirst }
 {}

@@ -12,8 +12,8 @@ pub fn what_is_purged_is_gone()
     ensures { PurgedIsGone }
 {}
 
-/// A file and a cancel change the workunits that they name alone; a batch and an upgrade change none, and what is refused
-/// changes nothing.
+/// A file and a cancel change the workunits that they name alone; a batch and an upgrade change none, and what is
+/// refused changes nothing.
 pub fn leaves_what_is_not_named()
     ensures { LeavesWhatIsNotNamed }
 {}
@@ -23,14 +23,14 @@ pub fn numbers_batches()
     ensures { NumbersBatches }
 {}
 
-/// A cancel that is answered has cancelled the workunit of its name, which was undecided; an upgrade has brought the world to
-/// the present version.
+/// A cancel that is answered has cancelled the workunit of its name, which was undecided; an upgrade has brought the
+/// world to the present version.
 pub fn cancels_and_upgrades()
     ensures { CancelsAndUpgrades }
 {}
 
-/// Where the machine makes nothing of a world, the world after a request is the one before it: an import that comes again, a
-/// pass that changes no workunit, an upgrade.
+/// Where the machine makes nothing of a world, the world after a request is the one before it: an import that comes
+/// again, a pass that changes no workunit, an upgrade.
 pub fn stays_where_nothing_is_made()
     ensures { StaysByNothing }
 {}

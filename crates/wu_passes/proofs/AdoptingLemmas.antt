@@ -12,7 +12,7 @@ use Rattle.wu_schema.proofs.VersionLemmas.{has_understood, project_of, project_r
 use Rattle.wu_schema.specs.Calls.{IsBack, IsDone, IsMade, IsRefused, IsUndone, LeavesOnly}
 use Rattle.wu_schema.specs.Faults.{IsFailure}
 use Rattle.wu_schema.specs.Made.{MakesProject}
-use Rattle.wu_schema.specs.StandsFor.{StandsFor}
+use Rattle.wu_schema.specs.Refines.{Refines}
 use Rattle.wu_schema.specs.Versions.{AnswersVersion, HasProject, HasVersion}
 use Rattle.wu_machine.specs.Machine.{present_version}
 use Rattle.wu_machine.specs.Requests.{Request}
@@ -100,10 +100,10 @@ one_version : (db : Database) (has : HasProject db.schema) (a b : ℕ) → HasVe
 one_version db has a b (first, one) (second, other) = let same = sym one.1 ∙ other.1 in cc
 
 -- a world's version is that of the row
-pub version_stands : (db : Database) (world : World) (stands : StandsFor db world) → 1 ≤ world.version → HasVersion db (project_of db world stands) world.version
+pub version_stands : (db : Database) (world : World) (stands : Refines db world) → 1 ≤ world.version → HasVersion db (project_of db world stands) world.version
 version_stands db world stands first = (first, project_row db world stands)
 
-never_vacant : (s : State) (world : World) → StandsFor s.now world → ¬ IsVacant s
+never_vacant : (s : State) (world : World) → Refines s.now world → ¬ IsVacant s
 never_vacant s world stands vacant = absurd (has_understood _ (project_of s.now world stands) vacant)
 
 -- ---- a connection in a transaction comes back as it was
@@ -146,7 +146,7 @@ module _ (old asked : State) (crash : Survives old asked (λ _. ⊥)) (unlimited
     of_row : HasCleanDisk asked → (has : HasProject old.now.schema) → HasVersion old.now has version
     of_row clean has = let (one, one_is, of) = (answers clean).of_row has in let same : one ≡ version = let so = sym one_is ∙ is in cc in subst (λ n. HasVersion old.now has n) same of
 
-    of_world : HasCleanDisk asked → (world : World) → StandsFor old.now world → version ≡ world.version
+    of_world : HasCleanDisk asked → (world : World) → Refines old.now world → version ≡ world.version
     of_world clean world stands = let so = sym is ∙ (answers clean).of_world world stands in cc
 
     known_adopts : version ≤ present_version → Adopts old asked
@@ -303,7 +303,7 @@ module _ (old asked : State) (crash : Survives old asked (λ _. ⊥)) (unlimited
 
 module _ (old new : State) (fault : Fault) (clean : HasCleanDisk new) (refuses : RefusesAdoption old new fault) where
   -- tables that stand for a world are refused for its later version, or for a failure
-  pub standing_refused : old.in_transaction ≡ false → (world : World) → 1 ≤ world.version → StandsFor old.now world → IsRefusalOf world.version fault
+  pub standing_refused : old.in_transaction ≡ false → (world : World) → 1 ≤ world.version → Refines old.now world → IsRefusalOf world.version fault
   standing_refused idle world first stands = (refuses.cause clean).only idle (project_of old.now world stands) world.version (version_stands old.now world stands first)
 
   -- a row of a version that this program knows is refused for a failure alone

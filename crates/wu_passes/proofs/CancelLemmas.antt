@@ -7,14 +7,14 @@ use Rattle.wu_core.specs.declared.fault.Fault.TheVariants.{UnknownWorkunit}
 use Rattle.wu_core.specs.declared.workunit.Workunit.{Workunit}
 use Rattle.wu_core.specs.World.{World}
 use Rattle.wu_rules.specs.Cancelling.{cancelled}
-use Rattle.wu_schema.specs.StandsFor.{StandsFor}
+use Rattle.wu_schema.specs.Refines.{Refines}
 use Rattle.wu_store.specs.Changing.{AreRight, made_all}
 use Rattle.wu_store.specs.declared.changes.Change.TheVariants.{Replace}
 use Rattle.wu_store.proofs.WorldOnce.{once_named, once_number}
 use Rattle.wu_passes.specs.declared.imports.Plan.{Plan}
 use Rattle.wu_machine.specs.Imports.{Done}
 use Rattle.wu_machine.specs.Machine.{cancel_done, done}
-use Rattle.wu_passes.specs.Planning.{IsCancelled, IsPlan, RefusesCancel}
+use Rattle.wu_passes.specs.Planning.{IsCancelPlan, IsPlan, RefusesCancel}
 use Rattle.wu_machine.specs.Commands.{reply_of_answer}
 use Rattle.wu_machine.specs.Sound.{IsProject}
 use Rattle.wu_machine.specs.Requests.{AskCancel, Cancelled, Reply}
@@ -22,7 +22,7 @@ use Rattle.wu_passes.specs.Touched.{AreImages, touched_named, with_touched}
 use Rattle.wu_machine.specs.Worlds.{workunit_named, with_named}
 use Rattle.wu_passes.proofs.TouchedLemmas.{images_by_row, images_empty, images_loaded, left_by_row, loaded, loaded_found, name_found, replaced_all, touched_empty}
 
-module _ (db : Database) (world : World) (stands : StandsFor db world) (name : List ℕ) (w : Workunit) (present : workunit_named world name ≡ Some w) where
+module _ (db : Database) (world : World) (stands : Refines db world) (name : List ℕ) (w : Workunit) (present : workunit_named world name ≡ Some w) where
   images : AreImages world (w ∷ [])
   images = images_loaded world (once_named db world stands) [] (w ∷ []) name w present refl (λ q. refl) (images_empty world)
 
@@ -56,14 +56,14 @@ same_number : (v : Workunit) → (cancelled v).number ≡ v.number
 unfolding cancelled
 same_number v = refl
 
-module _ (db : Database) (world : World) (stands : StandsFor db world) (project : IsProject world) (name : List ℕ) where
+module _ (db : Database) (world : World) (stands : Refines db world) (project : IsProject world) (name : List ℕ) where
   asked : done world (AskCancel name) ≡ cancel_done world name (workunit_named world name)
   asked = rw project.present refl
 
   pub cancel_unknown : workunit_named world name ≡ None → done world (AskCancel name) ≡ Err UnknownWorkunit
   cancel_unknown none = asked ∙ ap (cancel_done world name) none
 
-  pub cancel_planned : (w : Workunit) → workunit_named world name ≡ Some w → (r : Result Plan Fault) → IfOk r (IsCancelled w) → IfErr r (RefusesCancel w) → IsPlan world (AskCancel name) r
+  pub cancel_planned : (w : Workunit) → workunit_named world name ≡ Some w → (r : Result Plan Fault) → IfOk r (IsCancelPlan w) → IfErr r (RefusesCancel w) → IsPlan world (AskCancel name) r
   cancel_planned w present (Ok plan) it err =
       let one = replaced_one db world stands name w present (cancelled w) (same_name w) (same_number w) cancelled refl in
       record {

@@ -1,4 +1,5 @@
--- What the plan of an import makes of a world is what the machine makes of it: one that came before, and a new file of rows.
+-- What the plan of an import makes of a world is what the machine makes of it: one that came before, and a new file of
+-- rows.
 use Rattle.std.proofs.Common.{◌≡◌, ℕ, Bool, true, false, List, [], ◌∷◌, Some, None, Result, Ok, Err, IfOk, IfErr, refl, sym, ap, subst, ◌∙◌, inl, inr}
 use Rattle.std.proofs.lemmas.Bool.{cases_Bool}
 use Rattle.std.proofs.lemmas.Slice.Eq.{bytes_eq-Decides}
@@ -7,7 +8,7 @@ use Rattle.sqlite.specs.Effect.{Database}
 use Rattle.wu_core.specs.declared.fault.Fault.{Fault}
 use Rattle.wu_core.specs.declared.fault.Fault.TheVariants.{Memory, NameUsed}
 use Rattle.wu_core.specs.World.{World, Import, is_import}
-use Rattle.wu_schema.specs.StandsFor.{StandsFor}
+use Rattle.wu_schema.specs.Refines.{Refines}
 use Rattle.wu_store.specs.Changes.{with_import}
 use Rattle.wu_store.specs.Changing.{AreRight, import_of_change, made_all}
 use Rattle.wu_store.specs.Loading.{IsEarlier}
@@ -42,7 +43,7 @@ both_true false b is = absurd cc
 -- ---- the rows of a file
 
 -- the changes of a new file make of the world what its rows make of it, and keep it
-pub file_planned : {Row : Type 0} → (rule : Rule Row) (given : Given) (rows : List Row) (db : Database) (world : World) → StandsFor db world → (left : Left) → IsLeft rule rows world left.touched left.verdicts.items
+pub file_planned : {Row : Type 0} → (rule : Rule Row) (given : Given) (rows : List Row) (db : Database) (world : World) → Refines db world → (left : Left) → IsLeft rule rows world left.touched left.verdicts.items
     → (r : Result Plan Fault) → IfOk r (IsNewFile given left) → IfErr r (λ fault. fault ≡ Memory) → PlansRows rule given rows r world
 file_planned rule given rows db world stands left is (Ok plan) new err =
     let made = rows_then rule rows world left.touched left.verdicts.items (Keep new.kept) (once_named db world stands) (once_number db world stands) is new.distinct tt in

@@ -9,7 +9,7 @@ use Rattle.wu_core.specs.declared.workunit.Grant.{Grant}
 use Rattle.wu_core.specs.declared.workunit.Workunit.{Workunit}
 use Rattle.wu_core.specs.World.{World}
 use Rattle.wu_rules.proofs.Lists.{any-map}
-use Rattle.wu_schema.specs.StandsFor.{StandsFor}
+use Rattle.wu_schema.specs.Refines.{Refines}
 use Rattle.wu_store.specs.Changes.{HasNumber, IsNextPlace, with_replaced, without_workunit}
 use Rattle.wu_store.specs.Changing.{AreRight, archived_from, granted_from, made_all}
 use Rattle.wu_rules.specs.Due.{changes, chosen}
@@ -141,7 +141,7 @@ replacements image ts = map (λ w. Replace (image w)) ts
 abbrev pub removals : List Workunit → List Change
 removals ts = map (λ (w : Workunit). Remove w.number) ts
 
-module _ (db : Database) (world : World) (stands : StandsFor db world) (pass : Pass) (now min_age limit : ℕ) where
+module _ (db : Database) (world : World) (stands : Refines db world) (pass : Pass) (now min_age limit : ℕ) where
   chosen_part : IsPart (chosen pass now min_age limit world) world.workunits
   chosen_part = first_ones (changes pass now min_age) world.workunits limit
 
@@ -157,7 +157,7 @@ module _ (db : Database) (world : World) (stands : StandsFor db world) (pass : P
     pass_replaces_right = right_put image numbers (chosen pass now min_age limit world) world (part_all (λ v. HasNumber v.number world.workunits) chosen_part (own_numbers world.workunits))
 
 -- a purge takes each chosen workunit out
-module _ (db : Database) (world : World) (stands : StandsFor db world) (now min_age limit : ℕ) where
+module _ (db : Database) (world : World) (stands : Refines db world) (now min_age limit : ℕ) where
   pub purge_removes : made_all (removals (chosen Purge now min_age limit world)) world ≡ record world { workunits = (passed Purge now min_age limit world).workunits }
   purge_removes =
       made_cut (chosen Purge now min_age limit world) world
@@ -209,7 +209,7 @@ module _ (world : World) (pass : Pass) (now min_age limit place row_place : ℕ)
       (record world { workunits = (passed pass now min_age limit world).workunits; grants = world.grants ++ pass_grants pass now min_age limit world }) row_next))
 
 -- a pass of which each workunit leaves an image of its number
-module _ (db : Database) (world : World) (stands : StandsFor db world) (pass : Pass) (now min_age limit place row_place : ℕ)
+module _ (db : Database) (world : World) (stands : Refines db world) (pass : Pass) (now min_age limit place row_place : ℕ)
     (image : Workunit → Workunit) (numbers : (w : Workunit) → (image w).number ≡ w.number) (is : (w : Workunit) → images pass now w ≡ image w ∷ []) where
   pub pass_makes : made_all (and_given pass now min_age limit world place row_place (replacements image (chosen pass now min_age limit world))) world ≡ passed pass now min_age limit world
   pass_makes =
@@ -222,7 +222,7 @@ module _ (db : Database) (world : World) (stands : StandsFor db world) (pass : P
       (pass_replaces_right db world stands pass now min_age limit image numbers is)
 
 -- a purge
-module _ (db : Database) (world : World) (stands : StandsFor db world) (now min_age limit place row_place : ℕ) where
+module _ (db : Database) (world : World) (stands : Refines db world) (now min_age limit place row_place : ℕ) where
   pub purge_makes : made_all (and_given Purge now min_age limit world place row_place (removals (chosen Purge now min_age limit world))) world ≡ passed Purge now min_age limit world
   purge_makes = pass_made world Purge now min_age limit place row_place (removals (chosen Purge now min_age limit world)) (purge_removes db world stands now min_age limit)
 

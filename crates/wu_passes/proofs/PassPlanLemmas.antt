@@ -10,7 +10,7 @@ use Rattle.wu_core.specs.World.{World}
 use Rattle.wu_rules.specs.Assimilation.{assimilated, emptied}
 use Rattle.wu_rules.specs.Transition.{transitioned}
 use Rattle.wu_rules.specs.Validation as validation
-use Rattle.wu_schema.specs.StandsFor.{StandsFor}
+use Rattle.wu_schema.specs.Refines.{Refines}
 use Rattle.wu_store.specs.Changes.{IsNextPlace}
 use Rattle.wu_store.specs.Changing.{archived_from, AreRight, granted_from, made_all}
 use Rattle.wu_rules.specs.Due.{chosen}
@@ -53,7 +53,7 @@ row_placed place seq rows a first changes new at are is =
 
 -- ---- what the changes make
 
-module _ (db : Database) (world : World) (stands : StandsFor db world) (now min_age limit place row_place : ℕ) where
+module _ (db : Database) (world : World) (stands : Refines db world) (now min_age limit place row_place : ℕ) where
   -- the changes of the workunits that a pass chooses, and then what it grants and archives
   abbrev all_changes : Pass → List Change
   all_changes pass = and_given pass now min_age limit world place row_place (map (change_by pass now) (chosen pass now min_age limit world))
@@ -74,7 +74,7 @@ module _ (db : Database) (world : World) (stands : StandsFor db world) (now min_
     pass_all_right Purge = purge_makes_right db world stands now min_age limit place row_place next row_next
 
 -- the changes of what was handled of the workunits that are chosen, with their places
-module _ (db : Database) (world : World) (stands : StandsFor db world) (project : IsProject world) (ask : Ask) (right : is_limit_right ask.pass ask.limit ask.min_age ≡ true)
+module _ (db : Database) (world : World) (stands : Refines db world) (project : IsProject world) (ask : Ask) (right : is_limit_right ask.pass ask.limit ask.min_age ≡ true)
     (taken : List Workunit) (are : taken ≡ chosen ask.pass ask.moment ask.min_age ask.limit world)
     (done_with : Handled) (all : HandlesAll ask.pass ask.moment taken done_with) (changes : List Change) (given : HasGiven world done_with changes) where
   changes_are : changes ≡ all_changes db world stands ask.moment ask.min_age ask.limit given.place given.row_place ask.pass

@@ -6,7 +6,7 @@ use Rattle.std.specs.List.{enumerate_from}
 use Rattle.wu_core.specs.Parameters.{Parameters}
 use Rattle.wu_feed.specs.declared.jobs.Job.{Job}
 use Rattle.std.proofs.Common.{Vec, Global, bytes_eq}
-use Rattle.wu_core.specs.Reads.{Gives}
+use Rattle.wu_core.specs.Reads.{IsOrWantsMemory}
 use Rattle.wu_core.specs.declared.import.ImportKind.TheVariants as kind
 use Rattle.wu_machine.specs.Batches.{new_workunit}
 use Rattle.wu_machine.specs.Imports.{Given, first_answer}
@@ -48,7 +48,7 @@ additions_whole params next jobs changes new are is =
     let long : length changes ≡ length jobs = ap (λ cs. length cs) are ∙ length-map (enumerate_from next jobs) (added params) ∙ length-enumerate_from next jobs in
     is ∙ ap (λ k. changes ++ Next (next + k) ∷ []) long ∙ ap (λ cs. cs ++ Next (next + length jobs) ∷ []) are
 
-pub gives_ok : {T : Type 0} (a b : T) → Gives (Ok a) (Ok b) → a ≡ b
+pub gives_ok : {T : Type 0} (a b : T) → IsOrWantsMemory (Ok a) (Ok b) → a ≡ b
 gives_ok a b (inl is) = cc
 gives_ok a b (inr memory) = absurd cc
 

@@ -13,7 +13,7 @@ use Rattle.wu_schema.specs.Versions.{HasProject, HasVersion, LacksProject}
 use Rattle.wu_machine.specs.Machine.{present_version}
 use Rattle.wu_store.specs.Loading.{IsStoreFault}
 use Rattle.wu_passes.specs.Committing.{FoundAs}
-use Rattle.wu_passes.specs.Standing.{GoesOn, KeepsDoubt, TellsLater}
+use Rattle.wu_passes.specs.Standing.{GoesOn, FaultsOnlyGrow, TellsLater}
 
 -- no project is there: nothing has its name, or what has it lacks a column
 abbrev pub IsVacant : State → Type 0
@@ -56,7 +56,7 @@ GoesOver old new world = 1 ≤ world.version → GoesOn old world → GoesOn new
 -- A session begins over the connection. What is said of its tables is said of a disk that did not fail.
 pub record Adopts (old new : State) : Type 0 where
   -- what is doubted of the disk stays doubted
-  pub clean : KeepsDoubt old new
+  pub clean : FaultsOnlyGrow old new
   -- no limit is set on the steps of a statement
   pub unlimited : new.step_limit ≡ None
   pub was_open : HasCleanDisk new → IsTrue old.is_open
@@ -108,6 +108,6 @@ pub record GivesBack (old new : State) (fault : Fault) : Type 0 where
 -- No session begins. What is said of the tables is said of a disk that did not fail.
 pub record RefusesAdoption (old new : State) (fault : Fault) : Type 0 where
   pub told : IsAdoptionFault fault
-  pub clean : KeepsDoubt old new
+  pub clean : FaultsOnlyGrow old new
   pub cause : HasCleanDisk new → TellsCause old fault
   pub given : HasCleanDisk new → GivesBack old new fault

@@ -18,7 +18,7 @@ use Rattle.wu_feed.specs.Templates.{template_of}
 use Rattle.wu_store.specs.Changes.{with_import}
 use Rattle.wu_store.specs.Loading.{IsStoreFault}
 use Rattle.wu_store.specs.declared.rows.StoredImport.{StoredImport}
-use Rattle.wu_schema.specs.StandsFor.{StandsFor}
+use Rattle.wu_schema.specs.Refines.{Refines}
 use Rattle.wu_passes.specs.declared.imports.Plan.{Plan}
 use Rattle.wu_passes.specs.declared.imports.Source.{Source}
 use Rattle.wu_passes.specs.declared.files.Left.{Left}
@@ -43,7 +43,7 @@ abbrev pub given_of : Source → Given
 given_of source = record { kind = source.kind; name = source.name.now; template = source.template.now; content = source.content.now }
 
 -- the plan that gives a workunit up: its image takes its place
-pub record IsCancelled (w : Workunit) (plan : Plan) : Type 0 where
+pub record IsCancelPlan (w : Workunit) (plan : Plan) : Type 0 where
   pub undecided : is_undecided w ≡ true
   pub answer : plan.answer ≡ answer.Cancelled w.name
   pub changes : plan.changes.items ≡ Replace (cancelled w) ∷ []
@@ -137,7 +137,7 @@ pub record IsFilePlan {Row : Type 0} (rule : Rule Row) (given : Given) (rows : L
 -- where the tables stand for a world and steps have no limit, no read is refused
 abbrev pub NeverRefused : {S T : Type 0} → Ghosts S → Held S → Held S → Result T Fault → Type 0
 NeverRefused g old new result =
-    HasCleanDisk (state g new) → (world : World) → StandsFor (state g old).now world → old.step_limit ≡ None → IfErr result (λ fault. fault ≢ NotAProject)
+    HasCleanDisk (state g new) → (world : World) → Refines (state g old).now world → old.step_limit ≡ None → IfErr result (λ fault. fault ≢ NotAProject)
 
 -- whether the name is taken by a workunit or an archived row
 abbrev pub KnowsTaken : List ℕ → Result Bool Fault → World → Type 0

@@ -8,7 +8,7 @@ use Rattle.wu_core.specs.declared.fault.Fault.TheVariants.{BadLimit, Broken, End
 use Rattle.wu_core.specs.World.{World}
 use Rattle.wu_schema.specs.Calls.{HasBroken}
 use Rattle.wu_schema.specs.Faults.{IsFailure}
-use Rattle.wu_schema.specs.StandsFor.{StandsFor}
+use Rattle.wu_schema.specs.Refines.{Refines}
 use Rattle.wu_store.specs.declared.changes.Change.{Change}
 use Rattle.wu_machine.specs.declared.command.Answer.{Answer}
 use Rattle.wu_machine.specs.declared.command.Command.{Command}
@@ -18,14 +18,14 @@ use Rattle.wu_passes.specs.declared.imports.Plan.{Plan}
 use Rattle.wu_passes.specs.Planning.{NeverEnded, Plans, PlansFor}
 use Rattle.wu_machine.specs.Commands.{request_of}
 use Rattle.wu_machine.specs.Sound.{IsProject}
-use Rattle.wu_store.specs.Loading.{Asks, NotRefusedIn, OverWorlds, ServesUnlessFailed}
+use Rattle.wu_store.specs.Loading.{Asks, NotRefusedIn, ForEachWorld, ServesUnlessFailed}
 use Rattle.wu_store.specs.Lines.{summary_of}
 use Rattle.wu_store.specs.Summaries.{FindsAt, IsCountable}
 use Rattle.wu_store.specs.declared.lines.Summary.{Summary}
 use Rattle.wu_machine.specs.Requests.{Request}
 use Rattle.wu_passes.specs.Adopting.{KeepsAll}
 use Rattle.wu_passes.specs.Leaving.{RunsFrom}
-use Rattle.wu_passes.specs.Standing.{GoesOn, HasEnded, KeepsDoubt, MayEnd, Runs, ShowsWorld, WhyNot}
+use Rattle.wu_passes.specs.Standing.{GoesOn, HasEnded, FaultsOnlyGrow, MayEnd, Runs, ShowsWorld, FailureCause}
 
 -- the connection that a release gives back
 abbrev pub connection_of : {S : Type 0} {g : Ghosts S} → Project S g → Held S
@@ -39,11 +39,11 @@ abbrev pub has_ended : {S : Type 0} {g : Ghosts S} → Project S g → Bool
 has_ended project = project.has_ended
 
 -- its session has ended, or goes on
-abbrev pub IsOver : {S : Type 0} {g : Ghosts S} → Project S g → Type 0
-IsOver project = has_ended project ≡ true
+abbrev pub IsSessionEnded : {S : Type 0} {g : Ghosts S} → Project S g → Type 0
+IsSessionEnded project = has_ended project ≡ true
 
-abbrev pub GoesStill : {S : Type 0} {g : Ghosts S} → Project S g → Type 0
-GoesStill project = has_ended project ≡ false
+abbrev pub IsSessionOpen : {S : Type 0} {g : Ghosts S} → Project S g → Type 0
+IsSessionOpen project = has_ended project ≡ false
 
 -- no limit is set on the steps of a statement
 abbrev pub IsUnlimited : {S : Type 0} {g : Ghosts S} → Project S g → Type 0
@@ -76,12 +76,12 @@ KeepsLimit old new = (state_of new).step_limit ≡ (state_of old).step_limit
 -- What a call keeps of a session, whatever it answers.
 pub record KeepsSession {S T : Type 0} {g : Ghosts S} (old new : Project S g) (result : Result T Fault) : Type 0 where
   -- it ends with `Broken`, and else only for want of memory
-  pub ends : GoesStill old → IsOver new → IsErrAnd result MayEnd
-  pub broken : GoesStill old → result ≡ Err Broken → IsOver new
+  pub ends : IsSessionOpen old → IsSessionEnded new → IsErrAnd result MayEnd
+  pub broken : IsSessionOpen old → result ≡ Err Broken → IsSessionEnded new
   -- and one that went on is never said to have ended
-  pub never : GoesStill old → NeverEnded result
+  pub never : IsSessionOpen old → NeverEnded result
   -- what is doubted of the disk stays doubted, and no fault of it is forgotten
-  pub clean : KeepsDoubt (state_of old) (state_of new)
+  pub clean : FaultsOnlyGrow (state_of old) (state_of new)
   pub counts : (state_of old).faults ≤ (state_of new).faults
   pub limit : KeepsLimit old new
 
@@ -125,18 +125,18 @@ ReadsUnrefused {S} {T} {g} old new result = NotRefusedIn g (connection_of old) (
 
 -- the plan of the command is made, or the machine refuses it
 abbrev pub PlansOn : {S : Type 0} {g : Ghosts S} → Project S g → Project S g → Command → Result Plan Fault → Type 0
-PlansOn {S} {g} old new command result = OverWorlds g (connection_of old) (connection_of new) (PlansFor (request_of command) result)
+PlansOn {S} {g} old new command result = ForEachWorld g (connection_of old) (connection_of new) (PlansFor (request_of command) result)
 
 -- the changes of a plan are made, and its answer given
 abbrev pub CarriesOut : {S : Type 0} {g : Ghosts S} → Project S g → Project S g → Answer → List Change → Result Answer Fault → Type 0
 CarriesOut old new answer changes result =
-    HasCleanDisk (state_of new) → (world : World) (request : Request) → StandsFor (state_of old).now world → GoesOn (state_of old) world
+    HasCleanDisk (state_of new) → (world : World) (request : Request) → Refines (state_of old).now world → GoesOn (state_of old) world
     → Plans world request answer changes → Runs world request (has_ended new) (state_of new) result
 
 -- so they are whatever a stop could leave before it
 abbrev pub CarriesOutFrom : {S : Type 0} {g : Ghosts S} → Project S g → Project S g → Answer → List Change → Result Answer Fault → Type 0
 CarriesOutFrom old new answer changes result =
-    HasCleanDisk (state_of new) → (world : World) (request : Request) → StandsFor (state_of old).now world → ShowsWorld (state_of old) world
+    HasCleanDisk (state_of new) → (world : World) (request : Request) → Refines (state_of old).now world → ShowsWorld (state_of old) world
     → Plans world request answer changes → RunsFrom (state_of old) world request (has_ended new) (state_of new) result
 
 -- after Ok, and after each fault but want of memory or of the disk, the connection is open
@@ -166,7 +166,7 @@ LeavesIdle old new command result =
 abbrev pub TellsWhy : {S T : Type 0} {g : Ghosts S} → Project S g → Project S g → Command → Result T Fault → Type 0
 TellsWhy old new command result =
     HasCleanDisk (state_of new) → IsUnlimited old → (world : World) → IsProject world → GoesOn (state_of old) world
-    → IfErr result (WhyNot (Broke old new) (has_ended new) world (request_of command))
+    → IfErr result (FailureCause (Broke old new) (has_ended new) world (request_of command))
 
 -- ---- a question
 
@@ -175,7 +175,7 @@ WasOpenBefore old new result = HasCleanDisk (state_of new) → OnOk result (IsTr
 
 -- it is the summary of each world that the tables stand for
 abbrev pub Summarizes : {S : Type 0} {g : Ghosts S} → Project S g → Project S g → Result Summary Fault → Type 0
-Summarizes {S} {g} old new result = OverWorlds g (connection_of old) (connection_of new) (FindsAt summary_of result)
+Summarizes {S} {g} old new result = ForEachWorld g (connection_of old) (connection_of new) (FindsAt summary_of result)
 
 -- over a world whose numbers can be read none is refused
 abbrev pub SummarizesUnrefused : {S T : Type 0} {g : Ghosts S} → Project S g → Project S g → Result T Fault → Type 0

@@ -6,7 +6,7 @@ use Rattle.sqlite.specs.Tree.{Trees}
 use Rattle.wu_core.specs.declared.fault.Fault.{Fault}
 use Rattle.wu_core.specs.declared.fault.Fault.TheVariants.{Memory, Broken, NewSchema, NotAProject}
 use Rattle.wu_core.specs.World.{World}
-use Rattle.wu_schema.specs.StandsFor.{StandsFor}
+use Rattle.wu_schema.specs.Refines.{Refines}
 use Rattle.wu_machine.specs.declared.command.Answer.{Answer}
 use Rattle.wu_passes.specs.Committing.{FoundAs}
 use Rattle.wu_machine.specs.Machine.{MakesNothing, present_version, reply, step}
@@ -16,7 +16,7 @@ use Rattle.wu_machine.specs.Requests.{Reply, Request}
 
 -- while the connection is open, the tables stand for this world, and all is committed
 abbrev pub ShowsWorld : State → World → Type 0
-ShowsWorld s world = IsTrue s.is_open → StandsFor s.now world × (s.committed ≡ s.now)
+ShowsWorld s world = IsTrue s.is_open → Refines s.now world × (s.committed ≡ s.now)
 
 -- the tables stand for this world, all is committed, and a stop leaves nothing but tables that stand for it
 pub record GoesOn (s : State) (world : World) : Type 0 where
@@ -30,9 +30,9 @@ pub record HasEnded (s : State) (world : World) (cut : Request) : Type 0 where
   pub left : (db : Trees) → s.may_leave db → FoundAs db world ⊎ FoundAs db (step world cut)
 
 -- after a request that was not done
-abbrev pub Stands : Bool → State → World → Request → Type 0
-Stands false s world asked = GoesOn s world
-Stands true s world asked = HasEnded s world asked
+abbrev pub RefinesAfterFault : Bool → State → World → Request → Type 0
+RefinesAfterFault false s world asked = GoesOn s world
+RefinesAfterFault true s world asked = HasEnded s world asked
 
 -- Done: its answer is the machine's reply, and the tables stand for the machine's step. Or else a refusal of the
 -- machine, or a fault of the store, after which the tables stand for the same world, if the session ended while the
@@ -40,7 +40,7 @@ Stands true s world asked = HasEnded s world asked
 abbrev pub Runs : World → Request → Bool → State → Result Answer Fault → Type 0
 Runs world request has_ended new result =
     MatchResult result (λ answer. (reply world request ≡ Ok (reply_of_answer answer)) × (has_ended ≡ false) × GoesOn new (step world request))
-    (λ fault. ((reply world request ≡ Err fault) ⊎ IsStoreFault fault) × Stands has_ended new world request)
+    (λ fault. ((reply world request ≡ Err fault) ⊎ IsStoreFault fault) × RefinesAfterFault has_ended new world request)
 
 -- a fault that may end a session
 abbrev pub MayEnd : Fault → Type 0
@@ -54,11 +54,12 @@ IsAnswered world request = (answer : Reply) × (reply world request ≡ Ok answe
 abbrev pub MakesSome : World → Request → Type 0
 MakesSome world request = IsAnswered world request × ¬ MakesNothing world request
 
--- Why a command was not done. It ended the session: what it read broke, or what the machine makes of the world could not
--- be written. It did not: the machine refuses it, memory was wanted, or a statement of what the machine makes was refused.
-abbrev pub WhyNot : Type 0 → Bool → World → Request → Fault → Type 0
-WhyNot Broke true world request fault = ((fault ≡ Broken) × Broke) ⊎ (MayEnd fault × MakesSome world request)
-WhyNot Broke false world request fault =
+-- Why a command was not done. It ended the session: what it read broke, or what the machine makes of the world could
+-- not be written. It did not: the machine refuses it, memory was wanted, or a statement of what the machine makes was
+-- refused.
+abbrev pub FailureCause : Type 0 → Bool → World → Request → Fault → Type 0
+FailureCause Broke true world request fault = ((fault ≡ Broken) × Broke) ⊎ (MayEnd fault × MakesSome world request)
+FailureCause Broke false world request fault =
     (reply world request ≡ Err fault) ⊎ ((fault ≡ Memory) ⊎ ((fault ≡ NotAProject) × MakesSome world request))
 
 -- within a transaction a refused statement alone leaves the session on
@@ -67,8 +68,8 @@ IsCutBy true fault = MayEnd fault
 IsCutBy false fault = fault ≡ NotAProject
 
 -- what is doubted of the disk stays doubted
-abbrev pub KeepsDoubt : State → State → Type 0
-KeepsDoubt old new = doubt old.is_clean ≤ doubt new.is_clean
+abbrev pub FaultsOnlyGrow : State → State → Type 0
+FaultsOnlyGrow old new = doubt old.is_clean ≤ doubt new.is_clean
 
 -- the fault tells a later version than this program knows
 abbrev pub TellsLater : ℕ → Fault → Type 0

@@ -7,12 +7,12 @@ use Rattle.sqlite.specs.State.{HasCleanDisk}
 use Rattle.sqlite.specs.Store.{Ghosts}
 use Rattle.wu_core.specs.declared.fault.Fault.{Fault}
 use Rattle.wu_core.specs.World.{World}
-use Rattle.wu_schema.specs.StandsFor.{StandsFor}
-use Rattle.wu_store.specs.Loading.{IsRead, NotRefusedIn, StaysUnlessFailed}
+use Rattle.wu_schema.specs.Refines.{Refines}
+use Rattle.wu_store.specs.Loading.{IsReadOnly, NotRefusedIn, StaysUnlessFailed}
 use Rattle.wu_passes.specs.contracts.project.Project as project
 use Rattle.wu_passes.specs.declared.project.Project.{Project}
 use Rattle.wu_passes.specs.declared.project.walk.LineWalk.{LineWalk}
-use Rattle.wu_passes.specs.Projects.{BreaksOn, connection_of, GoesStill, has_ended, IsOver, KeepsLimit, ServesOn, state_of}
+use Rattle.wu_passes.specs.Projects.{BreaksOn, connection_of, IsSessionOpen, has_ended, IsSessionEnded, KeepsLimit, ServesOn, state_of}
 
 -- the project that it borrows, as it stands
 abbrev pub walked : {S L : Type 0} {g : Ghosts S} → LineWalk S L g → Project S g
@@ -31,14 +31,14 @@ HasLeft walk lines = into_iter_items walk.lines ≡ lines
 -- a walk only reads: the session goes on or not as before, nothing is committed, and the limit on steps stays
 pub record OnlyReads {S : Type 0} {g : Ghosts S} (old new : Project S g) : Type 0 where
   pub session : has_ended new ≡ has_ended old
-  pub read : IsRead (state_of old) (state_of new)
+  pub read : IsReadOnly (state_of old) (state_of new)
   pub limit : KeepsLimit old new
 
 -- so does one that is refused; where the session had ended, nothing is touched
 pub record RefusesWalk {S T : Type 0} {g : Ghosts S} (IsReadable : World → Type 0) (old : Project S g) (result : Result T Fault) (new : Project S g) : Type 0 where
   pub reads : OnlyReads old new
-  pub untouched : IsOver old → new ≡ old
-  pub serves : GoesStill old → ServesOn new result
+  pub untouched : IsSessionEnded old → new ≡ old
+  pub serves : IsSessionOpen old → ServesOn new result
   pub broke : BreaksOn old new result
   -- over a world whose values can be read it is for want of memory or of the disk
   pub unrefused : NotRefusedIn g (connection_of old) (connection_of new) result IsReadable
@@ -50,7 +50,7 @@ module _ (S : RattleType) (g : Ghosts S.Denot) {L : Type 0} (IsReadable : World 
 
 -- it has left these lines of each world that the tables stand for
 abbrev pub WalksOver : {S T A : Type 0} {g : Ghosts S} → (World → List T) → Project S g → LineWalk S (IntoIter T A) g → Type 0
-WalksOver lines_of old walk = HasCleanDisk (state_of (walked walk)) → (world : World) → StandsFor (state_of old).now world → HasLeft walk (lines_of world)
+WalksOver lines_of old walk = HasCleanDisk (state_of (walked walk)) → (world : World) → Refines (state_of old).now world → HasLeft walk (lines_of world)
 
 -- ---- its next item
 

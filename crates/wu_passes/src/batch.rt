@@ -4,13 +4,13 @@ ghost use Rattle.std.specs.Prelude.{◌≡◌, ◌+◌, ◌≤◌, ◌==◌, byt
 ghost use Rattle.std.specs.List.{list_any};
 ghost use Rattle.wu_core.specs.declared.fault.Fault.TheVariants.{Memory};
 ghost use Rattle.wu_core.specs.Limits.{most_workunits};
-ghost use Rattle.wu_core.specs.Reads.{Gives};
+ghost use Rattle.wu_core.specs.Reads.{IsOrWantsMemory};
 ghost use Rattle.wu_feed.specs.Limits.{most_rows};
 ghost use Rattle.wu_machine.specs.Batches.{new_workunit};
 ghost use Rattle.wu_passes.specs.Planning.{additions, FindsFree, IsNewBatch, KnowsTaken, KnowsUsed, NeverEnded, NeverRefused, PlansBatch, PlansJobs, PlansNew, RefusesName};
 ghost use Rattle.wu_machine.specs.Commands.{batch_of};
 ghost use Rattle.wu_machine.specs.Sound.{IsProject};
-ghost use Rattle.wu_store.specs.Loading.{Asks, IsStoreFault, NotRefusedIn, OverWorlds, ServesUnlessFailed};
+ghost use Rattle.wu_store.specs.Loading.{Asks, IsStoreFault, NotRefusedIn, ForEachWorld, ServesUnlessFailed};
 
 use crate::imports::{Plan, batch_source, imported, kept, repeated};
 use sqlite::{Alter, Connection};
@@ -29,12 +29,10 @@ fn is_taken<S: Alter>(conn: &mut Connection<S>, name: &Name) -> Result<bool, Fau
     ensures opens { ServesUnlessFailed S.Store conn.new result }
     ensures fault { IfErr result IsStoreFault }
     ensures unrefused { NeverRefused S.Store conn.old conn.new result }
-    ensures taken { OverWorlds S.Store conn.old conn.new (KnowsTaken name.now result) }
+    ensures taken { ForEachWorld S.Store conn.old conn.new (KnowsTaken name.now result) }
 {
-    match has_workunit(conn, name) {
-        Ok(true) => return Ok(true),
-        Ok(false) => {}
-        Err(fault) => return Err(fault),
+    if has_workunit(conn, name)? {
+        return Ok(true);
     }
     has_archived(conn, name)
 }
@@ -50,7 +48,7 @@ fn is_used<S: Alter>(conn: &mut Connection<S>, earlier: &[Job], name: &Name) -> 
     ensures asks { Asks S.Store conn.old conn.new result }
     ensures fault { IfErr result IsStoreFault }
     ensures unrefused { NeverRefused S.Store conn.old conn.new result }
-    ensures used { OverWorlds S.Store conn.old conn.new (KnowsUsed earlier.now name.now result) }
+    ensures used { ForEachWorld S.Store conn.old conn.new (KnowsUsed earlier.now name.now result) }
 {
     if has_job(earlier, name) {
         return Ok(true);
@@ -64,15 +62,14 @@ fn check_names<S: Alter>(conn: &mut Connection<S>, jobs: &[Job]) -> Result<(), F
     ensures asks { Asks S.Store conn.old conn.new result }
     ensures fault { IfErr result RefusesName }
     ensures unrefused { NeverRefused S.Store conn.old conn.new result }
-    ensures free { OverWorlds S.Store conn.old conn.new (FindsFree jobs.now result) }
+    ensures free { ForEachWorld S.Store conn.old conn.new (FindsFree jobs.now result) }
 {
     let mut place = 0;
     for job in jobs {
-        match is_used(conn, &jobs[..place], &job.name) {
-            Ok(true) => return Err(Fault::WorkunitUsed(place as u32 + 2)),
-            Ok(false) => place += 1,
-            Err(fault) => return Err(fault),
+        if is_used(conn, &jobs[..place], &job.name)? {
+            return Err(Fault::WorkunitUsed(place as u32 + 2));
         }
+        place += 1;
     }
     Ok(())
 }
@@ -120,7 +117,7 @@ fn additions<'a>(
 
 /// The verdicts of as many jobs: each is applied.
 fn applied(alloc: Global, count: usize) -> Result<Bytes, Fault>
-    ensures { Gives result (Ok (replicate count 0)) }
+    ensures { IsOrWantsMemory result (Ok (replicate count 0)) }
 {
     let mut verdicts = Vec::new(alloc);
     for _ in 0..count {
@@ -174,16 +171,10 @@ fn plan_jobs<'a, S: Alter>(
     ensures asks { Asks S.Store conn.old conn.new result }
     ensures never { NeverEnded result }
     ensures unrefused { NotRefusedIn S.Store conn.old conn.new result IsProject }
-    ensures plan { OverWorlds S.Store conn.old conn.new (PlansJobs batch.now params jobs result) }
+    ensures plan { ForEachWorld S.Store conn.old conn.new (PlansJobs batch.now params jobs result) }
 {
-    match check_names(conn, jobs.as_slice()) {
-        Ok(()) => {}
-        Err(fault) => return Err(fault),
-    }
-    let next = match next_number(conn) {
-        Ok(next) => next,
-        Err(fault) => return Err(fault),
-    };
+    check_names(conn, jobs.as_slice())?;
+    let next = next_number(conn)?;
     if jobs.len() as u64 > MOST_WORKUNITS + 1 - next {
         return Err(Fault::TooMany);
     }
@@ -199,16 +190,11 @@ fn plan_new<'a, S: Alter>(
     ensures asks { Asks S.Store conn.old conn.new result }
     ensures never { NeverEnded result }
     ensures unrefused { NotRefusedIn S.Store conn.old conn.new result IsProject }
-    ensures plan { OverWorlds S.Store conn.old conn.new (PlansNew batch.now result) }
+    ensures plan { ForEachWorld S.Store conn.old conn.new (PlansNew batch.now result) }
 {
-    let params = match read_template(alloc, batch.template.as_slice()) {
-        Ok(params) => params,
-        Err(fault) => return Err(fault),
-    };
-    match read_jobs(alloc, batch.file.as_slice()) {
-        Ok(jobs) => plan_jobs(conn, alloc, batch, params, jobs),
-        Err(fault) => Err(fault),
-    }
+    let params = read_template(alloc, batch.template.as_slice())?;
+    let jobs = read_jobs(alloc, batch.file.as_slice())?;
+    plan_jobs(conn, alloc, batch, params, jobs)
 }
 
 /// What a batch answers and changes, or the first refusal: the name was used with other content, the template, the
@@ -222,11 +208,10 @@ pub fn plan_batch<'a, S: Alter>(
     ensures opens { ServesUnlessFailed S.Store conn.new result }
     ensures never { NeverEnded result }
     ensures unrefused { NotRefusedIn S.Store conn.old conn.new result IsProject }
-    ensures plan { OverWorlds S.Store conn.old conn.new (PlansBatch batch.now result) }
+    ensures plan { ForEachWorld S.Store conn.old conn.new (PlansBatch batch.now result) }
 {
-    match import_of(conn, alloc, ImportKind::Batch, &batch.name) {
-        Ok(Some(earlier)) => repeated(alloc, &batch_source(batch), earlier),
-        Ok(None) => plan_new(conn, alloc, batch),
-        Err(fault) => Err(fault),
+    match import_of(conn, alloc, ImportKind::Batch, &batch.name)? {
+        Some(earlier) => repeated(alloc, &batch_source(batch), earlier),
+        None => plan_new(conn, alloc, batch),
     }
 }

@@ -1,10 +1,10 @@
 //! Giving a workunit up: what it answers and what it changes, before anything is changed.
 
 ghost use Rattle.std.specs.Prelude.{◌≡◌, IfErr, IfOk};
-ghost use Rattle.wu_passes.specs.Planning.{IsCancelled, NeverEnded, PlansFor, RefusesCancel};
+ghost use Rattle.wu_passes.specs.Planning.{IsCancelPlan, NeverEnded, PlansFor, RefusesCancel};
 ghost use Rattle.wu_machine.specs.Sound.{IsProject};
 ghost use Rattle.wu_machine.specs.Requests.{AskCancel};
-ghost use Rattle.wu_store.specs.Loading.{Asks, NotRefusedIn, OverWorlds, ServesUnlessFailed};
+ghost use Rattle.wu_store.specs.Loading.{Asks, NotRefusedIn, ForEachWorld, ServesUnlessFailed};
 
 use crate::imports::Plan;
 use sqlite::{Alter, Connection};
@@ -16,7 +16,7 @@ use wu_store::{Change, load_named};
 
 /// The plan that gives the workunit up, if it is undecided.
 fn give_up<'a>(alloc: Global, mut workunit: Workunit) -> Result<Plan<'a>, Fault>
-    ensures plan { IfOk result (IsCancelled workunit) }
+    ensures plan { IfOk result (IsCancelPlan workunit) }
     ensures fault { IfErr result (RefusesCancel workunit) }
 {
     cancel(&mut workunit)?;
@@ -40,11 +40,10 @@ pub fn plan_cancel<'a, S: Alter>(
     ensures opens { ServesUnlessFailed S.Store conn.new result }
     ensures never { NeverEnded result }
     ensures unrefused { NotRefusedIn S.Store conn.old conn.new result IsProject }
-    ensures plan { OverWorlds S.Store conn.old conn.new (PlansFor (AskCancel name.now) result) }
+    ensures plan { ForEachWorld S.Store conn.old conn.new (PlansFor (AskCancel name.now) result) }
 {
-    match load_named(conn, alloc, name) {
-        Ok(Some(workunit)) => give_up(alloc, workunit),
-        Ok(None) => Err(Fault::UnknownWorkunit),
-        Err(fault) => Err(fault),
+    match load_named(conn, alloc, name)? {
+        Some(workunit) => give_up(alloc, workunit),
+        None => Err(Fault::UnknownWorkunit),
     }
 }

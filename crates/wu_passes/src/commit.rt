@@ -1,7 +1,7 @@
 //! The one function that commits a command's changes.
 
 ghost use Rattle.std.specs.Prelude.{◌≡◌, false, IfErr};
-ghost use Rattle.wu_schema.specs.Calls.{Commits, MayMake, Refuses, Undoes};
+ghost use Rattle.wu_schema.specs.Calls.{Commits, CrashAllows, Refuses, Undoes};
 ghost use Rattle.wu_schema.specs.Faults.{IsStoreFault};
 ghost use Rattle.wu_store.specs.Changing.{MakesWorlds};
 
@@ -24,8 +24,8 @@ impl<'a> Work for Changes<'a> {
 
 /// Makes all changes in one transaction.
 ///
-/// `NotAProject` says that a statement was refused, and that all is as before. After `Memory` or `Broken` the tables are
-/// as before while the connection is open, and an open may find what it could have found before, or all changes.
+/// `NotAProject` says that a statement was refused, and that all is as before. After `Memory` or `Broken` the tables
+/// are as before while the connection is open, and an open may find what it could have found before, or all changes.
 pub fn change_all<S: Alter>(conn: &mut Connection<S>, changes: &[Change<'_>]) -> Result<(), Fault>
     requires { conn.old.in_transaction ≡ false }
     ensures mode { conn.new.in_transaction ≡ false }
@@ -33,7 +33,7 @@ pub fn change_all<S: Alter>(conn: &mut Connection<S>, changes: &[Change<'_>]) ->
     ensures refused { Refuses S.Store conn.old conn.new result }
     ensures told { IfErr result IsStoreFault }
     ensures undone { Undoes S.Store conn.old conn.new result }
-    ensures crash { MayMake S.Store conn.old conn.new (MakesWorlds changes.now) }
+    ensures crash { CrashAllows S.Store conn.old conn.new (MakesWorlds changes.now) }
 {
     transact(conn, &Changes(changes))
 }

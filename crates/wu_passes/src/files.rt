@@ -7,7 +7,7 @@ ghost use Rattle.wu_passes.specs.Planning.{given_of, IsNewFile, LeavesRows, Neve
 ghost use Rattle.wu_machine.specs.Sound.{IsProject};
 ghost use Rattle.wu_machine.specs.Requests.{AskReported, AskSent};
 ghost use Rattle.wu_passes.specs.Touched.{LeavesRow, TouchesNamed};
-ghost use Rattle.wu_store.specs.Loading.{Asks, IsStoreFault, LoadsNamed, NotRefusedIn, OverWorlds, ServesUnlessFailed};
+ghost use Rattle.wu_store.specs.Loading.{Asks, IsStoreFault, LoadsNamed, NotRefusedIn, ForEachWorld, ServesUnlessFailed};
 ghost use Rattle.wu_core.specs.Storable.{AreStorable};
 
 use crate::imports::{Plan, Source, file_source, imported, kept, repeated};
@@ -36,16 +36,15 @@ fn touch<S: Alter>(
     ensures asks { Asks S.Store conn.old conn.new result }
     ensures fault { IfErr result IsStoreFault }
     ensures unrefused { NotRefusedIn S.Store conn.old conn.new result (LoadsNamed name.now) }
-    ensures touches { OverWorlds S.Store conn.old conn.new
+    ensures touches { ForEachWorld S.Store conn.old conn.new
         (TouchesNamed name.now touched.old touched.new result) }
 {
     if touched.has(name) {
         return Ok(());
     }
-    match load_named(conn, alloc, name) {
-        Ok(Some(workunit)) => touched.insert(alloc, workunit),
-        Ok(None) => Ok(()),
-        Err(fault) => Err(fault),
+    match load_named(conn, alloc, name)? {
+        Some(workunit) => touched.insert(alloc, workunit),
+        None => Ok(()),
     }
 }
 
@@ -60,13 +59,11 @@ fn apply_row<R: FileRow, S: Alter>(
     ensures fault { IfErr result IsStoreFault }
     ensures unrefused { NotRefusedIn S.Store conn.old conn.new result AreStorable }
     ensures digit { IfOk result (λ verdict. verdict ≤ 9) }
-    ensures left { OverWorlds S.Store conn.old conn.new
+    ensures left { ForEachWorld S.Store conn.old conn.new
         (LeavesRow R.rule row touched.old touched.new result) }
 {
-    match touch(conn, alloc, touched, row.workunit()) {
-        Ok(()) => Ok(touched.apply(row)),
-        Err(fault) => Err(fault),
-    }
+    touch(conn, alloc, touched, row.workunit())?;
+    Ok(touched.apply(row))
 }
 
 /// Applies the rows of a file in order, each on what the rows before left.
@@ -79,15 +76,12 @@ fn apply_rows<R: FileRow, S: Alter>(
     ensures fault { IfErr result IsStoreFault }
     ensures unrefused { NotRefusedIn S.Store conn.old conn.new result AreStorable }
     ensures digits { IfOk result (λ left. All (λ verdict. verdict ≤ 9) left.verdicts.items) }
-    ensures left { OverWorlds S.Store conn.old conn.new (LeavesRows R.rule rows result) }
+    ensures left { ForEachWorld S.Store conn.old conn.new (LeavesRows R.rule rows result) }
 {
     let mut touched = Touched::new(alloc);
     let mut verdicts = Vec::new(alloc);
     for row in rows.into_vec() {
-        match apply_row(conn, alloc, &mut touched, row) {
-            Ok(verdict) => verdicts.push(verdict)?,
-            Err(fault) => return Err(fault),
-        }
+        verdicts.push(apply_row(conn, alloc, &mut touched, row)?)?;
     }
     Ok(Left { touched, verdicts })
 }
@@ -118,13 +112,11 @@ fn plan_rows<'a, R: FileRow, S: Alter>(
     ensures asks { Asks S.Store conn.old conn.new result }
     ensures fault { IfErr result IsStoreFault }
     ensures unrefused { NotRefusedIn S.Store conn.old conn.new result AreStorable }
-    ensures plan { OverWorlds S.Store conn.old conn.new
+    ensures plan { ForEachWorld S.Store conn.old conn.new
         (PlansRows R.rule (given_of source.now) rows result) }
 {
-    match apply_rows(conn, alloc, rows) {
-        Ok(left) => new_file(alloc, source, left),
-        Err(fault) => Err(fault),
-    }
+    let left = apply_rows(conn, alloc, rows)?;
+    new_file(alloc, source, left)
 }
 
 /// What a file of sends answers and changes, or the first refusal: the name was used with other content, the file.
@@ -137,17 +129,18 @@ pub fn plan_sent<'a, S: Alter>(
     ensures opens { ServesUnlessFailed S.Store conn.new result }
     ensures never { NeverEnded result }
     ensures unrefused { NotRefusedIn S.Store conn.old conn.new result IsProject }
-    ensures plan { OverWorlds S.Store conn.old conn.new
+    ensures plan { ForEachWorld S.Store conn.old conn.new
         (PlansFor (AskSent file.now.name file.now.file) result) }
 {
     let source = file_source(ImportKind::Sent, file);
-    match import_of(conn, alloc, ImportKind::Sent, &file.name) {
-        Ok(Some(earlier)) => repeated(alloc, &source, earlier),
-        Ok(None) => match read_sends(alloc, file.file.as_slice()) {
-            Ok(rows) => plan_rows(conn, alloc, &source, rows),
-            Err(fault) => Err(fault),
-        },
-        Err(fault) => Err(fault),
+    match import_of(conn, alloc, ImportKind::Sent, &file.name)? {
+        Some(earlier) => repeated(alloc, &source, earlier),
+        None => plan_rows(
+            conn,
+            alloc,
+            &source,
+            read_sends(alloc, file.file.as_slice())?,
+        ),
     }
 }
 
@@ -161,16 +154,17 @@ pub fn plan_reported<'a, S: Alter>(
     ensures opens { ServesUnlessFailed S.Store conn.new result }
     ensures never { NeverEnded result }
     ensures unrefused { NotRefusedIn S.Store conn.old conn.new result IsProject }
-    ensures plan { OverWorlds S.Store conn.old conn.new
+    ensures plan { ForEachWorld S.Store conn.old conn.new
         (PlansFor (AskReported file.now.name file.now.file) result) }
 {
     let source = file_source(ImportKind::Reported, file);
-    match import_of(conn, alloc, ImportKind::Reported, &file.name) {
-        Ok(Some(earlier)) => repeated(alloc, &source, earlier),
-        Ok(None) => match read_reports(alloc, file.file.as_slice()) {
-            Ok(rows) => plan_rows(conn, alloc, &source, rows),
-            Err(fault) => Err(fault),
-        },
-        Err(fault) => Err(fault),
+    match import_of(conn, alloc, ImportKind::Reported, &file.name)? {
+        Some(earlier) => repeated(alloc, &source, earlier),
+        None => plan_rows(
+            conn,
+            alloc,
+            &source,
+            read_reports(alloc, file.file.as_slice())?,
+        ),
     }
 }

@@ -2,7 +2,7 @@
 
 ghost use Rattle.std.specs.Prelude.{◌≡◌, ◌≤◌, All, Ok, IfOk, IfErr};
 ghost use Rattle.wu_core.specs.declared.fault.Fault.TheVariants.{Memory};
-ghost use Rattle.wu_core.specs.Reads.{Gives};
+ghost use Rattle.wu_core.specs.Reads.{IsOrWantsMemory};
 ghost use Rattle.wu_passes.specs.Planning.{given_of, IsRepeated, KeepsImport, RefusesRepeat};
 ghost use Rattle.wu_machine.specs.Commands.{batch_of, file_of};
 
@@ -52,7 +52,8 @@ pub fn file_source<'a>(kind: ImportKind, file: &'a RowsFile) -> Source<'a>
 
 /// The answer of an import: its first number, and the verdicts of its rows.
 pub fn imported(source: &Source<'_>, first: u64, verdicts: Bytes) -> Result<Answer, Fault>
-    ensures { Gives result (Ok (Answer.Imported source.now.kind source.now.name.now first verdicts)) }
+    ensures { IsOrWantsMemory result
+        (Ok (Answer.Imported source.now.kind source.now.name.now first verdicts)) }
 {
     Ok(Answer::Imported {
         kind: source.kind,

@@ -1,4 +1,5 @@
-//! A pass: what it makes of the workunits that it takes, what it answers and what it changes, before anything is changed.
+//! A pass: what it makes of the workunits that it takes, what it answers and what it changes, before anything is
+//! changed.
 
 ghost use Rattle.std.specs.Prelude.{◌≡◌, ◌+◌, ◌≤◌, ◌^◌, ◌++◌, [], true, length, None, IfErr, IfOk};
 ghost use Rattle.wu_core.specs.declared.fault.Fault.TheVariants.{Memory};
@@ -9,7 +10,7 @@ ghost use Rattle.wu_passes.specs.Planning.{NeverEnded, NeverRefused, PlansFor};
 ghost use Rattle.wu_machine.specs.Sound.{IsProject};
 ghost use Rattle.wu_machine.specs.Requests.{AskPass};
 ghost use Rattle.wu_store.specs.Changing.{archived_from, granted_from};
-ghost use Rattle.wu_store.specs.Loading.{Asks, IsStoreFault, NotRefusedIn, OverWorlds, ServesUnlessFailed};
+ghost use Rattle.wu_store.specs.Loading.{Asks, IsStoreFault, NotRefusedIn, ForEachWorld, ServesUnlessFailed};
 ghost use Rattle.wu_rules.specs.declared.due.Pass.TheVariants as pass;
 
 use crate::imports::Plan;
@@ -258,16 +259,14 @@ fn and_grants<S: Alter>(
     ensures asks { Asks S.Store conn.old conn.new result }
     ensures fault { IfErr result IsStoreFault }
     ensures unrefused { NeverRefused S.Store conn.old conn.new result }
-    ensures added { OverWorlds S.Store conn.old conn.new
+    ensures added { ForEachWorld S.Store conn.old conn.new
         (AddsGrants grants.items changes.old.items changes.new.items result) }
 {
     if grants.is_empty() {
         return Ok(());
     }
-    match next_grant_place(conn) {
-        Ok(place) => with_grants(changes, place, grants),
-        Err(fault) => Err(fault),
-    }
+    let place = next_grant_place(conn)?;
+    with_grants(changes, place, grants)
 }
 
 /// Adds the archived rows at the next places, if there are any.
@@ -279,16 +278,14 @@ fn and_archived<S: Alter>(
     ensures asks { Asks S.Store conn.old conn.new result }
     ensures fault { IfErr result IsStoreFault }
     ensures unrefused { NeverRefused S.Store conn.old conn.new result }
-    ensures added { OverWorlds S.Store conn.old conn.new
+    ensures added { ForEachWorld S.Store conn.old conn.new
         (AddsArchivedRows archived.items changes.old.items changes.new.items result) }
 {
     if archived.is_empty() {
         return Ok(());
     }
-    match next_archived_place(conn) {
-        Ok(place) => with_archived(changes, place, archived),
-        Err(fault) => Err(fault),
-    }
+    let place = next_archived_place(conn)?;
+    with_archived(changes, place, archived)
 }
 
 /// The changes of what was handled: of the workunits, then the grants, then the archived rows.
@@ -299,21 +296,16 @@ fn changes_of<'a, S: Alter>(
     ensures asks { Asks S.Store conn.old conn.new result }
     ensures fault { IfErr result IsStoreFault }
     ensures unrefused { NeverRefused S.Store conn.old conn.new result }
-    ensures added { OverWorlds S.Store conn.old conn.new (AddsGiven handled.entry result) }
+    ensures added { ForEachWorld S.Store conn.old conn.new (AddsGiven handled.entry result) }
 {
     let Handled {
         mut changes,
         grants,
         archived,
     } = handled;
-    match and_grants(conn, &mut changes, grants) {
-        Ok(()) => {}
-        Err(fault) => return Err(fault),
-    }
-    match and_archived(conn, &mut changes, archived) {
-        Ok(()) => Ok(changes),
-        Err(fault) => Err(fault),
-    }
+    and_grants(conn, &mut changes, grants)?;
+    and_archived(conn, &mut changes, archived)?;
+    Ok(changes)
 }
 
 /// The plan of a pass that takes these workunits.
@@ -327,21 +319,19 @@ fn plan_taken<'a, S: Alter>(
     ensures asks { Asks S.Store conn.old conn.new result }
     ensures fault { IfErr result IsStoreFault }
     ensures unrefused { NeverRefused S.Store conn.old conn.new result }
-    ensures plan { OverWorlds S.Store conn.old conn.new (PlansTaken ask.now taken.items result) }
+    ensures plan { ForEachWorld S.Store conn.old conn.new (PlansTaken ask.now taken.items result) }
 {
     let pass = ask.pass;
     let count = taken.len() as u32;
     let handled = handle(alloc, pass, ask.moment, taken)?;
-    match changes_of(conn, handled) {
-        Ok(changes) => Ok(Plan {
-            answer: Answer::Passed {
-                pass,
-                handled: count,
-            },
-            changes,
-        }),
-        Err(fault) => Err(fault),
-    }
+    let changes = changes_of(conn, handled)?;
+    Ok(Plan {
+        answer: Answer::Passed {
+            pass,
+            handled: count,
+        },
+        changes,
+    })
 }
 
 /// What a pass answers and changes. It takes the first workunits that it changes, up to its limit: the first by number,
@@ -357,10 +347,8 @@ pub fn plan_pass<'a, S: Alter>(
     ensures opens { ServesUnlessFailed S.Store conn.new result }
     ensures never { NeverEnded result }
     ensures unrefused { NotRefusedIn S.Store conn.old conn.new result IsProject }
-    ensures plan { OverWorlds S.Store conn.old conn.new (PlansFor (asked ask.now) result) }
+    ensures plan { ForEachWorld S.Store conn.old conn.new (PlansFor (asked ask.now) result) }
 {
-    match load_due(conn, alloc, ask.pass, ask.moment, ask.min_age, ask.limit) {
-        Ok(taken) => plan_taken(conn, alloc, ask, taken),
-        Err(fault) => Err(fault),
-    }
+    let taken = load_due(conn, alloc, ask.pass, ask.moment, ask.min_age, ask.limit)?;
+    plan_taken(conn, alloc, ask, taken)
 }

@@ -12,7 +12,8 @@ pub use walk::{ArchiveWalk, HostWalk, LineWalk, ResultWalk, Walk, WorkunitWalk};
 /// A session over the database of a project, from its adoption to its release.
 ///
 /// It ends at `Broken` (the disk failed, or something is too big for the store), and at want of memory within a
-/// transaction: from then on each call answers `Ended` and changes nothing, since what the database holds is known again only once it is opened anew.
+/// transaction: from then on each call answers `Ended` and changes nothing, since what the database holds is known
+/// again only once it is opened anew.
 #[derive(Drop)]
 pub struct Project<S: Alter> {
     conn: Connection<S>,

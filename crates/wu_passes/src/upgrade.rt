@@ -3,7 +3,7 @@
 ghost use Rattle.wu_passes.specs.Planning.{NeverEnded, PlansFor};
 ghost use Rattle.wu_machine.specs.Sound.{IsProject};
 ghost use Rattle.wu_machine.specs.Requests.{AskUpgrade};
-ghost use Rattle.wu_store.specs.Loading.{Asks, NotRefusedIn, OverWorlds, ServesUnlessFailed};
+ghost use Rattle.wu_store.specs.Loading.{Asks, NotRefusedIn, ForEachWorld, ServesUnlessFailed};
 
 use crate::imports::Plan;
 use sqlite::{Alter, Connection};
@@ -24,12 +24,10 @@ pub fn plan_upgrade<'a, S: Alter>(
     ensures opens { ServesUnlessFailed S.Store conn.new result }
     ensures never { NeverEnded result }
     ensures unrefused { NotRefusedIn S.Store conn.old conn.new result IsProject }
-    ensures plan { OverWorlds S.Store conn.old conn.new (PlansFor AskUpgrade result) }
+    ensures plan { ForEachWorld S.Store conn.old conn.new (PlansFor AskUpgrade result) }
 {
-    let version = match version_of(conn) {
-        Ok(Some(version)) => version,
-        Ok(None) => return Err(Fault::NotAProject),
-        Err(fault) => return Err(fault),
+    let Some(version) = version_of(conn)? else {
+        return Err(Fault::NotAProject);
     };
     check_version(version)?;
     Ok(Plan {

@@ -1,8 +1,8 @@
-//! What is done over two files: they are opened, a visitor is handed the database, and they are closed as far as they let
-//! it.
+//! What is done over two files: they are opened, a visitor is handed the database, and they are closed as far as they
+//! let it.
 //!
-//! What a visitor does is written for any store, and one function alone works over files: that the store over files serves
-//! is proved again wherever it is named.
+//! What a visitor does is written for any store, and one function alone works over files: that the store over files
+//! serves is proved again wherever it is named.
 
 use anyhow::Result;
 use sqlite::{Alter, Connection, FileStore, Files, Options};

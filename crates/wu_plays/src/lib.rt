@@ -1,5 +1,5 @@
-//! Plays of scripts over databases in memory, over files that stop and into writers that fail, with the transcript of what
-//! they answer.
+//! Plays of scripts over databases in memory, over files that stop and into writers that fail, with the transcript of
+//! what they answer.
 #![tactic(auto)]
 
 mod course;

@@ -1,5 +1,5 @@
-//! A play over two files that stop several times in one life: each named command is cut, found as it was before or after
-//! it, and done again before the rest.
+//! A play over two files that stop several times in one life: each named command is cut, found as it was before or
+//! after it, and done again before the rest.
 
 use crate::course::{Act, Between, Found, course};
 use crate::disks::{MOST_CALLS, Saved, Side, after_stop, are_stopped};
@@ -17,8 +17,8 @@ struct Stop {
     calls: u64,
 }
 
-/// Stops an act after so many calls on the log: what is left, where the session began, the act was not answered, and this
-/// is found. None where it is not so, and whether the calls stopped.
+/// Stops an act after so many calls on the log: what is left, where the session began, the act was not answered, and
+/// this is found. None where it is not so, and whether the calls stopped.
 fn stop_after(
     alloc: Global,
     files: &Saved,

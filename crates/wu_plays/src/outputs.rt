@@ -1,5 +1,5 @@
-//! A play into writers that take so many bytes, for each number up to the length of all that the script prints, and into
-//! those that take so many flushes.
+//! A play into writers that take so many bytes, for each number up to the length of all that the script prints, and
+//! into those that take so many flushes.
 
 use crate::narrow::{Full, Narrow};
 use crate::scripts::steps;
@@ -42,7 +42,8 @@ fn went_out(out: &Narrow, whole: &[u8], count: usize) -> Result<()> {
     Ok(())
 }
 
-/// Sees what goes out into a writer with so much room: the beginning of the whole output, and a fault where that is cut.
+/// Sees what goes out into a writer with so much room: the beginning of the whole output, and a fault where that is
+/// cut.
 fn cut(alloc: Global, steps: &[Step], whole: &[u8], room: usize, full: Full) -> Result<()> {
     let mut out = Narrow::new(alloc, room, full, usize::MAX);
     let (status, end) = run(alloc, steps, &mut out)?;

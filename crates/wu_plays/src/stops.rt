@@ -1,5 +1,5 @@
-//! A play over two files, where the calls on one of them stop after each number of calls in turn. What is left is opened
-//! again, looked at in every view, and the rest of the script is played on.
+//! A play over two files, where the calls on one of them stop after each number of calls in turn. What is left is
+//! opened again, looked at in every view, and the rest of the script is played on.
 
 use crate::course::{Act, Between, Found, course};
 use crate::disks::{MOST_CALLS, Saved, Side, after_stop, are_stopped};

@@ -3,7 +3,7 @@ use Rattle.std.proofs.Common.{◌≡◌, ℕ, ◌+◌, ◌<◌, List, [], ◌∷
 use Rattle.std.proofs.lemmas.List.{map-append, take_more}
 use Rattle.std.specs.declared.alloc.Global.{Global}
 use Rattle.std.specs.declared.vec.Vec.{Vec}
-use Rattle.wu_words.specs.Actions.{bytes_of, content_bytes, file_of}
+use Rattle.wu_words.specs.Actions.{bytes_of, content_bytes, asked_file}
 use Rattle.wu_words.specs.declared.files.LineFile.{LineFile}
 use Rattle.wu_words.specs.declared.entry.Entry.{Entry}
 use Rattle.wu_words.specs.declared.step.FedEntry.{FedEntry}
@@ -24,13 +24,13 @@ contents_more (f ∷ files) (c ∷ contents) file content are is = (are.0, conte
 
 -- the content of the next file
 pub contents_next : (files : List LineFile) (contents : List (Option (Vec ℕ Global))) (i : ℕ) (other : LineFile) (content : Option (Vec ℕ Global)) → i < length files
-    → AreContentsOf (map file_of (take i files)) (bytes_of contents) → IsContentOf (file_of (get_or files i other)) (content_bytes content)
-    → AreContentsOf (map file_of (take (i + 1) files)) (bytes_of (contents ++ content ∷ []))
+    → AreContentsOf (map asked_file (take i files)) (bytes_of contents) → IsContentOf (asked_file (get_or files i other)) (content_bytes content)
+    → AreContentsOf (map asked_file (take (i + 1) files)) (bytes_of (contents ++ content ∷ []))
 contents_next files contents i other content within are is =
-    let grown : map file_of (take (i + 1) files) ≡ map file_of (take i files) ++ file_of (get_or files i other) ∷ [] =
-    ap (map file_of) (take_more files i other within) ∙ map-append file_of (take i files) (get_or files i other ∷ []) in
+    let grown : map asked_file (take (i + 1) files) ≡ map asked_file (take i files) ++ asked_file (get_or files i other) ∷ [] =
+    ap (map asked_file) (take_more files i other within) ∙ map-append asked_file (take i files) (get_or files i other ∷ []) in
     let longer : bytes_of (contents ++ content ∷ []) ≡ bytes_of contents ++ content_bytes content ∷ [] = map-append content_bytes contents (content ∷ []) in
-    rw grown (rw longer (contents_more (map file_of (take i files)) (bytes_of contents) (file_of (get_or files i other)) (content_bytes content) are is))
+    rw grown (rw longer (contents_more (map asked_file (take i files)) (bytes_of contents) (asked_file (get_or files i other)) (content_bytes content) are is))
 
 -- ---- entries of a script
 

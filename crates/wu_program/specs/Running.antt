@@ -25,7 +25,8 @@ use Rattle.wu_program.specs.declared.database.Left.{Left}
 use Rattle.wu_program.specs.declared.database.Left.TheVariants as left
 use Rattle.wu_program.specs.declared.End.{End}
 
--- without a trouble the status is 0 and nothing is told; else that of the trouble, whose text goes out, or a beginning of it
+-- without a trouble the status is 0 and nothing is told; else that of the trouble, whose text goes out, or a beginning
+-- of it
 abbrev pub TellsTrouble : {W T : Type 0} → (W → Option (List ℕ)) → W → W → Result T Trouble → ℕ → Bool → Type 0
 TellsTrouble contents old new (Ok done) status is_told = (status ≡ 0) × (new ≡ old) × (is_told ≡ true)
 TellsTrouble contents old new (Err trouble) status is_told =

@@ -3,7 +3,7 @@
 
 ghost use Rattle.std.specs.Prelude.{◌≡◌, IfErr, IfOk, map};
 ghost use Rattle.wu_core.specs.declared.fault.Fault.TheVariants.{Memory};
-ghost use Rattle.wu_words.specs.Actions.{bytes_of, content_bytes, file_of};
+ghost use Rattle.wu_words.specs.Actions.{bytes_of, content_bytes, asked_file};
 ghost use Rattle.wu_words.specs.Scripts.{files_of_entry, lacks_memory};
 ghost use Rattle.wu_program.specs.Contents.{AreContentsOf, IsContentOf, IsFed};
 
@@ -24,7 +24,7 @@ pub fn read_file(rt: &HostRuntime, path: &str, most: usize) -> Result<Option<Vec
 /// What a file of a line holds. A template that is left out has no bytes.
 fn content(rt: &HostRuntime, file: &LineFile<'_>) -> Result<Option<Vec<u8>>, Fault>
     ensures content { IfOk result (λ content.
-        IsContentOf (file_of file.now) (content_bytes content)) }
+        IsContentOf (asked_file file.now) (content_bytes content)) }
     ensures fault { IfErr result (λ fault. fault ≡ Memory) }
 {
     match file.path {
@@ -36,7 +36,7 @@ fn content(rt: &HostRuntime, file: &LineFile<'_>) -> Result<Option<Vec<u8>>, Fau
 /// What the files of a line hold, in their order. The only fault is `Memory`.
 pub fn contents(rt: &HostRuntime, files: &[LineFile<'_>]) -> Result<Vec<Option<Vec<u8>>>, Fault>
     ensures contents { IfOk result (λ contents.
-        AreContentsOf (map file_of files.now) (bytes_of contents.items)) }
+        AreContentsOf (map asked_file files.now) (bytes_of contents.items)) }
     ensures fault { IfErr result (λ fault. fault ≡ Memory) }
 {
     let mut contents = Vec::new(rt.alloc());

@@ -53,8 +53,8 @@ fn perform_and_close<D: Disk + Drop, O: Write>(
     (done, close(conn))
 }
 
-/// Opens the database, does the work over it, and closes it. The work has what the files hold, so these are read before.
-/// Where it can't be opened, that is the trouble, and nothing is written.
+/// Opens the database, does the work over it, and closes it. The work has what the files hold, so these are read
+/// before. Where it can't be opened, that is the trouble, and nothing is written.
 pub fn open_and_perform<S: Start, O: Write>(
     rt: &HostRuntime,
     database: &str,

@@ -1,7 +1,7 @@
-//! What the program does with a process's words, files and outputs: a line or a script of an operator over a project in a
-//! database file, or with no word after its name the demonstration in memory. What is decided of them, and what is done
-//! over an open database, has its clauses in `wu_words` and `wu_cli`; here files are opened and read, and the clauses hold
-//! whatever they are. That they lie where the words say, no clause can say.
+//! What the program does with a process's words, files and outputs: a line or a script of an operator over a project in
+//! a database file, or with no word after its name the demonstration in memory. What is decided of them, and what is
+//! done over an open database, has its clauses in `wu_words` and `wu_cli`; here files are opened and read, and the
+//! clauses hold whatever they are. That they lie where the words say, no clause can say.
 #![tactic(auto)]
 
 ghost use Rattle.std.specs.Prelude.{map, string_bytes};
@@ -107,8 +107,8 @@ fn words(rt: &HostRuntime) -> io::Result<Vec<String>> {
     Ok(env::args(rt)?.collect(rt.alloc())?)
 }
 
-/// Does what the words of the command line ask for, and answers the status to end with. With no word after the program's
-/// name it is the demonstration. The text of a trouble goes to standard error.
+/// Does what the words of the command line ask for, and answers the status to end with. With no word after the
+/// program's name it is the demonstration. The text of a trouble goes to standard error.
 pub fn run(rt: &HostRuntime) -> u8 {
     match start_of(rt.alloc(), words(rt)) {
         Ok(Start::Demonstration) => demonstrate(rt),

@@ -20,7 +20,8 @@ fn work_of_line(rt: &HostRuntime, line: &Line) -> Result<Work, Trouble>
     Work::of_line(rt.alloc(), line, contents)
 }
 
-/// The entries of a script with what their files hold, or the trouble of reading these, which is told of its line or not.
+/// The entries of a script with what their files hold, or the trouble of reading these, which is told of its line or
+/// not.
 fn feed_all(rt: &HostRuntime, entries: Entries) -> Result<Vec<FedEntry>, Trouble>
     ensures fed { IfOk result (λ script. AreFed entries script.items) }
     ensures refused { IfErr result IsUnreadScript }

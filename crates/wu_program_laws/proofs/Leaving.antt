@@ -43,9 +43,9 @@ use Rattle.wu_machine.specs.declared.command.Answer.{Answer}
 use Rattle.wu_passes.specs.Adopting.{IsVacant}
 use Rattle.wu_passes.specs.Committing.{FoundAs}
 use Rattle.wu_passes.specs.Projects.{has_ended, state_of}
-use Rattle.wu_passes.specs.Standing.{GoesOn, KeepsDoubt}
+use Rattle.wu_passes.specs.Standing.{GoesOn, FaultsOnlyGrow}
 use Rattle.wu_passes.specs.declared.project.Project.{Project}
-use Rattle.wu_schema.specs.StandsFor.{IsFree, StandsFor}
+use Rattle.wu_schema.specs.Refines.{IsFree, Refines}
 use Rattle.wu_schema.proofs.StandsLemmas.{stands_again}
 use Rattle.wu_schema.proofs.VersionLemmas.{free_lacks}
 use Rattle.wu_words.specs.Statuses.{fault_status, refusal_status, usage_status}
@@ -76,7 +76,7 @@ use Rattle.wu_program.specs.Opening.{IsOpenedAt}
 use Rattle.wu_program.specs.Running.{RunsWords, TellsTrouble}
 use Rattle.wu_program.specs.declared.End.{End}
 use Rattle.wu_program.specs.declared.database.Left.TheVariants as left
-use Rattle.wu_program_laws.specs.Runs.{BeginsWhereOneEnded, BeginsWhereOneStopped, HoldAfter, HoldAfterOneMore, Holds, LeavesAsItWas, LeavesDone, LeavesItsDone, LeavesItsDoneOrMore, LeavesItsWork, LeavesItsWorkUnclosed, OfEachImage, StandsForWorld, TellsDone}
+use Rattle.wu_program_laws.specs.Runs.{BeginsWhereOneEnded, BeginsWhereOneStopped, HoldAfter, HoldAfterOneMore, Holds, LeavesAsItWas, LeavesDone, LeavesItsDone, LeavesItsDoneOrMore, LeavesItsWork, LeavesItsWorkUnclosed, OfEachImage, ImageRefines, TellsDone}
 
 -- ---- statuses
 
@@ -132,26 +132,26 @@ status_at contents old new done status is_told f tells told =
 -- ---- what is doubted of the disk stays doubted through a run
 
 module _ {S W : Type 0} {store : trees.Ghosts S} (contents : W → Option (List ℕ)) where
-  one_doubt : (old new : Project S store) (out_old out_new : W) (action : Action) (end : Option Fault) → Performs contents old new out_old out_new action end → KeepsDoubt (state_of old) (state_of new)
+  one_doubt : (old new : Project S store) (out_old out_new : W) (action : Action) (end : Option Fault) → Performs contents old new out_old out_new action end → FaultsOnlyGrow (state_of old) (state_of new)
   one_doubt old new out_old out_new (Commands commands) end (run, runs, is) = runs.clean
   one_doubt old new out_old out_new (Look view) end sees = sees.clean
 
-  each_doubt : (old new : Project S store) (out_old out_new : W) (steps : List Step) → PerformsEach contents old new out_old out_new steps → KeepsDoubt (state_of old) (state_of new)
+  each_doubt : (old new : Project S store) (out_old out_new : W) (steps : List Step) → PerformsEach contents old new out_old out_new steps → FaultsOnlyGrow (state_of old) (state_of new)
   unfolding PerformsEach
-  each_doubt old new out_old out_new [] each = subst (λ p. KeepsDoubt (state_of old) (state_of p)) (sym each.0) (omega arith)
+  each_doubt old new out_old out_new [] each = subst (λ p. FaultsOnlyGrow (state_of old) (state_of p)) (sym each.0) (omega arith)
   each_doubt old new out_old out_new (one ∷ steps) each =
       let first = one_doubt old each.0 out_old each.1 one.action None each.2 in
       let rest = each_doubt each.0 new each.1 out_new steps each.3 in
       omega (arith, first, rest)
 
-  steps_doubt : (old new : Project S store) (out_old out_new : W) (steps : List Step) (end : Option LineFault) → PerformsSteps contents old new out_old out_new steps end → KeepsDoubt (state_of old) (state_of new)
+  steps_doubt : (old new : Project S store) (out_old out_new : W) (steps : List Step) (end : Option LineFault) → PerformsSteps contents old new out_old out_new steps end → FaultsOnlyGrow (state_of old) (state_of new)
   steps_doubt old new out_old out_new steps None each = each_doubt old new out_old out_new steps each
   steps_doubt old new out_old out_new steps (Some end) until =
       let first = each_doubt old until.mid out_old until.out_mid until.before until.each in
       let last = one_doubt until.mid new until.out_mid out_new until.last.action (Some end.fault) until.ends in
       omega (arith, first, last)
 
-  work_doubt : (old new : Project S store) (out_old out_new : W) (asked : Work) (done : Result (Unit {0}) Trouble) → PerformsWork contents old new out_old out_new asked done → KeepsDoubt (state_of old) (state_of new)
+  work_doubt : (old new : Project S store) (out_old out_new : W) (asked : Work) (done : Result (Unit {0}) Trouble) → PerformsWork contents old new out_old out_new asked done → FaultsOnlyGrow (state_of old) (state_of new)
   work_doubt old new out_old out_new (work.Line action) done (end, does, is) = one_doubt old new out_old out_new action end does
   work_doubt old new out_old out_new (work.Script steps) done (end, does, is) = steps_doubt old new out_old out_new steps end does
 
@@ -254,14 +254,14 @@ module _ {D : Type 0} {g : Ghosts D} (stays : SeenMayStay g) (conn : Held (FileS
   goes_from world held =
       let same : (file_state conn).now ≡ (file_state conn).committed = opened.0.clean in
       let it : FoundAs (file_state conn).committed.trees world = subst (λ (db : Trees). FoundAs db world) (sym (found.holds held.trees held.holds)) held.found in
-      let stands : StandsFor (file_state conn).now world =
+      let stands : Refines (file_state conn).now world =
       stands_again it.database (file_state conn).now world it.stands (opened.1 opened.0.is_open).0 (ap (λ (d : Database). d.trees) same ∙ sym it.same) in
       record {
         stands = λ is_open. (stands, sym same);
         left = λ db may. subst (λ (t : Trees). FoundAs t world) (sym (settled_at conn.store stays db opened.0.is_open may)) it;
       }
 
-  begins_from : (world : World) → StandsForWorld image world → BeginsFrom (file_state conn) world
+  begins_from : (world : World) → ImageRefines image world → BeginsFrom (file_state conn) world
   begins_from world (inl held) = inl (goes_from world held)
   begins_from world (inr (blank, same)) = inr (no_project blank, same)
 
@@ -380,7 +380,7 @@ module _ {S W E : Type 0} {c : calls.Ghosts Host} {s : start.Ghosts S} {g : Ghos
       → IsOpenedAt path (image_at s) conn → DoesOver over_files contents conn again old new asked done → DrivesOver over_files conn again asked done → TellsTrouble told_of err_old err_new done status is_told
       → HasCleanDisk (file_state again) → OfEachImage g files (λ image. (db : Trees) × (file_state again).may_leave db × HoldsDatabase image db)
       → ((world : World) (it : DrivesWork world asked done (file_state again)) → OfEachImage g files (says world (commands_of_work asked) it.count))
-      → (world : World) → IsProject world → StandsForWorld (image_at s) world → LeavesDone g files says (contents old) (contents new) world asked status ⊎ LeavesAsItWas g files (image_at s) world status
+      → (world : World) → IsProject world → ImageRefines (image_at s) world → LeavesDone g files says (contents old) (contents new) world asked status ⊎ LeavesAsItWas g files (image_at s) world status
   opened_leaves says conn again path asked old new err_old err_new done status is_told files at does drives tells clean each hold world project start =
       let early : HasCleanDisk (file_state conn) = was_clean contents conn again old new asked done does clean in
       let opened : IsOpened conn = at.opens early in

@@ -34,11 +34,11 @@ use Rattle.wu_program.specs.declared.End.{End}
 use Rattle.wu_program.specs.declared.database.Left.TheVariants as left
 
 -- the files hold the tables of this world; or the database has no byte, and it is the empty world
-abbrev pub StandsForWorld : Image → World → Type 0
-StandsForWorld image world = HoldsWorld image world ⊎ ((image.db ≡ []) × (world ≡ empty_world))
+abbrev pub ImageRefines : Image → World → Type 0
+ImageRefines image world = HoldsWorld image world ⊎ ((image.db ≡ []) × (world ≡ empty_world))
 
--- The files hold the machine's world after so many commands of a list, in order: none of them is lost, none was skipped,
--- and none is there in part. Further commands go on from there.
+-- The files hold the machine's world after so many commands of a list, in order: none of them is lost, none was
+-- skipped, and none is there in part. Further commands go on from there.
 pub record HoldAfter (world : World) (commands : List Command) (count : ℕ) (image : Image) : Type 0 where
   pub held : HoldsWorld image (world_after world commands count)
   pub project : IsProject (world_after world commands count)
@@ -67,15 +67,15 @@ module _ {D : Type 0} (g : Ghosts D) (files : Files D) where
     pub why : IsAdoptionFault fault
     pub held : HoldsWorld first world → OfEachImage (λ image. HoldsWorld image world)
 
--- Of a line of commands: the texts of the answers to those that were done went out, and only with `Output` the last one was
--- cut. So no command that was told is lost. Of the texts of a script's steps nothing is said here.
+-- Of a line of commands: the texts of the answers to those that were done went out, and only with `Output` the last one
+-- was cut. So no command that was told is lost. Of the texts of a script's steps nothing is said here.
 abbrev pub TellsDone : Option (List ℕ) → Option (List ℕ) → Work → List Answer → ℕ → Type 0
 TellsDone before after (work.Line (Commands commands)) answers count = (end : Option Fault) × WritesAnswers before after answers (record { acknowledged = count; end = end })
 TellsDone before after _ answers count = ⊤
 
 module _ {D : Type 0} (g : Ghosts D) (files : Files D) (says : Holds) (before after : Option (List ℕ)) where
-  -- So many commands of the work were done, in order, each with the machine's reply; with status 0 all were. What is said
-  -- of so many commands holds of the files, whatever a stop leaves of them.
+  -- So many commands of the work were done, in order, each with the machine's reply; with status 0 all were. What is
+  -- said of so many commands holds of the files, whatever a stop leaves of them.
   pub record LeavesDone (world : World) (asked : Work) (status : ℕ) : Type 0 where
     pub count : ℕ
     pub within : count ≤ length (commands_of_work asked)
@@ -88,7 +88,7 @@ module _ {D : Type 0} (g : Ghosts D) (files : Files D) (says : Holds) (before af
   -- over each world of a project that was there at first, where the disk had no fault by the end
   abbrev pub LeavesBeginning : Image → Work → ℕ → Type 0
   LeavesBeginning first asked status =
-      AreClean g files.log files.db → (world : World) → IsProject world → StandsForWorld first world
+      AreClean g files.log files.db → (world : World) → IsProject world → ImageRefines first world
       → LeavesDone world asked status ⊎ LeavesAsItWas g files first world status
 
   -- the words ask for work, and a beginning of that is left
@@ -112,7 +112,8 @@ module _ {S W E : Type 0} {c : calls.Ghosts Host} {s : start.Ghosts S} {g : Ghos
     pub files : Files (Modelled Host S c s)
     pub closed : end.left ≡ Some (left.Closed files)
 
-  -- a run that ended so, and whose close failed, as where the disk stopped amid the run: it left a store, with two files
+  -- a run that ended so, and whose close failed, as where the disk stopped amid the run: it left a store, with two
+  -- files
   pub record UnclosedRun (end : End (Modelled Host S c s) g) : Type 0 where
     pub words : List (List ℕ)
     pub old : W

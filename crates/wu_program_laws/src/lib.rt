@@ -34,7 +34,8 @@ pub fn a_run_begins_where_one_stopped<S: Start, T: Start, O: Write, E: Write>(
     ensures { BeginsWhereOneStopped O.contents E.contents first.now second.now }
 {}
 
-/// Does what the words ask for, as `obey`. Where it closed its database, that holds the world after a beginning of the work.
+/// Does what the words ask for, as `obey`. Where it closed its database, that holds the world after a beginning of the
+/// work.
 pub fn obey_and_leave<S: Start, O: Write, E: Write>(
     rt: &HostRuntime,
     words: &[String],

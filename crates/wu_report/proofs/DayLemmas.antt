@@ -1,5 +1,5 @@
--- The year, the month and the day that a text counts out are those of the date with that day number; what jiff prints of
--- a moment is that text.
+-- The year, the month and the day that a text counts out are those of the date with that day number; what jiff prints
+-- of a moment is that text.
 use Rattle.std.proofs.Common.{◌≡◌, ℕ, zero, suc, ◌+◌, ◌/◌, ◌%◌, ◌<◌, ◌≤◌, Bool, true, false, cond, List, ◌∷◌, ◌++◌, None, append_assoc, refl, sym, ap, ◌∙◌, arith, ℤ, pos, negsuc, ◌*ℤ◌, ◌<ℤ◌, ◌≤ℤ◌, unsigned_abs, int_le, inl, inr}
 use Rattle.std.specs.Prelude.{codes}
 use Rattle.std.specs.List.{count_by, range_with_len}

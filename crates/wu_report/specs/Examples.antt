@@ -14,8 +14,8 @@ use Rattle.wu_rules.specs.Examples.{credit, h1, h2, job, masked, too_many_errors
 abbrev pub first_job : Workunit
 first_job = job default_parameters []
 
-abbrev pub job_with : List Instance → Workunit
-job_with instances = job default_parameters instances
+abbrev pub job_having : List Instance → Workunit
+job_having instances = job default_parameters instances
 
 -- a world of one workunit
 abbrev pub holding : Workunit → World
@@ -24,7 +24,7 @@ holding w = record empty_world { workunits = w ∷ []; next_number = 2 }
 -- after a batch of one job, and a transition that made two instances of it
 abbrev pub after_a_batch : World
 after_a_batch =
-    record (holding (job_with (fresh ∷ fresh ∷ []))) {
+    record (holding (job_having (fresh ∷ fresh ∷ []))) {
       imports = record { kind = Batch; name = []; template = []; content = []; first_number = 1; verdicts = 0 ∷ [] } ∷ [];
     }
 

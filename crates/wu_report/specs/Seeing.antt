@@ -4,10 +4,10 @@ use Rattle.sqlite_trees.specs.declared.store.Store.{Ghosts}
 use Rattle.wu_core.specs.declared.fault.Fault.{Fault}
 use Rattle.wu_core.specs.declared.fault.Fault.TheVariants.{Broken}
 use Rattle.wu_machine.specs.declared.view.View.{View}
-use Rattle.wu_store.specs.Loading.{IsRead}
+use Rattle.wu_store.specs.Loading.{IsReadOnly}
 use Rattle.wu_passes.specs.declared.project.Project.{Project}
-use Rattle.wu_passes.specs.Projects.{BreaksOn, GoesStill, IsOver, KeepsLimit, ServesOn, state_of}
-use Rattle.wu_passes.specs.Standing.{KeepsDoubt}
+use Rattle.wu_passes.specs.Projects.{BreaksOn, IsSessionOpen, IsSessionEnded, KeepsLimit, ServesOn, state_of}
+use Rattle.wu_passes.specs.Standing.{FaultsOnlyGrow}
 use Rattle.wu_report.specs.Projects.{EndsAsBroken, KeepsWorld}
 use Rattle.wu_report.specs.Views.{IsViewFault, RefusesEnded, Shows, ShowsUnrefused}
 
@@ -15,16 +15,16 @@ use Rattle.wu_report.specs.Views.{IsViewFault, RefusesEnded, Shows, ShowsUnrefus
 pub record Sees {S W T : Type 0} {store : Ghosts S} (contents : W → Option (List ℕ)) (old new : Project S store) (out_old out_new : W) (view : View) (result : Result T Fault) : Type 0 where
   pub text : Shows contents old new out_old out_new view result
   pub goes : KeepsWorld old new
-  pub reads : IsRead (state_of old) (state_of new)
+  pub reads : IsReadOnly (state_of old) (state_of new)
   -- what is doubted of the disk stays doubted, and no fault of it is forgotten
-  pub clean : KeepsDoubt (state_of old) (state_of new)
+  pub clean : FaultsOnlyGrow (state_of old) (state_of new)
   pub counts : (state_of old).faults ≤ (state_of new).faults
   pub limit : KeepsLimit old new
   pub ended : RefusesEnded contents old new out_old out_new result
   -- the session ends with `Broken` alone
   pub ends : EndsAsBroken old new result
-  pub broken : result ≡ Err Broken → IsOver new
-  pub fault : GoesStill old → IfErr result IsViewFault
+  pub broken : result ≡ Err Broken → IsSessionEnded new
+  pub fault : IsSessionOpen old → IfErr result IsViewFault
   pub unrefused : ShowsUnrefused old new view result
   pub broke : BreaksOn old new result
-  pub opens : GoesStill old → ServesOn new result
+  pub opens : IsSessionOpen old → ServesOn new result

@@ -13,7 +13,7 @@ use Rattle.wu_store.specs.Summaries.{IsCountable}
 use Rattle.wu_passes.specs.Standing.{GoesOn}
 use Rattle.wu_passes.specs.declared.project.Project.{Project}
 use Rattle.wu_passes.specs.declared.project.walk.LineWalk.{LineWalk}
-use Rattle.wu_passes.specs.Projects.{GoesStill, IsOver, IsUnlimited, state_of}
+use Rattle.wu_passes.specs.Projects.{IsSessionOpen, IsSessionEnded, IsUnlimited, state_of}
 use Rattle.wu_passes.specs.Walks.{HasLeft, walked}
 use Rattle.wu_machine.specs.declared.view.View.{View}
 use Rattle.wu_machine.specs.declared.view.View.TheVariants as view
@@ -41,7 +41,7 @@ FailsToWrite {S} {A} {T} old new result = HasCleanDisk (state_of (walked new)) �
 -- where a session goes on over a world and the disk does not fail, a view's text of that world is written
 abbrev pub Shows : {S W T : Type 0} {store : Ghosts S} → (W → Option (List ℕ)) → Project S store → Project S store → W → W → View → Result T Fault → Type 0
 Shows contents old new out_old out_new view result =
-    GoesStill old → HasCleanDisk (state_of new) → (world : World) → GoesOn (state_of old) world
+    IsSessionOpen old → HasCleanDisk (state_of new) → (world : World) → GoesOn (state_of old) world
     → WritesTo contents out_old out_new (view_text world view) result
 
 -- the values of a world that a view reads can be read
@@ -55,10 +55,10 @@ CanBeShown world view.Summary = IsCountable world
 -- where they can, and steps have no limit, the view is not refused
 abbrev pub ShowsUnrefused : {S T : Type 0} {store : Ghosts S} → Project S store → Project S store → View → Result T Fault → Type 0
 ShowsUnrefused old new view result =
-    GoesStill old → HasCleanDisk (state_of new) → IsUnlimited old → (world : World) → CanBeShown world view → GoesOn (state_of old) world
+    IsSessionOpen old → HasCleanDisk (state_of new) → IsUnlimited old → (world : World) → CanBeShown world view → GoesOn (state_of old) world
     → IfErr result (λ fault. fault ≢ NotAProject)
 
 -- where a session had ended, that is the answer, and neither the project nor the writer is touched
 abbrev pub RefusesEnded : {S W T : Type 0} {store : Ghosts S} → (W → Option (List ℕ)) → Project S store → Project S store → W → W → Result T Fault → Type 0
 RefusesEnded contents old new out_old out_new result =
-    IsOver old → (result ≡ Err Ended) × (new ≡ old) × (contents out_new ≡ contents out_old)
+    IsSessionEnded old → (result ≡ Err Ended) × (new ≡ old) × (contents out_new ≡ contents out_old)

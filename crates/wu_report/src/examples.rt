@@ -6,7 +6,7 @@ ghost use Rattle.wu_core.specs.World.{empty_world};
 ghost use Rattle.wu_core.specs.Workunit.{fresh};
 ghost use Rattle.wu_rules.specs.Examples.{h1, out, success};
 ghost use Rattle.wu_machine.specs.declared.view.View.TheVariants.{Archive, Hosts, Results, Summary, Workunits};
-ghost use Rattle.wu_report.specs.Examples.{after_a_batch, decided_row, given_up_row, holding, job_with, archiving, first_job, three_grants};
+ghost use Rattle.wu_report.specs.Examples.{after_a_batch, decided_row, given_up_row, holding, job_having, archiving, first_job, three_grants};
 ghost use Rattle.wu_report.specs.Texts.{moment_text, view_text};
 
 /// The first and the last moment, noon of a day, a leap day and the last deadline, as text.
@@ -27,13 +27,13 @@ pub fn prints_a_workunit()
 
 /// The lines of two instances, before they are sent; of one that is out; and of one that was found invalid.
 pub fn prints_instances()
-    ensures unsent { view_text (holding (job_with (fresh ∷ fresh ∷ []))) Results
+    ensures unsent { view_text (holding (job_having (fresh ∷ fresh ∷ []))) Results
         ≡ codes "job_1_0 UNSENT INIT INIT INIT host=- sent=- deadline=- received=- output=0\n"
         ++ codes "job_1_1 UNSENT INIT INIT INIT host=- sent=- deadline=- received=- output=0\n" }
-    ensures sent { view_text (holding (job_with (out h1 ∷ []))) Results
+    ensures sent { view_text (holding (job_having (out h1 ∷ []))) Results
         ≡ codes "job_1_0 IN_PROGRESS INIT INIT INIT host=h1 sent=2026-03-01T13:00:00Z"
         ++ codes " deadline=2026-03-08T13:00:00Z received=- output=0\n" }
-    ensures invalid { view_text (holding (job_with (success h1 (0 ∷ []) Invalid ∷ []))) Results
+    ensures invalid { view_text (holding (job_having (success h1 (0 ∷ []) Invalid ∷ []))) Results
         ≡ codes "job_1_0 OVER SUCCESS INVALID INIT host=h1 sent=2026-03-01T13:00:00Z"
         ++ codes " deadline=2026-03-08T13:00:00Z received=2026-03-01T14:00:00Z output=1\n" }
 {}

@@ -1,11 +1,10 @@
 //! The views of a project, as text.
 
 ghost use Rattle.std.specs.Prelude.{◌≡◌, IfErr};
-ghost use Rattle.wu_report.specs.Projects.{EndsAsBroken};
+ghost use Rattle.wu_report.specs.Projects.{ReadsSession};
 ghost use Rattle.wu_report.specs.Seeing.{Sees};
 ghost use Rattle.wu_report.specs.Views.{FailsToWrite, IsViewFault, RefusesEnded, Shows, ShowsUnrefused, WritesLeft};
-ghost use Rattle.wu_store.specs.Loading.{IsRead};
-ghost use Rattle.wu_passes.specs.Projects.{BreaksOn, GoesStill, KeepsLimit, ServesOn, state_of};
+ghost use Rattle.wu_passes.specs.Projects.{BreaksOn, IsSessionOpen, ServesOn};
 ghost use Rattle.wu_passes.specs.Walks.{OnlyReads, StaysServing, walked};
 
 use crate::lines::{Line, write_summary};
@@ -43,9 +42,9 @@ fn write_workunits<S: Alter, W: Write>(
 ) -> Result<(), Fault>
     ensures ended { RefusesEnded W.contents project.old project.new out.old out.new result }
     ensures reads { OnlyReads project.old project.new }
-    ensures opens { GoesStill project.old → ServesOn project.new result }
+    ensures opens { IsSessionOpen project.old → ServesOn project.new result }
     ensures text { Shows W.contents project.old project.new out.old out.new View.Workunits result }
-    ensures fault { GoesStill project.old → IfErr result IsViewFault }
+    ensures fault { IsSessionOpen project.old → IfErr result IsViewFault }
     ensures unrefused { ShowsUnrefused project.old project.new View.Workunits result }
     ensures broke { BreaksOn project.old project.new result }
 {
@@ -61,9 +60,9 @@ fn write_results<S: Alter, W: Write>(
 ) -> Result<(), Fault>
     ensures ended { RefusesEnded W.contents project.old project.new out.old out.new result }
     ensures reads { OnlyReads project.old project.new }
-    ensures opens { GoesStill project.old → ServesOn project.new result }
+    ensures opens { IsSessionOpen project.old → ServesOn project.new result }
     ensures text { Shows W.contents project.old project.new out.old out.new View.Results result }
-    ensures fault { GoesStill project.old → IfErr result IsViewFault }
+    ensures fault { IsSessionOpen project.old → IfErr result IsViewFault }
     ensures unrefused { ShowsUnrefused project.old project.new View.Results result }
     ensures broke { BreaksOn project.old project.new result }
 {
@@ -79,9 +78,9 @@ fn write_hosts<S: Alter, W: Write>(
 ) -> Result<(), Fault>
     ensures ended { RefusesEnded W.contents project.old project.new out.old out.new result }
     ensures reads { OnlyReads project.old project.new }
-    ensures opens { GoesStill project.old → ServesOn project.new result }
+    ensures opens { IsSessionOpen project.old → ServesOn project.new result }
     ensures text { Shows W.contents project.old project.new out.old out.new View.Hosts result }
-    ensures fault { GoesStill project.old → IfErr result IsViewFault }
+    ensures fault { IsSessionOpen project.old → IfErr result IsViewFault }
     ensures unrefused { ShowsUnrefused project.old project.new View.Hosts result }
     ensures broke { BreaksOn project.old project.new result }
 {
@@ -97,9 +96,9 @@ fn write_archive<S: Alter, W: Write>(
 ) -> Result<(), Fault>
     ensures ended { RefusesEnded W.contents project.old project.new out.old out.new result }
     ensures reads { OnlyReads project.old project.new }
-    ensures opens { GoesStill project.old → ServesOn project.new result }
+    ensures opens { IsSessionOpen project.old → ServesOn project.new result }
     ensures text { Shows W.contents project.old project.new out.old out.new View.Archive result }
-    ensures fault { GoesStill project.old → IfErr result IsViewFault }
+    ensures fault { IsSessionOpen project.old → IfErr result IsViewFault }
     ensures unrefused { ShowsUnrefused project.old project.new View.Archive result }
     ensures broke { BreaksOn project.old project.new result }
 {
@@ -110,12 +109,10 @@ fn write_archive<S: Alter, W: Write>(
 /// Writes the lines of the summary. Only `Broken` ends the session.
 fn write_counts<S: Alter, W: Write>(project: &mut Project<S>, out: &mut W) -> Result<(), Fault>
     ensures ended { RefusesEnded W.contents project.old project.new out.old out.new result }
-    ensures reads { IsRead (state_of project.old) (state_of project.new) }
-    ensures limit { KeepsLimit project.old project.new }
-    ensures ends { EndsAsBroken project.old project.new result }
-    ensures opens { GoesStill project.old → ServesOn project.new result }
+    ensures reads { ReadsSession project.old project.new result }
+    ensures opens { IsSessionOpen project.old → ServesOn project.new result }
     ensures text { Shows W.contents project.old project.new out.old out.new View.Summary result }
-    ensures fault { GoesStill project.old → IfErr result IsViewFault }
+    ensures fault { IsSessionOpen project.old → IfErr result IsViewFault }
     ensures unrefused { ShowsUnrefused project.old project.new View.Summary result }
     ensures broke { BreaksOn project.old project.new result }
 {
@@ -131,12 +128,10 @@ fn write_view<S: Alter, W: Write>(
     out: &mut W,
 ) -> Result<(), Fault>
     ensures ended { RefusesEnded W.contents project.old project.new out.old out.new result }
-    ensures reads { IsRead (state_of project.old) (state_of project.new) }
-    ensures limit { KeepsLimit project.old project.new }
-    ensures ends { EndsAsBroken project.old project.new result }
-    ensures opens { GoesStill project.old → ServesOn project.new result }
+    ensures reads { ReadsSession project.old project.new result }
+    ensures opens { IsSessionOpen project.old → ServesOn project.new result }
     ensures text { Shows W.contents project.old project.new out.old out.new view result }
-    ensures fault { GoesStill project.old → IfErr result IsViewFault }
+    ensures fault { IsSessionOpen project.old → IfErr result IsViewFault }
     ensures unrefused { ShowsUnrefused project.old project.new view result }
     ensures broke { BreaksOn project.old project.new result }
 {

@@ -6,7 +6,7 @@ use Rattle.std.proofs.lemmas.Option.{slice_get_cases, slice_get-get_or}
 use Rattle.std.proofs.lemmas.List.{length-set}
 use Rattle.wu_core.specs.declared.workunit.Instance.{Instance}
 use Rattle.wu_core.specs.declared.workunit.Workunit.{Workunit}
-use Rattle.wu_core.specs.Workunit.{overwritten, with_instance}
+use Rattle.wu_core.specs.Workunit.{overwritten, with_instance_set}
 use Rattle.wu_rules.proofs.InPlace.{overwritten-all}
 
 -- a verdict that is not that of a missing instance is one of an instance
@@ -19,7 +19,7 @@ is_within {X} {V} verdict missing here xs n e other = by (slice_get_cases xs n).
 
 -- a workunit whose instance of this number is changed is as it is written
 pub placed : (w : Workunit) (items : List Instance) (n : ℕ) (f : Instance → Instance) (d new : Instance) → n < length w.instances → items ≡ w.instances → new ≡ f (get_or items n d)
-    → record w { instances = overwritten w.instances (set items n new) } ≡ option_map_or (λ instance. with_instance w n (f instance)) (slice_get w.instances n) w
+    → record w { instances = overwritten w.instances (set items n new) } ≡ option_map_or (λ instance. with_instance_set w n (f instance)) (slice_get w.instances n) w
 placed w items n f d new lt same made =
     let here : slice_get w.instances n ≡ Some (get_or w.instances n d) = slice_get-get_or w.instances n d lt in
     let whole : overwritten w.instances (set w.instances n new) ≡ set w.instances n new = overwritten-all w.instances (set w.instances n new) (length-set w.instances n new) in

@@ -1,5 +1,5 @@
--- When the states and verdicts of a workunit agree, and what a rule makes of one: its image, its grants and its archived
--- rows, so that they go on agreeing.
+-- When the states and verdicts of a workunit agree, and what a rule makes of one: its image, its grants and its
+-- archived rows, so that they go on agreeing.
 use Rattle.std.specs.Prelude.{◌≡◌, ◌≢◌, ℕ, ◌==◌, Bool, true, false, not, ◌&&◌, if◌then◌else◌, List, filter, length, All, IfSome, is_none, slice_get, option_map, Option, Some, None}
 use Rattle.std.specs.List.{list_any}
 use Rattle.std.specs.Option.{option_map_or}
@@ -47,8 +47,8 @@ abbrev pub is_valid_at : List Instance → ℕ → Bool
 is_valid_at instances n = option_map_or (λ i. is_valid_verdict i.validate_state) (slice_get instances n) false
 
 -- the host of the instance of this number, if there is one
-abbrev pub host_at : List Instance → ℕ → Option (List ℕ)
-host_at instances n = option_map_or (λ i. i.host) (slice_get instances n) None
+abbrev pub instance_host : List Instance → ℕ → Option (List ℕ)
+instance_host instances n = option_map_or (λ i. i.host) (slice_get instances n) None
 
 abbrev pub is_done : Workunit → Bool
 is_done w = is_done_assimilate w.assimilate
@@ -59,7 +59,7 @@ one_if b = if b then 1 else 0
 
 -- a grant is for the host of its instance, with its workunit's credit
 pub record IsGrantFor (w : Workunit) (grant : Grant) : Type 0 where
-  pub host : host_at w.instances grant.n ≡ Some grant.host
+  pub host : instance_host w.instances grant.n ≡ Some grant.host
   pub credit : grant.credit ≡ w.params.credit
 
 -- an instance has one grant exactly where it is made VALID
@@ -87,14 +87,14 @@ KeepsVerdicts old new =
 -- a host has at most one instance of the workunit
 abbrev pub HostsApart : Workunit → Type 0
 HostsApart w =
-    (m n : ℕ) (host : List ℕ) → host_at w.instances m ≡ Some host → host_at w.instances n ≡ Some host
+    (m n : ℕ) (host : List ℕ) → instance_host w.instances m ≡ Some host → instance_host w.instances n ≡ Some host
     → m ≡ n
 
 -- an instance that was sent stays with its host
 abbrev pub KeepsHosts : Workunit → Workunit → Type 0
 KeepsHosts old new =
-    (n : ℕ) (host : List ℕ) → host_at old.instances n ≡ Some host
-    → host_at new.instances n ≡ Some host
+    (n : ℕ) (host : List ℕ) → instance_host old.instances n ≡ Some host
+    → instance_host new.instances n ≡ Some host
 
 -- What a rule makes of a consistent workunit, with what it grants and archives. What was decided stays: who is VALID,
 -- with its host, each final verdict, the canonical result, that it was given up, and that it is DONE, with its mask and
@@ -106,7 +106,7 @@ pub record Rewrites (old new : Workunit) (grants : List Grant) (archived : List 
   pub formed : IsWorkunit new
   pub consistent : IsConsistent new
   pub valid : (n : ℕ) → is_valid_at old.instances n ≡ true
-      → (is_valid_at new.instances n ≡ true) × (host_at new.instances n ≡ host_at old.instances n)
+      → (is_valid_at new.instances n ≡ true) × (instance_host new.instances n ≡ instance_host old.instances n)
   pub canonical : (n : ℕ) → old.canonical ≡ Some n → new.canonical ≡ Some n
   pub verdicts : KeepsVerdicts old new
   pub hosts : KeepsHosts old new

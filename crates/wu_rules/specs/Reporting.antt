@@ -10,7 +10,7 @@ use Rattle.wu_core.specs.declared.states.Status.{Status}
 use Rattle.wu_core.specs.declared.states.ValidateState.TheVariants as validate
 use Rattle.wu_core.specs.declared.states.FileDelete.TheVariants as file_delete
 use Rattle.wu_core.specs.Statuses.{outcome_of}
-use Rattle.wu_core.specs.Workunit.{with_instance}
+use Rattle.wu_core.specs.Workunit.{with_instance_set}
 use Rattle.wu_rules.specs.Instances.{is_over}
 use Rattle.wu_rules.specs.Sending.{is_of}
 use Rattle.wu_rules.specs.declared.verdicts.ReportVerdict.{ReportVerdict}
@@ -51,4 +51,4 @@ reported_as moment status output instance = record instance {
 -- the workunit with its instance of this number reported
 abbrev pub reported_in : Workunit → ℕ → ℕ → Status → List ℕ → Workunit
 reported_in w n moment status output =
-    option_map_or (λ instance. with_instance w n (reported_as moment status output instance)) (slice_get w.instances n) w
+    option_map_or (λ instance. with_instance_set w n (reported_as moment status output instance)) (slice_get w.instances n) w

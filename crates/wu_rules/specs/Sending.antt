@@ -5,7 +5,7 @@ use Rattle.std.specs.Option.{option_map_or}
 use Rattle.wu_core.specs.declared.workunit.Instance.{Instance}
 use Rattle.wu_core.specs.declared.workunit.Workunit.{Workunit}
 use Rattle.wu_core.specs.declared.states.ServerState.TheVariants as server
-use Rattle.wu_core.specs.Workunit.{with_instance}
+use Rattle.wu_core.specs.Workunit.{with_instance_set}
 use Rattle.wu_rules.specs.Instances.{is_unsent}
 use Rattle.wu_rules.specs.declared.verdicts.SendVerdict.{SendVerdict}
 use Rattle.wu_rules.specs.declared.verdicts.SendVerdict.TheVariants as verdict
@@ -41,4 +41,4 @@ sent_to w host moment = due_at (moment + w.params.delay_bound) host moment
 -- the workunit with its instance of this number sent
 abbrev pub sent_in : Workunit → ℕ → List ℕ → ℕ → Workunit
 sent_in w n host moment =
-    option_map_or (λ instance. with_instance w n (sent_to w host moment instance)) (slice_get w.instances n) w
+    option_map_or (λ instance. with_instance_set w n (sent_to w host moment instance)) (slice_get w.instances n) w

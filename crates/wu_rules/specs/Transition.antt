@@ -51,7 +51,8 @@ extended w = record w {
   instances = w.instances ++ replicate (added w) fresh;
 }
 
--- a workunit that is given up: unsent instances are closed, viable successes are not checked, and it is ready to be assimilated
+-- a workunit that is given up: unsent instances are closed, viable successes are not checked, and it is ready to be
+-- assimilated
 abbrev pub ended : Workunit → Workunit
 ended w = record w { assimilate = readied_assimilate w.assimilate; instances = map given_up w.instances }
 

@@ -11,7 +11,8 @@ use Rattle.wu_core.specs.Parameters.{Parameters}
 use Rattle.wu_rules.specs.Instances.{is_viable, is_new, is_deleted_file, closed, readied_assimilate}
 use Rattle.wu_rules.specs.Counts.{viable, has_new_success, is_clear, consensus}
 
--- the validator looks at a workunit without error that has a new success, and that has a canonical result already or viable successes enough for the quorum
+-- the validator looks at a workunit without error that has a new success, and that has a canonical result already or
+-- viable successes enough for the quorum
 abbrev pub is_to_validate : Workunit → Bool
 is_to_validate w =
     is_clear w.error_mask

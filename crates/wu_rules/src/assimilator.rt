@@ -33,8 +33,8 @@ fn archived_row(alloc: Global, workunit: &Workunit, now: Moment) -> Result<Archi
     })
 }
 
-/// Closes a workunit that is ready, and gives what is kept of it for good. Any other stays as it was and gives nothing. For
-/// want of memory nothing changes.
+/// Closes a workunit that is ready, and gives what is kept of it for good. Any other stays as it was and gives nothing.
+/// For want of memory nothing changes.
 #[tactic(auto, unfolding(crate::specs::Assimilation::assimilated, crate::specs::Assimilation::archived))]
 pub fn assimilate(
     alloc: Global,

@@ -33,8 +33,8 @@ fn has_aged(done_at: Option<Moment>, now: Moment, min_age: u64) -> bool
     }
 }
 
-/// Whether the workunit may be purged: it was assimilated at least `min_age` seconds ago (0 to a year of 365 days), all its
-/// instances are over, and its input and outputs are deleted.
+/// Whether the workunit may be purged: it was assimilated at least `min_age` seconds ago (0 to a year of 365 days), all
+/// its instances are over, and its input and outputs are deleted.
 #[tactic(auto, unfolding(crate::specs::Assimilation::is_purgeable))]
 pub fn purgeable(workunit: &Workunit, now: Moment, min_age: u64) -> bool
     requires { min_age ≤ longest_age }

@@ -147,9 +147,9 @@ fn end_as(instance: &mut Instance, received_at: Moment, status: Status, output: 
     instance.output = output;
 }
 
-/// Takes the host's report of the instance of this number: it is over at this moment with what the host says, its output
-/// is kept, and it waits for the validator. The host has to be the one that it was sent to, no later than the moment, and
-/// it must not have ended but for want of a reply; else nothing changes, and the verdict says why.
+/// Takes the host's report of the instance of this number: it is over at this moment with what the host says, its
+/// output is kept, and it waits for the validator. The host has to be the one that it was sent to, no later than the
+/// moment, and it must not have ended but for want of a reply; else nothing changes, and the verdict says why.
 pub fn report(
     workunit: &mut Workunit,
     n: u32,

@@ -191,8 +191,8 @@ fn ready(workunit: &mut Workunit)
     }
 }
 
-/// Times out what is overdue, gives up what bears no more, makes the instances that are wanted, closes what is given up,
-/// and names the files that nobody needs any more for deletion. For want of memory nothing changes.
+/// Times out what is overdue, gives up what bears no more, makes the instances that are wanted, closes what is given
+/// up, and names the files that nobody needs any more for deletion. For want of memory nothing changes.
 #[tactic(auto, unfolding(crate::specs::Transition::transitioned))]
 pub fn transition(alloc: Global, workunit: &mut Workunit, now: Moment) -> Result<(), Fault>
     ensures ok { OnOk result (workunit.new ≡ transitioned workunit.old now) }

@@ -248,8 +248,8 @@ fn agree_on(workunit: &mut Workunit, n: usize)
     judge_all(&mut workunit.instances, n);
 }
 
-/// Leaves the viable successes without a decision: gives the workunit up where they are more than it bears, and wants one
-/// more where they have reached its target.
+/// Leaves the viable successes without a decision: gives the workunit up where they are more than it bears, and wants
+/// one more where they have reached its target.
 fn leave_open(workunit: &mut Workunit)
     ensures { workunit.new ≡ left_open workunit.old }
 {
@@ -302,8 +302,8 @@ fn decide(alloc: Global, workunit: &mut Workunit) -> Result<Vec<Grant>, AllocErr
 }
 
 /// Looks for a consensus among the results of an undecided workunit, or judges what came after the decision, and grants
-/// credit to each result that is found valid. Where there is nothing to look at nothing changes, and nothing does for want
-/// of memory.
+/// credit to each result that is found valid. Where there is nothing to look at nothing changes, and nothing does for
+/// want of memory.
 #[tactic(auto, unfolding(crate::specs::Validation::validated, crate::specs::Validation::grants))]
 pub fn validate(alloc: Global, workunit: &mut Workunit) -> Result<Vec<Grant>, Fault>
     ensures image { OnOk result (workunit.new ≡ validated workunit.old) }

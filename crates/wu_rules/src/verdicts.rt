@@ -4,7 +4,8 @@ ghost use Rattle.std.specs.Prelude.{◌≡◌, option_map};
 ghost use Rattle.wu_core.specs.Codes.{Decodes};
 ghost use Rattle.wu_rules.specs.Verdicts.{report_verdict_code, report_verdict_word, send_verdict_code, send_verdict_word};
 
-/// What becomes of a row that says an instance was sent to a host: the first that holds, from `Unknown` on, or `Applied`.
+/// What becomes of a row that says an instance was sent to a host: the first that holds, from `Unknown` on, or
+/// `Applied`.
 #[derive(Clone, Copy, Debug, PartialEq, Eq)]
 pub enum SendVerdict {
     Applied = 0,

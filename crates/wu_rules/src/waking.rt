@@ -100,8 +100,8 @@ fn first_overdue(instances: &[Instance]) -> Option<u64>
         .min()
 }
 
-/// The first moment at which the transitioner has something to do with the workunit: 0 where it has at once, else when the
-/// first deadline has passed. None where it waits for nothing.
+/// The first moment at which the transitioner has something to do with the workunit: 0 where it has at once, else when
+/// the first deadline has passed. None where it waits for nothing.
 #[tactic(auto, unfolding(crate::specs::Waking::wake))]
 pub fn wake_of(workunit: &Workunit) -> Option<u64>
     ensures { result ≡ wake workunit.now }

@@ -21,7 +21,7 @@ use Rattle.wu_rules.specs.Reporting.{reported_as}
 use Rattle.wu_rules.specs.Sending.{due_at}
 use Rattle.wu_rules.specs.Validation.{doubted, doubted_or_closed, judged_by, judged_late_by, verdict}
 use Rattle.wu_rules.proofs.Timing.{and_left as overdue_left, not_over}
-use Rattle.wu_rules.specs.Consistent.{IsPossible, host_at, is_valid_at, is_valid_verdict}
+use Rattle.wu_rules.specs.Consistent.{IsPossible, instance_host, is_valid_at, is_valid_verdict}
 use Rattle.wu_rules_laws.proofs.Changed.{or_false, placed}
 use Rattle.wu_rules_laws.proofs.Spent.{and_left, and_right}
 
@@ -335,13 +335,13 @@ valid_at made (x ∷ xs) (y ∷ ys) h zero = h.0.valid
 valid_at made (x ∷ xs) (y ∷ ys) h (suc n) = valid_at made xs ys h.1 n
 
 -- a new instance has no host
-fresh_not_hosted : (ys : List Instance) → AllByRecursion (λ y. y ≡ fresh) ys → (n : ℕ) → host_at ys n ≡ None
+fresh_not_hosted : (ys : List Instance) → AllByRecursion (λ y. y ≡ fresh) ys → (n : ℕ) → instance_host ys n ≡ None
 fresh_not_hosted [] h n = refl
 fresh_not_hosted (y ∷ ys) h zero = ap (λ i. i.host) h.0
 fresh_not_hosted (y ∷ ys) h (suc n) = fresh_not_hosted ys h.1 n
 
 -- each has its host still, and no other
-pub same_host : (made : Instance → Bool) (xs ys : List Instance) → AllBecome made xs ys → (n : ℕ) → host_at ys n ≡ host_at xs n
+pub same_host : (made : Instance → Bool) (xs ys : List Instance) → AllBecome made xs ys → (n : ℕ) → instance_host ys n ≡ instance_host xs n
 same_host made [] ys h n = fresh_not_hosted ys h n
 same_host made (x ∷ xs) [] h n = absurd h
 same_host made (x ∷ xs) (y ∷ ys) h zero = h.0.host

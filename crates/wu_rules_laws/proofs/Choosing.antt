@@ -4,7 +4,7 @@ use Rattle.std.specs.Option.{option_map_or}
 use Rattle.wu_core.specs.declared.states.Assimilate.TheVariants as assimilate
 use Rattle.wu_core.specs.declared.workunit.Instance.{Instance}
 use Rattle.wu_core.specs.declared.workunit.Workunit.{Workunit}
-use Rattle.wu_core.specs.Workunit.{with_instance}
+use Rattle.wu_core.specs.Workunit.{with_instance_set}
 use Rattle.wu_rules.specs.Assimilation.{assimilated, emptied}
 use Rattle.wu_rules.specs.Cancelling.{cancelled}
 use Rattle.wu_rules.specs.Counts.{consensus, is_clear, viable}
@@ -78,7 +78,7 @@ cancelled_keeps w = refl
 
 -- one instance changed, where there is one of the number
 placed_keeps : (w : Workunit) (n : ℕ) (change : Instance → Instance) (found : Option Instance)
-    → (option_map_or (λ instance. with_instance w n (change instance)) found w).canonical ≡ w.canonical
+    → (option_map_or (λ instance. with_instance_set w n (change instance)) found w).canonical ≡ w.canonical
 placed_keeps w n change None = refl
 placed_keeps w n change (Some i) = refl
 

@@ -24,7 +24,7 @@ use Rattle.wu_rules.specs.Transition.{added, ended, extended, is_all_over, is_fi
 use Rattle.wu_rules.specs.Validation.{doubted, doubted_or_closed, left_open, raised_target}
 use Rattle.wu_rules.proofs.Lists.{any-map}
 use Rattle.wu_rules.proofs.Timing.{not_unsent, same_timed}
-use Rattle.wu_rules.specs.Consistent.{IsPossible, KeepsVerdicts, host_at, is_done, is_valid_at, is_valid_verdict}
+use Rattle.wu_rules.specs.Consistent.{IsPossible, KeepsVerdicts, instance_host, is_done, is_valid_at, is_valid_verdict}
 use Rattle.wu_rules_laws.proofs.Becoming.{AllBecome, all_become, all_become-more, all_become-placed, all_possible, all_stay, becomes_closed, becomes_doubted, becomes_doubted_or_closed, becomes_given_up, becomes_readied, becomes_timed_out, becomes_without_output, final_at, none_made, readied_right, same_host, valid_at, verdict_at}
 use Rattle.wu_rules_laws.proofs.Changed.{and_false, any-placed, any_false-map, cond_keeps, or_from, or_left, or_right}
 use Rattle.wu_rules_laws.proofs.Hosted.{Apart, StayHosted, all_set, apart_same, at_other, at_set, stay_apart, stay_hosted}
@@ -34,11 +34,12 @@ use Rattle.wu_rules_laws.proofs.Spent.{and_from, and_left, and_right}
 
 -- ---- instances
 
--- they stay possible, the same ones are VALID, each final verdict stays and each host, and hosts that were apart stay so
+-- they stay possible, the same ones are VALID, each final verdict stays and each host, and hosts that were apart stay
+-- so
 pub record Follows (old new : List Instance) : Type 0 where
   pub possible : AllByRecursion IsPossible old → AllByRecursion IsPossible new
   pub valid : (n : ℕ) → is_valid_at new n ≡ is_valid_at old n
-  pub host : (n : ℕ) → is_valid_at new n ≡ true → host_at new n ≡ host_at old n
+  pub host : (n : ℕ) → is_valid_at new n ≡ true → instance_host new n ≡ instance_host old n
   pub hosts : StayHosted old new
   pub apart : Apart old → Apart new
   pub final : (n : ℕ) (v : ValidateState) → verdict_at old n ≡ Some v → is_open_verdict v ≡ false → verdict_at new n ≡ Some v
@@ -58,7 +59,7 @@ follows xs ys h = record {
     never None = refl
     never (Some i) = refl
 
-    same : (n : ℕ) → host_at ys n ≡ host_at xs n
+    same : (n : ℕ) → instance_host ys n ≡ instance_host xs n
     same = same_host none_made xs ys h
 
 -- one that is sent without a verdict, to a host that has none of them

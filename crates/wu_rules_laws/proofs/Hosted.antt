@@ -13,7 +13,7 @@ use Rattle.wu_core.specs.declared.workunit.Workunit.{Workunit}
 use Rattle.wu_rules.specs.Counts.{agreeing, viable}
 use Rattle.wu_rules.specs.Instances.{is_open_verdict, is_success, is_viable}
 use Rattle.wu_rules.specs.Sending.{is_of}
-use Rattle.wu_rules.specs.Consistent.{HostsApart, host_at}
+use Rattle.wu_rules.specs.Consistent.{HostsApart, instance_host}
 use Rattle.wu_rules_laws.specs.Laws.{HaveDifferentHosts}
 use Rattle.wu_rules_laws.proofs.Granted.{success_host}
 use Rattle.wu_rules_laws.proofs.Spent.{and_left}
@@ -22,14 +22,14 @@ use Rattle.wu_rules_laws.proofs.Spent.{and_left}
 
 -- a host has at most one of them
 abbrev pub Apart : List Instance → Type 0
-Apart xs = (m n : ℕ) (host : List ℕ) → host_at xs m ≡ Some host → host_at xs n ≡ Some host → m ≡ n
+Apart xs = (m n : ℕ) (host : List ℕ) → instance_host xs m ≡ Some host → instance_host xs n ≡ Some host → m ≡ n
 
 -- each that has a host has it still
 abbrev pub StayHosted : List Instance → List Instance → Type 0
-StayHosted xs ys = (n : ℕ) (host : List ℕ) → host_at xs n ≡ Some host → host_at ys n ≡ Some host
+StayHosted xs ys = (n : ℕ) (host : List ℕ) → instance_host xs n ≡ Some host → instance_host ys n ≡ Some host
 
 -- with the same hosts a host has at most one still
-pub apart_same : (xs ys : List Instance) → ((n : ℕ) → host_at ys n ≡ host_at xs n) → Apart xs → Apart ys
+pub apart_same : (xs ys : List Instance) → ((n : ℕ) → instance_host ys n ≡ instance_host xs n) → Apart xs → Apart ys
 apart_same xs ys same apart m n host one other = apart m n host (sym (same m) ∙ one) (sym (same n) ∙ other)
 
 -- ---- one instance in the place of another
@@ -44,7 +44,7 @@ at_set f (x ∷ xs) (suc n) i j here same zero = refl
 at_set f (x ∷ xs) (suc n) i j here same (suc k) = at_set f xs n i j here same k
 
 -- each other is as before
-pub at_other : (xs : List Instance) (n : ℕ) (j : Instance) (k : ℕ) → k ≢ n → host_at (slice_set xs n j) k ≡ host_at xs k
+pub at_other : (xs : List Instance) (n : ℕ) (j : Instance) (k : ℕ) → k ≢ n → instance_host (slice_set xs n j) k ≡ instance_host xs k
 at_other [] n j k other = refl
 at_other (x ∷ xs) zero j zero other = absurd (other refl)
 at_other (x ∷ xs) zero j (suc k) other = refl
@@ -52,7 +52,7 @@ at_other (x ∷ xs) (suc n) j zero other = refl
 at_other (x ∷ xs) (suc n) j (suc k) other = at_other xs n j k (λ same. other (ap suc same))
 
 -- and it is there
-at_here : (xs : List Instance) (n : ℕ) (i j : Instance) → slice_get xs n ≡ Some i → host_at (slice_set xs n j) n ≡ j.host
+at_here : (xs : List Instance) (n : ℕ) (i j : Instance) → slice_get xs n ≡ Some i → instance_host (slice_set xs n j) n ≡ j.host
 at_here [] n i j here = cc
 at_here (x ∷ xs) zero i j here = refl
 at_here (x ∷ xs) (suc n) i j here = at_here xs n i j here
@@ -66,7 +66,7 @@ all_set P (x ∷ xs) (suc n) j it all = (all.0, all_set P xs n j it all.1)
 -- ---- one that gets a host
 
 -- a host that has none of the instances has not this one
-has_none : (xs : List Instance) (host : List ℕ) (n : ℕ) → list_any (is_of host) xs ≡ false → host_at xs n ≢ Some host
+has_none : (xs : List Instance) (host : List ℕ) (n : ℕ) → list_any (is_of host) xs ≡ false → instance_host xs n ≢ Some host
 has_none [] host n none is = cc
 has_none (x ∷ xs) host zero none is =
     let own : is_of host x ≡ true = ap (λ o. option_map_or (λ its. bytes_eq its host) o false) is ∙ (bytes_eq-Decides host host).1 refl in
@@ -77,13 +77,13 @@ has_none (x ∷ xs) host (suc n) none is = has_none xs host n (or_parts (is_of h
 module _ (xs : List Instance) (n : ℕ) (i j : Instance) (here : slice_get xs n ≡ Some i) (host : List ℕ) (unsent : i.host ≡ None) (sent : j.host ≡ Some host)
   where
     -- the place had no host
-    no_host : host_at xs n ≡ None
+    no_host : instance_host xs n ≡ None
     no_host = ap (λ o. option_map_or (λ (x : Instance). x.host) o None) here ∙ unsent
 
     -- each that has a host has it still
     pub stay_hosted : StayHosted xs (slice_set xs n j)
     stay_hosted k its is = elim (cases_eq k n) [
-      | inl same ↦ let none : host_at xs k ≡ None = ap (host_at xs) same ∙ no_host in cc
+      | inl same ↦ let none : instance_host xs k ≡ None = ap (instance_host xs) same ∙ no_host in cc
       | inr other ↦ at_other xs n j k other ∙ is
     ]
 
@@ -92,15 +92,15 @@ module _ (xs : List Instance) (n : ℕ) (i j : Instance) (here : slice_get xs n 
     stay_apart none apart m k its one two = elim (cases_eq m n) [
       | inl first ↦ elim (cases_eq k n) [
         | inl second ↦ first ∙ sym second
-        | inr other ↦ absurd (elsewhere k other (sym (ap (host_at (slice_set xs n j)) first) ∙ one) two)
+        | inr other ↦ absurd (elsewhere k other (sym (ap (instance_host (slice_set xs n j)) first) ∙ one) two)
       ]
       | inr first ↦ elim (cases_eq k n) [
-        | inl second ↦ absurd (elsewhere m first (sym (ap (host_at (slice_set xs n j)) second) ∙ two) one)
+        | inl second ↦ absurd (elsewhere m first (sym (ap (instance_host (slice_set xs n j)) second) ∙ two) one)
         | inr other ↦ apart m k its (sym (at_other xs n j m first) ∙ one) (sym (at_other xs n j k other) ∙ two)
       ]
     ]
       where
-        elsewhere : (l : ℕ) → l ≢ n → host_at (slice_set xs n j) n ≡ Some its → host_at (slice_set xs n j) l ≡ Some its → ⊥
+        elsewhere : (l : ℕ) → l ≢ n → instance_host (slice_set xs n j) n ≡ Some its → instance_host (slice_set xs n j) l ≡ Some its → ⊥
         elsewhere l other own there =
             let same : Some host ≡ Some its = sym (at_here xs n i j here ∙ sent) ∙ own in
             has_none xs host l none (sym (at_other xs n j l other) ∙ there ∙ sym same)
@@ -115,7 +115,7 @@ Differ one other = is_some one.host ≡ true → one.host ≢ other.host
 differ : (xs : List Instance) → Apart xs → AllPairs Differ xs
 differ xs apart m n d less low has same = by (get_or xs m d).host refl has
   where
-    at : (k : ℕ) → k < length xs → host_at xs k ≡ (get_or xs k d).host
+    at : (k : ℕ) → k < length xs → instance_host xs k ≡ (get_or xs k d).host
     at k low = ap (λ o. option_map_or (λ (x : Instance). x.host) o None) (slice_get-get_or xs k d low)
 
     by : (o : Option (List ℕ)) → (get_or xs m d).host ≡ o → is_some o ≡ true → ⊥

@@ -6,7 +6,7 @@ use Rattle.std.proofs.lemmas.Option.{slice_get_within, get_or_from_slice_get}
 use Rattle.std.specs.List.{slice_get}
 use Rattle.std.specs.Option.{option_map_or}
 use Rattle.wu_core.specs.Formed.{IsInstance, IsWorkunit}
-use Rattle.wu_core.specs.Workunit.{with_instance}
+use Rattle.wu_core.specs.Workunit.{with_instance_set}
 use Rattle.wu_core.specs.declared.workunit.Instance.{Instance}
 use Rattle.wu_core.specs.declared.workunit.Workunit.{Workunit}
 use Rattle.wu_core.specs.declared.states.Assimilate.TheVariants as assimilate
@@ -60,7 +60,7 @@ formed_cancelled w = formed_by w (cancelled w) (keeps_cancelled IsInstance forme
 
 -- ---- the scheduler
 
-with_instance_formed : (w : Workunit) (n : ℕ) (i : Instance) → IsInstance i → IsWorkunit w → IsWorkunit (with_instance w n i)
+with_instance_formed : (w : Workunit) (n : ℕ) (i : Instance) → IsInstance i → IsWorkunit w → IsWorkunit (with_instance_set w n i)
 with_instance_formed w n i k h =
     let long = length-set w.instances n i in
     record {
@@ -78,7 +78,7 @@ formed_sent_to w host moment i = record { sent_with_host = refl; due_with_host =
 formed_sent : (w : Workunit) (n : ℕ) (host : List ℕ) (moment : ℕ) → IsWorkunit w → IsWorkunit (sent_in w n host moment)
 formed_sent w n host moment h = by (slice_get w.instances n)
   where
-    by : (o : Option Instance) → IsWorkunit (option_map_or (λ instance. with_instance w n (sent_to w host moment instance)) o w)
+    by : (o : Option Instance) → IsWorkunit (option_map_or (λ instance. with_instance_set w n (sent_to w host moment instance)) o w)
     by (Some i) = with_instance_formed w n (sent_to w host moment i) (formed_sent_to w host moment i) h
     by None = h
 
@@ -97,7 +97,7 @@ formed_reported : (w : Workunit) (n : ℕ) (host : List ℕ) (moment : ℕ) (sta
 formed_reported w n host moment status output applied h = by (slice_get w.instances n) refl applied
   where
     by : (o : Option Instance) → slice_get w.instances n ≡ o → option_map_or (report_verdict_of host moment) o report.Unknown ≡ report.Applied
-        → IsWorkunit (option_map_or (λ instance. with_instance w n (reported_as moment status output instance)) o w)
+        → IsWorkunit (option_map_or (λ instance. with_instance_set w n (reported_as moment status output instance)) o w)
     by (Some i) e taken =
         let at = subst IsInstance (get_or_from_slice_get w.instances n i i e) (h.instances n i (slice_get_within w.instances n i e)) in
         with_instance_formed w n (reported_as moment status output i) (formed_reported_as moment status output i (was_sent host moment i taken) at) h

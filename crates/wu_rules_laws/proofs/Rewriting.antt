@@ -6,7 +6,7 @@ use Rattle.std.proofs.lemmas.Slice.Eq.{bytes_eq-Decides}
 use Rattle.std.specs.List.{All, AllByRecursion, list_any}
 use Rattle.std.specs.Option.{option_map_or}
 use Rattle.wu_core.specs.Formed.{IsInstance, IsWorkunit}
-use Rattle.wu_core.specs.Workunit.{with_instance}
+use Rattle.wu_core.specs.Workunit.{with_instance_set}
 use Rattle.wu_core.specs.declared.workunit.Archived.{Archived}
 use Rattle.wu_core.specs.declared.workunit.Grant.{Grant}
 use Rattle.wu_core.specs.declared.workunit.Instance.{Instance}
@@ -30,7 +30,7 @@ use Rattle.wu_rules.specs.Validation.{agreed_on, decided, granted_by, grants, gr
 use Rattle.wu_rules.specs.declared.verdicts.ReportVerdict.TheVariants as report
 use Rattle.wu_rules.specs.declared.verdicts.SendVerdict.TheVariants as send
 use Rattle.wu_rules_laws.specs.Consistent.{RulesRewrite}
-use Rattle.wu_rules.specs.Consistent.{ArchivesTheNew, GrantsToTheNew, IsConsistent, IsPossible, IsRowOf, Rewrites, host_at, is_done, is_valid_at, is_valid_verdict, one_if}
+use Rattle.wu_rules.specs.Consistent.{ArchivesTheNew, GrantsToTheNew, IsConsistent, IsPossible, IsRowOf, Rewrites, instance_host, is_done, is_valid_at, is_valid_verdict, one_if}
 use Rattle.wu_rules_laws.specs.Laws.{IsChosen, IsRightGrantIn}
 use Rattle.wu_rules_laws.proofs.Becoming.{AllBecome, Becomes, all_become, all_become-set, all_possible, becomes_judged_by, becomes_judged_late_by, becomes_reported, becomes_too_late, final_at, init_not_valid, is_valid, new_is_viable, none_made, possible_sent, same_host, unsent_no_success, valid_at}
 use Rattle.wu_rules_laws.proofs.Changed.{and_false, any_false-map}
@@ -228,9 +228,9 @@ holds_at P xs n i all e = subst P (get_or_from_slice_get xs n i i e) (all n i (s
 
 -- a change of one instance that makes nothing VALID, and this one not unsent, rewrites
 rewrites_set : (w : Workunit) (n : ℕ) (j : Instance) → IsWorkunit w → IsConsistent w → Follows w.instances (slice_set w.instances n j) → is_unsent j ≡ false
-    → IsWorkunit (with_instance w n j) → Rewrites w (with_instance w n j) [] []
+    → IsWorkunit (with_instance_set w n j) → Rewrites w (with_instance_set w n j) [] []
 rewrites_set w n j formed h follow sent made =
-    rewrites_quietly w (with_instance w n j) formed h made (quietly_with w (slice_set w.instances n j) follow) (awaits_set w n j sent (awaits_of w h))
+    rewrites_quietly w (with_instance_set w n j) formed h made (quietly_with w (slice_set w.instances n j) follow) (awaits_set w n j sent (awaits_of w h))
 
 -- what is sent was unsent
 pub was_unsent : (w : Workunit) (host : List ℕ) (i : Instance) → send_verdict_of w host i ≡ send.Applied → is_unsent i ≡ true
@@ -269,8 +269,8 @@ rewrites_sent : (w : Workunit) (n : ℕ) (host : List ℕ) (moment : ℕ) → Is
 rewrites_sent w n host moment formed h applied = by_case (slice_get w.instances n) refl applied ((keeps_formed w formed).sent n host moment)
   where
     by_case : (o : Option Instance) → slice_get w.instances n ≡ o → option_map_or (send_verdict_of w host) o send.Unknown ≡ send.Applied
-        → IsWorkunit (option_map_or (λ instance. with_instance w n (sent_to w host moment instance)) o w)
-        → Rewrites w (option_map_or (λ instance. with_instance w n (sent_to w host moment instance)) o w) [] []
+        → IsWorkunit (option_map_or (λ instance. with_instance_set w n (sent_to w host moment instance)) o w)
+        → Rewrites w (option_map_or (λ instance. with_instance_set w n (sent_to w host moment instance)) o w) [] []
     by_case None e f made = rewrites_unchanged w formed h
     by_case (Some i) e f made =
         let possible = holds_at IsPossible w.instances n i h.instances e in
@@ -309,8 +309,8 @@ rewrites_reported w n host moment status output formed h applied =
     by_case (slice_get w.instances n) refl applied ((keeps_formed w formed).reported n host moment status output applied)
   where
     by_case : (o : Option Instance) → slice_get w.instances n ≡ o → option_map_or (report_verdict_of host moment) o report.Unknown ≡ report.Applied
-        → IsWorkunit (option_map_or (λ instance. with_instance w n (reported_as moment status output instance)) o w)
-        → Rewrites w (option_map_or (λ instance. with_instance w n (reported_as moment status output instance)) o w) [] []
+        → IsWorkunit (option_map_or (λ instance. with_instance_set w n (reported_as moment status output instance)) o w)
+        → Rewrites w (option_map_or (λ instance. with_instance_set w n (reported_as moment status output instance)) o w) [] []
     by_case None e f made = rewrites_unchanged w formed h
     by_case (Some i) e f made =
         let j = reported_as moment status output i in
@@ -383,7 +383,7 @@ rewrites_judged w output c a ys formed h clear made become viable valid stays do
     possible : AllByRecursion IsPossible ys
     possible = all_possible (is_made w output) w.instances ys become (recursion_from_All IsPossible w.instances h.instances)
 
-    same : (n : ℕ) → host_at ys n ≡ host_at w.instances n
+    same : (n : ℕ) → instance_host ys n ≡ instance_host w.instances n
     same = same_host (is_made w output) w.instances ys become
 
 -- the chosen result is VALID by its own output

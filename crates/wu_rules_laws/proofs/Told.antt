@@ -5,7 +5,7 @@ use Rattle.std.proofs.lemmas.Slice.Eq.{bytes_eq-Decides}
 use Rattle.std.specs.List.{list_any}
 use Rattle.std.specs.Option.{IsSomeAnd, option_map_or}
 use Rattle.wu_core.specs.Statuses.{outcome_of}
-use Rattle.wu_core.specs.Workunit.{with_instance}
+use Rattle.wu_core.specs.Workunit.{with_instance_set}
 use Rattle.wu_core.specs.declared.workunit.Instance.{Instance}
 use Rattle.wu_core.specs.declared.workunit.Workunit.{Workunit}
 use Rattle.wu_core.specs.declared.states.Outcome.{Outcome}
@@ -38,13 +38,13 @@ set_elsewhere (x ∷ xs) (suc n) j (suc k) other = set_elsewhere xs n j k (λ sa
 
 -- the instance of a number changed, if there is one
 changed_at : Workunit → ℕ → (Instance → Instance) → Workunit
-changed_at w n change = option_map_or (λ instance. with_instance w n (change instance)) (slice_get w.instances n) w
+changed_at w n change = option_map_or (λ instance. with_instance_set w n (change instance)) (slice_get w.instances n) w
 
 changes_only : (w : Workunit) (n : ℕ) (change : Instance → Instance) → ChangesOnlyAt w (changed_at w n change) n
 unfolding changed_at
 changes_only w n change = by (slice_get w.instances n)
   where
-    by : (o : Option Instance) → ChangesOnlyAt w (option_map_or (λ instance. with_instance w n (change instance)) o w) n
+    by : (o : Option Instance) → ChangesOnlyAt w (option_map_or (λ instance. with_instance_set w n (change instance)) o w) n
     by None = record { others = λ k other. refl; rest = refl }
     by (Some i) = record { others = set_elsewhere w.instances n (change i); rest = refl }
 
@@ -52,7 +52,7 @@ changes_it : (w : Workunit) (n : ℕ) (change : Instance → Instance) (i : Inst
     → slice_get (changed_at w n change).instances n ≡ Some (change i)
 unfolding changed_at
 changes_it w n change i here =
-    ap (λ o. slice_get (option_map_or (λ instance. with_instance w n (change instance)) o w).instances n) here ∙ set_here w.instances n i (change i) here
+    ap (λ o. slice_get (option_map_or (λ instance. with_instance_set w n (change instance)) o w).instances n) here ∙ set_here w.instances n i (change i) here
 
 -- ---- sends
 

@@ -1,7 +1,7 @@
 -- No rule changes a final verdict.
 use Rattle.std.proofs.Common.{◌≡◌, ℕ, Bool, true, false, cond, List, slice_get, slice_set, Option, Some, None, option_map, refl, sym, ap, subst, ◌∙◌}
 use Rattle.std.specs.Option.{option_map_or}
-use Rattle.wu_core.specs.Workunit.{with_instance}
+use Rattle.wu_core.specs.Workunit.{with_instance_set}
 use Rattle.wu_core.specs.declared.workunit.Instance.{Instance}
 use Rattle.wu_core.specs.declared.workunit.Workunit.{Workunit}
 use Rattle.wu_core.specs.declared.states.Assimilate.TheVariants as assimilate
@@ -54,11 +54,11 @@ verdicts_sent : (w : Workunit) (n : ℕ) (host : List ℕ) (moment : ℕ) → Ke
 verdicts_sent w n host moment = by_case (slice_get w.instances n) refl
   where
     by_case : (o : Option Instance) → slice_get w.instances n ≡ o
-        → KeepsVerdicts w (option_map_or (λ instance. with_instance w n (sent_to w host moment instance)) o w)
+        → KeepsVerdicts w (option_map_or (λ instance. with_instance_set w n (sent_to w host moment instance)) o w)
     by_case None e = verdicts_unchanged w
     by_case (Some i) e =
         let j = sent_to w host moment i in
-        verdicts_kept w (with_instance w n j) (λ k u f final. at_set (λ o. option_map (λ (x : Instance). x.validate_state) o) w.instances n i j e refl k ∙ f)
+        verdicts_kept w (with_instance_set w n j) (λ k u f final. at_set (λ o. option_map (λ (x : Instance). x.validate_state) o) w.instances n i j e refl k ∙ f)
 
 -- a report that is taken of a consistent workunit
 verdicts_reported : (w : Workunit) (n : ℕ) (host : List ℕ) (moment : ℕ) (status : Status) (output : List ℕ) → IsConsistent w
@@ -67,12 +67,12 @@ verdicts_reported : (w : Workunit) (n : ℕ) (host : List ℕ) (moment : ℕ) (s
 verdicts_reported w n host moment status output h applied = by_case (slice_get w.instances n) refl applied
   where
     by_case : (o : Option Instance) → slice_get w.instances n ≡ o → option_map_or (report_verdict_of host moment) o report.Unknown ≡ report.Applied
-        → KeepsVerdicts w (option_map_or (λ instance. with_instance w n (reported_as moment status output instance)) o w)
+        → KeepsVerdicts w (option_map_or (λ instance. with_instance_set w n (reported_as moment status output instance)) o w)
     by_case None e f = verdicts_unchanged w
     by_case (Some i) e f =
         let j = reported_as moment status output i in
         let becomes = becomes_reported moment status output i (holds_at IsPossible w.instances n i h.instances e) (was_no_success host moment i f) in
-        verdicts_kept w (with_instance w n j) (final_at none_made w.instances (slice_set w.instances n j) (all_become-set w.instances n i j e becomes))
+        verdicts_kept w (with_instance_set w n j) (final_at none_made w.instances (slice_set w.instances n j) (all_become-set w.instances n i j e becomes))
 
 -- all rules
 pub rules_keep_verdicts : (w : Workunit) → RulesKeepVerdicts w

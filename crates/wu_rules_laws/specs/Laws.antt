@@ -94,7 +94,8 @@ StaysPurgeable =
     (w : Workunit) (now later min_age : ℕ) → now ≤ later → is_purgeable w now min_age ≡ true
     → is_purgeable w later min_age ≡ true
 
--- how a canonical result is chosen: a viable success that agrees byte for byte with at least half of the quorum plus one, itself included, and the first such
+-- how a canonical result is chosen: a viable success that agrees byte for byte with at least half of the quorum plus
+-- one, itself included, and the first such
 pub record IsChosen (w : Workunit) (n : ℕ) : Type 0 where
   pub chosen : Instance
   pub stands : slice_get w.instances n ≡ Some chosen
@@ -229,9 +230,9 @@ pub record IsUnagreed (w : Workunit) : Type 0 where
   pub undecided : w.canonical ≡ None
   pub no_consensus : consensus w ≡ None
 
--- Without a consensus a workunit with more viable successes than it bears is given up; of another one a target that they
--- have reached is raised to one more than they are. No other parameter changes, and no other bit; neither where there is
--- a canonical result then.
+-- Without a consensus a workunit with more viable successes than it bears is given up; of another one a target that
+-- they have reached is raised to one more than they are. No other parameter changes, and no other bit; neither where
+-- there is a canonical result then.
 pub record AsksForMore (w : Workunit) : Type 0 where
   pub given_up : IsUnagreed w
       → ((validated w).error_mask.too_many_success_results ≡ true) ↔ (w.params.max_success_results < length (viable w))

@@ -49,7 +49,8 @@ pub record MayBeReported (host : List ℕ) (moment : ℕ) (i : Instance) : Type 
   pub after : IfSome i.sent_at (λ since. since ≤ moment)
   pub awaited : i.server_state ≡ server.Over → i.outcome ≡ outcome.NoReply
 
--- it is over at this moment as its host says, with the output that it sent, and has no verdict yet; it stays as it was sent
+-- it is over at this moment as its host says, with the output that it sent, and has no verdict yet; it stays as it was
+-- sent
 pub record IsReported (moment : ℕ) (said : Status) (output : List ℕ) (i j : Instance) : Type 0 where
   pub over : (j.server_state ≡ server.Over) × (j.received_at ≡ Some moment)
   pub success : said ≡ status.Success → j.outcome ≡ outcome.Success

@@ -41,8 +41,8 @@ BringsUpToTheTarget = (w : Workunit) (now : ℕ) → BringsUp w (transitioned w 
 
 -- ---- what is given up
 
--- It gets no further: its errors are borne and it wants more results than it keeps, but it has all the instances that it
--- may, none of them is still to come, and the validator has nothing to look at.
+-- It gets no further: its errors are borne and it wants more results than it keeps, but it has all the instances that
+-- it may, none of them is still to come, and the validator has nothing to look at.
 pub record GetsNoFurther (w : Workunit) : Type 0 where
   pub borne : errors w ≤ w.params.max_error_results
   pub wanting : kept w < w.params.target_nresults
@@ -51,8 +51,8 @@ pub record GetsNoFurther (w : Workunit) : Type 0 where
   pub nothing_out : in_progress w ≡ 0
   pub nothing_to_validate : is_to_validate w ≡ false
 
--- An undecided workunit is given up exactly where it has more errors than it bears, or gets no further, counted once what
--- is late is over; no other bit of the mask changes, and none of a workunit that is not undecided.
+-- An undecided workunit is given up exactly where it has more errors than it bears, or gets no further, counted once
+-- what is late is over; no other bit of the mask changes, and none of a workunit that is not undecided.
 pub record GivesUp (w : Workunit) (now : ℕ) : Type 0 where
   pub too_many_errors : is_undecided w ≡ true
       → ((transitioned w now).error_mask.too_many_error_results ≡ true)
@@ -123,8 +123,8 @@ pub record MayGo (old new : Workunit) (n : ℕ) (i j : Instance) : Type 0 where
   pub finished : IsFinished j
   pub after_all : old.canonical ≡ Some n → All IsFinished new.instances
 
--- The input is named exactly where the workunit is assimilated and all instances are over, an output exactly where it may
--- go; else each file stays as it was.
+-- The input is named exactly where the workunit is assimilated and all instances are over, an output exactly where it
+-- may go; else each file stays as it was.
 pub record NamesFiles (old new : Workunit) : Type 0 where
   pub input : IsNamed old.file_delete new.file_delete
       ↔ ((old.assimilate ≡ assimilate.Done) × (old.file_delete ≡ file_delete.Init)

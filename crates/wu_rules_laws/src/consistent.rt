@@ -2,8 +2,8 @@
 
 ghost use Rattle.wu_rules_laws.specs.Consistent.{KeepsWorkunitsConsistent, KeepsAllVerdicts, SendsWhatIsUndecided};
 
-/// Each rule makes a consistent workunit of a consistent one, with one grant for each instance that it makes VALID and one
-/// archived row where it makes the workunit DONE; what was decided stays.
+/// Each rule makes a consistent workunit of a consistent one, with one grant for each instance that it makes VALID and
+/// one archived row where it makes the workunit DONE; what was decided stays.
 pub fn keeps_workunits_consistent()
     ensures { KeepsWorkunitsConsistent }
 {}

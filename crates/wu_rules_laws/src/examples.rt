@@ -47,7 +47,8 @@ pub fn takes_a_report_once()
     ensures over { report_verdict_in one_back 0 h1 reporting ≡ report.Over }
 {}
 
-/// A report from before the sending is told as such, also where the instance is over; one of the moment of sending is taken.
+/// A report from before the sending is told as such, also where the instance is over; one of the moment of sending is
+/// taken.
 pub fn tells_the_first_cause_of_a_report()
     ensures before_over { report_verdict_in one_back 0 h1 1772369999 ≡ report.BeforeSent }
     ensures at_once { report_verdict_in one_out 0 h1 sending ≡ report.Applied }

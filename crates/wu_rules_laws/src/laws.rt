@@ -63,26 +63,26 @@ pub fn stays_purgeable()
     ensures { StaysPurgeable }
 {}
 
-/// The result that is chosen is just the first that agrees byte for byte with at least half of the quorum plus one, itself
-/// included; where there is none, none is.
+/// The result that is chosen is just the first that agrees byte for byte with at least half of the quorum plus one,
+/// itself included; where there is none, none is.
 pub fn chooses_by_agreement()
     ensures { ChoosesByAgreement }
 {}
 
-/// A canonical result comes by the validator alone, where at least half of the quorum plus one agree with it; no rule takes
-/// it away or chooses another.
+/// A canonical result comes by the validator alone, where at least half of the quorum plus one agree with it; no rule
+/// takes it away or chooses another.
 pub fn chooses_only_by_quorum()
     ensures { ChoosesOnlyByQuorum }
 {}
 
-/// The validator decides exactly by the consensus: what it chooses is the consensus, and a success that it judges is VALID
-/// where its output is the chosen one byte for byte, and else INVALID.
+/// The validator decides exactly by the consensus: what it chooses is the consensus, and a success that it judges is
+/// VALID where its output is the chosen one byte for byte, and else INVALID.
 pub fn decides_by_consensus()
     ensures { DecidesByConsensus }
 {}
 
-/// An undecided workunit with a new success, and with viable ones enough for its quorum, gets its canonical result from the
-/// validator as soon as enough of them agree.
+/// An undecided workunit with a new success, and with viable ones enough for its quorum, gets its canonical result from
+/// the validator as soon as enough of them agree.
 pub fn decides_with_its_quorum()
     ensures { DecidesWithItsQuorum }
 {}
@@ -97,8 +97,8 @@ pub fn chooses_without_hosts()
     ensures { ChoosesWithoutHosts }
 {}
 
-/// Where no host has two instances of a workunit, the results that agree are each from another host: so are those by which
-/// one is chosen.
+/// Where no host has two instances of a workunit, the results that agree are each from another host: so are those by
+/// which one is chosen.
 pub fn agree_from_different_hosts()
     ensures { AgreeFromDifferentHosts }
 {}
@@ -123,8 +123,8 @@ pub fn cancels_what_is_unsent()
     ensures { CancelsWhatIsUnsent }
 {}
 
-/// Without a consensus the target is raised to one more than the successes that reached it, and more of them than are borne
-/// give the workunit up; nothing else of the parameters and of the mask changes.
+/// Without a consensus the target is raised to one more than the successes that reached it, and more of them than are
+/// borne give the workunit up; nothing else of the parameters and of the mask changes.
 pub fn asks_for_more_or_gives_up()
     ensures { AsksForMoreOrGivesUp }
 {}

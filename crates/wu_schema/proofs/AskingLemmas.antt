@@ -1,5 +1,5 @@
 -- From question to question.
-use Rattle.wu_schema.proofs.Words.{IsTrue, Command, CommitsShowing, CompileError, Database, FailsToShow, Option, Program, Shown, Vec, Err, Error, FailsToQuery, Fault, Ghosts, HasCleanDisk, Held, IfErr, IsBack, IsNotRun, IsUnchanged, List, Ok, StandsFor, OnOk, Result, Row, State, StoreError, Survives, World, ap, arith, cases_Bool, false, fault_of, inl, inr, refl, state, store_error, subst, sym, true, ℕ, ◌∙◌, ◌≡◌, ◌≢◌, ◌≤◌, ◌⊎◌}
+use Rattle.wu_schema.proofs.Words.{IsTrue, Command, CommitsShowing, CompileError, Database, FailsToShow, Option, Program, Shown, Vec, Err, Error, FailsToQuery, Fault, Ghosts, HasCleanDisk, Held, IfErr, IsBack, IsNotRun, IsUnchanged, List, Ok, Refines, OnOk, Result, Row, State, StoreError, Survives, World, ap, arith, cases_Bool, false, fault_of, inl, inr, refl, state, store_error, subst, sym, true, ℕ, ◌∙◌, ◌≡◌, ◌≢◌, ◌≤◌, ◌⊎◌}
 use Rattle.wu_core.specs.declared.fault.Fault.TheVariants.{Broken, NotAProject}
 use Rattle.sqlite.proofs.StateLemmas.{survives_then}
 use Rattle.sqlite.specs.Command.TheVariants as command
@@ -97,8 +97,8 @@ module _ {S : Type 0} (g : Ghosts S) (a b c : Held S) where
 pub asks_now : {S T : Type 0} (g : Ghosts S) (old new : Held S) (x : T) → Asks g old new (Ok x) → HasCleanDisk (state g new) → (state g new).now ≡ (state g old).now
 asks_now g old new x it clean = elim (it.answered clean) [ inl same ↦ ap (λ h. (state g h).now) same | inr same ↦ same.0.now_is ]
 
-pub asks_stands : {S T : Type 0} (g : Ghosts S) (old new : Held S) (x : T) → Asks g old new (Ok x) → HasCleanDisk (state g new) → (world : World) → StandsFor (state g old).now world → StandsFor (state g new).now world
-asks_stands g old new x it clean world stands = subst (λ (d : Database). StandsFor d world) (sym (asks_now g old new x it clean)) stands
+pub asks_stands : {S T : Type 0} (g : Ghosts S) (old new : Held S) (x : T) → Asks g old new (Ok x) → HasCleanDisk (state g new) → (world : World) → Refines (state g old).now world → Refines (state g new).now world
+asks_stands g old new x it clean world stands = subst (λ (d : Database). Refines d world) (sym (asks_now g old new x it clean)) stands
 
 -- where the connection is open after a question it was asked, and all is as it was
 as_before_open : {S : Type 0} (g : Ghosts S) (old new : Held S) → IsAsBefore g old new → IsTrue (state g new).is_open → IsUnchanged (state g old) (state g new)

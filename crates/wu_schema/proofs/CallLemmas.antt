@@ -5,7 +5,7 @@ use Rattle.sqlite.proofs.StateLemmas.{survives_then}
 use Rattle.sqlite.proofs.InsideLemmas.{inside_keeps, keeps_then}
 use Rattle.sqlite.proofs.Callers.{survives_begin}
 use Rattle.sqlite_trees.specs.declared.error.StoreError.TheVariants as kind
-use Rattle.wu_schema.specs.Calls.{LeavesOnly, Writes}
+use Rattle.wu_schema.specs.Calls.{LeavesOnly, StatementFrame}
 
 pub part_then : (a b c : State) → IsPart a b → IsPart b c → IsPart a c
 part_then a b c one two = record {
@@ -36,7 +36,7 @@ module _ {S : Type 0} (g : Ghosts S) (old new : Transaction S) (one : new.conn.g
   Runs r = HasCleanDisk (state g new.conn.now) → IsTrue old.conn.now.in_transaction → ExecutesInside 0 sql given (state g old.conn.now) (state g new.conn.now) r
 
   -- a statement that is refused
-  pub refuses : {T : Type 0} (e : Error) → IsEnded (Err e) → Runs (Err e) → Survives (state g old.conn.now) (state g new.conn.now) (λ _. ⊥) → (result : Result T Error) → IsErrAnd result (λ d. d ≡ e) → Writes g old new result
+  pub refuses : {T : Type 0} (e : Error) → IsEnded (Err e) → Runs (Err e) → Survives (state g old.conn.now) (state g new.conn.now) (λ _. ⊥) → (result : Result T Error) → IsErrAnd result (λ d. d ≡ e) → StatementFrame g old new result
   refuses e ended runs survives (Ok x) is = absurd is
   refuses e ended runs survives (Err d) is = record { same_reference = one; part = part_of g old.conn.now new.conn.now sql given stop (Err e) ended runs survives; inside = λ clean. tt }
 
@@ -48,7 +48,7 @@ module _ {S : Type 0} (g : Ghosts S) (old new : Transaction S) (one : new.conn.g
       | inr outside ↦ absurd (let no = (ended outside).0 in cc)
     ]
 
-    pub wrote : {T : Type 0} (x : T) → Survives (state g old.conn.now) (state g new.conn.now) (λ _. ⊥) → Writes {E = Error} g old new (Ok x)
+    pub wrote : {T : Type 0} (x : T) → Survives (state g old.conn.now) (state g new.conn.now) (λ _. ⊥) → StatementFrame {E = Error} g old new (Ok x)
     wrote x survives = record { same_reference = one; part = part_of g old.conn.now new.conn.now sql given stop (Ok count) ended runs survives; inside = λ clean. (ran clean).1.mode }
 
     pub has_run : HasCleanDisk (state g new.conn.now) → HasRun sql given (state g old.conn.now) (state g new.conn.now)

@@ -1,5 +1,6 @@
--- What a plain CREATE INDEX leaves, for any text that makes one, over any schema: one index more, and all else as it was.
-use Rattle.wu_schema.proofs.Words.{Checked, Command, Compiled, Database, Err, Executes, ExecutesIn, HasTable, Index, IsDatabase, IsPlain, List, None, Ok, Schema, StandsFor, State, Table, World, [], all_has, and_then, ap, command, command_of, compiled, false, has_either, has_left, inl, inr, is_reserved, is_select, meaning, not, planned, refl, returning, runs_as, same_name, slice_get, statement_of, subst, sym, timed, understood, with_command, ℕ, ◌∙◌, ◌≡◌}
+-- What a plain CREATE INDEX leaves, for any text that makes one, over any schema: one index more, and all else as it
+-- was.
+use Rattle.wu_schema.proofs.Words.{Checked, Command, Compiled, Database, Err, Executes, ExecutesIn, HasTable, Index, IsDatabase, IsPlain, List, None, Ok, Schema, Refines, State, Table, World, [], all_has, and_then, ap, command, command_of, compiled, false, has_either, has_left, inl, inr, is_reserved, is_select, meaning, not, planned, refl, returning, runs_as, same_name, slice_get, statement_of, subst, sym, timed, understood, with_command, ℕ, ◌∙◌, ◌≡◌}
 use Rattle.sqlite.specs.Command.TheVariants.{CreateIndex as Make}
 use Rattle.sqlite_ast.specs.declared.CreateIndex.{CreateIndex}
 use Rattle.sqlite_catalog.specs.Change.{indexed}
@@ -74,5 +75,5 @@ module _ (text name : List ℕ) (d : DefinesIndex text name) where
       )
 
 -- so the database stands for the world that it stood for
-pub index_stands : (text name : List ℕ) → DefinesIndex text name → (old new : State) (at : ℕ) (table : Table) → HasTable old.now.schema name at table → (count : ℕ) → Executes text [] old new (Ok count) → (world : World) → StandsFor old.now world → StandsFor new.now world
+pub index_stands : (text name : List ℕ) → DefinesIndex text name → (old new : State) (at : ℕ) (table : Table) → HasTable old.now.schema name at table → (count : ℕ) → Executes text [] old new (Ok count) → (world : World) → Refines old.now world → Refines new.now world
 index_stands text name d old new at table has count h world s = let it = makes_index text name d old new at table has count h in stands_over old.now new.now it.2 world s it.3

@@ -1,4 +1,5 @@
--- INSERTs of one row: what such a text compiles to, over any schema in which its name finds the table; and the text of a fresh project's row.
+-- INSERTs of one row: what such a text compiles to, over any schema in which its name finds the table; and the text of
+-- a fresh project's row.
 use Rattle.wu_schema.proofs.Words.{Checked, Err, HasTable, Insert, Int, List, Name, None, Null, Ok, Parsed, Row, Rows, Schema, Statement, Table, Term, Values, [], append-nil, codes, col, everything, false, first, length, lit, new_rows, planned, pos, project_at, refl, small, stamped, subst, ℕ, ◌+◌, ◌∷◌, ◌≡◌}
 use Rattle.sqlite_ast.specs.declared.Rows.TheVariants as rows
 use Rattle.sqlite_ast.specs.declared.Statement.TheVariants as written

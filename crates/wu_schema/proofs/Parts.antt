@@ -1,8 +1,8 @@
 -- The tables of a project as one family, and the one law of a change: what it leaves alone stands as it stood.
 pub use Rattle.std.proofs.lemmas.Bool.{or_parts as either_false}
-use Rattle.wu_schema.proofs.Words.{Bool, Database, Enforced, Has, HasNamed, HasTables, HoldsAll, Import, IsAscending, IsCalm, IsDatabase, IsShaped, List, ListsAll, None, Option, OwnsTree, ProjectTrees, Reference, Row, Schema, Some, StandsFor, Table, World, [], ap, archived_at, bytes_eq, bytes_eq-Decides, cases_Bool, codes, enumerate_from, false, find, flat_map, grant_at, host_at, hosts_of, if◌then◌else◌, import_at, import_cells, inl, inr, instances_of, is_import, is_some, map, project_at, refl, result_at, stored_archived, stored_grant, stored_project, stored_workunit, subst, sym, true, workunit_at, ℕ, ⊤, ◌==◌, ◌||◌, ◌∙◌, ◌∷◌, ◌≡◌, ◌≢◌}
+use Rattle.wu_schema.proofs.Words.{Bool, Database, Enforced, Has, HasNamed, HasTables, HoldsAll, Import, IsAscending, IsCalm, IsDatabase, IsShaped, List, ListsAll, None, Option, OwnsTree, ProjectTrees, Reference, Row, Schema, Some, Refines, Table, World, [], ap, archived_at, bytes_eq, bytes_eq-Decides, cases_Bool, codes, enumerate_from, false, find, flat_map, grant_at, host_at, hosts_of, if◌then◌else◌, import_at, import_cells, inl, inr, instances_of, is_import, is_some, map, project_at, refl, result_at, stored_archived, stored_grant, stored_project, stored_workunit, subst, sym, true, workunit_at, ℕ, ⊤, ◌==◌, ◌||◌, ◌∙◌, ◌∷◌, ◌≡◌, ◌≢◌}
 use Rattle.sqlite_trees.specs.declared.store.Shape.TheVariants as shape
-use Rattle.wu_schema.specs.StandsFor.{HasRows, host_of}
+use Rattle.wu_schema.specs.Refines.{HasRows, host_of}
 use Rattle.wu_schema.proofs.QuietLemmas.{same_some}
 use Rattle.wu_schema.proofs.RowLemmas.{childless}
 use Rattle.wu_schema.proofs.CalmLemmas.{calm_bare, calm_child}
@@ -75,10 +75,10 @@ parts_in version schema t has Hosts is_in = has.host
 parts_in version schema t has Archive is_in = has.archived
 parts_in version schema t has Imports is_in = has.import
 
-abbrev pub parts_there : (db : Database) (world : World) (s : StandsFor db world) → HasParts world.version db.schema s.trees
+abbrev pub parts_there : (db : Database) (world : World) (s : Refines db world) → HasParts world.version db.schema s.trees
 parts_there db world s = parts_in world.version db.schema s.trees s.tables
 
-pub parts_hold : (db : Database) (world : World) (s : StandsFor db world) (p : Part) → IsIn p world.version → Holds p (db.trees (tree_in s.trees p)) world
+pub parts_hold : (db : Database) (world : World) (s : Refines db world) (p : Part) → IsIn p world.version → Holds p (db.trees (tree_in s.trees p)) world
 parts_hold db world s Project is_in = s.rows.project
 parts_hold db world s Workunits is_in = s.rows.workunits
 parts_hold db world s Instances is_in = s.rows.instances
@@ -101,8 +101,8 @@ rows_stand db t world holds = record {
 }
 
 -- over the same schema
-pub all_stand : (old new : Database) (world after : World) (s : StandsFor old world) → new.schema ≡ old.schema → after.version ≡ world.version
-    → ((p : Part) → IsIn p after.version → Holds p (new.trees (tree_in s.trees p)) after) → IsDatabase new → StandsFor new after
+pub all_stand : (old new : Database) (world after : World) (s : Refines old world) → new.schema ≡ old.schema → after.version ≡ world.version
+    → ((p : Part) → IsIn p after.version → Holds p (new.trees (tree_in s.trees p)) after) → IsDatabase new → Refines new after
 all_stand old new world after s same version holds sound =
     record { trees = s.trees; tables = subst (λ (x : Schema). HasTables x s.trees) (sym same) s.tables; rows = rows_stand new s.trees after holds; sound = sound }
 
@@ -224,11 +224,12 @@ module _ (version : ℕ) (old : Database) (t : ProjectTrees) (there : HasParts v
 
 -- ---- the law of a change
 
-module _ (old new : Database) (world after : World) (s : StandsFor old world) where
-  -- what it does not touch it keeps, and the new world lists there what the old one listed; what it touches has the rows of the new world
+module _ (old new : Database) (world after : World) (s : Refines old world) where
+  -- what it does not touch it keeps, and the new world lists there what the old one listed; what it touches has the
+  -- rows of the new world
   pub frame_in : (touched : Part → Bool) → new.schema ≡ old.schema → after.version ≡ world.version → Keeps world.version s.trees old new touched
       → ((q : Part) → touched q ≡ false → (rows : List Row) → Holds q rows world → Holds q rows after)
-      → ((q : Part) → IsIn q world.version → touched q ≡ true → Holds q (new.trees (tree_in s.trees q)) after) → IsDatabase new → StandsFor new after
+      → ((q : Part) → IsIn q world.version → touched q ≡ true → Holds q (new.trees (tree_in s.trees q)) after) → IsDatabase new → Refines new after
   frame_in touched same version keeps carries fits sound =
       all_stand old new world after s same version (λ q is_in.
       let was = subst (IsIn q) version is_in in
@@ -239,11 +240,11 @@ module _ (old new : Database) (world after : World) (s : StandsFor old world) wh
 
   -- whatever the version
   pub frame : (touched : Part → Bool) → new.schema ≡ old.schema → after.version ≡ world.version → Keeps world.version s.trees old new touched
-      → ((q : Part) → touched q ≡ false → (rows : List Row) → Holds q rows world → Holds q rows after) → ((q : Part) → touched q ≡ true → Holds q (new.trees (tree_in s.trees q)) after) → IsDatabase new → StandsFor new after
+      → ((q : Part) → touched q ≡ false → (rows : List Row) → Holds q rows world → Holds q rows after) → ((q : Part) → touched q ≡ true → Holds q (new.trees (tree_in s.trees q)) after) → IsDatabase new → Refines new after
   frame touched same version keeps carries fits = frame_in touched same version keeps carries (λ q was. fits q)
 
   -- of one part
   pub frame_one : (p : Part) → new.schema ≡ old.schema → after.version ≡ world.version → Keeps world.version s.trees old new (is_part p)
-      → ((q : Part) → is_part p q ≡ false → (rows : List Row) → Holds q rows world → Holds q rows after) → Holds p (new.trees (tree_in s.trees p)) after → IsDatabase new → StandsFor new after
+      → ((q : Part) → is_part p q ≡ false → (rows : List Row) → Holds q rows world → Holds q rows after) → Holds p (new.trees (tree_in s.trees p)) after → IsDatabase new → Refines new after
   frame_one p same version keeps carries fits sound =
       frame (is_part p) same version keeps carries (λ q on. subst (λ r. Holds r (new.trees (tree_in s.trees r)) after) (same_part p q on) fits) sound

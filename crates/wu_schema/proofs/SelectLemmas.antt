@@ -1,4 +1,5 @@
--- What a SELECT on one table compiles to, over any schema in which its name finds the table, for any table and any columns.
+-- What a SELECT on one table compiles to, over any schema in which its name finds the table, for any table and any
+-- columns.
 use Rattle.wu_schema.proofs.Words.{Binary, Bool, Carried, Column, Command, Context, Core, Draft, Expr, Expr-F, HasTable, Inner, Int, IsPlain, List, Name, None, Ok, Option, Parsed, Query, Row, Schema, Select, Some, Sort, Source, Term, [], accepts_program, ap, arith, col, column_named, command_of, declared, false, first, if◌then◌else◌, is_key, length, lit, lower_to, map, may, named, negsuc, nothing, op2, pipeline, place_of, planned, pos, position_from, program, query, query_to, reads_listing, refl, roll-Core, roll-Expr, roll-Select, row_classes, same_name, simple, slice_get, subst, suc, sym, true, understood, unwrap_or, with_command, ℕ, ◌&&◌, ◌++◌, ◌+◌, ◌-◌, ◌<◌, ◌==◌, ◌∙◌, ◌∷◌, ◌≡◌}
 use Rattle.std.proofs.lemmas.List.{append_assoc, append-nil}
 use Rattle.std.proofs.lemmas.Bool.{lt-ltb}

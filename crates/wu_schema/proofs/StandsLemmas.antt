@@ -1,5 +1,5 @@
 -- What each change keeps of the world that a database stands for.
-use Rattle.wu_schema.proofs.Words.{Bool, Database, Enforced, Has, HasNamed, HasTables, HoldsAll, IsDatabase, IsPermutation, IsPermutation-cons, IsPermutation-map, IsPermutation-trans, IsShaped, IsShaped-filter, List, ListsAll, OwnsTree, ParentKey, ProjectTrees, PutsOne, Reference, RefersOnlyTo, Row, Schema, Some, StandsFor, Table, Trees, Workunit, World, [], all_has, ap, ap₂, arith, bytes_eq, bytes_eq-Decides, codes, cond, drop, false, false_from_ne_true, filter, filter-map, find, inl, inr, instances_of, is_taken, list_any, map, not, parent_key, pipeline, position_from, put_row, refl, same_name, slice_get, some_from, subst, suc, sym, true, workunit_at, ℕ, ◌++◌, ◌+◌, ◌-◌, ◌==◌, ◌∙◌, ◌∷◌, ◌≡◌, ◌≢◌, ◌≤◌}
+use Rattle.wu_schema.proofs.Words.{Bool, Database, Enforced, Has, HasNamed, HasTables, HoldsAll, IsDatabase, IsPermutation, IsPermutation-cons, IsPermutation-map, IsPermutation-trans, IsShaped, IsShaped-filter, List, ListsAll, OwnsTree, ParentKey, ProjectTrees, PutsOne, Reference, RefersOnlyTo, Row, Schema, Some, Refines, Table, Trees, Workunit, World, [], all_has, ap, ap₂, arith, bytes_eq, bytes_eq-Decides, codes, cond, drop, false, false_from_ne_true, filter, filter-map, find, inl, inr, instances_of, is_taken, list_any, map, not, parent_key, pipeline, position_from, put_row, refl, same_name, slice_get, some_from, subst, suc, sym, true, workunit_at, ℕ, ◌++◌, ◌+◌, ◌-◌, ◌==◌, ◌∙◌, ◌∷◌, ◌≡◌, ◌≢◌, ◌≤◌}
 use Rattle.std.proofs.lemmas.List.Sorted.{IsPermutation-to_front}
 use Rattle.sqlite_trees.specs.declared.store.Shape.TheVariants as shape
 use Rattle.sqlite_rules.proofs.ListLemmas.{has_got}
@@ -128,5 +128,5 @@ same_database old new p q same =
     ap₂ (λ (s : Schema) (t : Trees). let d : Database = record { schema = s; trees = t } in d) (lists_once (old.trees catalog_tree) new.schema old.schema listed p.lists) same
 
 -- so a rollback or an open that finds the same trees finds the same world
-pub stands_again : (old new : Database) (world : World) → StandsFor old world → IsDatabase new → new.trees ≡ old.trees → StandsFor new world
-stands_again old new world s sound same = subst (λ d. StandsFor d world) (sym (same_database old new s.sound sound same)) s
+pub stands_again : (old new : Database) (world : World) → Refines old world → IsDatabase new → new.trees ≡ old.trees → Refines new world
+stands_again old new world s sound same = subst (λ d. Refines d world) (sym (same_database old new s.sound sound same)) s

@@ -1,5 +1,5 @@
 -- A world stands over any schema that has its tables still, whatever else was made beside them.
-use Rattle.wu_schema.proofs.Words.{Binary, Database, Has, HasNamed, HasTable, HasTables, Index, IsDatabase, List, OwnsTree, ProjectTrees, Schema, StandsFor, Table, World, [], false, first_key, guards, host_at, inl, inr, refl, subst, sym, true, ℕ, ◌∙◌, ◌∷◌, ◌≡◌, ◌⊎◌}
+use Rattle.wu_schema.proofs.Words.{Binary, Database, Has, HasNamed, HasTable, HasTables, Index, IsDatabase, List, OwnsTree, ProjectTrees, Schema, Refines, Table, World, [], false, first_key, guards, host_at, inl, inr, refl, subst, sym, true, ℕ, ◌∙◌, ◌∷◌, ◌≡◌, ◌⊎◌}
 use Rattle.wu_schema.specs.Made.{KeepsOthers}
 use Rattle.wu_schema.proofs.StandsLemmas.{is_there}
 use Rattle.wu_schema.proofs.Parts.{Project, Workunits, Instances, Grants, Hosts, Archive, Imports, HasParts, name_of, table_of, parts_there, parts_hold, Holds, kept, stands_in, rows_stand}
@@ -54,7 +54,7 @@ module _ (old new : Database) (grows : Grows old new) where
   pub still_compares : (tree : ℕ) → Has old.schema.tables (host_at tree) → ByBytes old.schema tree → ByBytes new.schema tree
   still_compares tree there by i has guard columns = elim (grows.new_indexes i has) [ inl before ↦ by i before guard columns | inr none ↦ absurd (let e = sym (none (host_at tree) there) ∙ guard in cc) ]
 
-  pub stands_over : (world : World) → StandsFor old world → IsDatabase new → StandsFor new world
+  pub stands_over : (world : World) → Refines old world → IsDatabase new → Refines new world
   stands_over world s sound =
       let there = parts_there old world s in
       let stands = stands_in world.version old s.trees there in

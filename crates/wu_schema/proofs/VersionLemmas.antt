@@ -1,5 +1,5 @@
 -- What the question for the version answers.
-use Rattle.wu_schema.proofs.Words.{Command, CompileError, Database, Err, Error, FailsToQuery, FailsToShow, Fault, Gives, HasProject, HasVersion, IfErr, Integer, IsFailure, IsFree, IsNotRun, IsPermutation, IsPermutation-sym, IsUnchanged, List, NoSuchTable, None, NotAProject, Ok, Option, Program, RefusesQuery, Result, Row, Schema, Shown, Some, StandsFor, State, StoreError, World, [], ap, arith, codes, column_named, fault_of, inl, inr, map, may, needs, number, one_permutation, pipeline, project_at, refl, store_error, subst, sym, understood, version_text, ℕ, ◌∙◌, ◌∷◌, ◌≡◌, ◌≤◌, ◌⊎◌}
+use Rattle.wu_schema.proofs.Words.{Command, CompileError, Database, Err, Error, FailsToQuery, FailsToShow, Fault, IsOrWantsMemory, HasProject, HasVersion, IfErr, Integer, IsFailure, IsFree, IsNotRun, IsPermutation, IsPermutation-sym, IsUnchanged, List, NoSuchTable, None, NotAProject, Ok, Option, Program, RefusesQuery, Result, Row, Schema, Shown, Some, Refines, State, StoreError, World, [], ap, arith, codes, column_named, fault_of, inl, inr, map, may, needs, number, one_permutation, pipeline, project_at, refl, store_error, subst, sym, understood, version_text, ℕ, ◌∙◌, ◌∷◌, ◌≡◌, ◌≤◌, ◌⊎◌}
 use Rattle.sqlite.specs.Command.TheVariants as command
 use Rattle.sqlite.specs.Effect.{RefusesToRead}
 use Rattle.sqlite_trees.specs.declared.error.StoreError.TheVariants as kind
@@ -22,7 +22,7 @@ pub columns_named : (tree : ℕ) → (column_named (project_at tree) (codes "one
 unfolding pipeline
 columns_named tree = (refl, refl, refl)
 
-abbrev pub project_of : (db : Database) (world : World) → StandsFor db world → HasProject db.schema
+abbrev pub project_of : (db : Database) (world : World) → Refines db world → HasProject db.schema
 project_of db world s = record {
   at = s.tables.project.0;
   table = project_at s.trees.project;
@@ -32,7 +32,7 @@ project_of db world s = record {
   next_number = (2, needs (codes "next_number") Integer, (columns_named s.trees.project).2, refl);
 }
 
-pub project_row : (db : Database) (world : World) (s : StandsFor db world) → AreOfVersion (rows_of_project db (project_of db world s)) world.version
+pub project_row : (db : Database) (world : World) (s : Refines db world) → AreOfVersion (rows_of_project db (project_of db world s)) world.version
 project_row db world s = (number world.next_number, rw s.rows.project refl)
 
 -- ---- over any table of the name with the three columns
@@ -153,14 +153,14 @@ module _ (all rows slice : List Row) (is : slice ≡ rows) (same : IsPermutation
   rows_stored found (version, at, positive, read) = (version, at, (positive, of_table all rows version same (subst (λ rs. AreOfVersion rs version) is read)))
 
   -- and nothing else is refused
-  pub rows_refused : (r : Result (Option ℕ) Fault) (version : ℕ) → (1 ≤ version) × AreOfVersion all version → ((version : ℕ) → 1 ≤ version → AreOfVersion slice version → Gives r (Ok (Some version))) → (fault : Fault) → r ≡ Err fault → IsFailure fault
+  pub rows_refused : (r : Result (Option ℕ) Fault) (version : ℕ) → (1 ≤ version) × AreOfVersion all version → ((version : ℕ) → 1 ≤ version → AreOfVersion slice version → IsOrWantsMemory r (Ok (Some version))) → (fault : Fault) → r ≡ Err fault → IsFailure fault
   rows_refused r version (positive, of) found fault told = elim (found version positive (subst (λ rs. AreOfVersion rs version) (sym is) (of_answer all rows version same of))) [
     | inl ok ↦ absurd (let no = sym told ∙ ok in cc)
     | inr memory ↦ inl (same_fault (sym told ∙ memory))
   ]
 
 -- of a world
-pub stored_is : (db : Database) (world : World) (s : StandsFor db world) (found : Option ℕ) → (version : ℕ) × (found ≡ Some version) × HasVersion db (project_of db world s) version → found ≡ Some world.version
+pub stored_is : (db : Database) (world : World) (s : Refines db world) (found : Option ℕ) → (version : ℕ) × (found ≡ Some version) × HasVersion db (project_of db world s) version → found ≡ Some world.version
 stored_is db world s found (version, at, (positive, of)) = at ∙ ap Some (one_version _ version world.version of (project_row db world s))
 
 -- what holds of each fault that the result may be holds of its fault

@@ -107,7 +107,7 @@ pub use Rattle.std.specs.declared.cmp.Ordering.{Ordering}
 pub use Rattle.std.specs.declared.cmp.Ordering.TheVariants.{Equal, Greater, Less}
 pub use Rattle.wu_core.specs.Codes.{import_kind_code}
 pub use Rattle.wu_core.specs.Hosts.{hosts_of}
-pub use Rattle.wu_core.specs.Reads.{Gives}
+pub use Rattle.wu_core.specs.Reads.{IsOrWantsMemory}
 pub use Rattle.wu_core.specs.World.{Import, World, is_import, last_skip}
 pub use Rattle.wu_core.specs.declared.fault.Fault.{Fault}
 pub use Rattle.wu_core.specs.declared.fault.Fault.TheVariants.{NotAProject}
@@ -120,7 +120,7 @@ pub use Rattle.wu_schema.specs.Calls.{HasRun, IsBack, IsPart, IsUndone, Reads}
 pub use Rattle.wu_schema.specs.Faults.{IsFailure, fault_of}
 pub use Rattle.wu_schema.specs.Made.{HasMade, PutsOne}
 unfoldable pub use Rattle.wu_schema.specs.Pipeline.{pipeline}
-pub use Rattle.wu_schema.specs.StandsFor.{HoldsAll, IsFree, ListsAll, StandsFor, instances_of}
+pub use Rattle.wu_schema.specs.Refines.{HoldsAll, IsFree, ListsAll, Refines, instances_of}
 pub use Rattle.wu_schema.specs.Stored.{archived_cells, grant_cells, import_cells, instance_cells, instance_row, number, number_or_null, stored_archived, stored_grant, stored_project, stored_workunit, text_or_null, verdict_digits, workunit_row}
 pub use Rattle.wu_schema.specs.Tables.{HasNamed, HasTable, HasTables, OwnsTree, ProjectTrees, archived_at, grant_at, host_at, import_at, may, needs, project_at, result_at, workunit_at}
 pub use Rattle.wu_schema.specs.Versions.{HasProject, HasVersion, version_text}

@@ -13,7 +13,7 @@ use Rattle.wu_core.specs.declared.fault.Fault.{Fault}
 use Rattle.wu_core.specs.declared.fault.Fault.TheVariants.{Broken, NotAProject}
 use Rattle.wu_core.specs.World.{World}
 use Rattle.wu_schema.specs.Faults.{fault_of, IsFailure}
-use Rattle.wu_schema.specs.StandsFor.{StandsFor}
+use Rattle.wu_schema.specs.Refines.{Refines}
 
 -- a crash leaves these tables and no others
 pub record LeavesOnly (s : State) (trees : Trees) : Type 0 where
@@ -44,7 +44,8 @@ pub record IsBack (old new : State) : Type 0 where
   pub now : IsTrue new.is_open → (new.now ≡ old.now) ⊎ (new.now ≡ old.committed)
   pub committed : IsTrue new.is_open → new.committed ≡ old.committed
 
--- What a question does to a connection, whatever it answers: it begins no transaction, changes nothing, commits nothing.
+-- What a question does to a connection, whatever it answers: it begins no transaction, changes nothing, commits
+-- nothing.
 pub record Reads {S T E : Type 0} (g : Ghosts S) (old new : Held S) (result : Result T E) : Type 0 where
   pub mode : old.in_transaction ≡ false → new.in_transaction ≡ false
   pub unchanged : HasCleanDisk (state g new) → OnOk result (IsUnchanged (state g old) (state g new))
@@ -89,7 +90,7 @@ CommitsNothing g old new = Survives (state g old) (state g new) (λ _. ⊥)
 
 -- with Ok, this holds of the answer and of each world that the tables stand for
 abbrev pub Tells : {S T E : Type 0} → Ghosts S → Held S → Held S → Result T E → (T → World → Type 0) → Type 0
-Tells g old new result Is = HasCleanDisk (state g new) → IfOk result (λ found. (world : World) → StandsFor (state g old).now world → Is found world)
+Tells g old new result Is = HasCleanDisk (state g new) → IfOk result (λ found. (world : World) → Refines (state g old).now world → Is found world)
 
 -- the answer is what such a world has
 abbrev pub Answers : {S T : Type 0} → Ghosts S → Held S → Held S → Result T Fault → (World → T) → Type 0
@@ -100,7 +101,7 @@ abbrev pub AnswersRows : {S A : Type 0} → Ghosts S → Held S → Held S → R
 AnswersRows g old new result answer = Tells g old new result (λ found world. found.items ≡ answer world)
 
 -- What a statement inside a transaction does to it, whatever it answers.
-pub record Writes {S T E : Type 0} (g : Ghosts S) (old new : Transaction S) (result : Result T E) : Type 0 where
+pub record StatementFrame {S T E : Type 0} (g : Ghosts S) (old new : Transaction S) (result : Result T E) : Type 0 where
   pub same_reference : new.conn.ghost_name ≡ old.conn.ghost_name
   pub part : IsPart (state g old.conn.now) (state g new.conn.now)
   pub inside : HasCleanDisk (state g new.conn.now) → OnOk result (IsTrue (state g new.conn.now).in_transaction)
@@ -110,11 +111,11 @@ abbrev pub HasRun : List ℕ → Row → State → State → Type 0
 HasRun sql params old new = (count : ℕ) × Executes sql params old new (Ok count)
 
 -- with Ok, the text ran in the transaction
-abbrev pub Runs : {S T E : Type 0} → Ghosts S → Transaction S → Transaction S → Result T E → List ℕ → Row → Type 0
-Runs g old new result sql params = HasCleanDisk (state g new.conn.now) → OnOk result (HasRun sql params (state g old.conn.now) (state g new.conn.now))
+abbrev pub RunsText : {S T E : Type 0} → Ghosts S → Transaction S → Transaction S → Result T E → List ℕ → Row → Type 0
+RunsText g old new result sql params = HasCleanDisk (state g new.conn.now) → OnOk result (HasRun sql params (state g old.conn.now) (state g new.conn.now))
 
 -- What any number of statements inside a transaction do to it: with Ok it is still there, where it was there.
-pub record Works {S T E : Type 0} (g : Ghosts S) (old new : Transaction S) (result : Result T E) : Type 0 where
+pub record TransactionFrame {S T E : Type 0} (g : Ghosts S) (old new : Transaction S) (result : Result T E) : Type 0 where
   pub same_reference : new.conn.ghost_name ≡ old.conn.ghost_name
   pub part : IsPart (state g old.conn.now) (state g new.conn.now)
   pub stays : HasCleanDisk (state g new.conn.now) → OnOk result (IsTrue old.conn.now.in_transaction → IsTrue new.conn.now.in_transaction)
@@ -125,7 +126,7 @@ Does g old new result Makes = HasCleanDisk (state g new.conn.now) → OnOk resul
 
 -- with Ok, tables that stood for a world stand for this one
 abbrev pub Changes : {S T E : Type 0} → (g : Ghosts S) → Transaction S → Transaction S → Result T E → (World → World) → Type 0
-Changes g old new result change = Does g old new result (λ before after. (world : World) → StandsFor before world → StandsFor after (change world))
+Changes g old new result change = Does g old new result (λ before after. (world : World) → Refines before world → Refines after (change world))
 
 -- Acknowledged: what the transaction makes of the database is committed, and a crash leaves exactly the tables with it.
 pub record IsDone (Makes : Database → Database → Type 0) (old new : State) : Type 0 where
@@ -152,5 +153,5 @@ abbrev pub Undoes : {S T E : Type 0} → Ghosts S → Held S → Held S → Resu
 Undoes g old new result = HasCleanDisk (state g new) → OnErr result (IsUndone (state g old) (state g new))
 
 -- and whatever it answers, a stop leaves what it left before, or what is made.
-abbrev pub MayMake : {S : Type 0} → Ghosts S → Held S → Held S → (Database → Database → Type 0) → Type 0
-MayMake g old new Makes = Survives (state g old) (state g new) (IsMade Makes (state g old).now)
+abbrev pub CrashAllows : {S : Type 0} → Ghosts S → Held S → Held S → (Database → Database → Type 0) → Type 0
+CrashAllows g old new Makes = Survives (state g old) (state g new) (IsMade Makes (state g old).now)

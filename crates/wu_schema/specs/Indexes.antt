@@ -5,7 +5,7 @@ use Rattle.sqlite.specs.State.{Executes}
 use Rattle.sqlite.specs.Store.{Ghosts}
 use Rattle.sqlite.specs.Table.{Table}
 use Rattle.wu_core.specs.World.{World}
-use Rattle.wu_schema.specs.StandsFor.{StandsFor}
+use Rattle.wu_schema.specs.Refines.{Refines}
 use Rattle.wu_schema.specs.Tables.{HasTable}
 use Rattle.sqlite_ast.specs.declared.CreateIndex.{CreateIndex}
 use Rattle.sqlite_ast.specs.declared.Statement.TheVariants as written
@@ -29,4 +29,4 @@ abbrev pub LeavesWorlds : {S : Type 0} → Ghosts S → (text name : List ℕ) �
 LeavesWorlds {S} g text name =
     (old new : Held S) (at : ℕ) (table : Table) → HasTable (state g old).now.schema name at table
     → (count : ℕ) → Executes text [] (state g old) (state g new) (Ok count)
-    → (world : World) → StandsFor (state g old).now world → StandsFor (state g new).now world
+    → (world : World) → Refines (state g old).now world → Refines (state g new).now world

@@ -12,7 +12,7 @@ use Rattle.sqlite_catalog.specs.Change.{next_tree, automatics, KeepsRows}
 use Rattle.sqlite_rules.specs.Lists.{Has}
 use Rattle.wu_core.specs.World.{empty_world}
 use Rattle.wu_schema.specs.Tables.{HasTable, OwnsTree, project_at, workunit_at, result_at, grant_at, host_at, archived_at, import_at}
-use Rattle.wu_schema.specs.StandsFor.{StandsFor}
+use Rattle.wu_schema.specs.Refines.{Refines}
 
 -- one row is put in, and every other table stays
 pub record PutsOne (old new : Database) (tree : ℕ) (row : Row) : Type 0 where
@@ -103,7 +103,7 @@ pub record AddsOurs (old new : Database) : Type 0 where
 
 -- a fresh project stands beside what was there
 pub record MakesProject (old new : Database) : Type 0 where
-  pub stands : StandsFor new empty_world
+  pub stands : Refines new empty_world
   pub keeps : KeepsOthers old new
   pub adds : AddsOurs old new
   pub sound : IsDatabase new

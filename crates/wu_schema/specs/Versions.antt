@@ -14,10 +14,10 @@ use Rattle.sqlite.specs.Table.{Table}
 use Rattle.sqlite_schema.specs.declared.schema.Column.{Column}
 use Rattle.sqlite_schema.specs.Names.{column_named, place_of}
 use Rattle.wu_core.specs.declared.fault.Fault.{Fault}
-use Rattle.wu_core.specs.Reads.{Gives}
+use Rattle.wu_core.specs.Reads.{IsOrWantsMemory}
 use Rattle.wu_core.specs.World.{World}
 use Rattle.wu_schema.specs.Faults.{fault_of, IsFailure}
-use Rattle.wu_schema.specs.StandsFor.{StandsFor}
+use Rattle.wu_schema.specs.Refines.{Refines}
 use Rattle.wu_schema.specs.Stored.{number}
 use Rattle.wu_schema.specs.Tables.{HasTable}
 
@@ -39,7 +39,7 @@ IsVersionIn rows found = (version : ℕ) × (found ≡ Some version) × (1 ≤ v
 
 -- and read in them, want of memory aside
 abbrev pub ReadsVersion : List Row → ℕ → Result (Option ℕ) Fault → Type 0
-ReadsVersion rows version result = 1 ≤ version → AreOfVersion rows version → Gives result (Ok (Some version))
+ReadsVersion rows version result = 1 ≤ version → AreOfVersion rows version → IsOrWantsMemory result (Ok (Some version))
 
 -- a table or a column is not there
 abbrev pub IsMissing : CompileError → Type 0
@@ -105,7 +105,7 @@ pub record AnswersVersion (db : Database) (found : Option ℕ) : Type 0 where
   pub of_row : (has : HasProject db.schema)
       → (version : ℕ) × (found ≡ Some version) × HasVersion db has version
   -- and over tables that stand for a world that world's version
-  pub of_world : (world : World) → StandsFor db world → found ≡ Some world.version
+  pub of_world : (world : World) → Refines db world → found ≡ Some world.version
   -- where no project is, it is none,
   pub absent : LacksProject db.schema → found ≡ None
   -- and nowhere else
@@ -118,6 +118,6 @@ pub record RefusesVersion (limit : Option ℕ) (db : Database) (fault : Fault) :
       → HasVersion db has version → limit ≡ None → IsFailure fault
   -- and so over tables that stand for a world of a version from 1
   pub of_world : (world : World)
-      → StandsFor db world → 1 ≤ world.version → limit ≡ None → IsFailure fault
+      → Refines db world → 1 ≤ world.version → limit ≡ None → IsFailure fault
   -- where no project is, only a failure refuses, whatever the limit
   pub absent : LacksProject db.schema → IsFailure fault

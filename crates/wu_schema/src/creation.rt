@@ -3,7 +3,7 @@
 ghost use Rattle.std.specs.Prelude.{◌≡◌, false, codes, IfErr};
 ghost use Rattle.wu_schema.specs.Tables.{project_at, workunit_at, result_at, grant_at, host_at, archived_at, import_at};
 ghost use Rattle.wu_schema.specs.Made.{MakesTable, MakesTables, MakesProject, PutsProject, work_tables, record_tables};
-ghost use Rattle.wu_schema.specs.Calls.{Writes, Does, Commits, MayMake, Refuses, Undoes};
+ghost use Rattle.wu_schema.specs.Calls.{StatementFrame, Does, Commits, CrashAllows, Refuses, Undoes};
 ghost use Rattle.wu_schema.specs.Faults.{IsStoreFault};
 
 use crate::texts::{
@@ -16,28 +16,28 @@ use sqlite::{Alter, Connection, Error, Transaction, params};
 use wu_core::Fault;
 
 fn create_project<S: Alter>(tx: &mut Transaction<'_, S>) -> Result<(), Error>
-    ensures writes { Writes S.Store tx.old tx.new result }
+    ensures writes { StatementFrame S.Store tx.old tx.new result }
     ensures makes { Does S.Store tx.old tx.new result (MakesTable (codes "project", project_at)) }
 {
     execute(tx, CREATE_PROJECT, &[])
 }
 
 fn create_workunit<S: Alter>(tx: &mut Transaction<'_, S>) -> Result<(), Error>
-    ensures writes { Writes S.Store tx.old tx.new result }
+    ensures writes { StatementFrame S.Store tx.old tx.new result }
     ensures makes { Does S.Store tx.old tx.new result (MakesTable (codes "workunit", workunit_at)) }
 {
     execute(tx, CREATE_WORKUNIT, &[])
 }
 
 fn create_result<S: Alter>(tx: &mut Transaction<'_, S>) -> Result<(), Error>
-    ensures writes { Writes S.Store tx.old tx.new result }
+    ensures writes { StatementFrame S.Store tx.old tx.new result }
     ensures makes { Does S.Store tx.old tx.new result (MakesTable (codes "result", result_at)) }
 {
     execute(tx, CREATE_RESULT, &[])
 }
 
 fn create_credit_grant<S: Alter>(tx: &mut Transaction<'_, S>) -> Result<(), Error>
-    ensures writes { Writes S.Store tx.old tx.new result }
+    ensures writes { StatementFrame S.Store tx.old tx.new result }
     ensures makes { Does S.Store tx.old tx.new result
         (MakesTable (codes "credit_grant", grant_at)) }
 {
@@ -45,28 +45,28 @@ fn create_credit_grant<S: Alter>(tx: &mut Transaction<'_, S>) -> Result<(), Erro
 }
 
 fn create_host<S: Alter>(tx: &mut Transaction<'_, S>) -> Result<(), Error>
-    ensures writes { Writes S.Store tx.old tx.new result }
+    ensures writes { StatementFrame S.Store tx.old tx.new result }
     ensures makes { Does S.Store tx.old tx.new result (MakesTable (codes "host", host_at)) }
 {
     execute(tx, CREATE_HOST, &[])
 }
 
 fn create_archived<S: Alter>(tx: &mut Transaction<'_, S>) -> Result<(), Error>
-    ensures writes { Writes S.Store tx.old tx.new result }
+    ensures writes { StatementFrame S.Store tx.old tx.new result }
     ensures makes { Does S.Store tx.old tx.new result (MakesTable (codes "archived", archived_at)) }
 {
     execute(tx, CREATE_ARCHIVED, &[])
 }
 
 fn create_import<S: Alter>(tx: &mut Transaction<'_, S>) -> Result<(), Error>
-    ensures writes { Writes S.Store tx.old tx.new result }
+    ensures writes { StatementFrame S.Store tx.old tx.new result }
     ensures makes { Does S.Store tx.old tx.new result (MakesTable (codes "import", import_at)) }
 {
     execute(tx, CREATE_IMPORT, &[])
 }
 
 fn insert_project<S: Alter>(tx: &mut Transaction<'_, S>, version: i64) -> Result<(), Error>
-    ensures writes { Writes S.Store tx.old tx.new result }
+    ensures writes { StatementFrame S.Store tx.old tx.new result }
     ensures puts { Does S.Store tx.old tx.new result (PutsProject version) }
 {
     execute(tx, INSERT_PROJECT, params![version])
@@ -74,7 +74,7 @@ fn insert_project<S: Alter>(tx: &mut Transaction<'_, S>, version: i64) -> Result
 
 /// The tables of a project and of its workunits.
 fn create_work<S: Alter>(tx: &mut Transaction<'_, S>) -> Result<(), Error>
-    ensures writes { Writes S.Store tx.old tx.new result }
+    ensures writes { StatementFrame S.Store tx.old tx.new result }
     ensures makes { Does S.Store tx.old tx.new result (MakesTables work_tables) }
 {
     create_project(tx)?;
@@ -84,7 +84,7 @@ fn create_work<S: Alter>(tx: &mut Transaction<'_, S>) -> Result<(), Error>
 
 /// The tables of what is kept for good.
 fn create_records<S: Alter>(tx: &mut Transaction<'_, S>) -> Result<(), Error>
-    ensures writes { Writes S.Store tx.old tx.new result }
+    ensures writes { StatementFrame S.Store tx.old tx.new result }
     ensures makes { Does S.Store tx.old tx.new result (MakesTables record_tables) }
 {
     create_credit_grant(tx)?;
@@ -95,7 +95,7 @@ fn create_records<S: Alter>(tx: &mut Transaction<'_, S>) -> Result<(), Error>
 
 /// All tables of version 1, with the row of a fresh project.
 fn create_all<S: Alter>(tx: &mut Transaction<'_, S>) -> Result<(), Error>
-    ensures writes { Writes S.Store tx.old tx.new result }
+    ensures writes { StatementFrame S.Store tx.old tx.new result }
     ensures makes { Does S.Store tx.old tx.new result MakesProject }
 {
     create_work(tx)?;
@@ -118,14 +118,15 @@ impl Work for Creation {
 /// Makes a fresh project of the present version in a database where none of its tables is there yet.
 ///
 /// Tables of other names are left alone. `NotAProject` says that the store refused a statement, and that all is as
-/// before: it does so where a name is taken, but no clause names its cause. After `Memory` or `Broken` an open may find the database as it was, or the fresh project.
+/// before: it does so where a name is taken, but no clause names its cause. After `Memory` or `Broken` an open may find
+/// the database as it was, or the fresh project.
 pub fn create<S: Alter>(conn: &mut Connection<S>) -> Result<(), Fault>
     requires { conn.old.in_transaction ≡ false }
     ensures mode { conn.new.in_transaction ≡ false }
     ensures done { Commits S.Store conn.old conn.new result MakesProject }
     ensures refused { Refuses S.Store conn.old conn.new result }
     ensures undone { Undoes S.Store conn.old conn.new result }
-    ensures crash { MayMake S.Store conn.old conn.new MakesProject }
+    ensures crash { CrashAllows S.Store conn.old conn.new MakesProject }
     ensures told { IfErr result IsStoreFault }
 {
     transact(conn, &Creation)

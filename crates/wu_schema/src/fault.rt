@@ -9,8 +9,8 @@ use sqlite_resolve::CompileError;
 use sqlite_syntax::error::ParseError;
 use wu_core::Fault;
 
-/// Want of memory is `Memory`, a failure of the disk or what is too big for the store is `Broken`, and any other refusal
-/// is `NotAProject`.
+/// Want of memory is `Memory`, a failure of the disk or what is too big for the store is `Broken`, and any other
+/// refusal is `NotAProject`.
 pub fn fault_of(error: &Error) -> Fault
     ensures { result ≡ fault_of error.now }
 {
@@ -40,8 +40,8 @@ pub fn commit_fault_of(error: &Error) -> Fault
     }
 }
 
-/// Whether the connection still serves, as a fault: the answer `NotAProject` says so. `Broken` says that the disk failed,
-/// or that the connection was not open.
+/// Whether the connection still serves, as a fault: the answer `NotAProject` says so. `Broken` says that the disk
+/// failed, or that the connection was not open.
 fn probe<S: Alter>(conn: &mut Connection<S>) -> Fault
     ensures mode { conn.old.in_transaction ≡ false → conn.new.in_transaction ≡ false }
     ensures kind { IsStoreFault result }
@@ -59,8 +59,8 @@ fn probe<S: Alter>(conn: &mut Connection<S>) -> Fault
 /// The fault of a statement that was refused inside a transaction, which was then rolled back.
 ///
 /// `NotAProject` says that the connection still serves, outside any transaction; after any other fault it may not. Want
-/// of memory is told as such, and so is a failure of the disk or what is too big. A statement that is refused for another cause is `Broken` only
-/// where the disk then failed, or the connection was not open.
+/// of memory is told as such, and so is a failure of the disk or what is too big. A statement that is refused for
+/// another cause is `Broken` only where the disk then failed, or the connection was not open.
 pub fn fault_after<S: Alter>(conn: &mut Connection<S>, error: &Error) -> Fault
     ensures mode { conn.old.in_transaction ≡ false → conn.new.in_transaction ≡ false }
     ensures kind { result ≡ Fault.NotAProject → fault_of error.now ≡ Fault.NotAProject }

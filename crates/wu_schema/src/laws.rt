@@ -3,7 +3,7 @@
 ghost use Rattle.std.specs.Prelude.{ℕ, List, codes};
 ghost use Rattle.sqlite.specs.Schema.{Schema};
 ghost use Rattle.wu_schema.specs.Indexes.{DefinesIndex, LeavesWorlds};
-ghost use Rattle.wu_schema.specs.StandsFor.{IsFree};
+ghost use Rattle.wu_schema.specs.Refines.{IsFree};
 ghost use Rattle.wu_schema.specs.Versions.{HasProject, LacksProject};
 
 use sqlite::Alter;

@@ -3,7 +3,7 @@
 ghost use Rattle.std.specs.Prelude.{◌≡◌, false, IfErr};
 ghost use Rattle.sqlite.specs.Values.{bound};
 ghost use Rattle.sqlite.specs.Effect.{Database};
-ghost use Rattle.wu_schema.specs.Calls.{Writes, Works, Does, Runs, Commits, MayMake, Refuses, Undoes};
+ghost use Rattle.wu_schema.specs.Calls.{StatementFrame, TransactionFrame, Does, RunsText, Commits, CrashAllows, Refuses, Undoes};
 ghost use Rattle.wu_schema.specs.Faults.{IsStoreFault};
 
 use crate::fault::{commit_fault_of, fault_after};
@@ -17,8 +17,8 @@ pub fn execute<S: Alter>(
     sql: &str,
     params: &[ValueRef<'_>],
 ) -> Result<(), Error>
-    ensures writes { Writes S.Store tx.old tx.new result }
-    ensures ran { Runs S.Store tx.old tx.new result sql.now (bound params.now) }
+    ensures writes { StatementFrame S.Store tx.old tx.new result }
+    ensures ran { RunsText S.Store tx.old tx.new result sql.now (bound params.now) }
 {
     tx.execute(sql, params)?;
     Ok(())
@@ -30,7 +30,7 @@ pub trait Work {
     ghost makes: { Self → Database → Database → Type 0 };
 
     fn run<S: Alter>(&self, tx: &mut Transaction<'_, S>) -> Result<(), Error>
-        ensures works { Works S.Store tx.old tx.new result }
+        ensures works { TransactionFrame S.Store tx.old tx.new result }
         ensures makes { Does S.Store tx.old tx.new result (makes self.now) };
 }
 
@@ -45,7 +45,7 @@ fn run_and_commit<S: Alter, W: Work>(conn: &mut Connection<S>, work: &W) -> Resu
     ensures mode { conn.new.in_transaction ≡ false }
     ensures done { Commits S.Store conn.old conn.new result (W.makes work.now) }
     ensures undone { Undoes S.Store conn.old conn.new result }
-    ensures crash { MayMake S.Store conn.old conn.new (W.makes work.now) }
+    ensures crash { CrashAllows S.Store conn.old conn.new (W.makes work.now) }
 {
     let mut tx = conn.transaction();
     if let Err(error) = work.run(&mut tx) {
@@ -59,8 +59,9 @@ fn run_and_commit<S: Alter, W: Work>(conn: &mut Connection<S>, work: &W) -> Resu
 
 /// Does all of the work in one transaction.
 ///
-/// `NotAProject` says that a statement was refused, and that all is as before. After `Memory` or `Broken` the tables are
-/// as before while the connection is open, and an open may find what it could have found before, or what the work makes.
+/// `NotAProject` says that a statement was refused, and that all is as before. After `Memory` or `Broken` the tables
+/// are as before while the connection is open, and an open may find what it could have found before, or what the work
+/// makes.
 pub fn transact<S: Alter, W: Work>(conn: &mut Connection<S>, work: &W) -> Result<(), Fault>
     requires { conn.old.in_transaction ≡ false }
     ensures mode { conn.new.in_transaction ≡ false }
@@ -68,7 +69,7 @@ pub fn transact<S: Alter, W: Work>(conn: &mut Connection<S>, work: &W) -> Result
     ensures refused { Refuses S.Store conn.old conn.new result }
     ensures undone { Undoes S.Store conn.old conn.new result }
     ensures told { IfErr result IsStoreFault }
-    ensures crash { MayMake S.Store conn.old conn.new (W.makes work.now) }
+    ensures crash { CrashAllows S.Store conn.old conn.new (W.makes work.now) }
 {
     match run_and_commit(conn, work) {
         Ok(()) => Ok(()),

@@ -1,4 +1,5 @@
--- Grants of different places, each of a workunit and an instance that there may be, are few, and so their credit is bounded.
+-- Grants of different places, each of a workunit and an instance that there may be, are few, and so their credit is
+-- bounded.
 use Rattle.std.proofs.Common.{◌≡◌, ◌≢◌, ℕ, suc, ◌+◌, ◌-◌, ◌*◌, ◌<◌, ◌≤◌, true, false, List, [], ◌∷◌, map, length, filter, inl, inr, arith, ne_eqb}
 use Rattle.std.proofs.lemmas.Bool.Decides.{eqb_tells}
 use Rattle.std.proofs.lemmas.List.{length-map}

@@ -18,7 +18,7 @@ use Rattle.wu_core.specs.World.{World, empty_world}
 use Rattle.wu_passes.specs.Committing.{FoundAs}
 use Rattle.wu_passes.specs.Adopting.{IsVacant, LeavesFresh}
 use Rattle.wu_passes.specs.Standing.{GoesOn}
-use Rattle.wu_schema.specs.StandsFor.{IsFree}
+use Rattle.wu_schema.specs.Refines.{IsFree}
 use Rattle.wu_schema.proofs.VersionLemmas.{free_lacks}
 use Rattle.std.proofs.Common.{◌⊎◌}
 use Rattle.std.proofs.Math.Logic.{∥∥₁_map}

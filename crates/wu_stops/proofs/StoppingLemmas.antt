@@ -19,7 +19,7 @@ use Rattle.sqlite.specs.Files.{Finds, IsOpened, file_state}
 use Rattle.sqlite.proofs.Theorems.{next_run}
 use Rattle.wu_core.specs.World.{World, empty_world}
 use Rattle.wu_schema.specs.Calls.{LeavesOnly}
-use Rattle.wu_schema.specs.StandsFor.{StandsFor}
+use Rattle.wu_schema.specs.Refines.{Refines}
 use Rattle.wu_schema.proofs.StandsLemmas.{stands_again}
 use Rattle.wu_machine.specs.Sound.{IsProject}
 use Rattle.wu_machine_laws.proofs.SoundLemmas.{empty_sound, is_project}
@@ -77,7 +77,7 @@ module _ {D : Type 0} {g : Ghosts D} (old again : Held (FileStore D g)) (store :
 -- tables that stood for a world stand for it again
 pub goes_again : (new : State) (world : World) → IsCommitted new → FoundAs new.now.trees world → GoesOn new world
 goes_again new world again found =
-    let stands : StandsFor new.now world = stands_again found.database new.now world found.stands again.sound (sym found.same) in
+    let stands : Refines new.now world = stands_again found.database new.now world found.stands again.sound (sym found.same) in
     record { stands = λ is_open. (stands, again.committed); left = λ db may. record { database = new.now; same = sym (again.left.only db may); stands = stands } }
 
 -- and a fresh project is one that commands run over

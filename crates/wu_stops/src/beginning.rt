@@ -2,7 +2,7 @@
 
 ghost use Rattle.std.specs.Prelude.{false, IfSome, IsTrue};
 ghost use Rattle.sqlite.specs.Files.{file_state};
-ghost use Rattle.wu_passes.specs.Projects.{GoesStill, IsOpen, IsUnlimited, state_of};
+ghost use Rattle.wu_passes.specs.Projects.{IsSessionOpen, IsOpen, IsUnlimited, state_of};
 ghost use Rattle.wu_stops.specs.Beginning.{BeginsAgain, BeginsEmpty, GoesFromTables, GoesAgain};
 ghost use Rattle.wu_stops.specs.Stopping.{WasClean};
 
@@ -23,7 +23,7 @@ pub fn open_and_adopt<D: Disk + Drop>(
 ) -> Option<Project<FileStore<D>>>
     requires log { IsTrue (D.Disk.is_usable files.log) }
     requires db { IsTrue (D.Disk.is_usable files.db) }
-    ensures begins { IfSome result GoesStill }
+    ensures begins { IfSome result IsSessionOpen }
     ensures unlimited { IfSome result IsUnlimited }
     ensures opens { IfSome result IsOpen }
     ensures blank { IfSome result (BeginsEmpty D.Disk files) }
@@ -49,7 +49,7 @@ pub fn adopt_stop_and_adopt<D: Crash + Drop>(
     conn: Connection<FileStore<D>>,
     options: Options,
 ) -> Option<Project<FileStore<D>>>
-    ensures begins { IfSome result GoesStill }
+    ensures begins { IfSome result IsSessionOpen }
     ensures clean { IfSome result (λ project. WasClean (file_state conn) (state_of project)) }
     ensures free { IfSome result (BeginsAgain conn) }
     ensures found { IfSome result (GoesAgain conn) }

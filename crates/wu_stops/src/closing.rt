@@ -5,7 +5,7 @@
 
 ghost use Rattle.std.specs.Prelude.{IfSome};
 ghost use Rattle.sqlite.specs.Files.{file_state};
-ghost use Rattle.wu_passes.specs.Projects.{GoesStill, state_of};
+ghost use Rattle.wu_passes.specs.Projects.{IsSessionOpen, state_of};
 ghost use Rattle.wu_stops.specs.Beginning.{BeginsAgain, GoesAgain};
 ghost use Rattle.wu_stops.specs.Closing.{AfterClose, BeginsUnclosed, FindsClosed, FindsStopped, FindsUnclosed, GoesUnclosed, KeepsClosed, KeepsUnclosed, KeepsWorlds, WasCleanClosed, WasCleanUnclosed};
 ghost use Rattle.wu_stops.specs.Stopping.{FindsAgain, WasClean};
@@ -18,8 +18,8 @@ use wu_passes::Project;
 /// The machine stops, and two files are opened again.
 ///
 /// What is found is open and committed, and is what the files hold after an outcome of the stop. Where a close gave the
-/// files back, that is its connection's last commit, and the tables stand for the world of before the close. `None` where
-/// the open fails.
+/// files back, that is its connection's last commit, and the tables stand for the world of before the close. `None`
+/// where the open fails.
 pub fn stop_and_open_files<D: Crash + Drop>(
     alloc: Global,
     files: Files<D>,
@@ -84,17 +84,17 @@ pub fn close_stop_and_open<D: Crash + Drop>(
     }
 }
 
-/// The machine stops after a close that failed, the two files of the store that it left are opened again, and the project
-/// in them is adopted.
+/// The machine stops after a close that failed, the two files of the store that it left are opened again, and the
+/// project in them is adopted.
 ///
-/// The session goes on over the world of before the close; where no project was, it begins from the empty world. This is
-/// said of a store whose trees are numbered as the catalog says. `None` where the open or the adoption fails.
+/// The session goes on over the world of before the close; where no project was, it begins from the empty world. This
+/// is said of a store whose trees are numbered as the catalog says. `None` where the open or the adoption fails.
 pub fn stop_and_adopt_unclosed<D: Crash + Drop>(
     alloc: Global,
     left: FileStore<D>,
     options: Options,
 ) -> Option<Project<FileStore<D>>>
-    ensures begins { IfSome result GoesStill }
+    ensures begins { IfSome result IsSessionOpen }
     ensures clean { IfSome result (λ project. WasCleanUnclosed left (state_of project)) }
     ensures free { IfSome result (BeginsUnclosed left) }
     ensures found { IfSome result (GoesUnclosed left) }
@@ -109,14 +109,15 @@ pub fn stop_and_adopt_unclosed<D: Crash + Drop>(
 /// Closes a connection; then the machine stops, the two files are opened again, and the project in them is adopted. It
 /// tells how the close ended.
 ///
-/// The session goes on over the world of before the close; where no project was, it begins from the empty world. After a
-/// close that failed this is said where the store that it left is numbered. `None` where the open or the adoption fails.
+/// The session goes on over the world of before the close; where no project was, it begins from the empty world. After
+/// a close that failed this is said where the store that it left is numbered. `None` where the open or the adoption
+/// fails.
 pub fn close_stop_and_adopt<D: Crash + Drop>(
     alloc: Global,
     conn: Connection<FileStore<D>>,
     options: Options,
 ) -> Option<(Result<(), Error>, Project<FileStore<D>>)>
-    ensures begins { IfSome result (λ r. GoesStill r.1) }
+    ensures begins { IfSome result (λ r. IsSessionOpen r.1) }
     ensures clean { IfSome result (λ r. WasClean (file_state conn) (state_of r.1)) }
     ensures free { IfSome result (λ r. AfterClose conn r.0 (BeginsAgain conn r.1)) }
     ensures found { IfSome result (λ r. AfterClose conn r.0 (GoesAgain conn r.1)) }

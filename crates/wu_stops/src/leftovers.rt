@@ -3,7 +3,7 @@
 //! A disk may fail at any call and from then on, so a stop amid an opening is one of these stops.
 
 ghost use Rattle.std.specs.Prelude.{IfSome};
-ghost use Rattle.wu_passes.specs.Projects.{GoesStill, IsOpen, IsUnlimited};
+ghost use Rattle.wu_passes.specs.Projects.{IsSessionOpen, IsOpen, IsUnlimited};
 ghost use Rattle.wu_stops.specs.Leftovers.{BeginsAfter, GoesAfter};
 
 use sqlite::{Connection, FileStore, Files, Leftover, Options};
@@ -15,14 +15,14 @@ use wu_passes::Project;
 /// them adopted.
 ///
 /// Whatever is left of files that hold no database, a fresh project begins; and of those that hold a world in pages
-/// without sums, the session goes on from it. Where a store is left, this is said of one whose trees are numbered as the
-/// catalog says, which `open_files` does not tell. `None` where the second opening or the adoption fails.
+/// without sums, the session goes on from it. Where a store is left, this is said of one whose trees are numbered as
+/// the catalog says, which `open_files` does not tell. `None` where the second opening or the adoption fails.
 pub fn stop_and_open_left<D: Crash + Drop>(
     alloc: Global,
     left: Leftover<D>,
     options: Options,
 ) -> Option<Project<FileStore<D>>>
-    ensures begins { IfSome result GoesStill }
+    ensures begins { IfSome result IsSessionOpen }
     ensures unlimited { IfSome result IsUnlimited }
     ensures opens { IfSome result IsOpen }
     ensures blank { IfSome result (BeginsAfter left) }

@@ -1,4 +1,5 @@
-//! The laws of a project through stops: what an opening finds after a stop, also amid an adoption, an opening or a close.
+//! The laws of a project through stops: what an opening finds after a stop, also amid an adoption, an opening or a
+//! close.
 #![tactic(auto)]
 
 mod beginning;

@@ -1,5 +1,5 @@
 -- To take the first workunit above the last one, again and again, goes through all of them in order.
-use Rattle.wu_schema.proofs.Words.{AllByRecursion, Bool, Database, List, None, Some, StandsFor, Workunit, World, [], all_has, ap, arith, cases_Bool, false, filter, find, if◌then◌else◌, inl, inr, nat_lt, nat_tests, refl, subst, sym, true, ℕ, ◌++◌, ◌+◌, ◌<◌, ◌∙◌, ◌∷◌, ◌≡◌}
+use Rattle.wu_schema.proofs.Words.{AllByRecursion, Bool, Database, List, None, Some, Refines, Workunit, World, [], all_has, ap, arith, cases_Bool, false, filter, find, if◌then◌else◌, inl, inr, nat_lt, nat_tests, refl, subst, sym, true, ℕ, ◌++◌, ◌+◌, ◌<◌, ◌∙◌, ◌∷◌, ◌≡◌}
 use Rattle.std.specs.Prelude.{All, slice_get}
 use Rattle.std.proofs.lemmas.List.Elements.{recursion_from_All}
 use Rattle.sqlite_rules.proofs.ListLemmas.{has_found}
@@ -56,7 +56,7 @@ next (v ∷ vs) w after up =
     passed [] all = all.0
     passed (u ∷ us) all = passed us all.1
 
-module _ (db : Database) (world : World) (s : StandsFor db world) where
+module _ (db : Database) (world : World) (s : Refines db world) where
   -- what is above a number is the first workunit above it, and what is above that one's;
   pub above_more : (number : ℕ) (w : Workunit) → first_above number world ≡ Some w → all_above number world ≡ w ∷ all_above w.number world
   above_more number w found = step number world.workunits w (world_rises db world s) found

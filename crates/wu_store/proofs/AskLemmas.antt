@@ -1,5 +1,5 @@
 -- A SELECT of ours, whole: what it does to the connection, what it answers, and that it is not refused.
-use Rattle.wu_schema.proofs.Words.{Bool, Err, Error, FailsToQuery, Fault, Ghosts, HasCleanDisk, Held, IfErr, IfOk, IsErrAnd, IsFailure, IsSome, IsTrue, List, None, NotAProject, Ok, Option, Result, Row, Shown, Some, StandsFor, State, Vec, World, [], arith, false, fault_of, inl, inr, length, not, option_to_list, refl, state, subst, sym, ℕ, ⊤, ◌++◌, ◌<◌, ◌==◌, ◌∙◌, ◌∷◌, ◌≡◌, ◌≢◌, ◌⊎◌}
+use Rattle.wu_schema.proofs.Words.{Bool, Err, Error, FailsToQuery, Fault, Ghosts, HasCleanDisk, Held, IfErr, IfOk, IsErrAnd, IsFailure, IsSome, IsTrue, List, None, NotAProject, Ok, Option, Result, Row, Shown, Some, Refines, State, Vec, World, [], arith, false, fault_of, inl, inr, length, not, option_to_list, refl, state, subst, sym, ℕ, ⊤, ◌++◌, ◌<◌, ◌==◌, ◌∙◌, ◌∷◌, ◌≡◌, ◌≢◌, ◌⊎◌}
 use Rattle.wu_schema.specs.Asking.{Asks, FailsAll, IsSelect, ServesUnlessFailed, ShowsAll, TellsQuery}
 use Rattle.wu_schema.specs.Calls.{Tells}
 use Rattle.wu_schema.proofs.ReadLemmas.{if_ok, if_err}
@@ -58,7 +58,7 @@ module _ {S T U : Type 0} (g : Ghosts S) (old new : Held S) (Is : T → World �
 -- a SELECT with these parameters, which only memory, the disk or size may fail where the tables stand for a world
 pub record IsQuestion (text : List ℕ) (params : Row) : Type 1 where
   pub select : IsSelect text
-  pub told : (old new : State) (e : Error) → FailsToQuery text params old new e → (world : World) → StandsFor old.now world → old.step_limit ≡ None → IsFailure (fault_of e)
+  pub told : (old new : State) (e : Error) → FailsToQuery text params old new e → (world : World) → Refines old.now world → old.step_limit ≡ None → IsFailure (fault_of e)
 
 -- one that fits its table
 pub question : (p : Part) → ((version : ℕ) → IsIn p version) → (q : Asked) → ((tree : ℕ) → Fits (name_of p) (table_in p tree) q) → (params : Row) → length params ≡ length q.parameters → ((tree : ℕ) → IsTyped (name_of p) (table_in p tree) q params) → IsQuestion q.text params
@@ -76,12 +76,12 @@ module _ {S : Type 0} {text : List ℕ} {params : Row} (g : Ghosts S) (it : IsQu
   abbrev after : State
   after = state g new
 
-  never_told : (fault : Fault) → TellsQuery text given before after fault → (world : World) → StandsFor before.now world → before.step_limit ≡ None → fault ≢ NotAProject
+  never_told : (fault : Fault) → TellsQuery text given before after fault → (world : World) → Refines before.now world → before.step_limit ≡ None → fault ≢ NotAProject
   never_told fault h world s limit is =
       never_refused (fault_of h.0) (it.told before after h.0 (subst (λ ps. FailsToQuery text ps before after h.0) same h.2) world s limit) (sym h.1 ∙ is)
 
   -- all its rows
-  pub asked_all : {A : Type 0} (Is : List Row → World → Type 0) → ((rows : List Row) → Shown text params before after rows → (world : World) → StandsFor before.now world → Is rows world) → (r : Result (Vec Row A) Fault)
+  pub asked_all : {A : Type 0} (Is : List Row → World → Type 0) → ((rows : List Row) → Shown text params before after rows → (world : World) → Refines before.now world → Is rows world) → (r : Result (Vec Row A) Fault)
       → (IsSelect text → Asks g old new r) → (IsSelect text → ServesUnlessFailed g new r) → ShowsAll g old new r text given → FailsAll g old new r text given → IfErr r IsStoreFault → HasAsked g old new r (λ rows. Is rows.items)
   asked_all Is found r asks opens shows fails told = record {
     asks = asks it.select;
@@ -92,7 +92,7 @@ module _ {S : Type 0} {text : List ℕ} {params : Row} (g : Ghosts S) (it : IsQu
   }
 
   -- whether there is a row
-  pub asked_any : {A : Type 0} (any : World → Bool) → ((rows : List Row) → Shown text params before after rows → (world : World) → StandsFor before.now world → not (length rows == 0) ≡ any world)
+  pub asked_any : {A : Type 0} (any : World → Bool) → ((rows : List Row) → Shown text params before after rows → (world : World) → Refines before.now world → not (length rows == 0) ≡ any world)
       → (rows : Vec Row A) → (IsSelect text → Asks g old new (Ok rows)) → (IsSelect text → ServesUnlessFailed g new (Ok rows)) → ShowsAll g old new (Ok rows) text given → (found : Bool) → found ≡ not (length rows.items == 0) → HasAsked g old new (Ok found) (λ it world. it ≡ any world)
   asked_any {A} any answer rows asks opens shows found is =
       asked_ok g old new (λ (rows : Vec Row A) world. not (length rows.items == 0) ≡ any world) (λ it world. it ≡ any world) rows found (λ world h. is ∙ h)
@@ -105,7 +105,7 @@ module _ {S : Type 0} {text : List ℕ} {params : Row} (g : Ghosts S) (it : IsQu
       asked_err g old new (λ (rows : Vec Row A) world. ⊤) (λ it world. it ≡ answer world) fault r is (asked_all (λ rows world. ⊤) (λ rows h world s. tt) (Err fault) asks opens (λ clean. tt) fails told)
 
   -- the one row, where there is one
-  pub asked_first : {A : Type 0} (row : World → Option Row) → ((rows : List Row) → Shown text params before after rows → (world : World) → StandsFor before.now world → rows ≡ option_to_list (row world))
+  pub asked_first : {A : Type 0} (row : World → Option Row) → ((rows : List Row) → Shown text params before after rows → (world : World) → Refines before.now world → rows ≡ option_to_list (row world))
       → (rows : Vec Row A) → (IsSelect text → Asks g old new (Ok rows)) → (IsSelect text → ServesUnlessFailed g new (Ok rows)) → ShowsAll g old new (Ok rows) text given → (rest : List Row) (taken : Option Row) → rows.items ≡ rest ++ option_to_list taken → (0 < length rows.items → IsSome taken) → HasAsked g old new (Ok taken) (λ it world. it ≡ row world)
   asked_first {A} row answer rows asks opens shows rest taken parts some =
       asked_ok g old new (λ (rows : Vec Row A) world. rows.items ≡ option_to_list (row world)) (λ it world. it ≡ row world) rows taken (λ world h. only_taken rows.items rest (row world) taken h parts some)

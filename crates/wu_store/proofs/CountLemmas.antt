@@ -16,7 +16,7 @@ use Rattle.wu_schema.specs.Restoring.{Restores}
 use Rattle.wu_schema.specs.Stored.{number}
 use Rattle.wu_store.specs.Answers.{all_instances, count_in, credits_of}
 use Rattle.wu_store.specs.Lines.{summary_of}
-use Rattle.wu_store.specs.Summaries.{credit_sum, granted_of, numbers_of, others_of, results_of, SumsCredit}
+use Rattle.wu_store.specs.Summaries.{credit_sum, granted_of, project_numbers, others_of, results_of, SumsCredit}
 use Rattle.wu_store.specs.declared.counts.Granted.{Granted}
 use Rattle.wu_store.specs.declared.counts.Numbers.{Numbers}
 use Rattle.wu_store.specs.declared.counts.Others.{Others}
@@ -97,7 +97,7 @@ over_counted world = λ k. count_by (λ i. code_over i.server_state k) (all_inst
 
 -- ---- the parts are the whole
 
-pub whole_summary : (world : World) (numbers : Numbers) (results : Results) (others : Others) (granted : Granted) → numbers ≡ numbers_of world → results ≡ results_of world → others ≡ others_of world → granted ≡ granted_of world
+pub whole_summary : (world : World) (numbers : Numbers) (results : Results) (others : Others) (granted : Granted) → numbers ≡ project_numbers world → results ≡ results_of world → others ≡ others_of world → granted ≡ granted_of world
     → ◌≡◌ {A = Summary} (record {
       version = numbers.version;
       next_number = numbers.next_number;

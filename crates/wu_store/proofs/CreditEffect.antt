@@ -1,5 +1,5 @@
 -- What the upsert of a grant's host makes of the rows of hosts: those of one grant more.
-use Rattle.wu_schema.proofs.Words.{AllByRecursion, Binary, Bool, Chosen, Database, Executes, Grant, Has, HasTables, Int, Integer, IsDatabase, IsPermutation, IsPermutation-map, IsPermutation-sym, IsShaped, IsShaped-filter, IsShaped-put_row, IsTrue, List, ListsAll, Ok, ProjectTrees, Row, Schema, StandsFor, State, Text, Value, World, [], all_has, and_from, and_parts, ap, ap₂, binary, bytes_eq, bytes_eq-Decides, cases_Bool, cast, column, drop, enumerate_from, equal, false, false_from_ne_true, first_key, grant_cells, has_mapped, has_rowid, host_at, hosts_of, if◌then◌else◌, inl, inr, is_eq, is_int, is_of, map, map-map, mapped_has, next_rowid, number, passes, pos, put_row, refl, row_at_is, rowid, some_from, some_has, stored_grant, subst, sym, true, value_cmp, without_rowid, ℕ, ℤ, ◌++◌, ◌+◌, ◌||◌, ◌∙◌, ◌∷◌, ◌≡◌}
+use Rattle.wu_schema.proofs.Words.{AllByRecursion, Binary, Bool, Chosen, Database, Executes, Grant, Has, HasTables, Int, Integer, IsDatabase, IsPermutation, IsPermutation-map, IsPermutation-sym, IsShaped, IsShaped-filter, IsShaped-put_row, IsTrue, List, ListsAll, Ok, ProjectTrees, Row, Schema, Refines, State, Text, Value, World, [], all_has, and_from, and_parts, ap, ap₂, binary, bytes_eq, bytes_eq-Decides, cases_Bool, cast, column, drop, enumerate_from, equal, false, false_from_ne_true, first_key, grant_cells, has_mapped, has_rowid, host_at, hosts_of, if◌then◌else◌, inl, inr, is_eq, is_int, is_of, map, map-map, mapped_has, next_rowid, number, passes, pos, put_row, refl, row_at_is, rowid, some_from, some_has, stored_grant, subst, sym, true, value_cmp, without_rowid, ℕ, ℤ, ◌++◌, ◌+◌, ◌||◌, ◌∙◌, ◌∷◌, ◌≡◌}
 use Rattle.wu_store.specs.Changes.{IsNextPlace, PutsGrant}
 use Rattle.sqlite_trees.specs.declared.store.Shape.TheVariants as shape
 use Rattle.sqlite_schema.specs.declared.schema.Constraint.TheVariants.{Datatype}
@@ -146,8 +146,8 @@ module _ (old new : State) (t : ProjectTrees) (grants : List Grant) (g : Grant) 
 
 -- ---- a grant, and then its host
 
-module _ (old mid new : Database) (world : World) (s : StandsFor old world) (place : ℕ) (g : Grant) where
-  pub stands_with_grant : PutsGrant place g old mid → Credits g mid new → IsNextPlace place world.grants → StandsFor new (with_grant g world)
+module _ (old mid new : Database) (world : World) (s : Refines old world) (place : ℕ) (g : Grant) where
+  pub stands_with_grant : PutsGrant place g old mid → Credits g mid new → IsNextPlace place world.grants → Refines new (with_grant g world)
   stands_with_grant puts credits next =
       let t = s.trees in
       let there = parts_there old world s in

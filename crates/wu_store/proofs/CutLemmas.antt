@@ -1,5 +1,5 @@
 -- The world that the tables stand for once a workunit is deleted.
-use Rattle.wu_schema.proofs.Words.{Executes, List, Ok, Row, Some, StandsFor, State, Workunit, World, [], has_rowid, not, number, pos, stored_workunit, subst, ℕ, ◌==◌, ◌∷◌, ◌≡◌}
+use Rattle.wu_schema.proofs.Words.{Executes, List, Ok, Row, Some, Refines, State, Workunit, World, [], has_rowid, not, number, pos, stored_workunit, subst, ℕ, ◌==◌, ◌∷◌, ◌≡◌}
 use Rattle.wu_store.specs.Changes.{without_workunit}
 use Rattle.wu_store.proofs.EqualLemmas.{number_tied}
 use Rattle.wu_store.proofs.InstanceLemmas.{instances_hold}
@@ -11,13 +11,13 @@ use Rattle.wu_store.proofs.DeleteTexts.{delete_text}
 use Rattle.wu_store.proofs.CascadeEffect.{without_number}
 use Rattle.wu_store.proofs.DeleteEffect.{cuts, row_goes, children_go}
 
-module _ (old new : State) (world : World) (s : StandsFor old.now world) (n : ℕ) where
+module _ (old new : State) (world : World) (s : Refines old.now world) (n : ℕ) where
   -- of each child the rows go that refer to the workunit, in the world as in the table
   child_goes : (q : Part) (c : ℕ) (rows : List Row) → child_column q ≡ Some c → Holds q rows world → Holds q (without_number (pos n) c rows) (without_workunit n world)
   child_goes Instances c rows is h = subst (λ k. Holds Instances (without_number (pos n) k rows) (without_workunit n world)) (same_some is) (instances_hold n not world.workunits rows h)
   child_goes _ c rows is h = absurd (cc)
 
-  pub deletes_workunit : (count : ℕ) → Executes delete_text (number n ∷ []) old new (Ok count) → StandsFor new.now (without_workunit n world)
+  pub deletes_workunit : (count : ℕ) → Executes delete_text (number n ∷ []) old new (Ok count) → Refines new.now (without_workunit n world)
   deletes_workunit count h =
       let t = s.trees in
       let has = s.tables.workunit in

@@ -42,7 +42,8 @@ module _ (limit : Option ℕ) (mode : Mode) (params : Row) (db : Database) (text
         schema = ap (λ (p : Tally × Database). p.1.schema) ends;
       }
 
--- the rows of the workunits that were found go, and of each child either what refers to them, or nothing; a table that refers to nothing stays
+-- the rows of the workunits that were found go, and of each child either what refers to them, or nothing; a table that
+-- refers to nothing stays
 pub record Cuts (old new : Database) (work : ℕ) (n : ℤ) : Type 0 where
   pub schema : new.schema ≡ old.schema
   pub ids : List Row

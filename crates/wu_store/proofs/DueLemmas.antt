@@ -1,5 +1,5 @@
 -- The workunits that a pass takes, found one after another.
-use Rattle.wu_schema.proofs.Words.{Bool, Database, List, None, Option, Some, StandsFor, Workunit, World, [], all_has, ap, arith, cases_Bool, filter, find, if◌then◌else◌, inl, inr, length, nat_lt, nat_tests, refl, slice_get, subst, sym, take, true, ℕ, ◌++◌, ◌+◌, ◌<◌, ◌==◌, ◌∙◌, ◌∷◌, ◌≡◌, ◌≤◌}
+use Rattle.wu_schema.proofs.Words.{Bool, Database, List, None, Option, Some, Refines, Workunit, World, [], all_has, ap, arith, cases_Bool, filter, find, if◌then◌else◌, inl, inr, length, nat_lt, nat_tests, refl, slice_get, subst, sym, take, true, ℕ, ◌++◌, ◌+◌, ◌<◌, ◌==◌, ◌∙◌, ◌∷◌, ◌≡◌, ◌≤◌}
 use Rattle.std.specs.Prelude.{All, IfSome, ◌^◌}
 use Rattle.std.proofs.Common.{append_assoc, length-append}
 use Rattle.std.proofs.Math.Seq.{take-append_seam}
@@ -55,7 +55,7 @@ above_is_first (v ∷ vs) none = elim (cases_Bool (v.number == 0)) [
 ]
 
 -- the workunit of 0 is the first one;
-pub zero_first : (db : Database) (world : World) → StandsFor db world → (w : Workunit) → Some w ≡ numbered 0 world → Some w ≡ slice_get world.workunits 0
+pub zero_first : (db : Database) (world : World) → Refines db world → (w : Workunit) → Some w ≡ numbered 0 world → Some w ≡ slice_get world.workunits 0
 zero_first db world stands w found = zero_is_first world.workunits w (world_rises db world stands) (sym found)
 
 -- without one, it is the first above 0
@@ -109,7 +109,7 @@ module _ (pass : Pass) (now min_age : ℕ) (world : World) where
         among (v ∷ vs) all = among vs (All-tail IsStorable v (vs ++ w ∷ after) all)
 
     -- the walk goes on behind it,
-    pub one_more : (db : Database) → StandsFor db world → (grown : List Workunit) → grown ≡ taken ++ filter (changes pass now min_age) (w ∷ [])
+    pub one_more : (db : Database) → Refines db world → (grown : List Workunit) → grown ≡ taken ++ filter (changes pass now min_age) (w ∷ [])
         → (next : Option Workunit) → next ≡ first_above w.number world → IsSoFar pass now min_age world grown next
     one_more db stands grown grows next is = record {
       seen = so_far.seen ++ w ∷ [];

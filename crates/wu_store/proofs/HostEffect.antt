@@ -118,7 +118,8 @@ module _ (limit : Option ℕ) (mode : Mode) (keys : mode.keys ≡ Enforced) (db 
       (subst (λ v. Updates (task_of limit mode params db (host_at tree)) q (Text name ∷ Int total ∷ v ∷ Int (next_rowid (db.trees tree)) ∷ Text name ∷ Int total ∷ Int (pos 1) ∷ []) db.trees (Ok w)) is h) in
       (inr (it.0, n.0, it.1, conflict_named db.schema tree key new_host it.0 it.2, n.1, done.0), done.1)
 
--- after Ok there is one host more, or the sums of the one with this name have grown, and the other tables are as they were
+-- after Ok there is one host more, or the sums of the one with this name have grown, and the other tables are as they
+-- were
 module _ (old new : State) (at tree : ℕ) (has : HasTable old.now.schema (codes "host") at (host_at tree)) (key : HasNameKey old.now.schema tree) (owns : OwnsTree old.now.schema (host_at tree))
     (stands : Has old.now.schema.tables (host_at tree)) (rising : IsShaped shape.Table (old.now.trees tree)) (name : List ℕ) (total : ℤ) where
   pub grows : (count : ℕ) → Executes upsert_text (Text name ∷ Int total ∷ []) old new (Ok count)

@@ -1,12 +1,13 @@
 -- The INSERTs of the changes: each text with its row, and that it fits its table.
-use Rattle.wu_schema.proofs.Words.{Null, [], append-nil, archived_at, codes, col, everything, grant_at, import_at, lit, refl, result_at, workunit_at, ◌∷◌}
+use Rattle.wu_schema.proofs.Words.{Null, [], append-nil, archived_at, codes, col, everything, grant_at, import_at, lit, refl, result_at, workunit_at, ◌∷◌, ◌++◌}
 use Rattle.wu_schema.proofs.InsertTexts.{Put, PutFits}
+use Rattle.wu_store.proofs.SelectTexts.{instance_columns, workunit_columns}
 
 -- ---- a workunit
 
 abbrev pub workunit_put : Put
 workunit_put = record {
-  text = codes "INSERT INTO workunit (number, name, min_quorum, target_nresults, max_error_results, max_total_results, max_success_results, delay_bound, credit, input, error_mask, canonical, assimilate, file_delete, done_at) VALUES (?1, ?2, ?3, ?4, ?5, ?6, ?7, ?8, ?9, ?10, ?11, ?12, ?13, ?14, ?15)";
+  text = codes "INSERT INTO workunit (" ++ workunit_columns ++ codes ") VALUES (?1, ?2, ?3, ?4, ?5, ?6, ?7, ?8, ?9, ?10, ?11, ?12, ?13, ?14, ?15)";
   terms = col 0 0 ∷ lit Null ∷ col 0 1 ∷ col 0 2 ∷ col 0 3 ∷ col 0 4 ∷ col 0 5 ∷ col 0 6 ∷ col 0 7 ∷ col 0 8 ∷ col 0 9 ∷ col 0 10 ∷ col 0 11 ∷ col 0 12 ∷ col 0 13 ∷ col 0 14 ∷ [];
 }
 
@@ -18,7 +19,7 @@ workunit_fits = record { read = refl; made = λ schema tree. refl; formats = λ 
 
 abbrev pub instance_put : Put
 instance_put = record {
-  text = codes "INSERT INTO result (workunit, n, server_state, outcome, validate_state, file_delete, host, sent_at, deadline, received_at, output) VALUES (?1, ?2, ?3, ?4, ?5, ?6, ?7, ?8, ?9, ?10, ?11)";
+  text = codes "INSERT INTO result (workunit, n, " ++ instance_columns ++ codes ") VALUES (?1, ?2, ?3, ?4, ?5, ?6, ?7, ?8, ?9, ?10, ?11)";
   terms = lit Null ∷ col 0 0 ∷ col 0 1 ∷ col 0 2 ∷ col 0 3 ∷ col 0 4 ∷ col 0 5 ∷ col 0 6 ∷ col 0 7 ∷ col 0 8 ∷ col 0 9 ∷ col 0 10 ∷ [];
 }
 

@@ -1,5 +1,5 @@
 -- What the SELECT of a workunit's instances answers.
-use Rattle.wu_schema.proofs.Words.{AllByRecursion, Binary, Bool, Instance, Int, IsAscending, IsPermutation, IsPermutation-filter, IsPermutation-map, IsTable, Less, List, None, Option, Output, Row, Shown, Some, StandsFor, State, Workunit, World, [], ap, append-nil, arith, column, drop, enumerate_from, equal, false, filter, find, flat_map, instance_cells, instance_row, instances_of, lit, map, map-map, negsuc, number, option_to_list, refl, subst, sym, ℕ, ◌+◌, ◌<◌, ◌==◌, ◌∙◌, ◌∷◌, ◌≡◌}
+use Rattle.wu_schema.proofs.Words.{AllByRecursion, Binary, Bool, Instance, Int, IsAscending, IsPermutation, IsPermutation-filter, IsPermutation-map, IsTable, Less, List, None, Option, Output, Row, Shown, Some, Refines, State, Workunit, World, [], ap, append-nil, arith, column, drop, enumerate_from, equal, false, filter, find, flat_map, instance_cells, instance_row, instances_of, lit, map, map-map, negsuc, number, option_to_list, refl, subst, sym, ℕ, ◌+◌, ◌<◌, ◌==◌, ◌∙◌, ◌∷◌, ◌≡◌}
 use Rattle.wu_store.specs.Answers.{instance_rows_of}
 use Rattle.std.specs.Option.{option_map_or}
 use Rattle.wu_schema.proofs.RowLemmas.{filter_same, one_test}
@@ -62,7 +62,7 @@ module _ (tree n : ℕ) where
       ap (map row_pair) (filter_same row_passes (λ r. equal Binary (column r 1) (number n)) rows (λ r has. one_test _)) ∙ (λ i. map (λ r. pair_is r i) (filter (λ r. equal Binary (column r 1) (number n)) rows))
       ∙ sym (map-map cell_pair (drop 1) (filter (λ r. equal Binary (column r 1) (number n)) rows)) ∙ ap (map cell_pair) (cells_left n (λ b. b) rows)
 
-module _ (old new : State) (world : World) (s : StandsFor old.now world) (n : ℕ) where
+module _ (old new : State) (world : World) (s : Refines old.now world) (n : ℕ) where
   pub instances_found : (rows : List Row) → Shown instances_asked.text (number n ∷ []) old new rows → rows ≡ instance_rows_of n world
   instances_found rows h =
       let tree = s.trees.result in

@@ -1,5 +1,5 @@
 -- The last key of a table: any text that asks for it, over any schema in which the table is found, and what it answers.
-use Rattle.wu_schema.proofs.Words.{AllByRecursion, Answers, Column, Core, Draft, Expr, Expr-F, HasTable, Inner, Int, IsAscending, IsPermutation, IsPermutation-refl, IsPermutation-sym, IsPermutation-trans, Less, List, Name, None, Ok, Option, Output, Parsed, Query, Row, Schema, Select, Shown, Some, Sort, StandsFor, State, Table, Term, World, [], accepts_program, ap, append-nil, archived_at, arith, codes, col, column, column_named, declared, enumerate_from, everything, false, filter, first, grant_at, is_key, length, lit, map, map-map, named, negsuc, nothing, number, option_to_list, pipeline, place_of, planned, pos, program, query, query_to, refl, roll-Core, roll-Expr, roll-Select, row_classes, simple, slice_get, stored_archived, stored_grant, subst, suc, sym, take, true, zero, ℕ, ◌&&◌, ◌++◌, ◌+◌, ◌<◌, ◌∙◌, ◌∷◌, ◌≡◌}
+use Rattle.wu_schema.proofs.Words.{AllByRecursion, Answers, Column, Core, Draft, Expr, Expr-F, HasTable, Inner, Int, IsAscending, IsPermutation, IsPermutation-refl, IsPermutation-sym, IsPermutation-trans, Less, List, Name, None, Ok, Option, Output, Parsed, Query, Row, Schema, Select, Shown, Some, Sort, Refines, State, Table, Term, World, [], accepts_program, ap, append-nil, archived_at, arith, codes, col, column, column_named, declared, enumerate_from, everything, false, filter, first, grant_at, is_key, length, lit, map, map-map, named, negsuc, nothing, number, option_to_list, pipeline, place_of, planned, pos, program, query, query_to, refl, roll-Core, roll-Expr, roll-Select, row_classes, simple, slice_get, stored_archived, stored_grant, subst, suc, sym, take, true, zero, ℕ, ◌&&◌, ◌++◌, ◌+◌, ◌<◌, ◌∙◌, ◌∷◌, ◌≡◌}
 use Rattle.std.proofs.lemmas.List.Sorted.{IsPermutation-middle}
 use Rattle.sqlite.specs.Command.TheVariants as command
 use Rattle.sqlite_value.specs.declared.keys.Key.{Key}
@@ -167,7 +167,7 @@ first_down (suc n) = refl
 
 -- ---- the answer
 
-module _ (p : Part) (text : List ℕ) (fits : (tree : ℕ) → FitsLast (name_of p) (table_in p tree) text) (old new : State) (world : World) (s : StandsFor old.now world) (in_p : IsIn p world.version) where
+module _ (p : Part) (text : List ℕ) (fits : (tree : ℕ) → FitsLast (name_of p) (table_in p tree) text) (old new : State) (world : World) (s : Refines old.now world) (in_p : IsIn p world.version) where
   abbrev table : Table
   table = table_of s.trees p
 
@@ -205,7 +205,7 @@ pub archived_fits : (tree : ℕ) → FitsLast (codes "archived") (archived_at tr
 unfolding everything
 archived_fits tree = record { shown = refl; keyed = refl; read = refl; typed = refl }
 
-module _ (old new : State) (world : World) (s : StandsFor old.now world) (rows : List Row) where
+module _ (old new : State) (world : World) (s : Refines old.now world) (rows : List Row) where
   pub grant_found : Shown grant_text [] old new rows → rows ≡ option_to_list (last_grant world)
   grant_found = last_found Grants grant_text grant_fits old new world s tt stored_grant (λ q. refl) world.grants s.rows.grants.same rows
 

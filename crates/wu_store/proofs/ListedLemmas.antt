@@ -1,5 +1,5 @@
 -- A table that lists things in order of their making, from 1: grants, and archived rows.
-use Rattle.wu_schema.proofs.Words.{AllByRecursion, Archived, Database, IsShaped-put_row, Less, List, ListsAll, Null, PutsOne, Row, StandsFor, World, [], ap, archived_cells, arith, enumerate_from, false, length, map, map-append, number, put_row, refl, rowid, stored_archived, sym, value_cmp, ℕ, ◌++◌, ◌+◌, ◌<◌, ◌∙◌, ◌∷◌, ◌≡◌}
+use Rattle.wu_schema.proofs.Words.{AllByRecursion, Archived, Database, IsShaped-put_row, Less, List, ListsAll, Null, PutsOne, Row, Refines, World, [], ap, archived_cells, arith, enumerate_from, false, length, map, map-append, number, put_row, refl, rowid, stored_archived, sym, value_cmp, ℕ, ◌++◌, ◌+◌, ◌<◌, ◌∙◌, ◌∷◌, ◌≡◌}
 use Rattle.wu_store.specs.Changes.{IsNextPlace, with_archived}
 use Rattle.wu_schema.proofs.Parts.{Part, Archive, Holds, is_part, frame_one}
 use Rattle.wu_schema.proofs.StandsLemmas.{lists_still}
@@ -30,7 +30,7 @@ module _ {X : Type 0} (cells : X → Row) where
       }
 
 -- an archived row behind the others
-pub stands_with_archived : (old new : Database) (world : World) (s : StandsFor old world) (place : ℕ) (a : Archived) → PutsOne old new s.trees.archived (stored_archived (place, a)) → IsNextPlace place world.archived → StandsFor new (with_archived a world)
+pub stands_with_archived : (old new : Database) (world : World) (s : Refines old world) (place : ℕ) (a : Archived) → PutsOne old new s.trees.archived (stored_archived (place, a)) → IsNextPlace place world.archived → Refines new (with_archived a world)
 stands_with_archived old new world s place a put next =
     frame_one old new world (with_archived a world) s Archive put.schema refl (keeps_put old new world s Archive (stored_archived (place, a)) tt put) carry
     (lists_still put.rows (listed_next archived_cells (old.trees s.trees.archived) world.archived place a next s.rows.archived)) put.sound

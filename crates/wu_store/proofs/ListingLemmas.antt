@@ -18,7 +18,7 @@ use Rattle.wu_core.specs.Hosts.{hosts_of}
 use Rattle.wu_core.specs.World.{World}
 use Rattle.wu_schema.proofs.Words.{map-map}
 use Rattle.wu_schema.specs.Restoring.{Restores}
-use Rattle.wu_schema.specs.StandsFor.{StandsFor}
+use Rattle.wu_schema.specs.Refines.{Refines}
 use Rattle.wu_schema.specs.Stored.{archived_cells}
 use Rattle.wu_store.specs.Answers.{all_hosts, first_above}
 use Rattle.wu_store.specs.Lines.{AreHostsNamed, host_line_of, host_lines, ReadsAll, result_line_of, result_lines, result_lines_of}
@@ -100,7 +100,7 @@ module _ (world : World) (lines : List ResultLine) (w : Workunit) (so_far : AreL
       among (v ∷ vs) all = among vs (All-tail IsStorable v (vs ++ w ∷ after) all)
 
   -- with its lines the walk goes on behind it
-  pub one_listed : (db : Database) → StandsFor db world → (grown : List ResultLine) → grown ≡ lines ++ result_lines_of w → (next : Option Workunit) → next ≡ first_above w.number world → AreListed world grown next
+  pub one_listed : (db : Database) → Refines db world → (grown : List ResultLine) → grown ≡ lines ++ result_lines_of w → (next : Option Workunit) → next ≡ first_above w.number world → AreListed world grown next
   one_listed db stands grown grows next is = record {
     seen = so_far.seen ++ w ∷ [];
     rest = after;

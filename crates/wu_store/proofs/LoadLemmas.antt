@@ -1,5 +1,5 @@
 -- What is loaded of a project is what the world has, step by step.
-use Rattle.wu_schema.proofs.Words.{Bool, Database, Err, Error, Fault, Ghosts, Gives, HasCleanDisk, Held, IfErr, Import, ImportKind, Instance, IsFailure, List, None, NotAProject, Ok, Option, Reads, Result, Row, Some, StandsFor, State, Workunit, World, [], ap, arith, cases_Bool, filter, find, if◌then◌else◌, inl, inr, instance_row, is_import, length, length-map, map, map-append, number, option_map, refl, slice_get, state, subst, sym, take, verdict_digits, workunit_row, ℕ, ◌++◌, ◌+◌, ◌-◌, ◌<◌, ◌==◌, ◌∙◌, ◌∷◌, ◌≡◌, ◌≢◌, ◌≤◌}
+use Rattle.wu_schema.proofs.Words.{Bool, Database, Err, Error, Fault, Ghosts, IsOrWantsMemory, HasCleanDisk, Held, IfErr, Import, ImportKind, Instance, IsFailure, List, None, NotAProject, Ok, Option, Reads, Result, Row, Some, Refines, State, Workunit, World, [], ap, arith, cases_Bool, filter, find, if◌then◌else◌, inl, inr, instance_row, is_import, length, length-map, map, map-append, number, option_map, refl, slice_get, state, subst, sym, take, verdict_digits, workunit_row, ℕ, ◌++◌, ◌+◌, ◌-◌, ◌<◌, ◌==◌, ◌∙◌, ◌∷◌, ◌≡◌, ◌≢◌, ◌≤◌}
 use Rattle.std.specs.Prelude.{All, IfSome, MatchResult, get_or}
 use Rattle.std.specs.Option.{option_map_or}
 use Rattle.sqlite_rules.proofs.ListLemmas.{has_found}
@@ -13,7 +13,7 @@ use Rattle.wu_schema.proofs.AskingLemmas.{asks_stands, back_then, survives_none}
 use Rattle.wu_schema.specs.Restoring.{Restores}
 use Rattle.wu_schema.specs.Stored.{kept_cells}
 use Rattle.wu_store.specs.Answers.{instance_rows_of, kept_of, last_of, last_place, numbered}
-use Rattle.wu_store.specs.Loading.{Asks, FindsInstances, FindsOfRow, LoadsInstances, LoadsImport, IsEarlier, IsLoadable, IsLoadableRow, IsRead, IsRowOfPresent, IsStoreFault, NotRefusedIn, OverWorlds, instances_at}
+use Rattle.wu_store.specs.Loading.{Asks, FindsInstances, FindsOfRow, LoadsInstances, LoadsImport, IsEarlier, IsLoadable, IsLoadableRow, IsReadOnly, IsRowOfPresent, IsStoreFault, NotRefusedIn, ForEachWorld, instances_at}
 pub use Rattle.wu_store.proofs.AskLemmas.{never_refused}
 use Rattle.wu_store.specs.Reading.{IsStoredImport, row_before, stored_import_row}
 use Rattle.wu_core.specs.Storable.{AreStoredInstances, IsNextNumber, IsStoredInstance, IsStorable, IsStoredWorkunit, bare}
@@ -24,17 +24,17 @@ use Rattle.wu_store.proofs.SameWorld.{only_one, same_instances, same_workunit}
 
 -- ---- from one read to the next
 
-pub read_none : (s : State) → IsRead s s
+pub read_none : (s : State) → IsReadOnly s s
 read_none s = record { survives = survives_none s; back = λ _. back_none s }
 
-pub read_then : (a b c : State) → IsRead a b → IsRead b c → IsRead a c
+pub read_then : (a b c : State) → IsReadOnly a b → IsReadOnly b c → IsReadOnly a c
 read_then a b c one two = record {
   survives = survives_then a b c _ _ (λ _. ⊥) (λ _ db none. none) (λ _ db none. none) one.survives two.survives;
   back = λ clean. back_then a b c (one.back (omega (arith, two.survives.clean))) (two.back clean);
 }
 
 -- what any number of questions do is a read
-pub asks_read : {S T : Type 0} (g : Ghosts S) (old new : Held S) (r : Result T Fault) → Asks g old new r → IsRead (state g old) (state g new)
+pub asks_read : {S T : Type 0} (g : Ghosts S) (old new : Held S) (r : Result T Fault) → Asks g old new r → IsReadOnly (state g old) (state g new)
 asks_read g old new r it = record { survives = it.crash; back = it.back }
 
 -- ---- what is refused
@@ -64,7 +64,7 @@ place_known xs last r is reads =
     let e : length xs ≡ length xs + 1 - 1 = omega arith in
     known r (reads.found (length xs + 1) (omega arith) (is ∙ ap last_of e))
   where
-    known : (r : Result ℕ Fault) → Gives r (Ok (length xs + 1)) → MatchResult r (λ place. place ≡ length xs + 1) IsStoreFault
+    known : (r : Result ℕ Fault) → IsOrWantsMemory r (Ok (length xs + 1)) → MatchResult r (λ place. place ≡ length xs + 1) IsStoreFault
     known (Ok place) (inl is) = let same = is in cc
     known (Ok place) (inr memory) = absurd cc
     known (Err fault) (inl is) = absurd cc
@@ -147,7 +147,7 @@ instance_unread rows i d row f low at unread = record {
   refused = unread.refused;
 }
   where
-    found : (others : List Instance) → AreStoredInstances others → rows ≡ map instance_row others → Gives (Err f) (Ok others)
+    found : (others : List Instance) → AreStoredInstances others → rows ≡ map instance_row others → IsOrWantsMemory (Err f) (Ok others)
     found [] are same = absurd (let none : length rows ≡ 0 = ap (λ rs. length rs) same in omega (arith, none, low))
     found (one ∷ others) are same =
         let within : i < length (one ∷ others) = subst (λ n. i < n) (ap (λ rs. length rs) same ∙ length-map (one ∷ others) instance_row) low in
@@ -227,13 +227,13 @@ module _ {S : Type 0} (g : Ghosts S) (old mid new : Held S) (p : Workunit → Bo
   mid_clean : HasCleanDisk (state g new) → HasCleanDisk (state g mid)
   mid_clean clean = omega (arith, next.crash.clean)
 
-  still : HasCleanDisk (state g new) → (world : World) → StandsFor (state g old).now world → StandsFor (state g mid).now world
+  still : HasCleanDisk (state g new) → (world : World) → Refines (state g old).now world → Refines (state g mid).now world
   still clean world stands = asks_stands g old mid (Some row) asks (mid_clean clean) world stands
 
-  of_row : HasCleanDisk (state g new) → (world : World) → StandsFor (state g old).now world → (w : Workunit) × (find p world.workunits ≡ Some w) × IsRowOfPresent row w world
+  of_row : HasCleanDisk (state g new) → (world : World) → Refines (state g old).now world → (w : Workunit) × (find p world.workunits ≡ Some w) × IsRowOfPresent row w world
   of_row clean world stands = row_of_first p world row (world_rises (state g old).now world stands) (answers (mid_clean clean) world stands)
 
-  pub load_found : OverWorlds g mid new (FindsOfRow row result) → HasCleanDisk (state g new) → (world : World) → StandsFor (state g old).now world → MatchResult result (λ w. Some w ≡ find p world.workunits) IsStoreFault
+  pub load_found : ForEachWorld g mid new (FindsOfRow row result) → HasCleanDisk (state g new) → (world : World) → Refines (state g old).now world → MatchResult result (λ w. Some w ≡ find p world.workunits) IsStoreFault
   load_found found clean world stands =
       let it = of_row clean world stands in
       if_found result it.0 (find p world.workunits) it.1 (found clean world (still clean world stands) it.0 it.2)

@@ -1,5 +1,5 @@
 -- What a SELECT in the order of the key answers.
-use Rattle.wu_schema.proofs.Words.{Binary, Bool, Database, Int, IsAnswerAs, IsAscending, IsPermutation, IsPermutation-refl, IsPermutation-trans, IsSorted, IsTable, Less, List, Null, Ordering, Output, Query, Row, Shown, Some, StandsFor, State, Term, Workunit, World, [], all_from, all_has, ap, col, column, cond, eval_all, false, filter, find, flat_map, has_filtered, has_mapped, holds, if◌then◌else◌, list_all, lit, map, map-map, nat_le, nat_lt, negsuc, number, on_total, option_map, option_to_list, output, overlay, pos, refl, rowid, stored_workunit, subst, sym, take, true, value_cmp, value_cmp_total, workunit_row, ℕ, ◌++◌, ◌^◌, ◌∙◌, ◌∷◌, ◌≡◌}
+use Rattle.wu_schema.proofs.Words.{Binary, Bool, Database, Int, IsAnswerAs, IsAscending, IsPermutation, IsPermutation-refl, IsPermutation-trans, IsSorted, IsTable, Less, List, Null, Ordering, Output, Query, Row, Shown, Some, Refines, State, Term, Workunit, World, [], all_from, all_has, ap, col, column, cond, eval_all, false, filter, find, flat_map, has_filtered, has_mapped, holds, if◌then◌else◌, list_all, lit, map, map-map, nat_le, nat_lt, negsuc, number, on_total, option_map, option_to_list, output, overlay, pos, refl, rowid, stored_workunit, subst, sym, take, true, value_cmp, value_cmp_total, workunit_row, ℕ, ◌++◌, ◌^◌, ◌∙◌, ◌∷◌, ◌≡◌}
 use Rattle.std.specs.Ordering.{on}
 use Rattle.sqlite_value.specs.Keys.{directed}
 use Rattle.sqlite_value.proofs.KeyLemmas.{directed_total}
@@ -92,7 +92,7 @@ rows_shown : (ws : List Workunit) → map (λ r. eval_all all_shows ([] ∷ r �
 rows_shown [] = refl
 rows_shown (w ∷ ws) = ap (λ all. workunit_row w ∷ all) (rows_shown ws)
 
-module _ (old new : State) (world : World) (s : StandsFor old.now world) where
+module _ (old new : State) (world : World) (s : Refines old.now world) where
   pub workunits_found : (rows : List Row) → Shown all_asked.text [] old new rows → rows ≡ map workunit_row world.workunits
   workunits_found rows h =
       let tree = s.trees.workunit in
@@ -119,7 +119,7 @@ module _ (n : ℕ) where
       go true again = refl
       go false again = again
 
-module _ (old new : State) (world : World) (s : StandsFor old.now world) (n : ℕ) where
+module _ (old new : State) (world : World) (s : Refines old.now world) (n : ℕ) where
   pub above_found : (rows : List Row) → Shown above_asked.text (number n ∷ []) old new rows → rows ≡ option_to_list (option_map workunit_row (first_above n world))
   above_found rows h =
       let tree = s.trees.workunit in

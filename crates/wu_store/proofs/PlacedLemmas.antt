@@ -1,5 +1,5 @@
 -- A workunit at its place in order of number, and its instances beside those of the others.
-use Rattle.wu_schema.proofs.Words.{AllByRecursion, Bool, None, Database, Equal, Greater, HoldsAll, Instance, Int, IsAscending, IsPermutation, IsPermutation-refl, IsPermutation-sym, IsPermutation-trans, IsShaped-put_row, IsTable, Less, List, ListsAll, Ordering, PutsOne, Row, StandsFor, Workunit, World, [], all_has, ap, arith, cases_Bool, drop, enumerate_from, eq-eqb, eqb-true, false, filter, flat_map, if◌then◌else◌, inl, inr, instance_cells, instances_of, int_cmp, is_eq, is_taken, length, list_any, map, map-append, nat_tests, next_rowid, not, pos, put_row, refl, rowid, some_has, stored_workunit, subst, sym, true, value_cmp, value_cmp-Int, ℕ, ◌++◌, ◌+◌, ◌<◌, ◌==◌, ◌||◌, ◌∙◌, ◌∷◌, ◌≡◌, find, take, get_or, Some, option_map, ne_eqb, ◌≢◌}
+use Rattle.wu_schema.proofs.Words.{AllByRecursion, Bool, None, Database, Equal, Greater, HoldsAll, Instance, Int, IsAscending, IsPermutation, IsPermutation-refl, IsPermutation-sym, IsPermutation-trans, IsShaped-put_row, IsTable, Less, List, ListsAll, Ordering, PutsOne, Row, Refines, Workunit, World, [], all_has, ap, arith, cases_Bool, drop, enumerate_from, eq-eqb, eqb-true, false, filter, flat_map, if◌then◌else◌, inl, inr, instance_cells, instances_of, int_cmp, is_eq, is_taken, length, list_any, map, map-append, nat_tests, next_rowid, not, pos, put_row, refl, rowid, some_has, stored_workunit, subst, sym, true, value_cmp, value_cmp-Int, ℕ, ◌++◌, ◌+◌, ◌<◌, ◌==◌, ◌||◌, ◌∙◌, ◌∷◌, ◌≡◌, find, take, get_or, Some, option_map, ne_eqb, ◌≢◌}
 use Rattle.wu_store.specs.Changes.{HasInstances, with_instance, with_placed, without_workunit, AddsInstance}
 use Rattle.std.proofs.Common.{append_assoc, length-take-le}
 use Rattle.std.proofs.lemmas.List.{take_more}
@@ -124,7 +124,7 @@ pub table_rises : (ws : List Workunit) → IsTable (map stored_workunit ws) → 
 table_rises [] up = tt
 table_rises (v ∷ vs) up = (all_rise v vs up.0, table_rises vs up.1)
 
-pub world_rises : (db : Database) (world : World) → StandsFor db world → Rises world.workunits
+pub world_rises : (db : Database) (world : World) → Refines db world → Rises world.workunits
 world_rises db world s = table_rises world.workunits (subst IsTable s.rows.workunits.same s.rows.workunits.shaped.0)
 
 -- where numbers rise from each to the next ones, each is below all after it
@@ -213,7 +213,7 @@ holds_put cells before rows free h = record { shaped = IsShaped-put_row (Int (ne
 
 -- ---- a workunit and an instance, at their places
 
-module _ (old new : Database) (world : World) (s : StandsFor old world) where
+module _ (old new : Database) (world : World) (s : Refines old world) where
   -- beside a row that is put in
   pub keeps_put : (p : Part) (row : Row) → IsIn p world.version → PutsOne old new (tree_in s.trees p) row → Keeps world.version s.trees old new (is_part p)
   keeps_put p row in_p put = keeps_but world.version old s.trees (parts_there old world s) new p in_p (but_one old new (tree_in s.trees p) row put)
@@ -223,7 +223,7 @@ module _ (old new : Database) (world : World) (s : StandsFor old world) where
   was_free w put = absent_from w world.workunits (subst (λ rs. is_taken rs (stored_workunit w) ≡ false) s.rows.workunits.same put.fresh)
 
   -- a workunit that has no instances yet; since its row was put in, no other had its number
-  pub stands_with_placed : (w : Workunit) → PutsOne old new s.trees.workunit (stored_workunit w) → w.instances ≡ [] → StandsFor new (with_placed w world)
+  pub stands_with_placed : (w : Workunit) → PutsOne old new s.trees.workunit (stored_workunit w) → w.instances ≡ [] → Refines new (with_placed w world)
   stands_with_placed w put none =
       frame_one old new world (with_placed w world) s Workunits put.schema refl (keeps_put Workunits (stored_workunit w) tt put) carry
       (lists_still put.rows (lists_placed w world.workunits (old.trees s.trees.workunit) s.rows.workunits)) put.sound
@@ -237,7 +237,7 @@ module _ (old new : Database) (world : World) (s : StandsFor old world) where
       carry _ off rows h = h
 
   -- an instance behind those of its workunit
-  pub stands_with_instance : (number n : ℕ) (i : Instance) → PutsOne old new s.trees.result (Int (next_rowid (old.trees s.trees.result)) ∷ instance_cells number n i) → HasInstances number n world.workunits → StandsFor new (with_instance number i world)
+  pub stands_with_instance : (number n : ℕ) (i : Instance) → PutsOne old new s.trees.result (Int (next_rowid (old.trees s.trees.result)) ∷ instance_cells number n i) → HasInstances number n world.workunits → Refines new (with_instance number i world)
   stands_with_instance number n i put has =
       frame_one old new world (with_instance number i world) s Instances put.schema refl (keeps_put Instances (Int (next_rowid (old.trees s.trees.result)) ∷ instance_cells number n i) tt put) carry
       (holds_permuted (instance_brings number n i world.workunits (table_rises world.workunits (subst IsTable s.rows.workunits.same s.rows.workunits.shaped.0)) has)
@@ -272,7 +272,7 @@ first_instances n w = record w { instances = take n w.instances }
 
 -- the next instance of a workunit that is put in with its first ones
 pub next_instance : (old new : Database) (w : Workunit) (n : ℕ) (i d : Instance) (world : World) → LacksNumber w.number world.workunits → n < length w.instances → get_or w.instances n d ≡ i
-    → AddsInstance w.number n i old new → StandsFor old (with_placed (first_instances n w) world) → StandsFor new (with_placed (first_instances (n + 1) w) world)
+    → AddsInstance w.number n i old new → Refines old (with_placed (first_instances n w) world) → Refines new (with_placed (first_instances (n + 1) w) world)
 next_instance old new w n i d world none low at adds s =
     let before = first_instances n w in
     let counted : length (take n w.instances) ≡ n = length-take-le n w.instances (omega (arith, low)) in
@@ -280,7 +280,7 @@ next_instance old new w n i d world none low at adds s =
     let more : and_instance w.number i before ≡ first_instances (n + 1) w =
     ap (λ b. if b then record w { instances = take n w.instances ++ i ∷ [] } else before) (eq-eqb w.number w.number refl)
     ∙ (λ k. record w { instances = (ap (λ one. take n w.instances ++ one ∷ []) (sym at) ∙ sym (take_more w.instances n d low)) k }) in
-    subst (StandsFor new) (instance_placed before i world none ∙ ap (λ v. with_placed v world) more) (adds (with_placed before world) s has)
+    subst (Refines new) (instance_placed before i world none ∙ ap (λ v. with_placed v world) more) (adds (with_placed before world) s has)
 
 -- a workunit that was deleted has no number
 lacks_others : (n : ℕ) (ws : List Workunit) → LacksNumber n (filter (is_other n) ws)
@@ -291,7 +291,7 @@ lacks_others n (w ∷ ws) = elim (cases_Bool (w.number == n)) [
 ]
 
 -- a workunit of a world that is deleted and then added is replaced
-pub replaced_is : (db : Database) (world : World) (s : StandsFor db world) (w : Workunit) → HasNumber w.number world.workunits → with_placed w (without_workunit w.number world) ≡ with_replaced w world
+pub replaced_is : (db : Database) (world : World) (s : Refines db world) (w : Workunit) → HasNumber w.number world.workunits → with_placed w (without_workunit w.number world) ≡ with_replaced w world
 replaced_is db world s w there = λ i. record world { workunits = replaces w world.workunits (world_rises db world s) there i }
 
 -- it is not found, and each other one is

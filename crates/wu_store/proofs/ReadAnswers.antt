@@ -1,5 +1,5 @@
 -- What the SELECTs without an order answer of the world that the tables stand for.
-use Rattle.wu_schema.proofs.Words.{Answers, Archived, Binary, Bool, Import, ImportKind, IsAscending, IsPermutation, IsPermutation-filter, IsPermutation-map, IsPermutation-trans, List, None, Ok, Option, QueriesRow, Row, Shown, Some, StandsFor, State, Table, Text, Workunit, World, [], and_from, and_parts, ap, arith, bytes_eq, cases_Bool, codes, column, cond, drop, enumerate_from, eq-eqb, eqb-true, equal, eval_all, false, false_from_ne_true, filter, filter-map, find, holds, import_cells, import_kind_code, inl, inr, is_import, length, length-map, length_permutation, list_all, list_any, map, map-map, not, number, one_permutation, option_map, option_to_list, project_at, refl, stored_archived, stored_workunit, subst, suc, sym, true, workunit_row, ℕ, ◌&&◌, ◌+◌, ◌==◌, ◌||◌, ◌∙◌, ◌∷◌, ◌≡◌, ◌≤◌}
+use Rattle.wu_schema.proofs.Words.{Answers, Archived, Binary, Bool, Import, ImportKind, IsAscending, IsPermutation, IsPermutation-filter, IsPermutation-map, IsPermutation-trans, List, None, Ok, Option, QueriesRow, Row, Shown, Some, Refines, State, Table, Text, Workunit, World, [], and_from, and_parts, ap, arith, bytes_eq, cases_Bool, codes, column, cond, drop, enumerate_from, eq-eqb, eqb-true, equal, eval_all, false, false_from_ne_true, filter, filter-map, find, holds, import_cells, import_kind_code, inl, inr, is_import, length, length-map, length_permutation, list_all, list_any, map, map-map, not, number, one_permutation, option_map, option_to_list, project_at, refl, stored_archived, stored_workunit, subst, suc, sym, true, workunit_row, ℕ, ◌&&◌, ◌+◌, ◌==◌, ◌||◌, ◌∙◌, ◌∷◌, ◌≡◌, ◌≤◌}
 use Rattle.wu_store.specs.Answers.{has_name, kept_of, next_row, row_named, row_numbered, was_archived}
 use Rattle.wu_schema.specs.Stored.{kept_cells}
 use Rattle.wu_schema.proofs.AnswerLemmas.{answers_are, meeting, row_answers, showing, shown_answers}
@@ -14,7 +14,7 @@ use Rattle.wu_schema.proofs.SelectLemmas.{Asked, Fits, compiles, query_of, tests
 use Rattle.wu_store.proofs.SelectTexts.{import_asked, import_fits, import_tests, import_shows, workunit_asked, workunit_fits, workunit_tests, named_asked, named_fits, numbered_asked, numbered_fits, numbered_tests, all_shows, archived_asked, archived_fits, next_asked, next_fits, next_shows}
 
 -- a SELECT of a part of the project
-module _ (p : Part) (q : Asked) (fits : (tree : ℕ) → Fits (name_of p) (table_in p tree) q) (old new : State) (world : World) (s : StandsFor old.now world) (in_p : IsIn p world.version) (params : Row) (rows : List Row) where
+module _ (p : Part) (q : Asked) (fits : (tree : ℕ) → Fits (name_of p) (table_in p tree) q) (old new : State) (world : World) (s : Refines old.now world) (in_p : IsIn p world.version) (params : Row) (rows : List Row) where
   abbrev table : Table
   table = table_of s.trees p
 
@@ -80,7 +80,7 @@ one_row q p shows ws stored rows are once same shown found =
 
 -- ---- the next number
 
-module _ (old new : State) (world : World) (s : StandsFor old.now world) where
+module _ (old new : State) (world : World) (s : Refines old.now world) where
   next_is : (rows : List Row) → Answers old.now (alone (query_of (codes "project") (project_at s.trees.project) next_asked)) [] rows → rows ≡ next_row world ∷ []
   next_is rows h =
       let all = answers_are s.trees.project [] next_shows [] old.now rows s.tables.project.1.low h in
@@ -95,7 +95,7 @@ any_numbered : (name : List ℕ) (n : ℕ) (xs : List Archived) → list_any (λ
 any_numbered name n [] = refl
 any_numbered name n (x ∷ xs) = ap (λ b. bytes_eq x.name name || b) (any_numbered name (n + 1) xs)
 
-module _ (old new : State) (world : World) (s : StandsFor old.now world) (name : List ℕ) (rows : List Row) where
+module _ (old new : State) (world : World) (s : Refines old.now world) (name : List ℕ) (rows : List Row) where
   pub workunit_found : Shown workunit_asked.text (Text name ∷ []) old new rows → not (length rows == 0) ≡ has_name name world
   workunit_found h =
       any_answer _ _ (λ (w : Workunit). bytes_eq w.name name) stored_workunit world.workunits _ rows s.rows.workunits.same (λ w. one_test _ ∙ text_equal w.name name) (asked_rows Workunits workunit_asked workunit_fits old new world s tt (Text name ∷ []) rows refl h)
@@ -113,7 +113,7 @@ module _ (old new : State) (world : World) (s : StandsFor old.now world) (name :
 
 -- ---- by number
 
-module _ (old new : State) (world : World) (s : StandsFor old.now world) (n : ℕ) (rows : List Row) where
+module _ (old new : State) (world : World) (s : Refines old.now world) (n : ℕ) (rows : List Row) where
   -- the row of the one workunit of the number
   pub numbered_found : Shown numbered_asked.text (number n ∷ []) old new rows → rows ≡ option_to_list (row_numbered n world)
   numbered_found h =
@@ -156,7 +156,7 @@ at_most_one kind name imports once = one_passes (is_import kind name) (λ a b. i
     let same : is_import a.kind a.name b ≡ true = and_from _ _ (eq-eqb _ _ (eqb-true _ _ two.0 ∙ sym (eqb-true _ _ one.0))) (bytes_same b.name name a.name two.1 one.1) in
     absurd (let e = sym same ∙ apart in cc)) once
 
-module _ (old new : State) (world : World) (s : StandsFor old.now world) (kind : ImportKind) (name : List ℕ) (rows : List Row) where
+module _ (old new : State) (world : World) (s : Refines old.now world) (kind : ImportKind) (name : List ℕ) (rows : List Row) where
   pub import_found : Shown import_asked.text (number (import_kind_code kind) ∷ Text name ∷ []) old new rows → rows ≡ kept_of kind name world
   import_found h =
       let code = import_kind_code kind in

@@ -1,5 +1,5 @@
 -- How columns and rows read as values, step by step.
-use Rattle.wu_schema.proofs.Words.{Blob, Err, Fault, Gives, IfErr, IfOk, ImportKind, Instance, Int, List, None, NotAProject, Null, Ok, Option, Result, Row, Some, Text, Value, Workunit, [], add-one, ap, arith, column, drop, get_or, inl, inr, instance_row, last_skip, length, length-map, map, map-append, number, number_or_null, pos, refl, subst, suc, sym, take, text_or_null, verdict_digits, workunit_row, zero, ℕ, ⊤, ◌++◌, ◌+◌, ◌-◌, ◌<◌, ◌^◌, ◌∙◌, ◌∷◌, ◌≡◌, ◌≢◌, ◌≤◌, ◌⊎◌}
+use Rattle.wu_schema.proofs.Words.{Blob, Err, Fault, IsOrWantsMemory, IfErr, IfOk, ImportKind, Instance, Int, List, None, NotAProject, Null, Ok, Option, Result, Row, Some, Text, Value, Workunit, [], add-one, ap, arith, column, drop, get_or, inl, inr, instance_row, last_skip, length, length-map, map, map-append, number, number_or_null, pos, refl, subst, suc, sym, take, text_or_null, verdict_digits, workunit_row, zero, ℕ, ⊤, ◌++◌, ◌+◌, ◌-◌, ◌<◌, ◌^◌, ◌∙◌, ◌∷◌, ◌≡◌, ◌≢◌, ◌≤◌, ◌⊎◌}
 use Rattle.wu_core.specs.Storable.{AreVerdicts, IsHost, MayBeInstance, IsInput, IsName, IsPlace, IsStoredWorkunit, IsOutput, IsStoredArchived}
 use Rattle.wu_core.specs.declared.mask.ErrorMask.{ErrorMask}
 use Rattle.wu_core.specs.declared.workunit.Archived.{Archived}
@@ -31,12 +31,12 @@ pub place_restores : (P : Type 0) → P → (v : Value) (r : Result (Option ℕ)
     → IfOk r IsPlace → Restores number_or_null IsPlace v r
 place_restores P p v (Ok None) ok err fits = record { value = (ok, tt); found = none; refused = tt }
   where
-    none : (o : Option ℕ) → IsPlace o → v ≡ number_or_null o → Gives (Ok None) (Ok o)
+    none : (o : Option ℕ) → IsPlace o → v ≡ number_or_null o → IsOrWantsMemory (Ok None) (Ok o)
     none None is same = inl refl
     none (Some n) is same = absurd cc
 place_restores P p v (Ok (Some n)) ok err fits = record { value = (ok.1, fits); found = some; refused = tt }
   where
-    some : (o : Option ℕ) → IsPlace o → v ≡ number_or_null o → Gives (Ok (Some n)) (Ok o)
+    some : (o : Option ℕ) → IsPlace o → v ≡ number_or_null o → IsOrWantsMemory (Ok (Some n)) (Ok o)
     some None is same = absurd (ok.0 same)
     some (Some m) is same = inl cc
 place_restores P p v (Err f) ok err fits = unread number_or_null IsPlace v f (elim err [ inl memory ↦ inl memory | inr unreadable ↦ inr (unreadable.0, λ o is same. unreadable.1 p (readable o is same)) ])
@@ -61,11 +61,11 @@ as_columns (v ∷ row) = ap (λ rest. v ∷ rest) (shifted v row 0 (length row) 
 abbrev progress_of : Workunit → Progress
 progress_of w = record { error_mask = w.error_mask; canonical = w.canonical; assimilate = w.assimilate; file_delete = w.file_delete; done_at = w.done_at }
 
-pub not_ok : {T U : Type 0} (f : Fault) (t : T) (u : U) → Gives (Err f) (Ok t) → Gives (Err f) (Ok u)
+pub not_ok : {T U : Type 0} (f : Fault) (t : T) (u : U) → IsOrWantsMemory (Err f) (Ok t) → IsOrWantsMemory (Err f) (Ok u)
 not_ok f t u (inl ok) = absurd cc
 not_ok f t u (inr memory) = let is : f ≡ Memory = cc in inr (ap (λ g. Err g) is)
 
-ok_is : {T : Type 0} (a b : T) → Gives (Ok a) (Ok b) → a ≡ b
+ok_is : {T : Type 0} (a b : T) → IsOrWantsMemory (Ok a) (Ok b) → a ≡ b
 ok_is a b (inl is) = cc
 ok_is a b (inr memory) = absurd cc
 

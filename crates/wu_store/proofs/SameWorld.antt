@@ -1,5 +1,5 @@
 -- Two worlds for which one database stands are one world, but for the order of their imports.
-use Rattle.wu_schema.proofs.Words.{Archived, Blob, Database, Grant, Has, HasNamed, HoldsAll, Import, ImportKind, Instance, Int, IsPermutation, IsPermutation-filter, IsPermutation-map, IsPermutation-sym, IsPermutation-trans, List, None, Option, Output, Row, Some, StandsFor, Table, Text, Value, Workunit, World, [], all_from, all_has, ap, append-nil, arith, column, drop, enumerate_from, eq-eqb, false, filter, filter_none, flat_map, if◌then◌else◌, import_cells, import_kind_code, inl, inr, instance_row, instances_of, map, ne_eqb, Null, number_or_null, on_total, pos, refl, slice_get, stored_archived, stored_grant, stored_project, stored_workunit, subst, sym, text_or_null, true, value_cmp_total, verdict_digits, workunit_row, ℕ, ◌+◌, ◌-◌, ◌<◌, ◌==◌, ◌∙◌, ◌∷◌, ◌≡◌}
+use Rattle.wu_schema.proofs.Words.{Archived, Blob, Database, Grant, Has, HasNamed, HoldsAll, Import, ImportKind, Instance, Int, IsPermutation, IsPermutation-filter, IsPermutation-map, IsPermutation-sym, IsPermutation-trans, List, None, Option, Output, Row, Some, Refines, Table, Text, Value, Workunit, World, [], all_from, all_has, ap, append-nil, arith, column, drop, enumerate_from, eq-eqb, false, filter, filter_none, flat_map, if◌then◌else◌, import_cells, import_kind_code, inl, inr, instance_row, instances_of, map, ne_eqb, Null, number_or_null, on_total, pos, refl, slice_get, stored_archived, stored_grant, stored_project, stored_workunit, subst, sym, text_or_null, true, value_cmp_total, verdict_digits, workunit_row, ℕ, ◌+◌, ◌-◌, ◌<◌, ◌==◌, ◌∙◌, ◌∷◌, ◌≡◌}
 use Rattle.wu_core.specs.declared.mask.ErrorMask.{ErrorMask}
 use Rattle.wu_core.specs.declared.states.ServerState.{ServerState}
 use Rattle.wu_core.specs.declared.states.ServerState.TheVariants as server
@@ -259,7 +259,7 @@ one_table db name s t has_s has_t =
 one_cells : {rows other cells more : List Row} → rows ≡ other → HoldsAll rows cells → HoldsAll other more → IsPermutation cells more
 one_cells {rows} {other} {cells} {more} same one two = IsPermutation-trans _ _ _ (subst (λ rs. IsPermutation cells (map (drop 1) rs)) same one.same) (IsPermutation-sym more (map (drop 1) other) two.same)
 
-pub one_world : (db : Database) (a b : World) → StandsFor db a → StandsFor db b → SameWorld a b
+pub one_world : (db : Database) (a b : World) → Refines db a → Refines db b → SameWorld a b
 one_world db a b s t =
     let project : stored_project a ∷ [] ≡ stored_project b ∷ [] = sym s.rows.project ∙ one_table db _ _ _ s.tables.project t.tables.project ∙ t.rows.project in
     let works = sym s.rows.workunits.same ∙ one_table db _ _ _ s.tables.workunit t.tables.workunit ∙ t.rows.workunits.same in

@@ -1,8 +1,19 @@
 -- The SELECTs: each text, what it asks for, and that it fits its table.
-use Rattle.wu_schema.proofs.Words.{Expr-F, Int, List, None, Some, Term, [], archived_at, arith, codes, col, everything, import_at, lit, negsuc, pos, project_at, refl, result_at, roll-Expr, workunit_at, ℕ, ◌∷◌}
+use Rattle.wu_schema.proofs.Words.{Expr-F, Int, List, None, Some, Term, [], archived_at, arith, codes, col, everything, import_at, lit, negsuc, pos, project_at, refl, result_at, roll-Expr, workunit_at, ℕ, ◌∷◌, ◌++◌}
 use Rattle.sqlite_sql.specs.declared.ops.CompareOp.TheVariants as compare
 pub use Rattle.wu_schema.proofs.SelectLemmas.{CompilesTo, compiles_to, Asked, Fits}
 use Rattle.wu_schema.proofs.ExprLemmas.{same, more}
+
+-- ---- the columns of a workunit and of an instance, as each statement that has all of them lists them
+
+abbrev pub workunit_columns : List ℕ
+workunit_columns = codes "number, name, min_quorum, target_nresults, max_error_results, max_total_results, max_success_results, delay_bound, credit, input, error_mask, canonical, assimilate, file_delete, done_at"
+
+abbrev pub workunit_shown : List ℕ
+workunit_shown = 0 ∷ 1 ∷ 2 ∷ 3 ∷ 4 ∷ 5 ∷ 6 ∷ 7 ∷ 8 ∷ 9 ∷ 10 ∷ 11 ∷ 12 ∷ 13 ∷ 14 ∷ []
+
+abbrev pub instance_columns : List ℕ
+instance_columns = codes "server_state, outcome, validate_state, file_delete, host, sent_at, deadline, received_at, output"
 
 -- ---- the import of a kind and a name
 
@@ -34,7 +45,7 @@ workunit_tests = same (col 1 2) (col 0 0) ∷ []
 -- ---- the row of the workunit of a name
 
 abbrev pub named_asked : Asked
-named_asked = record { text = codes "SELECT number, name, min_quorum, target_nresults, max_error_results, max_total_results, max_success_results, delay_bound, credit, input, error_mask, canonical, assimilate, file_delete, done_at FROM workunit WHERE name = ?1"; parameters = codes "?1" ∷ []; shown = 0 ∷ 1 ∷ 2 ∷ 3 ∷ 4 ∷ 5 ∷ 6 ∷ 7 ∷ 8 ∷ 9 ∷ 10 ∷ 11 ∷ 12 ∷ 13 ∷ 14 ∷ []; tests = (1, compare.Eq, 0) ∷ []; order = None; limit = None; upto = lit (Int (negsuc 0)) }
+named_asked = record { text = codes "SELECT " ++ workunit_columns ++ codes " FROM workunit WHERE name = ?1"; parameters = codes "?1" ∷ []; shown = workunit_shown; tests = (1, compare.Eq, 0) ∷ []; order = None; limit = None; upto = lit (Int (negsuc 0)) }
 
 pub named_fits : (tree : ℕ) → Fits (codes "workunit") (workunit_at tree) named_asked
 unfolding everything
@@ -43,7 +54,7 @@ named_fits tree = record { shown = refl; tests = refl; strict = refl; order = tt
 -- ---- the row of the workunit of a number
 
 abbrev pub numbered_asked : Asked
-numbered_asked = record { text = codes "SELECT number, name, min_quorum, target_nresults, max_error_results, max_total_results, max_success_results, delay_bound, credit, input, error_mask, canonical, assimilate, file_delete, done_at FROM workunit WHERE number = ?1"; parameters = codes "?1" ∷ []; shown = 0 ∷ 1 ∷ 2 ∷ 3 ∷ 4 ∷ 5 ∷ 6 ∷ 7 ∷ 8 ∷ 9 ∷ 10 ∷ 11 ∷ 12 ∷ 13 ∷ 14 ∷ []; tests = (0, compare.Eq, 0) ∷ []; order = None; limit = None; upto = lit (Int (negsuc 0)) }
+numbered_asked = record { text = codes "SELECT " ++ workunit_columns ++ codes " FROM workunit WHERE number = ?1"; parameters = codes "?1" ∷ []; shown = workunit_shown; tests = (0, compare.Eq, 0) ∷ []; order = None; limit = None; upto = lit (Int (negsuc 0)) }
 
 pub numbered_fits : (tree : ℕ) → Fits (codes "workunit") (workunit_at tree) numbered_asked
 unfolding everything
@@ -76,7 +87,7 @@ next_shows = col 1 3 ∷ []
 -- ---- all workunits, in order of number
 
 abbrev pub all_asked : Asked
-all_asked = record { text = codes "SELECT number, name, min_quorum, target_nresults, max_error_results, max_total_results, max_success_results, delay_bound, credit, input, error_mask, canonical, assimilate, file_delete, done_at FROM workunit ORDER BY number"; parameters = []; shown = 0 ∷ 1 ∷ 2 ∷ 3 ∷ 4 ∷ 5 ∷ 6 ∷ 7 ∷ 8 ∷ 9 ∷ 10 ∷ 11 ∷ 12 ∷ 13 ∷ 14 ∷ []; tests = []; order = Some 0; limit = None; upto = lit (Int (negsuc 0)) }
+all_asked = record { text = codes "SELECT " ++ workunit_columns ++ codes " FROM workunit ORDER BY number"; parameters = []; shown = workunit_shown; tests = []; order = Some 0; limit = None; upto = lit (Int (negsuc 0)) }
 
 pub all_fits : (tree : ℕ) → Fits (codes "workunit") (workunit_at tree) all_asked
 unfolding everything
@@ -88,7 +99,7 @@ all_shows = col 1 0 ∷ col 1 2 ∷ col 1 3 ∷ col 1 4 ∷ col 1 5 ∷ col 1 6 
 -- ---- the first workunit above a number
 
 abbrev pub above_asked : Asked
-above_asked = record { text = codes "SELECT number, name, min_quorum, target_nresults, max_error_results, max_total_results, max_success_results, delay_bound, credit, input, error_mask, canonical, assimilate, file_delete, done_at FROM workunit WHERE number > ?1 ORDER BY number LIMIT 1"; parameters = codes "?1" ∷ []; shown = 0 ∷ 1 ∷ 2 ∷ 3 ∷ 4 ∷ 5 ∷ 6 ∷ 7 ∷ 8 ∷ 9 ∷ 10 ∷ 11 ∷ 12 ∷ 13 ∷ 14 ∷ []; tests = (0, compare.Gt, 0) ∷ []; order = Some 0; limit = Some (roll-Expr (Expr-F.Integer (codes "1"))); upto = lit (Int (pos 1)) }
+above_asked = record { text = codes "SELECT " ++ workunit_columns ++ codes " FROM workunit WHERE number > ?1 ORDER BY number LIMIT 1"; parameters = codes "?1" ∷ []; shown = workunit_shown; tests = (0, compare.Gt, 0) ∷ []; order = Some 0; limit = Some (roll-Expr (Expr-F.Integer (codes "1"))); upto = lit (Int (pos 1)) }
 
 pub above_fits : (tree : ℕ) → Fits (codes "workunit") (workunit_at tree) above_asked
 unfolding everything
@@ -100,7 +111,7 @@ above_tests = more (col 1 0) (col 0 0) ∷ []
 -- ---- the instances of a workunit, in order of their numbers
 
 abbrev pub instances_asked : Asked
-instances_asked = record { text = codes "SELECT server_state, outcome, validate_state, file_delete, host, sent_at, deadline, received_at, output FROM result WHERE workunit = ?1 ORDER BY n"; parameters = codes "?1" ∷ []; shown = 2 ∷ 3 ∷ 4 ∷ 5 ∷ 6 ∷ 7 ∷ 8 ∷ 9 ∷ 10 ∷ []; tests = (0, compare.Eq, 0) ∷ []; order = Some 1; limit = None; upto = lit (Int (negsuc 0)) }
+instances_asked = record { text = codes "SELECT " ++ instance_columns ++ codes " FROM result WHERE workunit = ?1 ORDER BY n"; parameters = codes "?1" ∷ []; shown = 2 ∷ 3 ∷ 4 ∷ 5 ∷ 6 ∷ 7 ∷ 8 ∷ 9 ∷ 10 ∷ []; tests = (0, compare.Eq, 0) ∷ []; order = Some 1; limit = None; upto = lit (Int (negsuc 0)) }
 
 pub instances_fits : (tree : ℕ) → Fits (codes "result") (result_at tree) instances_asked
 unfolding everything

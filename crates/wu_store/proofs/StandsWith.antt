@@ -1,5 +1,5 @@
 -- What each change keeps of the world that a database stands for.
-use Rattle.wu_schema.proofs.Words.{Binary, Database, Enforced, Has, HoldsAll, Import, Int, IsCalm, IsDatabase, IsTrue, List, ListsAll, OwnsTree, PutsOne, Row, Schema, Some, StandsFor, Table, World, [], all_has, and_from, and_parts, ap, column, drop, eq-eqb, eqb-true, equal, false, false_from_ne_true, first_key, has_mapped, import_at, import_cells, import_kind_code, inr, is_eq, is_import, is_int, map, map-append, mapped_has, next_rowid, put_row, refl, rowid, stored_project, stored_workunit, subst, sym, true, value_cmp, ℕ, ◌++◌, ◌==◌, ◌∙◌, ◌∷◌, ◌≡◌, ◌≢◌}
+use Rattle.wu_schema.proofs.Words.{Binary, Database, Enforced, Has, HoldsAll, Import, Int, IsCalm, IsDatabase, IsTrue, List, ListsAll, OwnsTree, PutsOne, Row, Schema, Some, Refines, Table, World, [], all_has, and_from, and_parts, ap, column, drop, eq-eqb, eqb-true, equal, false, false_from_ne_true, first_key, has_mapped, import_at, import_cells, import_kind_code, inr, is_eq, is_import, is_int, map, map-append, mapped_has, next_rowid, put_row, refl, rowid, stored_project, stored_workunit, subst, sym, true, value_cmp, ℕ, ◌++◌, ◌==◌, ◌∙◌, ◌∷◌, ◌≡◌, ◌≢◌}
 use Rattle.wu_store.specs.Changes.{with_import, with_next, without_workunit}
 use Rattle.sqlite_rules.proofs.TableLemmas.{has_put}
 use Rattle.sqlite_catalog.proofs.ListFacts.{ascending_push}
@@ -11,7 +11,7 @@ use Rattle.wu_schema.proofs.StandsLemmas.{ChildrenAre, is_there, bytes_back, non
 use Rattle.wu_store.proofs.PlacedLemmas.{holds_put, keeps_put}
 use Rattle.wu_schema.proofs.Parts.{Part, Project, Workunits, Instances, Imports, tree_in, Holds, is_part, IsIn, child_column, child_shaped, falls_with_work, parts_there, parts_hold, keeps_calm, keeps_bare, child_left, frame_in, frame_one}
 
-module _ (old new : Database) (world : World) (s : StandsFor old world) where
+module _ (old new : Database) (world : World) (s : Refines old world) where
   -- no import that was there has the new one's kind and name
   new_once : (import : Import) → PutsOne old new s.trees.import (Int (next_rowid (old.trees s.trees.import)) ∷ import_cells import) → (a : Import) → Has world.imports a → is_import a.kind a.name import ≡ false
   unfolding first_key
@@ -32,7 +32,7 @@ module _ (old new : Database) (world : World) (s : StandsFor old world) where
       (and_from _ _ (ap (λ v. equal Binary v (column row 2)) cells.1 ∙ text_equal a.name import.name ∙ bytes_back import.name a.name parts.1) refl)))
 
   -- an import of which no row has the rowid
-  pub stands_with_import : (import : Import) → PutsOne old new s.trees.import (Int (next_rowid (old.trees s.trees.import)) ∷ import_cells import) → StandsFor new (with_import import world)
+  pub stands_with_import : (import : Import) → PutsOne old new s.trees.import (Int (next_rowid (old.trees s.trees.import)) ∷ import_cells import) → Refines new (with_import import world)
   stands_with_import import put =
       let row : Row = Int (next_rowid (old.trees s.trees.import)) ∷ import_cells import in
       let before = old.trees s.trees.import in
@@ -48,7 +48,7 @@ module _ (old new : Database) (world : World) (s : StandsFor old world) where
 
   -- the row of the project has another number, and our other tables stay
   pub stands_with_next : (n : ℕ) → new.schema ≡ old.schema → new.trees s.trees.project ≡ stored_project (with_next n world) ∷ []
-      → ((t : Table) → Has old.schema.tables t → t.tree ≢ s.trees.project → IsCalm old.schema Enforced t s.trees.project → new.trees t.tree ≡ old.trees t.tree) → IsDatabase new → StandsFor new (with_next n world)
+      → ((t : Table) → Has old.schema.tables t → t.tree ≢ s.trees.project → IsCalm old.schema Enforced t s.trees.project → new.trees t.tree ≡ old.trees t.tree) → IsDatabase new → Refines new (with_next n world)
   stands_with_next n same is others sound = frame_one old new world (with_next n world) s Project same refl (keeps_calm world.version old s.trees (parts_there old world s) new Project tt refl others) carry is sound
     where
       carry : (q : Part) → is_part Project q ≡ false → (rows : List Row) → Holds q rows world → Holds q rows (with_next n world)
@@ -58,7 +58,7 @@ module _ (old new : Database) (world : World) (s : StandsFor old world) where
   -- the row of a workunit is gone, something of its children is left, and our other tables stay
   pub stands_without_workunit : (n : ℕ) (left : ℕ → List Row → List Row) → new.schema ≡ old.schema → ListsAll (new.trees s.trees.workunit) (map stored_workunit (without_workunit n world).workunits)
       → ChildrenAre old new left → ((q : Part) (c : ℕ) (rows : List Row) → child_column q ≡ Some c → Holds q rows world → Holds q (left c rows) (without_workunit n world))
-      → ((u : Table) → Has old.schema.tables u → OwnsTree old.schema u → u.tree ≢ s.trees.workunit → u.references ≡ [] → new.trees u.tree ≡ old.trees u.tree) → IsDatabase new → StandsFor new (without_workunit n world)
+      → ((u : Table) → Has old.schema.tables u → OwnsTree old.schema u → u.tree ≢ s.trees.workunit → u.references ≡ [] → new.trees u.tree ≡ old.trees u.tree) → IsDatabase new → Refines new (without_workunit n world)
   stands_without_workunit n left same workunits children hold bare sound =
       frame_in old new world (without_workunit n world) s falls_with_work same refl (keeps_bare world.version old s.trees (parts_there old world s) new bare) carry fits sound
     where

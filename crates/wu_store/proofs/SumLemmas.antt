@@ -1,7 +1,8 @@
--- SQLite's sum of two integers in an INTEGER column of a strict table: what is stored there is the exact sum, and it fits 64 bits.
--- Where a + b is 2 ^ 63 or more, SQLite adds in floats. Each of a and b is rounded first, and the float sum is still not below 2 ^ 63:
--- with 2 ^ 62 ≤ a < 2 ^ 63, a rounds to 1024 * k, the closest such multiple, so b is 2 ^ 63 - 512 - 1024 * k or more. That is a float, so b's float
--- is no smaller, and the exact sum of the two floats is 2 ^ 63 - 512 or more. 2 ^ 63 - 512 lies halfway between two floats, and the even one is 2 ^ 63.
+-- SQLite's sum of two integers in an INTEGER column of a strict table: what is stored there is the exact sum, and it
+-- fits 64 bits. Where a + b is 2 ^ 63 or more, SQLite adds in floats. Each of a and b is rounded first, and the float
+-- sum is still not below 2 ^ 63: with 2 ^ 62 ≤ a < 2 ^ 63, a rounds to 1024 * k, the closest such multiple, so b is 2 ^
+-- 63 - 512 - 1024 * k or more. That is a float, so b's float is no smaller, and the exact sum of the two floats is 2 ^
+-- 63 - 512 or more. 2 ^ 63 - 512 lies halfway between two floats, and the even one is 2 ^ 63.
 use Rattle.wu_schema.proofs.Words.{Bool, Int, Integer, T, Value, ap, arith, binary, cast, cond, div-add-mod', false, false_from_ne_true, inl, inr, is_of, le_of_mul-le-mul_right, le_trans, mul-le-mul_right, mul-one, mul-pos, mul_assoc, mul_comm, mul_right_comm, nat_lt, nat_tests, pos, refl, subst, suc, sym, true, true≢false, unary, value_cmp, ℕ, ℤ, ◌%◌, ◌*◌, ◌+◌, ◌-◌, ◌/◌, ◌<◌, ◌^◌, ◌∙◌, ◌≡◌, ◌≤◌, ◌⊎◌}
 use Prim.Native.Nat.{compare, Ordering}
 use native.Mathlib.Nat.{add-mul, le_antisymm, le_of_eq, le_refl, lt_of_lt_of_le, lt_of_not-le, not-le_of_lt}

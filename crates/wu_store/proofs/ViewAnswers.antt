@@ -1,5 +1,5 @@
 -- What the SELECTs of the views and of the summary answer of the world that the tables stand for.
-use Rattle.wu_schema.proofs.Words.{AllByRecursion, Archived, Binary, Bool, Grant, Instance, Int, IsAscending, IsPermutation, IsPermutation-filter, IsPermutation-map, Less, List, None, Output, Row, Shown, Some, StandsFor, State, Term, Text, Workunit, World, [], ap, codes, col, column, drop, cond, enumerate_from, equal, eval_all, everything, false, filter, filter-map, flat_map, holds, instance_cells, instances_of, length, length-map, length_permutation, list_all, lit, map, map-map, negsuc, number, refl, stored_archived, stored_grant, subst, suc, sym, true, value_cmp, ℕ, ◌++◌, ◌+◌, ◌==◌, ◌∙◌, ◌∷◌, ◌≡◌, archived_at, arith, grant_at, result_at, workunit_at, host_at, import_at}
+use Rattle.wu_schema.proofs.Words.{AllByRecursion, Archived, Binary, Bool, Grant, Instance, Int, IsAscending, IsPermutation, IsPermutation-filter, IsPermutation-map, Less, List, None, Output, Row, Shown, Some, Refines, State, Term, Text, Workunit, World, [], ap, codes, col, column, drop, cond, enumerate_from, equal, eval_all, everything, false, filter, filter-map, flat_map, holds, instance_cells, instances_of, length, length-map, length_permutation, list_all, lit, map, map-map, negsuc, number, refl, stored_archived, stored_grant, subst, suc, sym, true, value_cmp, ℕ, ◌++◌, ◌+◌, ◌==◌, ◌∙◌, ◌∷◌, ◌≡◌, archived_at, arith, grant_at, result_at, workunit_at, host_at, import_at}
 use Rattle.sqlite_value.proofs.OrderLemmas.{value_cmp-Text}
 use Rattle.std.proofs.Common.{length-append}
 use Rattle.std.proofs.lemmas.List.Elements.{filter-append}
@@ -9,7 +9,7 @@ use Rattle.wu_core.specs.declared.states.ServerState.{ServerState}
 use Rattle.wu_core.proofs.HostLemmas.{Ascends, below, once}
 use Rattle.wu_core.specs.Codes.{server_state_code}
 use Rattle.wu_core.specs.Hosts.{hosts_of}
-use Rattle.wu_schema.specs.StandsFor.{host_of}
+use Rattle.wu_schema.specs.Refines.{host_of}
 use Rattle.wu_schema.specs.Stored.{archived_cells}
 use Rattle.wu_schema.proofs.AnswerLemmas.{meeting, showing}
 use Rattle.wu_schema.proofs.Parts.{Part, Archive, Grants, Hosts, Imports, Instances, IsIn, Workunits, name_of, table_in, table_of, tree_in}
@@ -65,7 +65,7 @@ module _ (tree : ℕ) where
   host_pairs : (rows : List Row) → map host_row_pair rows ≡ map host_pair (map (drop 1) rows)
   host_pairs rows = (λ i. map (λ r. host_pair_is r i) rows) ∙ sym (map-map host_pair (drop 1) rows)
 
-module _ (old new : State) (world : World) (s : StandsFor old.now world) where
+module _ (old new : State) (world : World) (s : Refines old.now world) where
   pub hosts_found : (rows : List Row) → Shown hosts_asked.text [] old new rows → rows ≡ all_hosts world
   hosts_found rows h =
       let tree = s.trees.host in
@@ -94,7 +94,7 @@ archive_shown : (k : ℕ) (xs : List Archived) → map (λ r. eval_all archive_s
 archive_shown k [] = refl
 archive_shown k (x ∷ xs) = ap (λ rows. archived_cells x ∷ rows) (archive_shown (k + 1) xs)
 
-module _ (old new : State) (world : World) (s : StandsFor old.now world) where
+module _ (old new : State) (world : World) (s : Refines old.now world) where
   pub archive_found : (rows : List Row) → Shown archive_asked.text [] old new rows → rows ≡ all_archived world
   archive_found rows h =
       let tree = s.trees.archived in
@@ -118,7 +118,7 @@ credit_shown : (k : ℕ) (xs : List Grant) → map (λ r. eval_all credit_shows 
 credit_shown k [] = refl
 credit_shown k (x ∷ xs) = ap (λ rows. (number x.credit ∷ []) ∷ rows) (credit_shown (k + 1) xs)
 
-module _ (old new : State) (world : World) (s : StandsFor old.now world) where
+module _ (old new : State) (world : World) (s : Refines old.now world) where
   pub credit_found : (rows : List Row) → Shown credit_asked.text [] old new rows → rows ≡ all_credit world
   credit_found rows h =
       let tree = s.trees.grant in
@@ -164,7 +164,7 @@ cells_of (w ∷ ws) =
     length-append (instances_of w) (flat_map instances_of ws) ∙ (λ i. cells_from w.number 0 w.instances i + cells_of ws i)
     ∙ sym (length-append w.instances (flat_map (λ (v : Workunit). v.instances) ws))
 
-module _ (old new : State) (world : World) (s : StandsFor old.now world) where
+module _ (old new : State) (world : World) (s : Refines old.now world) where
   pub workunits_counted : (rows : List Row) → Shown workunits_asked.text [] old new rows → length rows ≡ workunit_count world
   workunits_counted rows h =
       as_many (col 1 0 ∷ []) (old.now.trees s.trees.workunit) rows (asked_rows Workunits workunits_asked workunits_fits old new world s tt [] rows refl h)
@@ -237,7 +237,7 @@ module _ (code : ℕ) where
       ∙ (λ i. states_from w.number 0 w.instances i + states_of ws i)
       ∙ sym (length-append (filter is_in w.instances) (filter is_in more)) ∙ sym (ap (λ cs. length cs) (filter-append is_in w.instances more))
 
-module _ (old new : State) (world : World) (s : StandsFor old.now world) (state : ServerState) where
+module _ (old new : State) (world : World) (s : Refines old.now world) (state : ServerState) where
   pub in_state_counted : (rows : List Row) → Shown in_state_asked.text (number (server_state_code state) ∷ []) old new rows → length rows ≡ count_in state world
   in_state_counted rows h =
       let code = server_state_code state in

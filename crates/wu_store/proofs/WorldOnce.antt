@@ -1,5 +1,5 @@
 -- No two workunits of a project have one name or one number.
-use Rattle.wu_schema.proofs.Words.{Database, Has, IsTable, List, StandsFor, Workunit, World, and_from, arith, bytes_eq, bytes_eq-Decides, eqb-true, filter, first_key, length, map, mapped_has, ne_eqb, pos, refl, stored_workunit, subst, sym, true, workunit_at, ℕ, ◌<◌, ◌==◌, ◌∙◌, ◌∷◌, [], ◌≡◌, ◌≤◌}
+use Rattle.wu_schema.proofs.Words.{Database, Has, IsTable, List, Refines, Workunit, World, and_from, arith, bytes_eq, bytes_eq-Decides, eqb-true, filter, first_key, length, map, mapped_has, ne_eqb, pos, refl, stored_workunit, subst, sym, true, workunit_at, ℕ, ◌<◌, ◌==◌, ◌∙◌, ◌∷◌, [], ◌≡◌, ◌≤◌}
 use Rattle.wu_schema.proofs.StandsLemmas.{is_there}
 use Rattle.wu_store.proofs.EqualLemmas.{text_equal, number_tied}
 use Rattle.wu_store.proofs.OnceLemmas.{key_once, one_passes}
@@ -20,7 +20,7 @@ NumbersOnce world = (number : ℕ) → length (filter (λ (w : Workunit). w.numb
 pub once_numbered : (n : ℕ) (ws : List Workunit) → IsTable (map stored_workunit ws) → length (filter (λ (w : Workunit). w.number == n) ws) ≤ 1
 once_numbered n ws up = one_passes (λ (w : Workunit). w.number == n) (λ a b. a.number < b.number) ws (λ a b has_a has_b low p q. let same = eqb-true _ _ p ∙ sym (eqb-true _ _ q) in absurd (omega (arith, low, same))) (table_rises ws up)
 
-module _ (db : Database) (world : World) (s : StandsFor db world) where
+module _ (db : Database) (world : World) (s : Refines db world) where
   -- the name is a unique key
   pub once_named : NamesOnce world
   unfolding first_key

@@ -16,7 +16,7 @@ use Rattle.wu_core.specs.Codes.{server_state_code}
 use Rattle.wu_core.specs.Hosts.{hosts_of}
 use Rattle.wu_core.specs.World.{World, is_import}
 use Rattle.wu_schema.specs.Calls.{Tells}
-use Rattle.wu_schema.specs.StandsFor.{host_of}
+use Rattle.wu_schema.specs.Refines.{host_of}
 use Rattle.wu_schema.specs.Stored.{archived_cells, number, kept_cells, instance_row, workunit_row}
 
 -- a workunit of this name is present

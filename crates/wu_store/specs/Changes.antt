@@ -15,7 +15,7 @@ use Rattle.wu_core.specs.Hosts.{hosts_of}
 use Rattle.wu_core.specs.World.{World, Import}
 use Rattle.wu_schema.specs.Stored.{stored_grant}
 use Rattle.wu_schema.specs.Tables.{ProjectTrees, HasTables}
-use Rattle.wu_schema.specs.StandsFor.{StandsFor, HoldsAll, host_of}
+use Rattle.wu_schema.specs.Refines.{Refines, HoldsAll, host_of}
 use Rattle.wu_schema.specs.Made.{PutsOne}
 use Rattle.wu_schema.specs.Calm.{IsCalm}
 use Rattle.wu_core.specs.Storable.{bare}
@@ -42,7 +42,7 @@ HasNumber number ws = list_any (λ (w : Workunit). w.number == number) ws ≡ tr
 
 -- no workunit of the world had this number
 abbrev pub WasFree : ℕ → Database → Database → Type 0
-WasFree number old new = (world : World) → StandsFor old world → LacksNumber number world.workunits
+WasFree number old new = (world : World) → Refines old world → LacksNumber number world.workunits
 
 -- with it in place of the one of its number
 abbrev pub with_replaced : Workunit → World → World
@@ -50,7 +50,7 @@ with_replaced w world = record world { workunits = map (λ v. if v.number == w.n
 
 -- the workunit takes the place of the present one of its number
 abbrev pub Replaces : Workunit → Database → Database → Type 0
-Replaces w old new = (world : World) → StandsFor old world → HasNumber w.number world.workunits → StandsFor new (with_replaced w world)
+Replaces w old new = (world : World) → Refines old world → HasNumber w.number world.workunits → Refines new (with_replaced w world)
 
 -- without the workunit of this number, and so without its instances
 abbrev pub without_workunit : ℕ → World → World
@@ -70,11 +70,11 @@ HasInstances number n ws = option_map (λ (w : Workunit). length w.instances) (f
 
 -- the instance is added, where its number is the next one of its workunit
 abbrev pub AddsInstance : ℕ → ℕ → Instance → Database → Database → Type 0
-AddsInstance number n i old new = (world : World) → StandsFor old world → HasInstances number n world.workunits → StandsFor new (with_instance number i world)
+AddsInstance number n i old new = (world : World) → Refines old world → HasInstances number n world.workunits → Refines new (with_instance number i world)
 
 -- the instances of a new workunit are added, where its row stands without them
 abbrev pub AddsInstances : Workunit → Database → Database → Type 0
-AddsInstances w old new = (world : World) → LacksNumber w.number world.workunits → StandsFor old (with_placed (bare w) world) → StandsFor new (with_placed w world)
+AddsInstances w old new = (world : World) → LacksNumber w.number world.workunits → Refines old (with_placed (bare w) world) → Refines new (with_placed w world)
 
 -- with a grant more
 abbrev pub with_grant : Grant → World → World
@@ -90,11 +90,11 @@ IsNextPlace place xs = place ≡ length xs + 1
 
 -- the grant is added, where its place is the next one of the world's grants
 abbrev pub AddsGrant : ℕ → Grant → Database → Database → Type 0
-AddsGrant place g old new = (world : World) → StandsFor old world → IsNextPlace place world.grants → StandsFor new (with_grant g world)
+AddsGrant place g old new = (world : World) → Refines old world → IsNextPlace place world.grants → Refines new (with_grant g world)
 
 -- the archived row is added, where its place is the next one of the world's archived rows
 abbrev pub AddsArchived : ℕ → Archived → Database → Database → Type 0
-AddsArchived place a old new = (world : World) → StandsFor old world → IsNextPlace place world.archived → StandsFor new (with_archived a world)
+AddsArchived place a old new = (world : World) → Refines old world → IsNextPlace place world.archived → Refines new (with_archived a world)
 
 -- with an import more
 abbrev pub with_import : Import → World → World

@@ -7,7 +7,7 @@ use Rattle.wu_core.specs.declared.workunit.Grant.{Grant}
 use Rattle.wu_core.specs.World.{World, Import}
 use Rattle.wu_store.specs.Changes.{with_workunit, with_replaced, without_workunit, with_grant, with_archived, with_import, with_next, HasNumber, IsNextPlace}
 use Rattle.wu_core.specs.Storable.{IsAbove}
-use Rattle.wu_schema.specs.StandsFor.{StandsFor}
+use Rattle.wu_schema.specs.Refines.{Refines}
 use Rattle.wu_store.specs.declared.changes.Change.{Change}
 use Rattle.wu_store.specs.declared.changes.Change.TheVariants.{Add, Replace, Remove, Granted, Archive, Next, Keep}
 use Rattle.wu_store.specs.declared.changes.Import.{Import as Kept}
@@ -63,4 +63,4 @@ archived_from place rows = map (λ (p : ℕ × Archived). Archive p.0 p.1) (enum
 
 -- whatever world the tables stood for, they stand for it with the changes
 abbrev pub MakesWorlds : List Change → Database → Database → Type 0
-MakesWorlds changes old new = (world : World) → StandsFor old world → AreRight changes world → StandsFor new (made_all changes world)
+MakesWorlds changes old new = (world : World) → Refines old world → AreRight changes world → Refines new (made_all changes world)

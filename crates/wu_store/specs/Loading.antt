@@ -15,7 +15,7 @@ use Rattle.wu_core.specs.World.{World, Import, is_import}
 use Rattle.wu_schema.specs.Calls.{IsBack}
 pub use Rattle.wu_schema.specs.Asking.{Asks, ServesUnlessFailed}
 pub use Rattle.wu_schema.specs.Faults.{IsStoreFault}
-use Rattle.wu_schema.specs.StandsFor.{StandsFor}
+use Rattle.wu_schema.specs.Refines.{Refines}
 use Rattle.wu_schema.specs.Stored.{workunit_row}
 use Rattle.wu_store.specs.Answers.{first_above, named, numbered}
 use Rattle.wu_store.specs.Changes.{IsNextPlace}
@@ -25,7 +25,7 @@ use Rattle.wu_store.specs.declared.rows.StoredImport.{StoredImport}
 -- ---- what a call that reads says of the tables, and of each world that they stand for
 
 -- A call that reads commits nothing, and an open connection shows what it showed, or the last commit.
-pub record IsRead (old new : State) : Type 0 where
+pub record IsReadOnly (old new : State) : Type 0 where
   pub survives : Survives old new (λ _. ⊥)
   pub back : HasCleanDisk new → IsBack old new
 
@@ -34,13 +34,13 @@ abbrev pub StaysUnlessFailed : {S T : Type 0} → Ghosts S → Held S → Held S
 StaysUnlessFailed g old new result = IsTrue (state g old).is_open → ServesUnlessFailed g new result
 
 -- this holds of each world that the tables stand for
-abbrev pub OverWorlds : {S : Type 0} → Ghosts S → Held S → Held S → (World → Type 0) → Type 0
-OverWorlds g old new Is = HasCleanDisk (state g new) → (world : World) → StandsFor (state g old).now world → Is world
+abbrev pub ForEachWorld : {S : Type 0} → Ghosts S → Held S → Held S → (World → Type 0) → Type 0
+ForEachWorld g old new Is = HasCleanDisk (state g new) → (world : World) → Refines (state g old).now world → Is world
 
 -- where the tables stand for such a world and steps have no limit, no read is refused
 abbrev pub NotRefusedIn : {S T : Type 0} → Ghosts S → Held S → Held S → Result T Fault → (World → Type 0) → Type 0
 NotRefusedIn g old new result Is =
-    HasCleanDisk (state g new) → (world : World) → StandsFor (state g old).now world → Is world → old.step_limit ≡ None → IfErr result (λ fault. fault ≢ NotAProject)
+    HasCleanDisk (state g new) → (world : World) → Refines (state g old).now world → Is world → old.step_limit ≡ None → IfErr result (λ fault. fault ≢ NotAProject)
 
 -- ---- a workunit with its instances
 

@@ -15,8 +15,8 @@ use Rattle.wu_store.specs.declared.counts.Others.{Others}
 use Rattle.wu_store.specs.declared.counts.Results.{Results}
 
 -- the numbers of the project's row
-abbrev pub numbers_of : World → Numbers
-numbers_of world = record { version = world.version; next_number = world.next_number }
+abbrev pub project_numbers : World → Numbers
+project_numbers world = record { version = world.version; next_number = world.next_number }
 
 -- how many instances there are, and how many in each state
 abbrev pub results_of : World → Results

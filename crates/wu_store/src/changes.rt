@@ -1,7 +1,7 @@
 //! Changes of a project's tables, and lists of them inside a transaction.
 
 ghost use Rattle.std.specs.Prelude.{[], ◌∷◌};
-ghost use Rattle.wu_schema.specs.Calls.{Writes, Works, Does, Changes};
+ghost use Rattle.wu_schema.specs.Calls.{StatementFrame, TransactionFrame, Does, Changes};
 ghost use Rattle.wu_store.specs.Changes.{with_placed, AddsInstances, Replaces};
 ghost use Rattle.wu_store.specs.Changing.{MakesWorlds};
 
@@ -47,7 +47,7 @@ pub enum Change<'a> {
 
 /// Adds the rows of a workunit's instances, numbered from 0. Its own row is there without them.
 fn insert_instances<S: Alter>(tx: &mut Transaction<'_, S>, workunit: &Workunit) -> Result<(), Error>
-    ensures works { Works S.Store tx.old tx.new result }
+    ensures works { TransactionFrame S.Store tx.old tx.new result }
     ensures adds { Does S.Store tx.old tx.new result (AddsInstances workunit.now) }
 {
     let instances = workunit.instances.as_slice();
@@ -61,7 +61,7 @@ fn insert_instances<S: Alter>(tx: &mut Transaction<'_, S>, workunit: &Workunit) 
 
 /// Adds a workunit at its place in order of number, with its instances.
 fn add<S: Alter>(tx: &mut Transaction<'_, S>, workunit: &Workunit) -> Result<(), Error>
-    ensures writes { Writes S.Store tx.old tx.new result }
+    ensures writes { StatementFrame S.Store tx.old tx.new result }
     ensures adds { Changes S.Store tx.old tx.new result (with_placed workunit.now) }
 {
     insert_workunit(tx, workunit)?;
@@ -70,7 +70,7 @@ fn add<S: Alter>(tx: &mut Transaction<'_, S>, workunit: &Workunit) -> Result<(),
 
 /// Puts a workunit in the place of the present one of its number, with its instances in place of those.
 fn replace<S: Alter>(tx: &mut Transaction<'_, S>, workunit: &Workunit) -> Result<(), Error>
-    ensures writes { Writes S.Store tx.old tx.new result }
+    ensures writes { StatementFrame S.Store tx.old tx.new result }
     ensures replaces { Does S.Store tx.old tx.new result (Replaces workunit.now) }
 {
     delete_workunit(tx, workunit.number)?;
@@ -78,7 +78,7 @@ fn replace<S: Alter>(tx: &mut Transaction<'_, S>, workunit: &Workunit) -> Result
 }
 
 fn make<S: Alter>(tx: &mut Transaction<'_, S>, change: &Change<'_>) -> Result<(), Error>
-    ensures writes { Writes S.Store tx.old tx.new result }
+    ensures writes { StatementFrame S.Store tx.old tx.new result }
     ensures makes { Does S.Store tx.old tx.new result (MakesWorlds (change.now ∷ [])) }
 {
     match change {
@@ -94,7 +94,7 @@ fn make<S: Alter>(tx: &mut Transaction<'_, S>, change: &Change<'_>) -> Result<()
 
 /// Makes all changes inside a transaction, one after another.
 pub fn apply<S: Alter>(tx: &mut Transaction<'_, S>, changes: &[Change<'_>]) -> Result<(), Error>
-    ensures works { Works S.Store tx.old tx.new result }
+    ensures works { TransactionFrame S.Store tx.old tx.new result }
     ensures makes { Does S.Store tx.old tx.new result (MakesWorlds changes.now) }
 {
     for change in changes {

@@ -3,8 +3,8 @@
 ghost use Rattle.std.specs.Prelude.{◌≤◌, ⊤, IfErr};
 ghost use Rattle.wu_store.specs.Answers.{count_in, import_count, result_count, workunit_count};
 ghost use Rattle.wu_store.specs.Lines.{summary_of};
-ghost use Rattle.wu_store.specs.Summaries.{FindsAt, granted_of, HasNumbers, IsCountable, IsCreditCountable, numbers_of, others_of, results_of, SumsCredit};
-ghost use Rattle.wu_store.specs.Loading.{Asks, IsStoreFault, NotRefusedIn, OverWorlds, ServesUnlessFailed};
+ghost use Rattle.wu_store.specs.Summaries.{FindsAt, granted_of, HasNumbers, IsCountable, IsCreditCountable, project_numbers, others_of, results_of, SumsCredit};
+ghost use Rattle.wu_store.specs.Loading.{Asks, IsStoreFault, NotRefusedIn, ForEachWorld, ServesUnlessFailed};
 
 use crate::lines::Summary;
 use crate::loading::{next_archived_place, next_number};
@@ -20,7 +20,7 @@ fn count_workunits<S: Alter>(conn: &mut Connection<S>) -> Result<u64, Fault>
     ensures asks { Asks S.Store conn.old conn.new result }
     ensures opens { ServesUnlessFailed S.Store conn.new result }
     ensures fault { IfErr result IsStoreFault }
-    ensures found { OverWorlds S.Store conn.old conn.new (FindsAt workunit_count result) }
+    ensures found { ForEachWorld S.Store conn.old conn.new (FindsAt workunit_count result) }
     ensures unrefused { NotRefusedIn S.Store conn.old conn.new result (λ _. ⊤) }
 {
     let rows = workunit_number_rows(conn)?;
@@ -32,7 +32,7 @@ fn count_imports<S: Alter>(conn: &mut Connection<S>) -> Result<u64, Fault>
     ensures asks { Asks S.Store conn.old conn.new result }
     ensures opens { ServesUnlessFailed S.Store conn.new result }
     ensures fault { IfErr result IsStoreFault }
-    ensures found { OverWorlds S.Store conn.old conn.new (FindsAt import_count result) }
+    ensures found { ForEachWorld S.Store conn.old conn.new (FindsAt import_count result) }
     ensures unrefused { NotRefusedIn S.Store conn.old conn.new result (λ _. ⊤) }
 {
     let rows = import_kind_rows(conn)?;
@@ -44,7 +44,7 @@ fn count_all_results<S: Alter>(conn: &mut Connection<S>) -> Result<u64, Fault>
     ensures asks { Asks S.Store conn.old conn.new result }
     ensures opens { ServesUnlessFailed S.Store conn.new result }
     ensures fault { IfErr result IsStoreFault }
-    ensures found { OverWorlds S.Store conn.old conn.new (FindsAt result_count result) }
+    ensures found { ForEachWorld S.Store conn.old conn.new (FindsAt result_count result) }
     ensures unrefused { NotRefusedIn S.Store conn.old conn.new result (λ _. ⊤) }
 {
     let rows = result_number_rows(conn)?;
@@ -56,7 +56,7 @@ fn count_results_in<S: Alter>(conn: &mut Connection<S>, wanted: ServerState) -> 
     ensures asks { Asks S.Store conn.old conn.new result }
     ensures opens { ServesUnlessFailed S.Store conn.new result }
     ensures fault { IfErr result IsStoreFault }
-    ensures found { OverWorlds S.Store conn.old conn.new (FindsAt (count_in wanted) result) }
+    ensures found { ForEachWorld S.Store conn.old conn.new (FindsAt (count_in wanted) result) }
     ensures unrefused { NotRefusedIn S.Store conn.old conn.new result (λ _. ⊤) }
 {
     let rows = result_number_rows_in(conn, wanted)?;
@@ -76,7 +76,7 @@ fn count_results<S: Alter>(conn: &mut Connection<S>) -> Result<Results, Fault>
     ensures asks { Asks S.Store conn.old conn.new result }
     ensures opens { ServesUnlessFailed S.Store conn.new result }
     ensures fault { IfErr result IsStoreFault }
-    ensures found { OverWorlds S.Store conn.old conn.new (FindsAt results_of result) }
+    ensures found { ForEachWorld S.Store conn.old conn.new (FindsAt results_of result) }
     ensures unrefused { NotRefusedIn S.Store conn.old conn.new result (λ _. ⊤) }
 {
     let all = count_all_results(conn)?;
@@ -103,7 +103,7 @@ fn count_others<S: Alter>(conn: &mut Connection<S>) -> Result<Others, Fault>
     ensures asks { Asks S.Store conn.old conn.new result }
     ensures opens { ServesUnlessFailed S.Store conn.new result }
     ensures fault { IfErr result IsStoreFault }
-    ensures found { OverWorlds S.Store conn.old conn.new (FindsAt others_of result) }
+    ensures found { ForEachWorld S.Store conn.old conn.new (FindsAt others_of result) }
     ensures unrefused { NotRefusedIn S.Store conn.old conn.new result (λ _. ⊤) }
 {
     let workunits = count_workunits(conn)?;
@@ -142,7 +142,7 @@ fn count_grants<S: Alter>(conn: &mut Connection<S>) -> Result<Granted, Fault>
     ensures asks { Asks S.Store conn.old conn.new result }
     ensures opens { ServesUnlessFailed S.Store conn.new result }
     ensures fault { IfErr result IsStoreFault }
-    ensures found { OverWorlds S.Store conn.old conn.new (FindsAt granted_of result) }
+    ensures found { ForEachWorld S.Store conn.old conn.new (FindsAt granted_of result) }
     ensures unrefused { NotRefusedIn S.Store conn.old conn.new result IsCreditCountable }
 {
     let rows = credit_rows(conn)?;
@@ -158,7 +158,8 @@ fn version<S: Alter>(conn: &mut Connection<S>) -> Result<u64, Fault>
     ensures asks { Asks S.Store conn.old conn.new result }
     ensures opens { ServesUnlessFailed S.Store conn.new result }
     ensures fault { IfErr result IsStoreFault }
-    ensures found { OverWorlds S.Store conn.old conn.new (FindsAt (λ world. world.version) result) }
+    ensures found { ForEachWorld S.Store conn.old conn.new
+        (FindsAt (λ world. world.version) result) }
     ensures unrefused { NotRefusedIn S.Store conn.old conn.new result (λ world. 1 ≤ world.version) }
 {
     match version_of(conn)? {
@@ -178,7 +179,7 @@ fn read_numbers<S: Alter>(conn: &mut Connection<S>) -> Result<Numbers, Fault>
     ensures asks { Asks S.Store conn.old conn.new result }
     ensures opens { ServesUnlessFailed S.Store conn.new result }
     ensures fault { IfErr result IsStoreFault }
-    ensures found { OverWorlds S.Store conn.old conn.new (FindsAt numbers_of result) }
+    ensures found { ForEachWorld S.Store conn.old conn.new (FindsAt project_numbers result) }
     ensures unrefused { NotRefusedIn S.Store conn.old conn.new result HasNumbers }
 {
     let version = version(conn)?;
@@ -189,12 +190,13 @@ fn read_numbers<S: Alter>(conn: &mut Connection<S>) -> Result<Numbers, Fault>
     })
 }
 
-/// How much a project holds. `NotAProject` where a row is no value, or where the credit of all grants is not below 2^64.
+/// How much a project holds. `NotAProject` where a row is no value, or where the credit of all grants is not below
+/// 2^64.
 pub fn summary<S: Alter>(conn: &mut Connection<S>) -> Result<Summary, Fault>
     ensures asks { Asks S.Store conn.old conn.new result }
     ensures opens { ServesUnlessFailed S.Store conn.new result }
     ensures fault { IfErr result IsStoreFault }
-    ensures found { OverWorlds S.Store conn.old conn.new (FindsAt summary_of result) }
+    ensures found { ForEachWorld S.Store conn.old conn.new (FindsAt summary_of result) }
     ensures unrefused { NotRefusedIn S.Store conn.old conn.new result IsCountable }
 {
     let numbers = read_numbers(conn)?;

@@ -5,7 +5,7 @@ ghost use Rattle.wu_core.specs.declared.fault.Fault.TheVariants.{Memory};
 ghost use Rattle.wu_core.specs.Limits.{longest_age};
 ghost use Rattle.wu_store.specs.Due.{numbers_left, FindsDue, FindsFirst};
 ghost use Rattle.wu_rules.specs.Due.{changes};
-ghost use Rattle.wu_store.specs.Loading.{Asks, FindsAbove, IsStoreFault, LoadsAbove, NotRefusedIn, OverWorlds, ServesUnlessFailed};
+ghost use Rattle.wu_store.specs.Loading.{Asks, FindsAbove, IsStoreFault, LoadsAbove, NotRefusedIn, ForEachWorld, ServesUnlessFailed};
 ghost use Rattle.wu_core.specs.Storable.{AreStorable};
 
 use crate::loading::{load, load_above};
@@ -22,7 +22,7 @@ pub(crate) fn first<S: Alter>(
     ensures asks { Asks S.Store conn.old conn.new result }
     ensures opens { ServesUnlessFailed S.Store conn.new result }
     ensures fault { IfErr result IsStoreFault }
-    ensures found { OverWorlds S.Store conn.old conn.new (FindsFirst result) }
+    ensures found { ForEachWorld S.Store conn.old conn.new (FindsFirst result) }
     ensures unrefused { NotRefusedIn S.Store conn.old conn.new result AreStorable }
 {
     match load(conn, alloc, 0)? {
@@ -42,7 +42,7 @@ pub(crate) fn next_after<S: Alter>(
     ensures shrinks { IfOk result (λ next. numbers_left next < 2 ^ 64 - number) }
     ensures asks { Asks S.Store conn.old conn.new result }
     ensures fault { IfErr result IsStoreFault }
-    ensures found { OverWorlds S.Store conn.old conn.new (FindsAbove number result) }
+    ensures found { ForEachWorld S.Store conn.old conn.new (FindsAbove number result) }
     ensures unrefused { NotRefusedIn S.Store conn.old conn.new result (LoadsAbove number) }
 {
     let Some(next) = load_above(conn, alloc, number)? else {
@@ -89,7 +89,7 @@ pub fn load_due<S: Alter>(
     ensures asks { Asks S.Store conn.old conn.new result }
     ensures opens { ServesUnlessFailed S.Store conn.new result }
     ensures fault { IfErr result IsStoreFault }
-    ensures due { OverWorlds S.Store conn.old conn.new (FindsDue pass now min_age limit result) }
+    ensures due { ForEachWorld S.Store conn.old conn.new (FindsDue pass now min_age limit result) }
     ensures few { IfOk result (λ due. length due.items ≤ limit) }
     ensures unrefused { NotRefusedIn S.Store conn.old conn.new result AreStorable }
 {

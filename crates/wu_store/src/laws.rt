@@ -7,7 +7,7 @@ ghost use Rattle.wu_core.specs.declared.workunit.Grant.{Grant};
 ghost use Rattle.wu_core.specs.declared.workunit.Instance.{Instance};
 ghost use Rattle.wu_core.specs.declared.workunit.Workunit.{Workunit};
 ghost use Rattle.wu_core.specs.World.{World, IsInOrder};
-ghost use Rattle.wu_schema.specs.StandsFor.{StandsFor};
+ghost use Rattle.wu_schema.specs.Refines.{Refines};
 ghost use Rattle.wu_store.specs.Answers.{all_above, first_above, numbered};
 ghost use Rattle.wu_store.specs.Changes.{HasNumber, IsNextPlace, LacksNumber, and_instance, with_instance, with_placed, with_replaced, without_workunit};
 ghost use Rattle.wu_store.specs.Changing.{archived_from, granted_from, made_all, AreRight};
@@ -15,12 +15,12 @@ ghost use Rattle.wu_store.specs.Worlds.{SameWorld};
 
 /// One database stands for one world, but for the order of its imports.
 pub fn one_database_is_one_world()
-    ensures { (db : Database) (a b : World) → StandsFor db a → StandsFor db b → SameWorld a b }
+    ensures { (db : Database) (a b : World) → Refines db a → Refines db b → SameWorld a b }
 {}
 
 /// A world that tables stand for has its workunits in order of number.
 pub fn stored_worlds_are_in_order()
-    ensures { (db : Database) (world : World) → StandsFor db world → IsInOrder world }
+    ensures { (db : Database) (world : World) → Refines db world → IsInOrder world }
 {}
 
 /// Instances that are added one by one come to the workunit with all of them.
@@ -32,16 +32,16 @@ pub fn instances_are_added_one_by_one()
 
 /// To delete the workunit of a number and to add one of that number is to replace it.
 pub fn deleting_and_adding_is_replacing()
-    ensures { (db : Database) (world : World) (w : Workunit) → StandsFor db world
+    ensures { (db : Database) (world : World) (w : Workunit) → Refines db world
         → HasNumber w.number world.workunits
         → with_placed w (without_workunit w.number world) ≡ with_replaced w world }
 {}
 
 /// To take the first workunit above the last one, again and again, goes through all above a number, in order.
 pub fn the_first_above_the_last_is_the_next()
-    ensures more { (db : Database) (world : World) (number : ℕ) (w : Workunit) → StandsFor db world
+    ensures more { (db : Database) (world : World) (number : ℕ) (w : Workunit) → Refines db world
         → first_above number world ≡ Some w → all_above number world ≡ w ∷ all_above w.number world }
-    ensures none { (db : Database) (world : World) (number : ℕ) → StandsFor db world
+    ensures none { (db : Database) (world : World) (number : ℕ) → Refines db world
         → first_above number world ≡ None → all_above number world ≡ [] }
     ensures all { (world : World) (number : ℕ)
         → All (λ (w : Workunit). number < w.number) world.workunits

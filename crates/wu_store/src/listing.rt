@@ -2,7 +2,7 @@
 
 ghost use Rattle.std.specs.Prelude.{IfErr};
 ghost use Rattle.wu_store.specs.Lines.{archived_lines, AreHostsNamed, FindsLines, host_lines, result_lines, workunit_lines};
-ghost use Rattle.wu_store.specs.Loading.{Asks, IsStoreFault, NotRefusedIn, OverWorlds, ServesUnlessFailed};
+ghost use Rattle.wu_store.specs.Loading.{Asks, IsStoreFault, NotRefusedIn, ForEachWorld, ServesUnlessFailed};
 ghost use Rattle.wu_core.specs.Storable.{AreStorable, IsArchiveStorable};
 
 use crate::due::{first, next_after};
@@ -24,7 +24,7 @@ pub fn workunit_lines<S: Alter>(
     ensures opens { ServesUnlessFailed S.Store conn.new result }
     ensures fault { IfErr result IsStoreFault }
     ensures unrefused { NotRefusedIn S.Store conn.old conn.new result AreStorable }
-    ensures lines { OverWorlds S.Store conn.old conn.new (FindsLines workunit_lines result) }
+    ensures lines { ForEachWorld S.Store conn.old conn.new (FindsLines workunit_lines result) }
 {
     let rows = workunit_rows(conn)?;
     workunit_lines_from(alloc, &rows)
@@ -42,7 +42,7 @@ pub fn result_lines<S: Alter>(
     ensures opens { ServesUnlessFailed S.Store conn.new result }
     ensures fault { IfErr result IsStoreFault }
     ensures unrefused { NotRefusedIn S.Store conn.old conn.new result AreStorable }
-    ensures lines { OverWorlds S.Store conn.old conn.new (FindsLines result_lines result) }
+    ensures lines { ForEachWorld S.Store conn.old conn.new (FindsLines result_lines result) }
 {
     let mut lines = Vec::new(alloc);
     let mut next = first(conn, alloc)?;
@@ -60,7 +60,7 @@ pub fn host_lines<S: Alter>(conn: &mut Connection<S>, alloc: Global) -> Result<V
     ensures opens { ServesUnlessFailed S.Store conn.new result }
     ensures fault { IfErr result IsStoreFault }
     ensures unrefused { NotRefusedIn S.Store conn.old conn.new result AreHostsNamed }
-    ensures lines { OverWorlds S.Store conn.old conn.new (FindsLines host_lines result) }
+    ensures lines { ForEachWorld S.Store conn.old conn.new (FindsLines host_lines result) }
 {
     let rows = host_rows(conn)?;
     host_lines_from(alloc, &rows)
@@ -75,7 +75,7 @@ pub fn archived_lines<S: Alter>(
     ensures opens { ServesUnlessFailed S.Store conn.new result }
     ensures fault { IfErr result IsStoreFault }
     ensures unrefused { NotRefusedIn S.Store conn.old conn.new result IsArchiveStorable }
-    ensures lines { OverWorlds S.Store conn.old conn.new (FindsLines archived_lines result) }
+    ensures lines { ForEachWorld S.Store conn.old conn.new (FindsLines archived_lines result) }
 {
     let rows = archived_rows(conn)?;
     archived_lines_from(alloc, &rows)

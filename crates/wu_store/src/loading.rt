@@ -1,7 +1,7 @@
 //! What is loaded of a project: a workunit with its instances, an import, the next number, and the next places.
 
 ghost use Rattle.std.specs.Prelude.{◌<◌, ◌^◌, ⊤, IfErr, IfOk};
-ghost use Rattle.wu_store.specs.Loading.{Asks, FindsAbove, FindsEarlier, FindsInstances, FindsNamed, FindsNumbered, FindsOfRow, LoadsInstances, LoadsImport, IsLoadableRow, IsStoreFault, KnowsArchivedPlace, KnowsGrantPlace, KnowsNext, LoadsAbove, LoadsNamed, LoadsNumbered, NotRefusedIn, OverWorlds, ServesUnlessFailed};
+ghost use Rattle.wu_store.specs.Loading.{Asks, FindsAbove, FindsEarlier, FindsInstances, FindsNamed, FindsNumbered, FindsOfRow, LoadsInstances, LoadsImport, IsLoadableRow, IsStoreFault, KnowsArchivedPlace, KnowsGrantPlace, KnowsNext, LoadsAbove, LoadsNamed, LoadsNumbered, NotRefusedIn, ForEachWorld, ServesUnlessFailed};
 ghost use Rattle.wu_store.specs.Reading.{IsPlaceToGive};
 ghost use Rattle.wu_core.specs.Storable.{IsNextNumber, LoadsNext};
 
@@ -24,7 +24,7 @@ fn instances_of<S: Alter>(
 ) -> Result<Instances, Fault>
     ensures asks { Asks S.Store conn.old conn.new result }
     ensures fault { IfErr result IsStoreFault }
-    ensures found { OverWorlds S.Store conn.old conn.new (FindsInstances workunit result) }
+    ensures found { ForEachWorld S.Store conn.old conn.new (FindsInstances workunit result) }
     ensures unrefused { NotRefusedIn S.Store conn.old conn.new result (LoadsInstances workunit) }
 {
     let rows = instance_rows(conn, workunit)?;
@@ -39,7 +39,7 @@ fn with_instances<S: Alter>(
 ) -> Result<Workunit, Fault>
     ensures asks { Asks S.Store conn.old conn.new result }
     ensures fault { IfErr result IsStoreFault }
-    ensures found { OverWorlds S.Store conn.old conn.new (FindsOfRow row.now result) }
+    ensures found { ForEachWorld S.Store conn.old conn.new (FindsOfRow row.now result) }
     ensures unrefused { NotRefusedIn S.Store conn.old conn.new result (IsLoadableRow row.now) }
 {
     let mut workunit = workunit_from(alloc, row)?;
@@ -58,7 +58,7 @@ pub fn load<S: Alter>(
     ensures asks { Asks S.Store conn.old conn.new result }
     ensures opens { number < 2 ^ 63 → ServesUnlessFailed S.Store conn.new result }
     ensures fault { IfErr result IsStoreFault }
-    ensures found { OverWorlds S.Store conn.old conn.new (FindsNumbered number result) }
+    ensures found { ForEachWorld S.Store conn.old conn.new (FindsNumbered number result) }
     ensures unrefused { NotRefusedIn S.Store conn.old conn.new result (LoadsNumbered number) }
 {
     match workunit_row(conn, number)? {
@@ -78,7 +78,7 @@ pub fn load_above<S: Alter>(
     ensures asks { Asks S.Store conn.old conn.new result }
     ensures opens { number < 2 ^ 63 → ServesUnlessFailed S.Store conn.new result }
     ensures fault { IfErr result IsStoreFault }
-    ensures found { OverWorlds S.Store conn.old conn.new (FindsAbove number result) }
+    ensures found { ForEachWorld S.Store conn.old conn.new (FindsAbove number result) }
     ensures unrefused { NotRefusedIn S.Store conn.old conn.new result (LoadsAbove number) }
 {
     match workunit_row_above(conn, number)? {
@@ -96,7 +96,7 @@ pub fn load_named<S: Alter>(
     ensures asks { Asks S.Store conn.old conn.new result }
     ensures opens { ServesUnlessFailed S.Store conn.new result }
     ensures fault { IfErr result IsStoreFault }
-    ensures found { OverWorlds S.Store conn.old conn.new (FindsNamed name.now result) }
+    ensures found { ForEachWorld S.Store conn.old conn.new (FindsNamed name.now result) }
     ensures unrefused { NotRefusedIn S.Store conn.old conn.new result (LoadsNamed name.now) }
 {
     match workunit_row_named(conn, name)? {
@@ -115,7 +115,7 @@ pub fn import_of<S: Alter>(
     ensures asks { Asks S.Store conn.old conn.new result }
     ensures opens { ServesUnlessFailed S.Store conn.new result }
     ensures fault { IfErr result IsStoreFault }
-    ensures found { OverWorlds S.Store conn.old conn.new (FindsEarlier kind name.now result) }
+    ensures found { ForEachWorld S.Store conn.old conn.new (FindsEarlier kind name.now result) }
     ensures unrefused { NotRefusedIn S.Store conn.old conn.new result (LoadsImport kind name.now) }
 {
     let rows = import_rows(conn, kind, name)?;
@@ -131,7 +131,7 @@ pub fn next_number<S: Alter>(conn: &mut Connection<S>) -> Result<u64, Fault>
     ensures asks { Asks S.Store conn.old conn.new result }
     ensures opens { ServesUnlessFailed S.Store conn.new result }
     ensures fault { IfErr result IsStoreFault }
-    ensures next { OverWorlds S.Store conn.old conn.new (KnowsNext result) }
+    ensures next { ForEachWorld S.Store conn.old conn.new (KnowsNext result) }
     ensures unrefused { NotRefusedIn S.Store conn.old conn.new result LoadsNext }
 {
     match next_number_row(conn)? {
@@ -146,7 +146,7 @@ pub fn next_grant_place<S: Alter>(conn: &mut Connection<S>) -> Result<u64, Fault
     ensures asks { Asks S.Store conn.old conn.new result }
     ensures opens { ServesUnlessFailed S.Store conn.new result }
     ensures fault { IfErr result IsStoreFault }
-    ensures place { OverWorlds S.Store conn.old conn.new (KnowsGrantPlace result) }
+    ensures place { ForEachWorld S.Store conn.old conn.new (KnowsGrantPlace result) }
     ensures unrefused { NotRefusedIn S.Store conn.old conn.new result (λ _. ⊤) }
 {
     place_behind(last_grant_row(conn)?)
@@ -158,7 +158,7 @@ pub fn next_archived_place<S: Alter>(conn: &mut Connection<S>) -> Result<u64, Fa
     ensures asks { Asks S.Store conn.old conn.new result }
     ensures opens { ServesUnlessFailed S.Store conn.new result }
     ensures fault { IfErr result IsStoreFault }
-    ensures place { OverWorlds S.Store conn.old conn.new (KnowsArchivedPlace result) }
+    ensures place { ForEachWorld S.Store conn.old conn.new (KnowsArchivedPlace result) }
     ensures unrefused { NotRefusedIn S.Store conn.old conn.new result (λ _. ⊤) }
 {
     place_behind(last_archived_row(conn)?)

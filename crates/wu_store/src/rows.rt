@@ -80,13 +80,12 @@ fn moment_at(row: &Row, at: usize) -> Result<Option<Moment>, Fault>
     ensures { Restores number_or_null IsMoment (column row.now at) result }
 {
     let seconds: Result<Option<u64>, Fault> = read_column(row, at);
-    match seconds {
-        Ok(Some(seconds)) => match Moment::new(seconds) {
+    match seconds? {
+        Some(seconds) => match Moment::new(seconds) {
             Some(moment) => Ok(Some(moment)),
             None => Err(Fault::NotAProject),
         },
-        Ok(None) => Ok(None),
-        Err(fault) => Err(fault),
+        None => Ok(None),
     }
 }
 
@@ -222,13 +221,12 @@ fn deadline_at(row: &Row, at: usize) -> Result<Option<Deadline>, Fault>
     ensures { Restores number_or_null IsDeadline (column row.now at) result }
 {
     let seconds: Result<Option<u64>, Fault> = read_column(row, at);
-    match seconds {
-        Ok(Some(seconds)) => match Deadline::new(seconds) {
+    match seconds? {
+        Some(seconds) => match Deadline::new(seconds) {
             Some(deadline) => Ok(Some(deadline)),
             None => Err(Fault::NotAProject),
         },
-        Ok(None) => Ok(None),
-        Err(fault) => Err(fault),
+        None => Ok(None),
     }
 }
 
@@ -250,10 +248,7 @@ fn host_at(alloc: Global, row: &Row, at: usize) -> Result<Option<Name>, Fault>
 {
     match row.get_ref(at) {
         Ok(ValueRef::Null) => Ok(None),
-        _ => match name_at(alloc, row, at) {
-            Ok(name) => Ok(Some(name)),
-            Err(fault) => Err(fault),
-        },
+        _ => Ok(Some(name_at(alloc, row, at)?)),
     }
 }
 

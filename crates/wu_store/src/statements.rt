@@ -6,7 +6,7 @@ ghost use Rattle.wu_store.specs.Changes.{with_placed, without_workunit, with_imp
 ghost use Rattle.wu_core.specs.Storable.{bare};
 ghost use Rattle.wu_core.specs.declared.fault.Fault.TheVariants.{NotAProject};
 ghost use Rattle.wu_schema.specs.Asking.{Asks};
-ghost use Rattle.wu_schema.specs.Calls.{Answers, AnswersRows, Writes, Does, Changes};
+ghost use Rattle.wu_schema.specs.Calls.{Answers, AnswersRows, StatementFrame, Does, Changes};
 ghost use Rattle.wu_store.specs.Loading.{IsStoreFault, NotRefusedIn, ServesUnlessFailed};
 ghost use Rattle.wu_store.specs.Answers.{all_archived, all_credit, all_hosts, all_rows, AnswersSoMany, count_in, has_name, import_count, instance_rows_of, kept_of, last_archived, last_grant, next_row, result_count, row_above, row_named, row_numbered, was_archived, workunit_count};
 
@@ -355,7 +355,7 @@ pub fn insert_workunit<S: Alter>(
     tx: &mut Transaction<'_, S>,
     workunit: &Workunit,
 ) -> Result<(), Error>
-    ensures writes { Writes S.Store tx.old tx.new result }
+    ensures writes { StatementFrame S.Store tx.old tx.new result }
     ensures free { Does S.Store tx.old tx.new result (WasFree workunit.now.number) }
     ensures puts { Changes S.Store tx.old tx.new result (with_placed (bare workunit.now)) }
 {
@@ -392,7 +392,7 @@ pub fn insert_instance<S: Alter>(
     n: u32,
     instance: &Instance,
 ) -> Result<(), Error>
-    ensures writes { Writes S.Store tx.old tx.new result }
+    ensures writes { StatementFrame S.Store tx.old tx.new result }
     ensures puts { Does S.Store tx.old tx.new result (AddsInstance workunit n instance.now) }
 {
     let workunit = signed(workunit)?;
@@ -421,7 +421,7 @@ pub fn insert_instance<S: Alter>(
 
 /// Deletes the workunit of this number, if there is one, and its instances.
 pub fn delete_workunit<S: Alter>(tx: &mut Transaction<'_, S>, number: u64) -> Result<(), Error>
-    ensures writes { Writes S.Store tx.old tx.new result }
+    ensures writes { StatementFrame S.Store tx.old tx.new result }
     ensures deletes { Changes S.Store tx.old tx.new result (without_workunit number) }
 {
     execute(
@@ -436,7 +436,7 @@ fn insert_grant_row<S: Alter>(
     seq: u64,
     grant: &Grant,
 ) -> Result<(), Error>
-    ensures writes { Writes S.Store tx.old tx.new result }
+    ensures writes { StatementFrame S.Store tx.old tx.new result }
     ensures puts { Does S.Store tx.old tx.new result (PutsGrant seq grant.now) }
 {
     execute(
@@ -453,7 +453,7 @@ fn insert_grant_row<S: Alter>(
 }
 
 fn add_credit<S: Alter>(tx: &mut Transaction<'_, S>, grant: &Grant) -> Result<(), Error>
-    ensures writes { Writes S.Store tx.old tx.new result }
+    ensures writes { StatementFrame S.Store tx.old tx.new result }
     ensures credits { Does S.Store tx.old tx.new result (Credits grant.now) }
 {
     execute(
@@ -469,7 +469,7 @@ pub fn insert_grant<S: Alter>(
     seq: u64,
     grant: &Grant,
 ) -> Result<(), Error>
-    ensures writes { Writes S.Store tx.old tx.new result }
+    ensures writes { StatementFrame S.Store tx.old tx.new result }
     ensures grants { Does S.Store tx.old tx.new result (AddsGrant seq grant.now) }
 {
     insert_grant_row(tx, seq, grant)?;
@@ -482,7 +482,7 @@ pub fn insert_archived<S: Alter>(
     seq: u64,
     archived: &Archived,
 ) -> Result<(), Error>
-    ensures writes { Writes S.Store tx.old tx.new result }
+    ensures writes { StatementFrame S.Store tx.old tx.new result }
     ensures puts { Does S.Store tx.old tx.new result (AddsArchived seq archived.now) }
 {
     let seq = signed(seq)?;
@@ -508,7 +508,7 @@ pub fn insert_import<S: Alter>(
     tx: &mut Transaction<'_, S>,
     import: &Import<'_>,
 ) -> Result<(), Error>
-    ensures writes { Writes S.Store tx.old tx.new result }
+    ensures writes { StatementFrame S.Store tx.old tx.new result }
     ensures puts { Changes S.Store tx.old tx.new result
         (with_import (import_of_change import.now)) }
 {
@@ -528,7 +528,7 @@ pub fn insert_import<S: Alter>(
 
 /// Sets the project's next number.
 pub fn set_next_number<S: Alter>(tx: &mut Transaction<'_, S>, next_number: u64) -> Result<(), Error>
-    ensures writes { Writes S.Store tx.old tx.new result }
+    ensures writes { StatementFrame S.Store tx.old tx.new result }
     ensures sets { Changes S.Store tx.old tx.new result (with_next next_number) }
 {
     execute(

@@ -1,7 +1,7 @@
 //! The verdicts of a file's rows, as the table of imports keeps them: a text of one digit a row.
 
 ghost use Rattle.std.specs.Prelude.{◌≡◌, ◌<◌, ◌≤◌, ◌+◌, All, Ok};
-ghost use Rattle.wu_core.specs.Reads.{Gives};
+ghost use Rattle.wu_core.specs.Reads.{IsOrWantsMemory};
 ghost use Rattle.wu_schema.specs.Stored.{verdict_digits};
 
 use std::alloc::Global;
@@ -49,7 +49,7 @@ impl Verdicts {
     /// These verdicts, each at most 9.
     pub fn from_slice(alloc: Global, verdicts: &[u8]) -> Result<Self, Fault>
         requires { All (λ verdict. verdict ≤ 9) verdicts.now }
-        ensures { Gives result (Ok verdicts.now) }
+        ensures { IsOrWantsMemory result (Ok verdicts.now) }
     {
         let mut digits = String::new(alloc);
         for verdict in verdicts {

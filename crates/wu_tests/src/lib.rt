@@ -1,4 +1,5 @@
-//! What only a program can ask of whole projects: what is stored and not shown, and the calls that the laws of stops speak of.
+//! What only a program can ask of whole projects: what is stored and not shown, and the calls that the laws of stops
+//! speak of.
 #![tactic(auto)]
 
 #[cfg(test)]

@@ -1,8 +1,8 @@
-//! The calls that the laws of stops speak of, over two files in memory. The laws say what they answer where they answer, and
-//! not that they do.
+//! The calls that the laws of stops speak of, over two files in memory. The laws say what they answer where they
+//! answer, and not that they do.
 //!
-//! What is asked of a store stands in functions over any store: that the store over files serves is proved again at each
-//! call of such a function.
+//! What is asked of a store stands in functions over any store: that the store over files serves is proved again at
+//! each call of such a function.
 
 use crate::setting::{
     FIRST_ADDED, ONE_JOB, SECOND_JOB, TWO_WORKUNITS, batch, imports, is_bytes, is_count, shows,

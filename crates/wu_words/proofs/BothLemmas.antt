@@ -1,7 +1,7 @@
 -- A name and files, of which the first fault is told, want of memory last.
 use Rattle.std.proofs.Common.{◌≡◌, ◌∙◌, ℕ, zero, suc, Bool, true, false, if◌then◌else◌, List, [], ◌∷◌, drop, Option, Some, None, Result, Ok, Err, ap, inl, inr, refl, subst, sym}
 use Rattle.wu_core.specs.Names.{is_name, name_of}
-use Rattle.wu_core.specs.Reads.{Gives, TellsRefusal}
+use Rattle.wu_core.specs.Reads.{IsOrWantsMemory, TellsRefusal}
 use Rattle.wu_core.specs.declared.fault.Fault.{Fault}
 use Rattle.wu_core.specs.declared.fault.Fault.TheVariants.{BadFile, BadName, Memory}
 use Rattle.wu_core.specs.declared.fault.FileCause.TheVariants.{Unreadable}
@@ -11,7 +11,7 @@ use Rattle.wu_words.specs.Actions.{and_then, both, bytes_of, content_of, read_by
 -- what is made of the values follows from them, or from the fault
 abbrev pub Follows : {P A : Type 0} → Result A Fault → (P → A) → Result P Fault → Type 0
 Follows expected make (Ok parts) = expected ≡ Ok (make parts)
-Follows expected make (Err fault) = Gives (Err fault) expected × TellsRefusal (Err fault) expected
+Follows expected make (Err fault) = IsOrWantsMemory (Err fault) expected × TellsRefusal (Err fault) expected
 
 abbrev named : Bool → List ℕ → Result (List ℕ) Fault
 named b name = if b then Ok name else Err BadName
@@ -34,7 +34,7 @@ want_one name (Some x) make = (inr refl, tt)
 want_one name None make = (inl refl, refl)
 
 one_file : {A : Type 0} (b : Bool) (name : List ℕ) (given : Result (List ℕ) Fault) (file : Option (List ℕ)) (make : List ℕ × List ℕ → A)
-    → Gives given (named b name) → TellsRefusal given (named b name) → Follows (with_file (named b name) (read_bytes file) make) make (both given (read_bytes file))
+    → IsOrWantsMemory given (named b name) → TellsRefusal given (named b name) → Follows (with_file (named b name) (read_bytes file) make) make (both given (read_bytes file))
 one_file b name given file make (inl e) told =
     subst (λ g. Follows (with_file (named b name) (read_bytes file) make) make (both g (read_bytes file))) (sym e) (read_one b name file make)
 one_file true name given file make (inr e) told =
@@ -66,7 +66,7 @@ want_two name None (Some y) make = (inl refl, refl)
 want_two name None None make = (inl refl, refl)
 
 two_files : {A : Type 0} (b : Bool) (name : List ℕ) (given : Result (List ℕ) Fault) (file template : Option (List ℕ)) (make : List ℕ × (List ℕ × List ℕ) → A)
-    → Gives given (named b name) → TellsRefusal given (named b name)
+    → IsOrWantsMemory given (named b name) → TellsRefusal given (named b name)
     → Follows (with_files (named b name) (read_bytes file) (read_bytes template) make) make (both given (both (read_bytes file) (read_bytes template)))
 two_files b name given file template make (inl e) told =
     subst (λ g. Follows (with_files (named b name) (read_bytes file) (read_bytes template) make) make (both g (both (read_bytes file) (read_bytes template)))) (sym e)
@@ -99,14 +99,14 @@ pub followed : {P A : Type 0} (expected : Result A Fault) (make : P → A) (whol
 followed expected make whole answer is follows = subst (Follows expected make) is follows
 
 pub file_follows : {A : Type 0} (text : List ℕ) (contents : List (Option (List ℕ))) (given : Result (List ℕ) Fault) (make : List ℕ × List ℕ → A)
-    → Gives given (name_of text) → TellsRefusal given (name_of text)
+    → IsOrWantsMemory given (name_of text) → TellsRefusal given (name_of text)
     → Follows (and_then (name_of text) (λ name. and_then (content_of contents 0) (λ file. Ok (make (name, file))))) make (both given (content_of contents 0))
 file_follows text contents given make gave told =
     let (file, is) = content_is contents 0 in
     subst (λ r. Follows (with_file (name_of text) r make) make (both given r)) (sym is) (one_file (is_name text) text given file make gave told)
 
 pub files_follow : {A : Type 0} (text : List ℕ) (contents : List (Option (List ℕ))) (given : Result (List ℕ) Fault) (make : List ℕ × (List ℕ × List ℕ) → A)
-    → Gives given (name_of text) → TellsRefusal given (name_of text)
+    → IsOrWantsMemory given (name_of text) → TellsRefusal given (name_of text)
     → Follows (and_then (name_of text) (λ name. and_then (content_of contents 0) (λ file. and_then (content_of contents 1) (λ template. Ok (make (name, (file, template))))))) make
     (both given (both (content_of contents 0) (content_of contents 1)))
 files_follow text contents given make gave told =

@@ -7,7 +7,7 @@ use Rattle.clap.specs.declared.parser.matches.Found.{Found}
 use Rattle.clap.proofs.WalkLemmas.{one_text-rows}
 use Rattle.wu_words.specs.CommandLine.{option_name}
 use Rattle.wu_words.specs.Lines.{IsNumberIn}
-use Rattle.wu_words.specs.Refusals.{IsNumberText, LacksNumber}
+use Rattle.wu_words.specs.Refusals.{IsNumberText, LacksNumberText}
 use Rattle.wu_words.specs.declared.option.LineOption.{LineOption}
 
 abbrev IsWritten : ℕ → Option (List ℕ) → Type 0
@@ -24,6 +24,6 @@ number_read found id option n is none some =
 
 -- where the getter reads none, no text of the option writes a number
 pub number_lacks : (found : Found) (id : List ℕ) (option : LineOption) → id ≡ option_name option
-    → ((t : List ℕ) → one_text found id ≡ Some t → IsNumberText t → ⊥) → LacksNumber (rows_of found) option
+    → ((t : List ℕ) → one_text found id ≡ Some t → IsNumberText t → ⊥) → LacksNumberText (rows_of found) option
 number_lacks found id option is none t some =
     none t (one_text-rows found id ∙ (ap (λ (i : List ℕ). one_of i (rows_of found)) is ∙ some))

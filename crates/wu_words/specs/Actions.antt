@@ -17,15 +17,16 @@ use Rattle.wu_words.specs.declared.files.LineFile.{LineFile}
 use Rattle.wu_words.specs.declared.line.Line.{Line}
 use Rattle.wu_words.specs.declared.line.Line.TheVariants as line
 
--- the files of a line in the order of its usage line: where each lies (None: an absent template), and how long it may be
+-- the files of a line in the order of its usage line: where each lies (None: an absent template), and how long it may
+-- be
 abbrev pub files_of : Line → List (Option (List ℕ) × ℕ)
 files_of (line.Batch db name jobs template) = (Some jobs, longest_file) ∷ (template, longest_template) ∷ []
 files_of (line.Sent db name file) = (Some file, longest_file) ∷ []
 files_of (line.Reported db name file) = (Some file, longest_file) ∷ []
 files_of _ = []
 
-abbrev pub file_of : LineFile → Option (List ℕ) × ℕ
-file_of file = (option_map (λ path. path.now) file.path, file.most)
+abbrev pub asked_file : LineFile → Option (List ℕ) × ℕ
+asked_file file = (option_map (λ path. path.now) file.path, file.most)
 
 -- goes on with the value, or keeps the fault
 abbrev pub and_then : {A B : Type 0} → Result A Fault → (A → Result B Fault) → Result B Fault

@@ -41,22 +41,22 @@ abbrev pub IsTextIn : List Row → LineOption → List ℕ → Type 0
 IsTextIn found option text = value_in found option ≡ Some text
 
 -- the values of a line are those that clap finds of its options
-abbrev pub HasValues : List Row → Line → Type 0
-HasValues found (line.Batch db name jobs template) =
+abbrev pub HasFoundValues : List Row → Line → Type 0
+HasFoundValues found (line.Batch db name jobs template) =
     IsTextIn found option.Database db × IsTextIn found option.Name name × IsTextIn found option.Jobs jobs × (value_in found option.Template ≡ template)
-HasValues found (line.Sent db name file) = IsTextIn found option.Database db × IsTextIn found option.Name name × IsTextIn found option.File file
-HasValues found (line.Reported db name file) = IsTextIn found option.Database db × IsTextIn found option.Name name × IsTextIn found option.File file
-HasValues found (line.Transition db now limit) = IsTextIn found option.Database db × IsTextIn found option.Now now × IsNumberIn found option.Limit limit
-HasValues found (line.Validate db limit) = IsTextIn found option.Database db × IsNumberIn found option.Limit limit
-HasValues found (line.Assimilate db now limit) = IsTextIn found option.Database db × IsTextIn found option.Now now × IsNumberIn found option.Limit limit
-HasValues found (line.Delete db limit) = IsTextIn found option.Database db × IsNumberIn found option.Limit limit
-HasValues found (line.Purge db now limit min_age) =
+HasFoundValues found (line.Sent db name file) = IsTextIn found option.Database db × IsTextIn found option.Name name × IsTextIn found option.File file
+HasFoundValues found (line.Reported db name file) = IsTextIn found option.Database db × IsTextIn found option.Name name × IsTextIn found option.File file
+HasFoundValues found (line.Transition db now limit) = IsTextIn found option.Database db × IsTextIn found option.Now now × IsNumberIn found option.Limit limit
+HasFoundValues found (line.Validate db limit) = IsTextIn found option.Database db × IsNumberIn found option.Limit limit
+HasFoundValues found (line.Assimilate db now limit) = IsTextIn found option.Database db × IsTextIn found option.Now now × IsNumberIn found option.Limit limit
+HasFoundValues found (line.Delete db limit) = IsTextIn found option.Database db × IsNumberIn found option.Limit limit
+HasFoundValues found (line.Purge db now limit min_age) =
     IsTextIn found option.Database db × IsTextIn found option.Now now × IsNumberIn found option.Limit limit × IsNumberIn found option.MinAge min_age
-HasValues found (line.Cancel db workunit) = IsTextIn found option.Database db × IsTextIn found option.Workunit workunit
-HasValues found (line.Cycle db now limit min_age) =
+HasFoundValues found (line.Cancel db workunit) = IsTextIn found option.Database db × IsTextIn found option.Workunit workunit
+HasFoundValues found (line.Cycle db now limit min_age) =
     IsTextIn found option.Database db × IsTextIn found option.Now now × IsNumberIn found option.Limit limit × IsNumberIn found option.MinAge min_age
-HasValues found (line.Show db view) = IsTextIn found option.Database db × IsViewIn found (Some view)
-HasValues found (line.Upgrade db) = IsTextIn found option.Database db
+HasFoundValues found (line.Show db view) = IsTextIn found option.Database db × IsViewIn found (Some view)
+HasFoundValues found (line.Upgrade db) = IsTextIn found option.Database db
 
 -- which subcommand a line is of
 abbrev pub subcommand_of_line : Line → Subcommand
@@ -90,7 +90,7 @@ database_of (line.Upgrade db) = db
 
 -- the line is of this subcommand, with these values
 abbrev pub IsLine : List Row → Subcommand → Line → Type 0
-IsLine found subcommand line = (subcommand_of_line line ≡ subcommand) × HasValues found line
+IsLine found subcommand line = (subcommand_of_line line ≡ subcommand) × HasFoundValues found line
 
 -- the values of a script's options are those that clap finds
 abbrev pub IsScript : List Row → ScriptFile → Type 0

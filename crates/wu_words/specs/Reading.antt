@@ -11,9 +11,9 @@ abbrev pub read_at_most : ℕ → ℕ
 read_at_most most = min (most + 1) (2 ^ 64 - 1)
 
 -- nothing is known of a file that can't be read; want of memory is told as a fault
-abbrev pub IsUnread : {T : Type 0} → ErrorKind → Result (Option T) Fault → Type 0
-IsUnread OutOfMemory result = result ≡ Err Memory
-IsUnread _ result = result ≡ Ok None
+abbrev pub ReadsNothing : {T : Type 0} → ErrorKind → Result (Option T) Fault → Type 0
+ReadsNothing OutOfMemory result = result ≡ Err Memory
+ReadsNothing _ result = result ≡ Ok None
 
 -- a script that could not be read is refused as a whole
 abbrev pub IsTextOf : {T : Type 0} → Option T → Result T Fault → Type 0

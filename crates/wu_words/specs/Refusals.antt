@@ -6,7 +6,7 @@ use Rattle.clap.specs.declared.error.Error.{Error}
 use Rattle.clap.specs.declared.error.kind.ErrorKind.TheVariants.{OutOfMemory}
 use Rattle.wu_machine.specs.declared.view.View.{View}
 use Rattle.wu_words.specs.CommandLine.{is_number, is_required, option_name, options_of, program, subcommand_name, subcommand_named}
-use Rattle.wu_words.specs.Lines.{HasValues, IsScript, IsViewIn, subcommand_of_line, value_in}
+use Rattle.wu_words.specs.Lines.{HasFoundValues, IsScript, IsViewIn, subcommand_of_line, value_in}
 use Rattle.wu_words.specs.declared.line.Line.{Line}
 use Rattle.wu_words.specs.declared.order.Order.{Order}
 use Rattle.wu_words.specs.declared.order.Order.TheVariants as order
@@ -40,11 +40,11 @@ IsNumberText text = IsNumeral 10 (without_leading_plus text) × (digits_value 10
 abbrev pub LacksText : List Row → LineOption → Type 0
 LacksText found option = value_in found option ≡ None
 
-abbrev pub LacksNumber : List Row → LineOption → Type 0
-LacksNumber found option = (text : List ℕ) → one_of (option_name option) found ≡ Some text → IsNumberText text → ⊥
+abbrev pub LacksNumberText : List Row → LineOption → Type 0
+LacksNumberText found option = (text : List ℕ) → one_of (option_name option) found ≡ Some text → IsNumberText text → ⊥
 
 abbrev pub LacksValue : Bool → List Row → LineOption → Type 0
-LacksValue true found option = LacksNumber found option
+LacksValue true found option = LacksNumberText found option
 LacksValue false found option = LacksText found option
 
 abbrev pub Lacks : List Row → LineOption → Type 0
@@ -56,8 +56,8 @@ LacksOne found [] = ⊥
 LacksOne found (option ∷ more) = ((is_required option ≡ true) × Lacks found option) ⊎ LacksOne found more
 
 -- the option has a value
-abbrev pub IsGiven : List Row → LineOption → Type 0
-IsGiven found option = (text : List ℕ) × (value_in found option ≡ Some text)
+abbrev pub HasText : List Row → LineOption → Type 0
+HasText found option = (text : List ℕ) × (value_in found option ≡ Some text)
 
 -- what is to be shown is a view
 abbrev pub IsSeen : List Row → Type 0
@@ -106,7 +106,7 @@ Explains words Memory = ⊤
 -- clap takes the words, and the line has the subcommand and the values that it finds
 abbrev pub IsLineOf : List (List ℕ) → Line → Type 0
 IsLineOf words line =
-    (fault_of program words ≡ []) × ((found : List Row) × (subcommand_of program words ≡ Some (subcommand_name (subcommand_of_line line), found)) × HasValues found line)
+    (fault_of program words ≡ []) × ((found : List Row) × (subcommand_of program words ≡ Some (subcommand_name (subcommand_of_line line), found)) × HasFoundValues found line)
 
 -- clap takes the words, and they name a script with the values that it finds
 abbrev pub IsScriptOf : List (List ℕ) → ScriptFile → Type 0

@@ -34,13 +34,13 @@ ReadsWords words (Err refusal.Script) = (script : ScriptFile) × IsScriptOf word
 ReadsWords words (Err (refusal.Fault fault)) = fault ≡ Memory
 
 -- so it is of a line of a script, and one that is not taken apart into words is told by its cause
-abbrev pub ReadsLine : List ℕ → Result (List (List ℕ)) LineCause → Result Line Refusal → Type 0
-ReadsLine db (Ok words) result = ReadsWords (command_words db words) result
-ReadsLine db (Err cause) result = result ≡ Err (refusal.Text cause)
+abbrev pub ReadsScriptLine : List ℕ → Result (List (List ℕ)) LineCause → Result Line Refusal → Type 0
+ReadsScriptLine db (Ok words) result = ReadsWords (command_words db words) result
+ReadsScriptLine db (Err cause) result = result ≡ Err (refusal.Text cause)
 
 -- an entry for a line, under its number
 abbrev pub IsEntryOf : List ℕ → ScriptLine → Entry → Type 0
-IsEntryOf db line entry = (entry.number ≡ line.number) × ReadsLine db line.words entry.line
+IsEntryOf db line entry = (entry.number ≡ line.number) × ReadsScriptLine db line.words entry.line
 
 -- an entry for each line, in order
 unfoldable pub AreEntriesOf : List ℕ → List ScriptLine → List Entry → Type 0

@@ -17,9 +17,9 @@ fault_status fault.Output = 5
 fault_status _ = 1
 
 -- 0: done
-abbrev pub status_of : Option Fault → ℕ
-status_of None = 0
-status_of (Some fault) = fault_status fault
+abbrev pub exit_status : Option Fault → ℕ
+exit_status None = 0
+exit_status (Some fault) = fault_status fault
 
 -- 2: the words are no line
 abbrev pub usage_status : Usage → ℕ

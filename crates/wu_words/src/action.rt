@@ -2,7 +2,7 @@
 
 ghost use Rattle.std.specs.Prelude.{◌≡◌, drop};
 ghost use Rattle.std.specs.Vec.Iter.{into_iter_items};
-ghost use Rattle.wu_core.specs.Reads.{Gives, TellsRefusal};
+ghost use Rattle.wu_core.specs.Reads.{IsOrWantsMemory, TellsRefusal};
 ghost use Rattle.wu_core.specs.Names.{name_of};
 ghost use Rattle.wu_feed.specs.Moments.{moment_of};
 ghost use Rattle.wu_words.specs.Actions.{all_of_cycle, batch, both, bytes_of, content_of, one, prepared, rows_file};
@@ -62,7 +62,7 @@ pub enum Action {
 
 /// An action of one command.
 fn one(alloc: Global, command: Command) -> Result<Action, Fault>
-    ensures { Gives result (one command) }
+    ensures { IsOrWantsMemory result (one command) }
 {
     let commands = Vec::from_array(alloc, [command])?;
     Ok(Action::Commands(Commands::from_vec(commands)))
@@ -89,7 +89,7 @@ fn moment(text: &Word) -> Result<Moment, Fault>
 }
 
 fn name(alloc: Global, text: &Word) -> Result<Name, Fault>
-    ensures name { Gives result (name_of text.now) }
+    ensures name { IsOrWantsMemory result (name_of text.now) }
     ensures told { TellsRefusal result (name_of text.now) }
 {
     Name::read(alloc, text.as_str().as_bytes())
@@ -123,7 +123,7 @@ fn batch_files(contents: Vec<Option<Vec<u8>>>) -> Result<(Bytes, Bytes), Fault>
 
 /// The action of a batch: the contents are those of its jobs and of its template.
 fn batch(alloc: Global, text: &Word, contents: Vec<Option<Vec<u8>>>) -> Result<Action, Fault>
-    ensures action { Gives result (batch text.now (bytes_of contents.items)) }
+    ensures action { IsOrWantsMemory result (batch text.now (bytes_of contents.items)) }
     ensures told { TellsRefusal result (batch text.now (bytes_of contents.items)) }
 {
     let (name, (file, template)) = both(name(alloc, text), batch_files(contents))?;
@@ -139,7 +139,7 @@ fn batch(alloc: Global, text: &Word, contents: Vec<Option<Vec<u8>>>) -> Result<A
 
 /// A file of rows under its name.
 fn rows_file(alloc: Global, text: &Word, contents: Vec<Option<Vec<u8>>>) -> Result<RowsFile, Fault>
-    ensures file { Gives result (rows_file text.now (bytes_of contents.items)) }
+    ensures file { IsOrWantsMemory result (rows_file text.now (bytes_of contents.items)) }
     ensures told { TellsRefusal result (rows_file text.now (bytes_of contents.items)) }
 {
     let file = next_content(&mut contents.into_iter());
@@ -149,19 +149,20 @@ fn rows_file(alloc: Global, text: &Word, contents: Vec<Option<Vec<u8>>>) -> Resu
 
 /// The action of a cycle.
 fn all_of_cycle(alloc: Global, now: &Word, limit: u64, min_age: u64) -> Result<Action, Fault>
-    ensures action { Gives result (all_of_cycle now.now limit min_age) }
+    ensures action { IsOrWantsMemory result (all_of_cycle now.now limit min_age) }
     ensures told { TellsRefusal result (all_of_cycle now.now limit min_age) }
 {
     let commands = cycle(alloc, moment(now)?, limit, min_age)?;
     Ok(Action::Commands(Commands::from_vec(commands)))
 }
 
-/// What a line asks of a project, with the contents of its files in the order of its usage line: None for one that could
-/// not be read, no bytes for a template that the line leaves out. It takes their bytes and copies none. It answers the
-/// first fault among the options from left to right: `BadName`, `BadMoment`, or for a file that was not read `BadFile`
-/// with row 0 and `Unreadable`; want of memory it tells only where there is none. Limits and ages are not looked at.
+/// What a line asks of a project, with the contents of its files in the order of its usage line: None for one that
+/// could not be read, no bytes for a template that the line leaves out. It takes their bytes and copies none. It
+/// answers the first fault among the options from left to right: `BadName`, `BadMoment`, or for a file that was not
+/// read `BadFile` with row 0 and `Unreadable`; want of memory it tells only where there is none. Limits and ages are
+/// not looked at.
 pub fn prepare(alloc: Global, line: &Line, contents: Vec<Option<Vec<u8>>>) -> Result<Action, Fault>
-    ensures action { Gives result (prepared line.now (bytes_of contents.items)) }
+    ensures action { IsOrWantsMemory result (prepared line.now (bytes_of contents.items)) }
     ensures told { TellsRefusal result (prepared line.now (bytes_of contents.items)) }
 {
     match line {

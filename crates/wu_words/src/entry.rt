@@ -1,7 +1,7 @@
 //! The entries of a script: each of its lines that has words, as a line of the command line or as why it is none.
 
 ghost use Rattle.std.specs.Prelude.{◌≡◌, IfOk, length, map, vec_len};
-ghost use Rattle.wu_words.specs.Actions.{file_of};
+ghost use Rattle.wu_words.specs.Actions.{asked_file};
 ghost use Rattle.wu_words.specs.Scripts.{files_of_entry};
 ghost use Rattle.wu_core.specs.declared.fault.Fault.TheVariants as fault;
 ghost use Rattle.wu_words.specs.declared.entry.Refusal.TheVariants as why;
@@ -69,7 +69,8 @@ pub struct Entry {
 impl Entry {
     /// The files that the line names, as `Line::files`; none where it is no line.
     pub fn files(&self, alloc: Global) -> Result<Vec<LineFile<'_>>, AllocError>
-        ensures files { IfOk result (λ files. map file_of files.items ≡ files_of_entry self.now) }
+        ensures files { IfOk result
+            (λ files. map asked_file files.items ≡ files_of_entry self.now) }
         ensures count { IfOk result (λ files. vec_len files ≡ length (files_of_entry self.now)) }
     {
         match &self.line {

@@ -2,7 +2,7 @@
 
 ghost use Rattle.std.specs.Prelude.{◌≡◌, length, map, vec_len, IfOk, Some};
 ghost use Rattle.wu_feed.specs.Limits.{longest_file, longest_template};
-ghost use Rattle.wu_words.specs.Actions.{file_of, files_of};
+ghost use Rattle.wu_words.specs.Actions.{asked_file, files_of};
 
 use crate::line::Line;
 use crate::word::Word;
@@ -20,7 +20,7 @@ pub struct LineFile<'a> {
 
 /// A file of rows.
 fn rows(path: &Word) -> LineFile<'_>
-    ensures { file_of result ≡ (Some path.now, longest_file) }
+    ensures { asked_file result ≡ (Some path.now, longest_file) }
 {
     LineFile {
         path: Some(path.as_str()),
@@ -30,7 +30,7 @@ fn rows(path: &Word) -> LineFile<'_>
 
 /// A template, or none.
 fn template(path: &Option<Word>) -> LineFile<'_>
-    ensures { file_of result ≡ (path.now, longest_template) }
+    ensures { asked_file result ≡ (path.now, longest_template) }
 {
     let path = match path {
         Some(path) => Some(path.as_str()),
@@ -46,7 +46,7 @@ impl Line {
     /// The files that the line names, in the order of its usage line: jobs and template, or the file of sends or of
     /// reports, or none.
     pub fn files(&self, alloc: Global) -> Result<Vec<LineFile<'_>>, AllocError>
-        ensures files { IfOk result (λ files. map file_of files.items ≡ files_of self.now) }
+        ensures files { IfOk result (λ files. map asked_file files.items ≡ files_of self.now) }
         ensures count { IfOk result (λ files. vec_len files ≡ length (files_of self.now)) }
     {
         let files = match self {

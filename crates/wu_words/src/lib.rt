@@ -29,7 +29,7 @@ pub use option::LineOption;
 pub use order::{Order, ScriptFile};
 pub use reading::{absent, read_up_to, text_of_script, unread};
 pub use script::read_lines;
-pub use status::{UNOPENED, fault_status, status_of};
+pub use status::{UNOPENED, exit_status, fault_status};
 pub use step::{BadLine, FedEntry, LineFault, Step, Steps, feed, prepare_script};
 pub use subcommand::Subcommand;
 pub use usage::Usage;

@@ -93,8 +93,9 @@ impl LineOption {
             LineOption::Template =>
                 "TOML file of the jobs' parameters, at most 65,536 bytes; each parameter that is absent has its default",
             LineOption::File =>
-                "CSV file with its header, at most 1,000 rows and 1,048,576 bytes; of a script a command a line, without the program's name and without --db",
-            LineOption::Now => "The moment in UTC as YYYY-MM-DDTHH:MM:SSZ, from 1970 to 2099",
+                "CSV file with the header result,host,moment of sends, or result,host,moment,status,output of reports, at most 1,000 rows and 1,048,576 bytes; of a script a command a line, without the program's name and without --db",
+            LineOption::Now =>
+                "The moment in UTC as YYYY-MM-DDTHH:MM:SSZ, from 1970 to 2099; date -u +%FT%TZ prints the present one",
             LineOption::Limit =>
                 "How many workunits are changed at most, the first by number: 1 to 1000",
             LineOption::MinAge =>

@@ -4,7 +4,7 @@ ghost use Rattle.std.specs.Prelude.{◌≡◌, option_map, vec_items, IfErr, IfO
 ghost use Rattle.std.specs.IoError.{error_kind};
 ghost use Rattle.wu_core.specs.declared.fault.Fault.TheVariants.{Memory};
 ghost use Rattle.wu_words.specs.Actions.{content_bytes};
-ghost use Rattle.wu_words.specs.Reading.{IsTextOf, IsUnread, read_at_most};
+ghost use Rattle.wu_words.specs.Reading.{IsTextOf, ReadsNothing, read_at_most};
 
 use std::alloc::Global;
 use std::io::{self, ErrorKind, Read};
@@ -12,7 +12,7 @@ use wu_core::{Fault, FileCause};
 
 /// What a file that can't be read holds: nothing that is known. Want of memory alone is a fault.
 pub fn unread(error: &io::Error) -> Result<Option<Vec<u8>>, Fault>
-    ensures { IsUnread (error_kind error.now) result }
+    ensures { ReadsNothing (error_kind error.now) result }
 {
     if error.kind() == ErrorKind::OutOfMemory {
         Err(Fault::Memory)
@@ -21,8 +21,8 @@ pub fn unread(error: &io::Error) -> Result<Option<Vec<u8>>, Fault>
     }
 }
 
-/// What a reader holds, at most so many bytes and one more, by which it is seen to hold too many; None where it can't be
-/// read to there. The only fault is `Memory`.
+/// What a reader holds, at most so many bytes and one more, by which it is seen to hold too many; None where it can't
+/// be read to there. The only fault is `Memory`.
 pub fn read_up_to<R: Read + Drop>(
     alloc: Global,
     reader: R,

@@ -1,7 +1,7 @@
 //! The lines of a script as lines of the command line.
 
 ghost use Rattle.std.specs.Prelude.{◌≡◌, ◌++◌, codes, IfErr, IfOk, map, string_bytes};
-ghost use Rattle.wu_words.specs.Scripts.{command_words, FailsToRead, ReadsLine, ReadsScript, ReadsWords};
+ghost use Rattle.wu_words.specs.Scripts.{command_words, FailsToRead, ReadsScriptLine, ReadsScript, ReadsWords};
 
 use crate::entry::{Entries, Entry, Refusal};
 use crate::line::Line;
@@ -20,7 +20,8 @@ fn database_word(alloc: Global, db: &str) -> Result<String, AllocError>
     Ok(word)
 }
 
-/// The words of a script's line as words of the command line: behind the program's name, with the database at their end.
+/// The words of a script's line as words of the command line: behind the program's name, with the database at their
+/// end.
 fn words_of_command(alloc: Global, db: &str, words: Words) -> Result<Vec<String>, AllocError>
     ensures { IfOk result (λ all. map string_bytes all.items ≡ command_words db.now words) }
 {
@@ -43,7 +44,7 @@ fn line_of_words(alloc: Global, db: &str, words: Words) -> Result<Line, Refusal>
 
 /// The line of a script's words, or why there is none.
 fn line_of(alloc: Global, db: &str, words: Result<Words, LineCause>) -> Result<Line, Refusal>
-    ensures { ReadsLine db.now words result }
+    ensures { ReadsScriptLine db.now words result }
 {
     match words {
         Ok(words) => line_of_words(alloc, db, words),

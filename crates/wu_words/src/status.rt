@@ -1,7 +1,7 @@
 //! The status of the program.
 
 ghost use Rattle.std.specs.Prelude.{◌≡◌};
-ghost use Rattle.wu_words.specs.Statuses.{fault_status, status_of, usage_status};
+ghost use Rattle.wu_words.specs.Statuses.{fault_status, exit_status, usage_status};
 
 use crate::usage::Usage;
 use wu_core::Fault;
@@ -22,8 +22,8 @@ pub fn fault_status(fault: Fault) -> u8
 }
 
 /// The status that the program ends with: 0 where no fault came.
-pub fn status_of(end: Option<Fault>) -> u8
-    ensures { result ≡ status_of end }
+pub fn exit_status(end: Option<Fault>) -> u8
+    ensures { result ≡ exit_status end }
 {
     match end {
         None => 0,

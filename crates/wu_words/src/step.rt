@@ -10,8 +10,8 @@ use std::alloc::Global;
 use std::marker::Model;
 use wu_core::Fault;
 
-/// An entry of a script with what its files hold, in the order of `Entry::files`: None for one that could not be read, no
-/// bytes for a template that is left out.
+/// An entry of a script with what its files hold, in the order of `Entry::files`: None for one that could not be read,
+/// no bytes for a template that is left out.
 #[derive(Debug, Drop)]
 pub struct FedEntry {
     pub entry: Entry,

@@ -3,7 +3,7 @@
 ghost use Rattle.std.specs.Prelude.{◌≡◌, IfErr, IfOk, option_map};
 ghost use Rattle.clap.specs.Words.{found_of, rows_of};
 ghost use Rattle.wu_words.specs.Lines.{IsNumberIn, IsTextIn, IsViewIn, value_in};
-ghost use Rattle.wu_words.specs.Refusals.{IsGiven, IsUnseen, IsWithout, LacksNumber, LacksText, TellsLack, WantsOnly};
+ghost use Rattle.wu_words.specs.Refusals.{HasText, IsUnseen, IsWithout, LacksNumberText, LacksText, TellsLack, WantsOnly};
 ghost use Rattle.wu_words.specs.declared.usage.Usage.TheVariants.{Memory};
 
 use crate::option::LineOption;
@@ -26,7 +26,7 @@ fn value<'a>(found: &ArgMatches<'a>, option: LineOption) -> Option<&'a str>
 pub fn text(alloc: Global, found: &ArgMatches<'_>, option: LineOption) -> Result<Word, Usage>
     ensures value { IfOk result (IsTextIn (rows_of (found_of found.now)) option) }
     ensures refused { IfErr result (IsWithout (LacksText (rows_of (found_of found.now)) option)) }
-    ensures wants { WantsOnly result (IsGiven (rows_of (found_of found.now)) option) }
+    ensures wants { WantsOnly result (HasText (rows_of (found_of found.now)) option) }
 {
     match value(found, option) {
         Some(text) => Ok(Word::from_text(alloc, text)?),
@@ -40,7 +40,7 @@ pub fn template(alloc: Global, found: &ArgMatches<'_>) -> Result<Option<Word>, U
         value_in (rows_of (found_of found.now)) LineOption.Template ≡ word) }
     ensures refused { IfErr result (λ usage. usage ≡ Memory) }
     ensures wants { WantsOnly result
-        (IsGiven (rows_of (found_of found.now)) LineOption.Template) }
+        (HasText (rows_of (found_of found.now)) LineOption.Template) }
 {
     match value(found, LineOption::Template) {
         Some(text) => Ok(Some(Word::from_text(alloc, text)?)),
@@ -51,7 +51,8 @@ pub fn template(alloc: Global, found: &ArgMatches<'_>) -> Result<Option<Word>, U
 /// The number of an option that has to be given. It takes no memory.
 pub fn number(found: &ArgMatches<'_>, option: LineOption) -> Result<u64, Usage>
     ensures value { IfOk result (IsNumberIn (rows_of (found_of found.now)) option) }
-    ensures refused { IfErr result (TellsLack (LacksNumber (rows_of (found_of found.now)) option)) }
+    ensures refused { IfErr result
+        (TellsLack (LacksNumberText (rows_of (found_of found.now)) option)) }
 {
     match found.get_one(option.name()) {
         Some(number) => Ok(number),

@@ -6,10 +6,10 @@ ghost use Rattle.wu_machine.specs.Machine.{has_right_limits};
 ghost use Rattle.wu_passes.specs.Planning.{NeverEnded, PlansFor};
 ghost use Rattle.wu_machine.specs.Commands.{request_of};
 ghost use Rattle.wu_machine.specs.Sound.{IsProject};
-ghost use Rattle.wu_store.specs.Loading.{Asks, NotRefusedIn, OverWorlds, ServesUnlessFailed};
+ghost use Rattle.wu_store.specs.Loading.{Asks, NotRefusedIn, ForEachWorld, ServesUnlessFailed};
 ghost use Rattle.wu_passes.specs.Standing.{IsCutBy};
 ghost use Rattle.wu_passes.specs.Adopting.{Adopts, RefusesAdoption};
-ghost use Rattle.wu_passes.specs.Projects.{AnswersEnded, AsksOn, CarriesOut, CarriesOutFrom, connection_of, FailsAgain, GoesOnAgain, GoesStill, has_ended, IsOver, KeepsSession, LeavesIdle, LeavesUntouched, PlansOn, ReadsUnrefused, RefusesLimit, RunsOver, ServesOn, ServesRight, state_of, TellsWhy};
+ghost use Rattle.wu_passes.specs.Projects.{AnswersEnded, AsksOn, CarriesOut, CarriesOutFrom, connection_of, FailsAgain, GoesOnAgain, IsSessionOpen, has_ended, IsSessionEnded, KeepsSession, LeavesIdle, LeavesUntouched, PlansOn, ReadsUnrefused, RefusesLimit, RunsOver, ServesOn, ServesRight, state_of, TellsWhy};
 
 use crate::batch::plan_batch;
 use crate::cancel::plan_cancel;
@@ -42,10 +42,9 @@ fn find_or_create<S: Alter>(conn: &mut Connection<S>) -> Result<(), Fault>
         return Err(Fault::NotAProject);
     }
     conn.set_step_limit(None);
-    match version_of(conn) {
-        Ok(Some(version)) => check_version(version),
-        Ok(None) => create(conn),
-        Err(fault) => Err(fault),
+    match version_of(conn)? {
+        Some(version) => check_version(version),
+        None => create(conn),
     }
 }
 
@@ -78,7 +77,8 @@ fn plan<'a, S: Alter>(
     ensures opens { ServesUnlessFailed S.Store conn.new result }
     ensures never { NeverEnded result }
     ensures unrefused { NotRefusedIn S.Store conn.old conn.new result IsProject }
-    ensures plan { OverWorlds S.Store conn.old conn.new (PlansFor (request_of command.now) result) }
+    ensures plan { ForEachWorld S.Store conn.old conn.new
+        (PlansFor (request_of command.now) result) }
 {
     match command {
         Command::Batch(batch) => plan_batch(conn, alloc, batch),
@@ -115,7 +115,7 @@ impl<S: Alter> Project<S> {
     /// With each refusal the connection comes back, and is open but after `Memory` and `Broken`.
     pub fn adopt(mut conn: Connection<S>) -> Result<Self, (Connection<S>, Fault)>
         ensures busy { conn.in_transaction ≡ true → result ≡ Err (conn, Fault.NotAProject) }
-        ensures begins { IfOk result GoesStill }
+        ensures begins { IfOk result IsSessionOpen }
         ensures adopted { IfOk result (λ project. Adopts (state S.Store conn) (state_of project)) }
         ensures refused { IfErr result (λ refusal.
             RefusesAdoption (state S.Store conn) (state S.Store refusal.0) refusal.1) }
@@ -150,7 +150,7 @@ impl<S: Alter> Project<S> {
     /// Where a fault ended it and left the connection open, the new one goes on over the world from before, and only
     /// `Memory` and `Broken` refuse it.
     pub fn begin_again(self) -> Result<Self, (Connection<S>, Fault)>
-        ensures begins { IfOk result GoesStill }
+        ensures begins { IfOk result IsSessionOpen }
         ensures adopted { IfOk result (λ project. Adopts (state_of self) (state_of project)) }
         ensures refused { IfErr result (λ refusal.
             RefusesAdoption (state_of self) (state S.Store refusal.0) refusal.1) }
@@ -162,21 +162,22 @@ impl<S: Alter> Project<S> {
 
     /// Runs a command: its changes in one transaction, then its answer.
     ///
-    /// A pass whose limit or least age is out of range is `BadLimit`, and nothing is touched. All is computed before the
-    /// transaction begins; a fault before it leaves the project as it was, and only `Broken` ends the session there. A
-    /// statement that is refused within it is `NotAProject`, and is rolled back; `Memory` and `Broken` from within end the
-    /// session. For a command with right limits the connection is open after Ok and after each fault but `Memory` and
-    /// `Broken`; after a `Memory` that leaves the session on it may be closed. A command that the machine makes nothing of,
-    /// such as an import that comes again, begins no transaction.
+    /// A pass whose limit or least age is out of range is `BadLimit`, and nothing is touched. All is computed before
+    /// the transaction begins; a fault before it leaves the project as it was, and only `Broken` ends the session
+    /// there. A statement that is refused within it is `NotAProject`, and is rolled back; `Memory` and `Broken` from
+    /// within end the session. For a command with right limits the connection is open after Ok and after each fault but
+    /// `Memory` and `Broken`; after a `Memory` that leaves the session on it may be closed. A command that the machine
+    /// makes nothing of, such as an import that comes again, begins no transaction.
     pub fn run(&mut self, alloc: Global, command: &Command) -> Result<Answer, Fault>
-        ensures ended { IsOver self.old → AnswersEnded self.old self.new result }
+        ensures ended { IsSessionEnded self.old → AnswersEnded self.old self.new result }
         ensures session { KeepsSession self.old self.new result }
-        ensures opens { GoesStill self.old → ServesRight self.new command.now result }
-        ensures refused { GoesStill self.old → RefusesLimit self.old self.new command.now result }
-        ensures runs { GoesStill self.old → RunsOver self.old self.new command.now result }
-        ensures why { GoesStill self.old → TellsWhy self.old self.new command.now result }
+        ensures opens { IsSessionOpen self.old → ServesRight self.new command.now result }
+        ensures refused { IsSessionOpen self.old
+            → RefusesLimit self.old self.new command.now result }
+        ensures runs { IsSessionOpen self.old → RunsOver self.old self.new command.now result }
+        ensures why { IsSessionOpen self.old → TellsWhy self.old self.new command.now result }
         ensures untouched { LeavesUntouched self.old self.new result }
-        ensures idle { GoesStill self.old → LeavesIdle self.old self.new command.now result }
+        ensures idle { IsSessionOpen self.old → LeavesIdle self.old self.new command.now result }
     {
         if self.has_ended {
             return Err(Fault::Ended);
@@ -194,10 +195,10 @@ impl<S: Alter> Project<S> {
     ///
     /// `Broken` ends the session here, and nothing else does: not want of memory, whatever the command.
     fn prepare<'a>(&mut self, alloc: Global, command: &'a Command) -> Result<Plan<'a>, Fault>
-        requires still { GoesStill self.old }
+        requires still { IsSessionOpen self.old }
         requires right { has_right_limits (request_of command.now) ≡ true }
-        ensures ends { IsOver self.new → result ≡ Err Fault.Broken }
-        ensures broken { result ≡ Err Fault.Broken → IsOver self.new }
+        ensures ends { IsSessionEnded self.new → result ≡ Err Fault.Broken }
+        ensures broken { result ≡ Err Fault.Broken → IsSessionEnded self.new }
         ensures asks { AsksOn self.old self.new result }
         ensures opens { ServesOn self.new result }
         ensures never { NeverEnded result }
@@ -218,7 +219,7 @@ impl<S: Alter> Project<S> {
 
     /// Makes the changes of a plan, if there are any, and gives its answer.
     fn carry_out(&mut self, answer: Answer, changes: &[Change<'_>]) -> Result<Answer, Fault>
-        requires { GoesStill self.old }
+        requires { IsSessionOpen self.old }
         ensures session { KeepsSession self.old self.new result }
         ensures opens { IsTrue (state_of self.old).is_open → ServesOn self.new result }
         ensures cause { IfErr result (IsCutBy (has_ended self.new)) }
@@ -249,7 +250,7 @@ impl<S: Alter> Project<S> {
 
     /// Ends the session.
     pub fn end_session(&mut self)
-        ensures over { IsOver self.new }
+        ensures over { IsSessionEnded self.new }
         ensures same { connection_of self.new ≡ connection_of self.old }
     {
         self.has_ended = true;

@@ -9,19 +9,20 @@ use wu_core::Fault;
 use wu_store::{Summary, summary};
 
 impl<S: Alter> Project<S> {
-    ghost use Rattle.wu_passes.specs.Projects.{AnswersEnded, AsksOn, GoesStill, IsOver, ServesOn, Summarizes, SummarizesUnrefused};
+    ghost use Rattle.wu_passes.specs.Projects.{AnswersEnded, AsksOn, IsSessionOpen, IsSessionEnded, ServesOn, Summarizes, SummarizesUnrefused};
 
     /// How much the project holds. It changes no table; `Broken` ends the session.
     ///
     /// `NotAProject` where a row is no value, or where the credit of all grants is not below 2^64.
     pub fn summary(&mut self) -> Result<Summary, Fault>
-        ensures ended { IsOver self.old → AnswersEnded self.old self.new result }
+        ensures ended { IsSessionEnded self.old → AnswersEnded self.old self.new result }
         ensures asks { AsksOn self.old self.new result }
-        ensures opens { GoesStill self.old → ServesOn self.new result }
-        ensures fault { GoesStill self.old → IfErr result IsStoreFault }
-        ensures ends { GoesStill self.old → IsOver self.new → result ≡ Err Fault.Broken }
-        ensures broken { result ≡ Err Fault.Broken → IsOver self.new }
-        ensures unrefused { GoesStill self.old → SummarizesUnrefused self.old self.new result }
+        ensures opens { IsSessionOpen self.old → ServesOn self.new result }
+        ensures fault { IsSessionOpen self.old → IfErr result IsStoreFault }
+        ensures ends { IsSessionOpen self.old → IsSessionEnded self.new
+            → result ≡ Err Fault.Broken }
+        ensures broken { result ≡ Err Fault.Broken → IsSessionEnded self.new }
+        ensures unrefused { IsSessionOpen self.old → SummarizesUnrefused self.old self.new result }
         ensures summary { Summarizes self.old self.new result }
     {
         if self.has_ended {

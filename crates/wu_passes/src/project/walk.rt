@@ -17,8 +17,8 @@ use wu_store::{
 
 /// A walk over lines of a project. Once it is dropped, the project is as it left it.
 ///
-/// It ends no session: after `Broken` its caller drops it, and calls `end_session`. `L` is what it holds of the lines, of
-/// which callers need not know.
+/// It ends no session: after `Broken` its caller drops it, and calls `end_session`. `L` is what it holds of the lines,
+/// of which callers need not know.
 pub struct LineWalk<'a, S: Alter, L: Drop> {
     project: &'a mut Project<S>,
     lines: L,
@@ -81,7 +81,7 @@ impl<S: Alter, L: Drop> Drop for LineWalk<'_, S, L> {
 
 impl<S: Alter> Project<S> {
     ghost use Rattle.std.specs.Borrow.{sem};
-    ghost use Rattle.wu_passes.specs.Projects.{GoesStill, IsOpen, IsOver, WasOpenBefore};
+    ghost use Rattle.wu_passes.specs.Projects.{IsSessionOpen, IsOpen, IsSessionEnded, WasOpenBefore};
     ghost use Rattle.wu_passes.specs.Walks.{OnlyReads, RestsIfRefused, walked, WalksOver};
 
     /// Begins a walk over all workunits, in order of number.
@@ -91,20 +91,18 @@ impl<S: Alter> Project<S> {
         ensures* refused { sem 𝓛 (RestsIfRefused S.row S.Store AreStorable self.entry result) }
         ensures same_reference { IfOk result
             (λ walk. walk.project.ghost_name ≡ self.entry.ghost_name) }
-        ensures ended { IsOver self.old → result ≡ Err Fault.Ended }
+        ensures ended { IsSessionEnded self.old → result ≡ Err Fault.Ended }
         ensures reads { IfOk result (λ walk. OnlyReads self.old (walked walk)) }
         ensures open { IfOk result (λ walk. WasOpenBefore self.old (walked walk) result) }
         ensures opens { IfOk result (λ walk. IsOpen (walked walk)) }
-        ensures fault { GoesStill self.old → IfErr result IsStoreFault }
+        ensures fault { IsSessionOpen self.old → IfErr result IsStoreFault }
         ensures lines { IfOk result (WalksOver workunit_lines self.old) }
     {
         if self.has_ended {
             return Err(Fault::Ended);
         }
-        match workunit_lines(&mut self.conn, alloc) {
-            Ok(lines) => Ok(Walk::new(self, lines)),
-            Err(fault) => Err(fault),
-        }
+        let lines = workunit_lines(&mut self.conn, alloc)?;
+        Ok(Walk::new(self, lines))
     }
 
     /// Begins a walk over all instances, in order of their workunits and then of their own numbers.
@@ -114,20 +112,18 @@ impl<S: Alter> Project<S> {
         ensures* refused { sem 𝓛 (RestsIfRefused S.row S.Store AreStorable self.entry result) }
         ensures same_reference { IfOk result
             (λ walk. walk.project.ghost_name ≡ self.entry.ghost_name) }
-        ensures ended { IsOver self.old → result ≡ Err Fault.Ended }
+        ensures ended { IsSessionEnded self.old → result ≡ Err Fault.Ended }
         ensures reads { IfOk result (λ walk. OnlyReads self.old (walked walk)) }
         ensures open { IfOk result (λ walk. WasOpenBefore self.old (walked walk) result) }
         ensures opens { IfOk result (λ walk. IsOpen (walked walk)) }
-        ensures fault { GoesStill self.old → IfErr result IsStoreFault }
+        ensures fault { IsSessionOpen self.old → IfErr result IsStoreFault }
         ensures lines { IfOk result (WalksOver result_lines self.old) }
     {
         if self.has_ended {
             return Err(Fault::Ended);
         }
-        match result_lines(&mut self.conn, alloc) {
-            Ok(lines) => Ok(Walk::new(self, lines)),
-            Err(fault) => Err(fault),
-        }
+        let lines = result_lines(&mut self.conn, alloc)?;
+        Ok(Walk::new(self, lines))
     }
 
     /// Begins a walk over all hosts that have grants, in order of their names' bytes.
@@ -137,20 +133,18 @@ impl<S: Alter> Project<S> {
         ensures* refused { sem 𝓛 (RestsIfRefused S.row S.Store AreHostsNamed self.entry result) }
         ensures same_reference { IfOk result
             (λ walk. walk.project.ghost_name ≡ self.entry.ghost_name) }
-        ensures ended { IsOver self.old → result ≡ Err Fault.Ended }
+        ensures ended { IsSessionEnded self.old → result ≡ Err Fault.Ended }
         ensures reads { IfOk result (λ walk. OnlyReads self.old (walked walk)) }
         ensures open { IfOk result (λ walk. WasOpenBefore self.old (walked walk) result) }
         ensures opens { IfOk result (λ walk. IsOpen (walked walk)) }
-        ensures fault { GoesStill self.old → IfErr result IsStoreFault }
+        ensures fault { IsSessionOpen self.old → IfErr result IsStoreFault }
         ensures lines { IfOk result (WalksOver host_lines self.old) }
     {
         if self.has_ended {
             return Err(Fault::Ended);
         }
-        match host_lines(&mut self.conn, alloc) {
-            Ok(lines) => Ok(Walk::new(self, lines)),
-            Err(fault) => Err(fault),
-        }
+        let lines = host_lines(&mut self.conn, alloc)?;
+        Ok(Walk::new(self, lines))
     }
 
     /// Begins a walk over all archived workunits, in order of their archiving.
@@ -160,19 +154,17 @@ impl<S: Alter> Project<S> {
         ensures* refused { sem 𝓛 (RestsIfRefused S.row S.Store IsArchiveStorable self.entry result) }
         ensures same_reference { IfOk result
             (λ walk. walk.project.ghost_name ≡ self.entry.ghost_name) }
-        ensures ended { IsOver self.old → result ≡ Err Fault.Ended }
+        ensures ended { IsSessionEnded self.old → result ≡ Err Fault.Ended }
         ensures reads { IfOk result (λ walk. OnlyReads self.old (walked walk)) }
         ensures open { IfOk result (λ walk. WasOpenBefore self.old (walked walk) result) }
         ensures opens { IfOk result (λ walk. IsOpen (walked walk)) }
-        ensures fault { GoesStill self.old → IfErr result IsStoreFault }
+        ensures fault { IsSessionOpen self.old → IfErr result IsStoreFault }
         ensures lines { IfOk result (WalksOver archived_lines self.old) }
     {
         if self.has_ended {
             return Err(Fault::Ended);
         }
-        match archived_lines(&mut self.conn, alloc) {
-            Ok(lines) => Ok(Walk::new(self, lines)),
-            Err(fault) => Err(fault),
-        }
+        let lines = archived_lines(&mut self.conn, alloc)?;
+        Ok(Walk::new(self, lines))
     }
 }

@@ -6,8 +6,8 @@ use Rattle.wu_machine.specs.declared.command.Answer.{Answer}
 use Rattle.wu_drive.proofs.DrivingLemmas.{IsDriving}
 use Rattle.wu_drive.specs.Driving.{MakeNothing}
 use Rattle.wu_passes.specs.Adopting.{KeepsAll}
-use Rattle.wu_passes.specs.Projects.{GoesStill, has_ended, KeepsLimit, state_of}
-use Rattle.wu_passes.specs.Standing.{KeepsDoubt}
+use Rattle.wu_passes.specs.Projects.{IsSessionOpen, has_ended, KeepsLimit, state_of}
+use Rattle.wu_passes.specs.Standing.{FaultsOnlyGrow}
 use Rattle.wu_machine.specs.Sound.{IsProject}
 use Rattle.wu_passes.specs.Standing.{GoesOn}
 use Rattle.wu_drive.specs.Writing.{answers_text}
@@ -17,13 +17,13 @@ abbrev pub invariant-loop-command : goal.invariant-loop-command
 invariant-loop-command g l =
     (l.acknowledged ≡ l.command-index)
     × (has_ended l.initial.project ≡ true → (l.command-index ≡ 0) × (l.project ≡ l.initial.project) × (l.out ≡ l.initial.out))
-    × (GoesStill l.initial.project → GoesStill l.project)
+    × (IsSessionOpen l.initial.project → IsSessionOpen l.project)
     × KeepsLimit l.initial.project l.project
-    × (KeepsDoubt (state_of l.initial.project) (state_of l.project))
+    × (FaultsOnlyGrow (state_of l.initial.project) (state_of l.project))
     × ((state_of l.initial.project).faults ≤ (state_of l.project).faults)
-    × (GoesStill l.initial.project → IsTrue (state_of l.initial.project).is_open → HasCleanDisk (state_of l.project) → IsTrue (state_of l.project).is_open)
+    × (IsSessionOpen l.initial.project → IsTrue (state_of l.initial.project).is_open → HasCleanDisk (state_of l.project) → IsTrue (state_of l.project).is_open)
     × (l.command-index ≡ 0 → l.project ≡ l.initial.project)
-    × (GoesStill l.initial.project → HasCleanDisk (state_of l.project) → (world : World) → IsProject world → GoesOn (state_of l.initial.project) world
+    × (IsSessionOpen l.initial.project → HasCleanDisk (state_of l.project) → (world : World) → IsProject world → GoesOn (state_of l.initial.project) world
     → MakeNothing world (take l.command-index l.commands) → KeepsAll (state_of l.initial.project) (state_of l.project))
     × ((answers : List Answer) × (length answers ≡ l.acknowledged) × Appends (g.W.Write.contents l.initial.out) (g.W.Write.contents l.out) (answers_text answers)
     × (has_ended l.initial.project ≡ false → HasCleanDisk (state_of l.project) → (world : World) → IsProject world → GoesOn (state_of l.initial.project) world

@@ -2,10 +2,10 @@ use Rattle.std.proofs.Common.{List, Vec, Global, ◌≡◌, ◌⊎◌, ◌≤◌
 use Rattle.std.proofs.Math.Logic.{∥∥₁_elim, ∥∥₁_map}
 use Rattle.std.proofs.Math.Seq.{take-length}
 use Rattle.sqlite.specs.Files.{file_state}
-use Rattle.wu_passes.specs.Projects.{GoesStill}
+use Rattle.wu_passes.specs.Projects.{IsSessionOpen}
 use Rattle.wu_machine.specs.declared.command.Command.{Command}
 use Rattle.wu_machine.specs.Sessions.{world_of_life}
-use Rattle.wu_lives.specs.Lives.{TellsLives, Told}
+use Rattle.wu_lives.specs.Lives.{TellsLives, Transcript}
 use Rattle.wu_lives.proofs.ReopeningLemmas.{lived_more, lived_none, of_more, one_more, written_more}
 use Rattle.wu_lives.proofs.reopening.live_all.Goals as goal
 
@@ -24,7 +24,7 @@ pub loop-commands-preserved : goal.loop-commands-preserved
 loop-commands-preserved g c =
     let ((told, are, written, found), was, begins, count) = c.loop-commands.invariant in
     let (answers, texts, replied) = c.in-Some.ensures.answers in
-    let next : Told = record { commands = c.as_slice.result.now; answers = answers; run = c.in-Some.lived.0 } in (
+    let next : Transcript = record { commands = c.as_slice.result.now; answers = answers; run = c.in-Some.lived.0 } in (
       (
         told ++ next ∷ [],
         of_more c.args.lives.now c.loop-commands.commands-index c.commands-item.result c.commands-item.result c.loop-commands.runs.items _ told next c.loop-commands-test.true (sym c.commands-item.is) c.as_slice.ensures.value
@@ -47,7 +47,7 @@ returns g c =
     let whole : c.loop-commands.commands-index ≡ length lives = omega (arith, c.loop-commands.auto.commands-index-end, c.loop-commands-test.false) in
     record {
       clean = was;
-      begins = λ on. begins (subst (λ n. GoesStill c.args.project ⊎ (1 ≤ n)) (sym whole) on);
+      begins = λ on. begins (subst (λ n. IsSessionOpen c.args.project ⊎ (1 ≤ n)) (sym whole) on);
       count = count ∙ whole;
       found =
           let tells : List (Vec Command Global) → Type 0 = λ ls. TellsLives (g.W.Write.contents c.args.out.now) (g.W.Write.contents c.loop-commands.out) (file_state c.args.project.conn) ls c.loop-commands.runs.items (file_state c.loop-commands.project.conn) in

@@ -1,6 +1,6 @@
 use Rattle.std.proofs.Common.{◌≡◌, ◌⊎◌, ◌≤◌, length, take}
 use Rattle.sqlite.specs.Files.{file_state}
-use Rattle.wu_passes.specs.Projects.{GoesStill}
+use Rattle.wu_passes.specs.Projects.{IsSessionOpen}
 use Rattle.wu_lives.specs.Lives.{TellsLives}
 use Rattle.wu_stops.specs.Stopping.{WasClean}
 use Rattle.wu_lives.proofs.reopening.live_all.Given as goal
@@ -9,5 +9,5 @@ abbrev pub invariant-loop-commands : goal.invariant-loop-commands
 invariant-loop-commands g l =
     TellsLives (g.W.Write.contents l.initial.out) (g.W.Write.contents l.out) (file_state l.initial.project.conn) (take l.commands-index l.lives) l.runs.items (file_state l.project.conn)
     × WasClean (file_state l.initial.project.conn) (file_state l.project.conn)
-    × (GoesStill l.initial.project ⊎ (1 ≤ l.commands-index) → GoesStill l.project)
+    × (IsSessionOpen l.initial.project ⊎ (1 ≤ l.commands-index) → IsSessionOpen l.project)
     × (length l.runs.items ≡ l.commands-index)

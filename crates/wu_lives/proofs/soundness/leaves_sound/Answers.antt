@@ -6,11 +6,11 @@ use Rattle.wu_machine.specs.Machine.{HasValues}
 use Rattle.wu_machine.specs.Sessions.{accepted, Lived, world_lived}
 use Rattle.wu_sound_laws.specs.Laws.{HaveValues}
 use Rattle.wu_sound_laws.proofs.Consequences.{lives_sound, session_values}
-use Rattle.wu_lives.specs.Lives.{AreSessionsOf, Told}
+use Rattle.wu_lives.specs.Lives.{AreSessionsOf, Transcript}
 use Rattle.wu_lives.proofs.soundness.leaves_sound.Goals as goal
 
 -- each session of a life accepted requests of its commands
-sessions_have : (world : World) (told : List Told) (life : List Lived) → AreSessionsOf world told life → AllByRecursion (λ (t : Told). HaveValues t.commands) told
+sessions_have : (world : World) (told : List Transcript) (life : List Lived) → AreSessionsOf world told life → AllByRecursion (λ (t : Transcript). HaveValues t.commands) told
     → AllByRecursion (λ (lived : Lived). All HasValues (accepted lived.session)) life
 sessions_have world [] [] are moments = tt
 sessions_have world [] (lived ∷ life) are moments = absurd are
@@ -22,4 +22,4 @@ sessions_have world (t ∷ told) (lived ∷ life) are moments = (
 
 pub returns : goal.returns
 returns c world told life moments sound are =
-    lives_sound world life (sessions_have world told life are (recursion_from_All (λ (t : Told). HaveValues t.commands) told moments)) sound
+    lives_sound world life (sessions_have world told life are (recursion_from_All (λ (t : Transcript). HaveValues t.commands) told moments)) sound

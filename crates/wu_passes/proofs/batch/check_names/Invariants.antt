@@ -3,7 +3,7 @@ use Rattle.sqlite.specs.State.{HasCleanDisk}
 use Rattle.sqlite.specs.Held.{state}
 use Rattle.wu_core.specs.World.{World}
 use Rattle.wu_schema.specs.Asking.{Asks}
-use Rattle.wu_schema.specs.StandsFor.{StandsFor}
+use Rattle.wu_schema.specs.Refines.{Refines}
 use Rattle.wu_passes.proofs.AskLemmas.{AreFree}
 use Rattle.wu_passes.proofs.batch.check_names.Given as goal
 
@@ -11,4 +11,4 @@ abbrev pub invariant-loop-job : goal.invariant-loop-job
 invariant-loop-job g l =
     (l.place ≡ l.job-index)
     × Asks {T = Unit {0}} g.S.Store l.initial.conn l.conn (Ok tt)
-    × (HasCleanDisk (state g.S.Store l.conn) → (world : World) → StandsFor (state g.S.Store l.initial.conn).now world → AreFree world l.jobs l.job-index)
+    × (HasCleanDisk (state g.S.Store l.conn) → (world : World) → Refines (state g.S.Store l.initial.conn).now world → AreFree world l.jobs l.job-index)

@@ -5,8 +5,8 @@ use Rattle.std.proofs.lemmas.Iterator.Adapters.{YieldsList-from_vec}
 use Rattle.std.proofs.lemmas.Iterator.Consumers.{YieldsList-end}
 use Rattle.sqlite.specs.State.{HasCleanDisk}
 use Rattle.sqlite.specs.Held.{state}
-use Rattle.wu_schema.specs.StandsFor.{StandsFor}
-use Rattle.wu_passes.proofs.AskLemmas.{asks_done, asks_fault, asks_none, asks_stands, asks_then}
+use Rattle.wu_schema.specs.Refines.{Refines}
+use Rattle.wu_passes.proofs.AskLemmas.{asks_done, asks_handed, asks_none, asks_stands, asks_then, handed_on}
 use Rattle.wu_passes.proofs.TouchedLemmas.{no_rows_left}
 use Rattle.wu_passes.proofs.files.apply_rows.Goals as goal
 
@@ -20,25 +20,26 @@ loop-row-init g c = (
 pub loop-row-preserved : goal.loop-row-preserved
 loop-row-preserved g c =
     let (digits, asks, left) = c.loop-row.invariant in
-    let grown : c.push.new.self.items ≡ c.loop-row.verdicts.items ++ c.in-Ok.verdict ∷ [] = search rules in (
-      rw grown (All-append (λ verdict. verdict ≤ 9) c.loop-row.verdicts.items (c.in-Ok.verdict ∷ []) digits (All-cons (λ verdict. verdict ≤ 9) c.in-Ok.verdict [] c.in-Ok.ensures.digit (All-nil (λ verdict. verdict ≤ 9)))),
-      asks_then g.S.Store _ _ _ tt asks _ (asks_done g.S.Store _ _ c.in-Ok.verdict c.in-Ok.ensures.asks),
+    let grown : c.push.new.self.items ≡ c.loop-row.verdicts.items ++ c.in_ok-apply_row.field-0 ∷ [] = search rules in (
+      rw grown (All-append (λ verdict. verdict ≤ 9) c.loop-row.verdicts.items (c.in_ok-apply_row.field-0 ∷ []) digits (All-cons (λ verdict. verdict ≤ 9) c.in_ok-apply_row.field-0 [] c.in_ok-apply_row.ensures.digit (All-nil (λ verdict. verdict ≤ 9)))),
+      asks_then g.S.Store _ _ _ tt asks _ (asks_done g.S.Store _ _ c.in_ok-apply_row.field-0 c.in_ok-apply_row.ensures.asks),
       λ clean world stands.
           let before : HasCleanDisk (state g.S.Store c.loop-row.conn) = omega (arith, c.apply_row.ensures.asks.crash.clean) in
-          let still : StandsFor (state g.S.Store c.loop-row.conn).now world = asks_stands g.S.Store _ _ tt asks before world stands in
-          rw grown (c.in-Ok.ensures.left clean world still c.loop-row.yielded c.loop-row.verdicts.items (left before world stands)),
+          let still : Refines (state g.S.Store c.loop-row.conn).now world = asks_stands g.S.Store _ _ tt asks before world stands in
+          rw grown (c.in_ok-apply_row.ensures.left clean world still c.loop-row.yielded c.loop-row.verdicts.items (left before world stands)),
     )
 
-pub returns-in-Err-clause-asks : goal.returns-in-Err-clause-asks
-returns-in-Err-clause-asks g c =
+pub returns-in_err-apply_row-clause-asks : goal.returns-in_err-apply_row-clause-asks
+returns-in_err-apply_row-clause-asks g c =
     let (_, asks, _) = c.loop-row.invariant in
-    asks_then g.S.Store _ _ _ tt asks _ (asks_fault g.S.Store _ _ c.in-Err.fault c.in-Err.ensures.asks)
+    asks_then g.S.Store _ _ _ tt asks _ (asks_handed g.S.Store _ _ c.from_residual.result c.in_err-apply_row.field-0.0 c.from_residual.ensures.1 c.in_err-apply_row.ensures.asks)
 
-pub returns-in-Err-clause-unrefused : goal.returns-in-Err-clause-unrefused
-returns-in-Err-clause-unrefused g c clean world stands storable limit =
+pub returns-in_err-apply_row-clause-unrefused : goal.returns-in_err-apply_row-clause-unrefused
+returns-in_err-apply_row-clause-unrefused g c clean world stands storable limit =
     let (_, asks, _) = c.loop-row.invariant in
     let before : HasCleanDisk (state g.S.Store c.loop-row.conn) = omega (arith, c.apply_row.ensures.asks.crash.clean) in
-    c.in-Err.ensures.unrefused clean world (asks_stands g.S.Store _ _ tt asks before world stands) storable (asks.crash.limit ∙ limit)
+    handed_on c.from_residual.result c.in_err-apply_row.field-0.0 c.from_residual.ensures.1
+    (c.in_err-apply_row.ensures.unrefused clean world (asks_stands g.S.Store _ _ tt asks before world stands) storable (asks.crash.limit ∙ limit))
 
 pub returns-clause-left : goal.returns-clause-left
 returns-clause-left g c clean world stands =

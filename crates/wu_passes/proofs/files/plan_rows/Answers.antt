@@ -1,8 +1,13 @@
 use Rattle.sqlite.specs.Held.{state}
 use Rattle.wu_passes.specs.Planning.{given_of}
+use Rattle.wu_passes.proofs.AskLemmas.{handed_on}
 use Rattle.wu_passes.proofs.ImportPlans.{file_planned}
 use Rattle.wu_passes.proofs.files.plan_rows.Goals as goal
 
-pub returns-in-Ok-clause-plan : goal.returns-in-Ok-clause-plan
-returns-in-Ok-clause-plan g c clean world stands =
-    file_planned g.R.FileRow.rule (given_of c.args.source.now) c.args.rows (state g.S.Store c.args.conn.now).now world stands c.in-Ok.left (c.in-Ok.ensures.left clean world stands) c.new_file.result c.new_file.ensures.plan c.new_file.ensures.fault
+pub returns-clause-plan : goal.returns-clause-plan
+returns-clause-plan g c clean world stands =
+    file_planned g.R.FileRow.rule (given_of c.args.source.now) c.args.rows (state g.S.Store c.args.conn.now).now world stands c.in_ok-left.left (c.in_ok-left.ensures.left clean world stands) c.new_file.result c.new_file.ensures.plan c.new_file.ensures.fault
+
+pub returns-in_err-left-clause-unrefused : goal.returns-in_err-left-clause-unrefused
+returns-in_err-left-clause-unrefused g c clean world stands storable limit =
+    handed_on c.from_residual.result c.in_err-left.field-0.0 c.from_residual.ensures.1 (c.in_err-left.ensures.unrefused clean world stands storable limit)

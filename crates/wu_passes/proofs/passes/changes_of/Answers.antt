@@ -1,17 +1,17 @@
 use Rattle.std.proofs.Common.{arith, ◌++◌, ◌∙◌, ap}
 use Rattle.sqlite.specs.Held.{state}
 use Rattle.sqlite.specs.State.{HasCleanDisk}
-use Rattle.wu_schema.specs.StandsFor.{StandsFor}
+use Rattle.wu_schema.specs.Refines.{Refines}
 use Rattle.wu_store.specs.Changing.{archived_from}
-use Rattle.wu_passes.proofs.AskLemmas.{asks_stands}
+use Rattle.wu_passes.proofs.AskLemmas.{asks_stands, handed_on}
 use Rattle.wu_passes.proofs.passes.changes_of.Goals as goal
 
-pub returns-in-Ok-and_archived-clause-added : goal.returns-in-Ok-and_archived-clause-added
-returns-in-Ok-and_archived-clause-added g c clean world stands =
+pub returns-clause-added : goal.returns-clause-added
+returns-clause-added g c clean world stands =
     let before : HasCleanDisk (state g.S.Store c.and_grants.new.conn) = omega (arith, c.and_archived.ensures.asks.crash.clean) in
-    let still : StandsFor (state g.S.Store c.and_grants.new.conn).now world = asks_stands g.S.Store _ _ c.in-Ok.field-0 c.in-Ok.ensures.asks before world stands in
-    let grants = c.in-Ok.ensures.added before world stands in
-    let rows = c.in-Ok-and_archived.ensures.added clean world still in
+    let still : Refines (state g.S.Store c.and_grants.new.conn).now world = asks_stands g.S.Store _ _ c.in_ok-and_grants.field-0 c.in_ok-and_grants.ensures.asks before world stands in
+    let grants = c.in_ok-and_grants.ensures.added before world stands in
+    let rows = c.in_ok-and_archived.ensures.added clean world still in
     record {
       place = grants.place;
       row_place = rows.place;
@@ -20,8 +20,13 @@ returns-in-Ok-and_archived-clause-added g c clean world stands =
       changes_are = rows.changes ∙ ap (λ cs. cs ++ archived_from rows.place c.args.handled.archived.items) grants.changes;
     }
 
-pub returns-clause-unrefused : goal.returns-clause-unrefused
-returns-clause-unrefused g c clean world stands limit =
+pub returns-in_err-and_grants-clause-unrefused : goal.returns-in_err-and_grants-clause-unrefused
+returns-in_err-and_grants-clause-unrefused g c clean world stands limit =
+    handed_on c.from_residual.result c.in_err-and_grants.field-0.0 c.from_residual.ensures.1 (c.in_err-and_grants.ensures.unrefused clean world stands limit)
+
+pub returns-in_err-and_archived-clause-unrefused : goal.returns-in_err-and_archived-clause-unrefused
+returns-in_err-and_archived-clause-unrefused g c clean world stands limit =
     let before : HasCleanDisk (state g.S.Store c.and_grants.new.conn) = omega (arith, c.and_archived.ensures.asks.crash.clean) in
-    let still : StandsFor (state g.S.Store c.and_grants.new.conn).now world = asks_stands g.S.Store _ _ c.in-Ok.field-0 c.in-Ok.ensures.asks before world stands in
-    c.in-Err-and_archived.ensures.unrefused clean world still (c.and_grants.ensures.asks.crash.limit ∙ limit)
+    let still : Refines (state g.S.Store c.and_grants.new.conn).now world = asks_stands g.S.Store _ _ c.in_ok-and_grants.field-0 c.in_ok-and_grants.ensures.asks before world stands in
+    handed_on c.from_residual-in_err-and_archived.result c.in_err-and_archived.field-0.0 c.from_residual-in_err-and_archived.ensures.1
+    (c.in_err-and_archived.ensures.unrefused clean world still (c.and_grants.ensures.asks.crash.limit ∙ limit))

@@ -1,4 +1,6 @@
+use Rattle.wu_passes.proofs.AskLemmas.{handed_on}
 use Rattle.wu_passes.proofs.passes.plan_pass.Goals as goal
 
-pub returns-in-Err-clause-unrefused : goal.returns-in-Err-clause-unrefused
-returns-in-Err-clause-unrefused g c clean world stands project limit = c.in-Err.ensures.unrefused clean world stands project.storable limit
+pub returns-in_err-taken-clause-unrefused : goal.returns-in_err-taken-clause-unrefused
+returns-in_err-taken-clause-unrefused g c clean world stands project limit =
+    handed_on c.from_residual.result c.in_err-taken.field-0.0 c.from_residual.ensures.1 (c.in_err-taken.ensures.unrefused clean world stands project.storable limit)

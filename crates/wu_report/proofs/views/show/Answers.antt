@@ -9,11 +9,11 @@ use Rattle.wu_report.proofs.views.show.Goals as goal
 pub returns-in-Ok : goal.returns-in-Ok
 returns-in-Ok g c = record {
   text = λ going clean world goes. Writes-kept _ _ _ (view_text world c.args.view) c.flush.result (c.in-Ok.ensures.text going clean world goes) c.flush.ensures.bytes;
-  goes = λ clean world goes. goes_on (state_of c.args.project.now) _ world clean c.write_view.ensures.reads goes;
-  reads = c.write_view.ensures.reads;
-  clean = c.write_view.ensures.reads.survives.clean;
-  counts = c.write_view.ensures.reads.survives.counts;
-  limit = c.write_view.ensures.limit;
+  goes = λ clean world goes. goes_on (state_of c.args.project.now) _ world clean c.write_view.ensures.reads.read goes;
+  reads = c.write_view.ensures.reads.read;
+  clean = c.write_view.ensures.reads.read.survives.clean;
+  counts = c.write_view.ensures.reads.read.survives.counts;
+  limit = c.write_view.ensures.reads.limit;
   ended = search rules;
   ends = search rules;
   broken = search rules;
@@ -27,11 +27,11 @@ returns-in-Ok g c = record {
 pub returns-else-eq : goal.returns-else-eq
 returns-else-eq g c = record {
   text = search rules;
-  goes = λ clean world goes. goes_on (state_of c.args.project.now) _ world clean c.write_view.ensures.reads goes;
-  reads = c.write_view.ensures.reads;
-  clean = c.write_view.ensures.reads.survives.clean;
-  counts = c.write_view.ensures.reads.survives.counts;
-  limit = c.write_view.ensures.limit;
+  goes = λ clean world goes. goes_on (state_of c.args.project.now) _ world clean c.write_view.ensures.reads.read goes;
+  reads = c.write_view.ensures.reads.read;
+  clean = c.write_view.ensures.reads.read.survives.clean;
+  counts = c.write_view.ensures.reads.read.survives.counts;
+  limit = c.write_view.ensures.reads.limit;
   ended = search rules;
   ends = search rules;
   broken = search rules;

@@ -5,7 +5,7 @@ use Rattle.sqlite.specs.State.{HasCleanDisk}
 use Rattle.wu_core.specs.World.{empty_world}
 use Rattle.wu_stops.proofs.StoppingLemmas.{empty_project}
 use Rattle.wu_passes.specs.Adopting.{LeavesFresh}
-use Rattle.wu_passes.specs.Standing.{GoesOn, KeepsDoubt}
+use Rattle.wu_passes.specs.Standing.{GoesOn, FaultsOnlyGrow}
 use Rattle.wu_stops.proofs.BeginningLemmas.{found_standing, vacant_or_fresh}
 use Rattle.wu_stops.proofs.beginning.adopt_stop_and_adopt.Goals.{in-Ok, in-Err}
 use Rattle.wu_stops.proofs.beginning.adopt_stop_and_adopt.Goals as goal
@@ -14,9 +14,9 @@ pub returns-in-Ok-adopt-clause-clean : goal.returns-in-Ok-adopt-clause-clean
 returns-in-Ok-adopt-clause-clean g c clean =
     let early : HasCleanDisk (file_state c.in-Some.again) = omega (arith, clean, c.in-Ok-adopt.ensures.adopted.clean) in
     let before : HasCleanDisk (file_state c.match-adopt.conn) = c.in-Some.ensures.clean early in
-    let kept : KeepsDoubt (file_state c.args.conn) (file_state c.match-adopt.conn) = elim c.match-adopt.branch [
-      | in-Ok w ↦ subst (λ h. KeepsDoubt (file_state c.args.conn) (file_state h)) (sym (w.conn-is ∙ w.release-conn.ensures.same)) w.in-Ok.ensures.adopted.clean
-      | in-Err w ↦ subst (λ h. KeepsDoubt (file_state c.args.conn) (file_state h)) (sym w.conn-is) w.in-Err.ensures.refused.clean
+    let kept : FaultsOnlyGrow (file_state c.args.conn) (file_state c.match-adopt.conn) = elim c.match-adopt.branch [
+      | in-Ok w ↦ subst (λ h. FaultsOnlyGrow (file_state c.args.conn) (file_state h)) (sym (w.conn-is ∙ w.release-conn.ensures.same)) w.in-Ok.ensures.adopted.clean
+      | in-Err w ↦ subst (λ h. FaultsOnlyGrow (file_state c.args.conn) (file_state h)) (sym w.conn-is) w.in-Err.ensures.refused.clean
     ] in
     omega (arith, before, kept)
 

@@ -1,4 +1,4 @@
-use Rattle.wu_schema.proofs.Words.{HasCleanDisk, StandsFor, ap, arith, get_or, length, refl, state, subst, sym, take, take_all, ◌<◌, ◌∙◌, ◌≡◌, ◌+◌}
+use Rattle.wu_schema.proofs.Words.{HasCleanDisk, Refines, ap, arith, get_or, length, refl, state, subst, sym, take, take_all, ◌<◌, ◌∙◌, ◌≡◌, ◌+◌}
 use Rattle.wu_schema.proofs.CallLemmas.{part_none, part_then}
 use Rattle.wu_store.specs.Changes.{AddsInstance, with_placed}
 use Rattle.wu_store.proofs.PlacedLemmas.{next_instance}
@@ -36,4 +36,4 @@ returns-clause-adds g c clean world none s =
     let w = c.args.workunit.now in
     let items = c.as_slice-instances.ensures.items in
     let whole : take c.loop-instance.instance-index w.instances ≡ w.instances = ap (take c.loop-instance.instance-index) (sym items) ∙ take_all _ _ c.loop-instance-test.false ∙ items in
-    subst (λ is. StandsFor (state g.S.Store c.loop-instance.tx.conn.now).now (with_placed (record w { instances = is }) world)) whole ((before clean).1 world none s)
+    subst (λ is. Refines (state g.S.Store c.loop-instance.tx.conn.now).now (with_placed (record w { instances = is }) world)) whole ((before clean).1 world none s)

@@ -1,4 +1,4 @@
-use Rattle.wu_schema.proofs.Words.{HasCleanDisk, StandsFor, arith, state, ◌∙◌}
+use Rattle.wu_schema.proofs.Words.{HasCleanDisk, Refines, arith, state, ◌∙◌}
 use Rattle.wu_store.proofs.AskLemmas.{asks_handed, asks_made, asks_stands, asks_then, handed_on}
 use Rattle.wu_store.proofs.CountLemmas.{whole_summary}
 use Rattle.wu_store.proofs.counts.summary.Goals as goal
@@ -45,8 +45,8 @@ returns-clause-found g c clean world stands =
     let third : HasCleanDisk (state g.S.Store c.count_others.new.conn) = omega (arith, c.count_grants.ensures.asks.crash.clean, clean) in
     let second : HasCleanDisk (state g.S.Store c.count_results.new.conn) = omega (arith, c.count_others.ensures.asks.crash.clean, third) in
     let first : HasCleanDisk (state g.S.Store c.read_numbers.new.conn) = omega (arith, c.count_results.ensures.asks.crash.clean, second) in
-    let still_first : StandsFor (state g.S.Store c.read_numbers.new.conn).now world = asks_stands g.S.Store _ _ c.in_ok-numbers.numbers c.in_ok-numbers.ensures.asks first world stands in
-    let still_second : StandsFor (state g.S.Store c.count_results.new.conn).now world = asks_stands g.S.Store _ _ c.in_ok-results.results c.in_ok-results.ensures.asks second world still_first in
-    let still_third : StandsFor (state g.S.Store c.count_others.new.conn).now world = asks_stands g.S.Store _ _ c.in_ok-others.others c.in_ok-others.ensures.asks third world still_second in
+    let still_first : Refines (state g.S.Store c.read_numbers.new.conn).now world = asks_stands g.S.Store _ _ c.in_ok-numbers.numbers c.in_ok-numbers.ensures.asks first world stands in
+    let still_second : Refines (state g.S.Store c.count_results.new.conn).now world = asks_stands g.S.Store _ _ c.in_ok-results.results c.in_ok-results.ensures.asks second world still_first in
+    let still_third : Refines (state g.S.Store c.count_others.new.conn).now world = asks_stands g.S.Store _ _ c.in_ok-others.others c.in_ok-others.ensures.asks third world still_second in
     whole_summary world c.in_ok-numbers.numbers c.in_ok-results.results c.in_ok-others.others c.in_ok-granted.granted (c.in_ok-numbers.ensures.found first world stands)
     (c.in_ok-results.ensures.found second world still_first) (c.in_ok-others.ensures.found third world still_second) (c.in_ok-granted.ensures.found clean world still_third)

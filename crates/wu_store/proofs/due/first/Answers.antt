@@ -2,7 +2,7 @@ use Rattle.std.proofs.Common.{◌≡◌, ◌∙◌, None, Option, Some, sym, sub
 use Rattle.sqlite.specs.State.{HasCleanDisk}
 use Rattle.sqlite.specs.Held.{state}
 use Rattle.wu_core.specs.declared.workunit.Workunit.{Workunit}
-use Rattle.wu_schema.specs.StandsFor.{StandsFor}
+use Rattle.wu_schema.specs.Refines.{Refines}
 use Rattle.wu_store.specs.Answers.{numbered}
 use Rattle.wu_store.specs.Loading.{Finds}
 use Rattle.wu_store.proofs.AskLemmas.{asks_stands, handed_on}
@@ -20,12 +20,12 @@ returns-in-Some-clause-found g c clean world stands =
 pub returns-in-None-clause-found : goal.returns-in-None-clause-found
 returns-in-None-clause-found g c clean world stands =
     let before : HasCleanDisk (state g.S.Store c.load.new.conn) = omega (arith, c.load_above.ensures.asks.crash.clean) in
-    let still : StandsFor (state g.S.Store c.load.new.conn).now world = asks_stands g.S.Store _ _ _ c.in_ok-workunit.ensures.asks before world stands in
+    let still : Refines (state g.S.Store c.load.new.conn).now world = asks_stands g.S.Store _ _ _ c.in_ok-workunit.ensures.asks before world stands in
     let none : None ≡ numbered 0 world = sym c.in-None.is ∙ c.in_ok-workunit.ensures.found before world stands in
     subst (λ (found : Option Workunit). Finds found c.load_above.result) (above_first world none) (c.load_above.ensures.found clean world still)
 
 pub returns-in-None-clause-unrefused : goal.returns-in-None-clause-unrefused
 returns-in-None-clause-unrefused g c clean world stands storable limit =
     let before : HasCleanDisk (state g.S.Store c.load.new.conn) = omega (arith, c.load_above.ensures.asks.crash.clean) in
-    let still : StandsFor (state g.S.Store c.load.new.conn).now world = asks_stands g.S.Store _ _ _ c.in_ok-workunit.ensures.asks before world stands in
+    let still : Refines (state g.S.Store c.load.new.conn).now world = asks_stands g.S.Store _ _ _ c.in_ok-workunit.ensures.asks before world stands in
     c.load_above.ensures.unrefused clean world still (above_loads 0 world (omega arith) storable) (c.load.ensures.asks.crash.limit ∙ limit)

@@ -3,7 +3,7 @@ use Rattle.sqlite.specs.Effect.{Database}
 use Rattle.sqlite.specs.State.{HasCleanDisk}
 use Rattle.sqlite.specs.Held.{state}
 use Rattle.wu_core.specs.declared.workunit.Workunit.{Workunit}
-use Rattle.wu_schema.specs.StandsFor.{StandsFor}
+use Rattle.wu_schema.specs.Refines.{Refines}
 use Rattle.wu_store.specs.Due.{numbers_left}
 use Rattle.wu_rules.specs.Due.{changes}
 use Rattle.wu_store.proofs.DueLemmas.{IsSoFar, above_loads, all_taken, next_storable, none_left, one_at_most, one_more}
@@ -20,7 +20,7 @@ returns-then-len-limit-clause-due g c clean world stands =
 pub returns-in_err-next-2-clause-unrefused : goal.returns-in_err-next-2-clause-unrefused
 returns-in_err-next-2-clause-unrefused g c clean world stands storable limit =
     let before : HasCleanDisk (state g.S.Store c.loop-next.conn) = omega (arith, c.next_after.ensures.asks.crash.clean) in
-    let still : StandsFor (state g.S.Store c.loop-next.conn).now world = asks_stands g.S.Store _ _ tt c.loop-next.invariant.asks before world stands in
+    let still : Refines (state g.S.Store c.loop-next.conn).now world = asks_stands g.S.Store _ _ tt c.loop-next.invariant.asks before world stands in
     let so_far : IsSoFar c.args.pass c.args.now c.args.min_age world c.loop-next.due.items (Some c.in-Some.workunit) =
     subst (λ (next : Option Workunit). IsSoFar c.args.pass c.args.now c.args.min_age world c.loop-next.due.items next) c.in-Some.is (c.loop-next.invariant.so_far before world stands) in
     let can = next_storable c.args.pass c.args.now c.args.min_age world c.loop-next.due.items c.in-Some.workunit so_far storable in
@@ -39,7 +39,7 @@ loop-next-preserved g c = record {
   opens = λ clean. still_open g.S.Store _ _ _ c.in_ok-next-2.ensures.asks clean (c.loop-next.invariant.opens (omega (arith, c.next_after.ensures.asks.crash.clean)));
   so_far = λ clean world stands.
       let before : HasCleanDisk (state g.S.Store c.loop-next.conn) = omega (arith, c.next_after.ensures.asks.crash.clean) in
-      let still : StandsFor (state g.S.Store c.loop-next.conn).now world = asks_stands g.S.Store _ _ tt c.loop-next.invariant.asks before world stands in
+      let still : Refines (state g.S.Store c.loop-next.conn).now world = asks_stands g.S.Store _ _ tt c.loop-next.invariant.asks before world stands in
       let so_far : IsSoFar c.args.pass c.args.now c.args.min_age world c.loop-next.due.items (Some c.in-Some.workunit) =
       subst (λ (next : Option Workunit). IsSoFar c.args.pass c.args.now c.args.min_age world c.loop-next.due.items next) c.in-Some.is (c.loop-next.invariant.so_far before world stands) in
       one_more c.args.pass c.args.now c.args.min_age world c.loop-next.due.items c.in-Some.workunit so_far (state g.S.Store c.args.conn.now).now stands c.add_if_changed.new.due.items c.in_ok-add_if_changed.ensures.added c.in_ok-next-2.next (c.in_ok-next-2.ensures.found clean world still);

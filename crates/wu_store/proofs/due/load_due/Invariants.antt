@@ -2,7 +2,7 @@ use Rattle.std.proofs.Common.{◌<◌, Ok, length, IsTrue}
 use Rattle.sqlite.specs.State.{HasCleanDisk}
 use Rattle.sqlite.specs.Held.{state}
 use Rattle.wu_core.specs.World.{World}
-use Rattle.wu_schema.specs.StandsFor.{StandsFor}
+use Rattle.wu_schema.specs.Refines.{Refines}
 use Rattle.wu_store.specs.Due.{numbers_left}
 use Rattle.wu_store.specs.Loading.{Asks}
 use Rattle.wu_store.proofs.DueLemmas.{IsSoFar}
@@ -13,7 +13,7 @@ invariant-loop-next g l = record {
   few : length l.due.items < l.limit;
   asks : Asks {T = Unit {0}} g.S.Store l.fn.conn l.conn (Ok tt);
   opens : HasCleanDisk (state g.S.Store l.conn) → IsTrue (state g.S.Store l.conn).is_open;
-  so_far : HasCleanDisk (state g.S.Store l.conn) → (world : World) → StandsFor (state g.S.Store l.fn.conn).now world → IsSoFar l.pass l.now l.min_age world l.due.items l.next;
+  so_far : HasCleanDisk (state g.S.Store l.conn) → (world : World) → Refines (state g.S.Store l.fn.conn).now world → IsSoFar l.pass l.now l.min_age world l.due.items l.next;
 }
 
 -- numbers rise to the greatest that there may be

@@ -1,4 +1,4 @@
-use Rattle.wu_schema.proofs.Words.{Blob, HasCleanDisk, OnOk, StandsFor, Text, World, ap, bound_value, number, state, workunit_row, ◌∙◌, ◌≡◌}
+use Rattle.wu_schema.proofs.Words.{Blob, HasCleanDisk, OnOk, Refines, Text, World, ap, bound_value, number, state, workunit_row, ◌∙◌, ◌≡◌}
 use Rattle.wu_store.specs.Changes.{LacksNumber, with_placed}
 use Rattle.wu_core.specs.Storable.{bare}
 use Rattle.wu_store.proofs.InsertTexts.{workunit_put}
@@ -27,7 +27,7 @@ returns g c =
     (also (ap bound_value c.params-to_sql-15.ensures ∙ bound_seconds _ w.done_at c.seconds_of-done_at.ensures) no_more)))))))))))))) in
     let old = state g.S.Store c.args.tx.now.conn.now in
     let new = state g.S.Store c.execute.new.tx.conn.now in
-    let made : HasCleanDisk new → OnOk c.execute.result ((world : World) → StandsFor old.now world → LacksNumber w.number world.workunits × StandsFor new.now (with_placed (bare w) world)) =
+    let made : HasCleanDisk new → OnOk c.execute.result ((world : World) → Refines old.now world → LacksNumber w.number world.workunits × Refines new.now (with_placed (bare w) world)) =
     λ clean. ran_as old new workunit_put.text _ _ given c.execute.result (c.execute.ensures.ran clean) (λ count ran world s. puts_workunit old new world s w count ran) in
     record {
       writes = c.execute.ensures.writes;

@@ -1,5 +1,5 @@
 use Rattle.std.proofs.Common.{◌≡◌, ◌∙◌, ℕ, List, [], ◌∷◌, Option, Result, Ok, Err, ap, rules, subst, sym}
-use Rattle.wu_core.specs.Reads.{Gives, TellsRefusal}
+use Rattle.wu_core.specs.Reads.{IsOrWantsMemory, TellsRefusal}
 use Rattle.wu_machine.specs.declared.command.Command.TheVariants as command
 use Rattle.wu_words.specs.Actions.{batch, both, bytes_of}
 use Rattle.wu_words.specs.declared.action.Action.{Action}
@@ -25,4 +25,4 @@ returns c =
     let is = followed (batch c.args.text.now (bytes_of c.args.contents.items)) make _ (Ok (c.in_ok-name.name, (c.in_ok-name.file, c.in_ok-name.template)))
     (ap (both c.name.result) (sym c.batch_files.ensures) ∙ sym c.both.ensures ∙ c.in_ok-name.was)
     (files_follow c.args.text.now (bytes_of c.args.contents.items) c.name.result make c.name.ensures.name c.name.ensures.told) in
-    record { action = subst (Gives c.one.result) (sym is) c.one.ensures; told = subst (TellsRefusal c.one.result) (sym is) tt }
+    record { action = subst (IsOrWantsMemory c.one.result) (sym is) c.one.ensures; told = subst (TellsRefusal c.one.result) (sym is) tt }

@@ -1,7 +1,7 @@
 use Rattle.std.proofs.Common.{Err, ap, sym, arith, inl, inr, IsTrue, ◌∙◌, ◌≡◌, ◌⊎◌}
 use Rattle.sqlite.specs.State.{HasCleanDisk}
 use Rattle.sqlite.specs.Held.{state}
-use Rattle.wu_schema.specs.StandsFor.{StandsFor}
+use Rattle.wu_schema.specs.Refines.{Refines}
 use Rattle.wu_schema.proofs.AskingLemmas.{asks_stands}
 use Rattle.wu_schema.proofs.ReadLemmas.{if_err}
 use Rattle.wu_store.proofs.LoadLemmas.{asks_read}
@@ -20,7 +20,7 @@ returns-in-Ok-clause-runs g c goes_on =
     let mid = state g.S.Store c.prepare.new.self.conn in
     let before : HasCleanDisk (state g.S.Store c.carry_out.new.self.conn) → HasCleanDisk mid = λ clean. omega (arith, c.carry_out.ensures.session.clean) in
     let is_open : HasCleanDisk mid → IsTrue was.is_open = λ clean. (c.prepare.ensures.asks.back clean).was_open (c.in-Ok.ensures.opens clean) in
-    let still : HasCleanDisk mid → (world : World) → StandsFor was.now world → StandsFor mid.now world = λ clean world stands. asks_stands g.S.Store c.args.self.now.conn c.prepare.new.self.conn c.in-Ok.field-0 c.in-Ok.ensures.asks clean world stands in
+    let still : HasCleanDisk mid → (world : World) → Refines was.now world → Refines mid.now world = λ clean world stands. asks_stands g.S.Store c.args.self.now.conn c.prepare.new.self.conn c.in-Ok.field-0 c.in-Ok.ensures.asks clean world stands in
     record {
       goes = λ clean world project goes.
           let stands = (goes.stands (is_open (before clean))).0 in

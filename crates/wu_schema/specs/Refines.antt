@@ -48,7 +48,7 @@ pub record HasRows (db : Trees) (trees : ProjectTrees) (world : World) : Type 0 
   pub imported_once : IsAscending (λ (a b : Import). is_import a.kind a.name b ≡ false) world.imports
 
 -- the tables are there, wherever the store put them and whatever else there is, and have these rows
-pub record StandsFor (db : Database) (world : World) : Type 0 where
+pub record Refines (db : Database) (world : World) : Type 0 where
   pub trees : ProjectTrees
   pub tables : HasTables db.schema trees
   pub rows : HasRows db.trees trees world

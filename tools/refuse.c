@@ -1,0 +1,149 @@
+// Refuses calls of the C library, so that tools/refuse sees what a program does then. It is loaded before that library.
+//
+// From the environment: REFUSE_COUNTS, a file of six counters of 8 bytes that the calls seen are counted in; REFUSE_KIND,
+// which calls are refused (memory, read, write, sync, cut, output, or none); REFUSE_AT, which of them is the first, from 1
+// (of output: how many bytes go out before); REFUSE_ON, whether those behind it are refused too; REFUSE_ERROR, the number
+// of the error. Reads, writes, syncs and cuts are those of files whose names end in ".db" or ".db-wal".
+#define _GNU_SOURCE
+#include <dlfcn.h>
+#include <errno.h>
+#include <fcntl.h>
+#include <limits.h>
+#include <stdint.h>
+#include <stdlib.h>
+#include <string.h>
+#include <sys/mman.h>
+#include <sys/stat.h>
+#include <sys/uio.h>
+#include <unistd.h>
+
+enum kind { MEMORY, READ, WRITE, SYNC, CUT, OUTPUT, NONE };
+static const char *const names[] = {"memory", "read", "write", "sync", "cut", "output"};
+
+static uint64_t *counts;
+static enum kind refused = NONE;
+static uint64_t at;
+static int goes_on;
+static int error;
+static int is_begun;
+
+__attribute__((constructor)) static void begin(void) {
+    const char *kind = getenv("REFUSE_KIND"), *path = getenv("REFUSE_COUNTS");
+    if (!kind || !path) return;
+    int file = open(path, O_RDWR);
+    if (file < 0) return;
+    void *room = mmap(NULL, 6 * sizeof *counts, PROT_READ | PROT_WRITE, MAP_SHARED, file, 0);
+    close(file);
+    if (room == MAP_FAILED) return;
+    counts = room;
+    for (int one = 0; one < NONE; one++)
+        if (!strcmp(kind, names[one])) refused = one;
+    at = strtoull(getenv("REFUSE_AT"), NULL, 10);
+    goes_on = *getenv("REFUSE_ON") == '1';
+    error = atoi(getenv("REFUSE_ERROR"));
+    is_begun = 1;
+}
+
+// Counts a call, and tells whether it is refused.
+static int refuses(enum kind kind) {
+    if (!is_begun) return 0;
+    uint64_t number = __atomic_add_fetch(&counts[kind], 1, __ATOMIC_RELAXED);
+    if (kind != refused || !(number == at || (goes_on && number > at))) return 0;
+    errno = error;
+    return 1;
+}
+
+static int is_of_database(int file) {
+    char link[64], path[PATH_MAX];
+    if (!is_begun) return 0;
+    char digits[12];
+    int place = sizeof digits;
+    unsigned rest = file;
+    digits[--place] = 0;
+    do digits[--place] = '0' + rest % 10; while ((rest /= 10));
+    strcpy(link, "/proc/self/fd/");
+    strcat(link, digits + place);
+    ssize_t length = readlink(link, path, sizeof path - 1);
+    if (length < 0) return 0;
+    path[length] = 0;
+    const char *dot = strrchr(path, '.');
+    return dot && (!strcmp(dot, ".db") || !strcmp(dot, ".db-wal"));
+}
+
+#define REAL(name) ((__typeof__(&name))dlsym(RTLD_NEXT, #name))
+
+// `dlsym` may ask for memory before `malloc` is found.
+static char early[4096];
+static size_t early_used;
+static int is_looking;
+static int is_early(void *place) { return (char *)place >= early && (char *)place < early + sizeof early; }
+static void *from_early(size_t size) {
+    size_t begin = (early_used + 15) / 16 * 16;
+    if (begin + size > sizeof early) return NULL;
+    early_used = begin + size;
+    return early + begin;
+}
+
+#define FOUND(name) \
+    static __typeof__(&name) real; \
+    if (!real) { is_looking = 1; real = REAL(name); is_looking = 0; }
+
+void *malloc(size_t size) {
+    if (is_looking) return from_early(size);
+    FOUND(malloc)
+    return refuses(MEMORY) ? NULL : real(size);
+}
+void *calloc(size_t count, size_t size) {
+    if (is_looking) return from_early(count * size);
+    FOUND(calloc)
+    return refuses(MEMORY) ? NULL : real(count, size);
+}
+void *realloc(void *place, size_t size) {
+    FOUND(realloc)
+    return refuses(MEMORY) ? NULL : real(place, size);
+}
+void *aligned_alloc(size_t align, size_t size) {
+    FOUND(aligned_alloc)
+    return refuses(MEMORY) ? NULL : real(align, size);
+}
+int posix_memalign(void **place, size_t align, size_t size) {
+    FOUND(posix_memalign)
+    return refuses(MEMORY) ? ENOMEM : real(place, align, size);
+}
+void free(void *place) {
+    if (is_early(place)) return;
+    FOUND(free)
+    real(place);
+}
+
+#define OVER(kind, name, answer, declared, ...) \
+    answer name declared { \
+        FOUND(name) \
+        return is_of_database(file) && refuses(kind) ? -1 : real(__VA_ARGS__); \
+    }
+
+OVER(READ, pread, ssize_t, (int file, void *into, size_t size, off_t from), file, into, size, from)
+OVER(READ, pread64, ssize_t, (int file, void *into, size_t size, off64_t from), file, into, size, from)
+OVER(READ, read, ssize_t, (int file, void *into, size_t size), file, into, size)
+OVER(WRITE, pwrite, ssize_t, (int file, const void *from, size_t size, off_t to), file, from, size, to)
+OVER(WRITE, pwrite64, ssize_t, (int file, const void *from, size_t size, off64_t to), file, from, size, to)
+OVER(SYNC, fsync, int, (int file), file)
+OVER(SYNC, fdatasync, int, (int file), file)
+OVER(CUT, ftruncate, int, (int file, off_t size), file, size)
+OVER(CUT, ftruncate64, int, (int file, off64_t size), file, size)
+
+// Standard output takes so many bytes, and then none.
+ssize_t write(int file, const void *from, size_t size) {
+    FOUND(write)
+    if (file == 1 && is_begun) {
+        uint64_t before = __atomic_fetch_add(&counts[OUTPUT], size, __ATOMIC_RELAXED);
+        if (refused == OUTPUT && before + size > at) {
+            size_t left = before < at ? at - before : 0;
+            if (left) return real(file, from, left);
+            errno = error;
+            return -1;
+        }
+        return real(file, from, size);
+    }
+    return is_of_database(file) && refuses(WRITE) ? -1 : real(file, from, size);
+}
