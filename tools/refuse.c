@@ -1,9 +1,11 @@
-// Refuses calls of the C library, so that tools/refuse sees what a program does then. It is loaded before that library.
+// Refuses calls of the C library, so that tools/refuse sees what a program does then. It is loaded before that
+// library.
 //
-// From the environment: REFUSE_COUNTS, a file of six counters of 8 bytes that the calls seen are counted in; REFUSE_KIND,
-// which calls are refused (memory, read, write, sync, cut, output, or none); REFUSE_AT, which of them is the first, from 1
-// (of output: how many bytes go out before); REFUSE_ON, whether those behind it are refused too; REFUSE_ERROR, the number
-// of the error. Reads, writes, syncs and cuts are those of files whose names end in ".db" or ".db-wal".
+// From the environment: REFUSE_COUNTS, a file of six counters of 8 bytes that the calls seen are counted in;
+// REFUSE_KIND, which calls are refused (memory, read, write, sync, cut, output, or none); REFUSE_AT, which of them is
+// the first, from 1 (of output: how many bytes go out before); REFUSE_ON, whether those behind it are refused too;
+// REFUSE_ERROR, the number of the error. Reads, writes, syncs and cuts are those of files whose names end in ".db" or
+// ".db-wal".
 #define _GNU_SOURCE
 #include <dlfcn.h>
 #include <errno.h>
