@@ -1,5 +1,6 @@
 mod AnswerLemmas
 pub mod LifeLemmas
 mod LineLemmas
+mod VerdictLemmas
 pub mod DrivingLemmas
 mod DemonstrationLemmas

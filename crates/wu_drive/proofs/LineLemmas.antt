@@ -1,6 +1,6 @@
 -- The pieces of an answer, one after another, are its text.
 use Rattle.std.proofs.Common.{◌≡◌, ℕ, ◌+◌, ◌-◌, ◌<◌, List, [], ◌++◌, length, get_or, decimal, append_assoc, arith, refl, sym, ◌∙◌}
-use Rattle.std.specs.Prelude.{codes}
+use Rattle.std.specs.Prelude.{codes, Option}
 use Rattle.std.proofs.lemmas.List.FromFn.{get_or-enumerate_from}
 use Rattle.std.proofs.lemmas.Grind.{get_or_default_zero}
 use Rattle.std.specs.List.{enumerate_from}
@@ -19,7 +19,7 @@ abbrev pub rows_pieces : (word name : List ℕ) (applied skipped : ℕ) → List
 rows_pieces word name applied skipped =
     word ++ (codes " " ++ (name ++ (codes ": " ++ (decimal applied ++ (codes " applied, " ++ (decimal skipped ++ (codes " skipped\n" ++ [])))))))
 
-pub rows_pieces-are : (word name : List ℕ) (skip : ℕ → List ℕ) (verdicts word₂ name₂ : List ℕ) (applied : ℕ) → word₂ ≡ word → name₂ ≡ name → applied ≡ applied_count verdicts
+pub rows_pieces-are : (word name : List ℕ) (skip : ℕ → Option (List ℕ)) (verdicts word₂ name₂ : List ℕ) (applied : ℕ) → word₂ ≡ word → name₂ ≡ name → applied ≡ applied_count verdicts
     → rows_text word name skip verdicts ≡ rows_pieces word₂ name₂ applied (length verdicts - applied) ++ skip_lines skip verdicts
 rows_pieces-are word name skip verdicts word₂ name₂ applied e1 e2 e3 = rw (e1, e2, e3) (simp append_assoc)
 

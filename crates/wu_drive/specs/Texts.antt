@@ -1,7 +1,8 @@
 -- The texts of answers and of faults, as functions of values. Each line ends with a line feed.
-use Rattle.std.specs.Prelude.{ℕ, ◌-◌, ◌==◌, if◌then◌else◌, List, [], ◌++◌, length, flat_map, count_by, codes}
+use Rattle.std.specs.Prelude.{ℕ, ◌-◌, ◌==◌, if◌then◌else◌, List, [], ◌∷◌, ◌++◌, length, find, flat_map, count_by, codes, Option, None}
 use Rattle.std.specs.Fmt.{decimal}
 use Rattle.std.specs.List.{enumerate_from}
+use Rattle.std.specs.Option.{option_map_or}
 use Rattle.wu_core.specs.declared.fault.Fault.{Fault}
 use Rattle.wu_core.specs.declared.fault.Fault.TheVariants as fault
 use Rattle.wu_core.specs.declared.import.ImportKind.{ImportKind}
@@ -10,6 +11,11 @@ use Rattle.wu_core.specs.Words.{template_key_word, file_cause_word}
 use Rattle.wu_report.specs.Texts.{line_end}
 use Rattle.wu_rules.specs.declared.due.Pass.{Pass}
 use Rattle.wu_rules.specs.declared.due.Pass.TheVariants.{Transition, Validate, Assimilate, Delete, Purge}
+use Rattle.wu_rules.specs.Verdicts.{report_verdict_code, report_verdict_word, send_verdict_code, send_verdict_word}
+use Rattle.wu_rules.specs.declared.verdicts.ReportVerdict.{ReportVerdict}
+use Rattle.wu_rules.specs.declared.verdicts.ReportVerdict.TheVariants as report
+use Rattle.wu_rules.specs.declared.verdicts.SendVerdict.{SendVerdict}
+use Rattle.wu_rules.specs.declared.verdicts.SendVerdict.TheVariants as send
 use Rattle.wu_machine.specs.Requests.{Reply, Imported, Passed, Cancelled, Upgraded}
 
 -- the line of a fault, without its end
@@ -36,34 +42,39 @@ fault_text fault.Output = codes "F17 Output"
 abbrev pub number_or_dash : ℕ → List ℕ
 number_or_dash n = if n == 0 then codes "-" else decimal n
 
--- why a row of sends was skipped, by its verdict
-abbrev pub send_skip_word : ℕ → List ℕ
-send_skip_word verdict =
-    if verdict == 1 then codes "unknown" else if verdict == 2 then codes "not_unsent" else codes "same_host"
+-- the verdict of this number on a row of sends, if it is the number of one
+abbrev pub send_verdict_of : ℕ → Option SendVerdict
+send_verdict_of number =
+    find (λ verdict. send_verdict_code verdict == number) (send.Applied ∷ send.Unknown ∷ send.NotUnsent ∷ send.SameHost ∷ [])
+
+-- the verdict of this number on a row of reports
+abbrev pub report_verdict_of : ℕ → Option ReportVerdict
+report_verdict_of number =
+    find (λ verdict. report_verdict_code verdict == number)
+    (report.Applied ∷ report.Unknown ∷ report.NotSent ∷ report.WrongHost ∷ report.BeforeSent ∷ report.Over ∷ [])
+
+-- why a row of sends was skipped, by the number of its verdict; nothing where it was applied
+abbrev pub send_skip_word : ℕ → Option (List ℕ)
+send_skip_word number = option_map_or send_verdict_word (send_verdict_of number) None
 
 -- why a row of reports was skipped
-abbrev pub report_skip_word : ℕ → List ℕ
-report_skip_word verdict =
-    if verdict == 1 then codes "unknown"
-    else if verdict == 2 then codes "not_sent"
-    else if verdict == 3 then codes "wrong_host"
-    else if verdict == 4 then codes "before_sent"
-    else codes "over"
+abbrev pub report_skip_word : ℕ → Option (List ℕ)
+report_skip_word number = option_map_or report_verdict_word (report_verdict_of number) None
 
 -- the line of a row, if it was skipped
-abbrev pub skip_line : (ℕ → List ℕ) → ℕ × ℕ → List ℕ
+abbrev pub skip_line : (ℕ → Option (List ℕ)) → ℕ × ℕ → List ℕ
 skip_line word row =
-    if row.1 == 0 then [] else codes "  row " ++ decimal row.0 ++ codes ": " ++ word row.1 ++ line_end
+    option_map_or (λ why. codes "  row " ++ decimal row.0 ++ codes ": " ++ why ++ line_end) (word row.1) []
 
 -- a line for each row that was skipped; the first row after the header is row 2
-abbrev pub skip_lines : (ℕ → List ℕ) → List ℕ → List ℕ
+abbrev pub skip_lines : (ℕ → Option (List ℕ)) → List ℕ → List ℕ
 skip_lines word verdicts = flat_map (skip_line word) (enumerate_from 2 verdicts)
 
 abbrev pub applied_count : List ℕ → ℕ
 applied_count verdicts = count_by (λ verdict. verdict == 0) verdicts
 
 -- how many rows of a file were applied and how many skipped, and why each of these was
-abbrev pub rows_text : List ℕ → List ℕ → (ℕ → List ℕ) → List ℕ → List ℕ
+abbrev pub rows_text : List ℕ → List ℕ → (ℕ → Option (List ℕ)) → List ℕ → List ℕ
 rows_text word name skip_word verdicts =
     word ++ codes " " ++ name ++ codes ": " ++ decimal (applied_count verdicts) ++ codes " applied, "
     ++ decimal (length verdicts - applied_count verdicts) ++ codes " skipped" ++ line_end

@@ -14,8 +14,8 @@ abbrev pub file_word : AppliedFile → List ℕ
 file_word Sends = codes "sent"
 file_word Reports = codes "reported"
 
--- why a row of it was skipped
-abbrev pub skip_word : AppliedFile → ℕ → List ℕ
+-- why a row of it was skipped, by the number of its verdict; nothing where it was applied
+abbrev pub skip_word : AppliedFile → ℕ → Option (List ℕ)
 skip_word Sends = send_skip_word
 skip_word Reports = report_skip_word
 

@@ -1,6 +1,6 @@
 //! The texts of answers.
 
-ghost use Rattle.std.specs.Prelude.{◌≡◌, IsOkUnless};
+ghost use Rattle.std.specs.Prelude.{◌≡◌, IsOkUnless, option_map};
 ghost use Rattle.wu_core.specs.declared.fault.Fault.TheVariants.{Output};
 ghost use Rattle.wu_drive.specs.Texts.{applied_count, batch_text, import_text, number_or_dash, pass_word, reply_text, report_skip_word, send_skip_word};
 ghost use Rattle.wu_machine.specs.Requests.{Cancelled, Passed, Upgraded};
@@ -11,6 +11,7 @@ use std::io::Write;
 use wu_core::{Fault, ImportKind, Name};
 use wu_passes::{Answer, Pass};
 use wu_report::{Piece, flush, write_pieces};
+use wu_rules::{ReportVerdict, SendVerdict};
 
 /// An imported file whose rows are applied one by one, or skipped.
 #[derive(Clone, Copy, Debug)]
@@ -21,28 +22,18 @@ enum AppliedFile {
     Reports,
 }
 
-/// Why a row of sends was skipped.
-fn send_skip_word(verdict: u8) -> &'static str
-    ensures { result.now ≡ send_skip_word verdict }
+/// Why a row of sends was skipped, by the number of its verdict; nothing where it was applied.
+fn send_skip_word(verdict: u8) -> Option<&'static str>
+    ensures { option_map (λ word. word.now) result ≡ send_skip_word verdict }
 {
-    match verdict {
-        1 => "unknown",
-        2 => "not_unsent",
-        _ => "same_host",
-    }
+    SendVerdict::from_code(verdict)?.word()
 }
 
-/// Why a row of reports was skipped.
-fn report_skip_word(verdict: u8) -> &'static str
-    ensures { result.now ≡ report_skip_word verdict }
+/// Why a row of reports was skipped, by the number of its verdict; nothing where it was applied.
+fn report_skip_word(verdict: u8) -> Option<&'static str>
+    ensures { option_map (λ word. word.now) result ≡ report_skip_word verdict }
 {
-    match verdict {
-        1 => "unknown",
-        2 => "not_sent",
-        3 => "wrong_host",
-        4 => "before_sent",
-        _ => "over",
-    }
+    ReportVerdict::from_code(verdict)?.word()
 }
 
 /// The word of a file in its answer.
@@ -55,9 +46,9 @@ fn file_word(file: AppliedFile) -> &'static str
     }
 }
 
-/// Why a row was skipped.
-fn skip_word(file: AppliedFile, verdict: u8) -> &'static str
-    ensures { result.now ≡ skip_word file verdict }
+/// Why a row was skipped, by the number of its verdict; nothing where it was applied.
+fn skip_word(file: AppliedFile, verdict: u8) -> Option<&'static str>
+    ensures { option_map (λ word. word.now) result ≡ skip_word file verdict }
 {
     match file {
         AppliedFile::Sends => send_skip_word(verdict),
@@ -70,16 +61,16 @@ fn write_skip<W: Write>(out: &mut W, file: AppliedFile, row: u64, verdict: u8) -
     ensures bytes { WritesTo W.contents out.old out.new (skipped_line file row verdict) result }
     ensures fault { IsOkUnless result Output }
 {
-    if verdict == 0 {
+    let Some(word) = skip_word(file, verdict) else {
         return Ok(());
-    }
+    };
     write_pieces(
         out,
         &[
             Piece::Text("  row "),
             Piece::Number(row),
             Piece::Text(": "),
-            Piece::Text(skip_word(file, verdict)),
+            Piece::Text(word),
             Piece::Text("\n"),
         ],
     )

@@ -22,7 +22,7 @@ use Rattle.wu_machine.specs.Commands.{reply_of_answer}
 use Rattle.wu_machine.specs.Sound.{IsProject}
 use Rattle.wu_store.specs.Loading.{IsStoreFault}
 use Rattle.wu_machine.specs.Requests.{AskBatch, Reply}
-use Rattle.wu_passes.specs.declared.imports.Plan.{Plan}
+use Rattle.wu_passes.specs.declared.plan.Plan.{Plan}
 use Rattle.wu_store.specs.declared.changes.Change.{Change}
 use Rattle.wu_store.specs.declared.changes.Change.TheVariants.{Next, Keep}
 use Rattle.wu_store.specs.declared.changes.Import.{Import as Kept}

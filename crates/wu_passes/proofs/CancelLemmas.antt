@@ -11,7 +11,7 @@ use Rattle.wu_schema.specs.Refines.{Refines}
 use Rattle.wu_store.specs.Changing.{AreRight, made_all}
 use Rattle.wu_store.specs.declared.changes.Change.TheVariants.{Replace}
 use Rattle.wu_store.proofs.WorldOnce.{once_named, once_number}
-use Rattle.wu_passes.specs.declared.imports.Plan.{Plan}
+use Rattle.wu_passes.specs.declared.plan.Plan.{Plan}
 use Rattle.wu_machine.specs.Imports.{Done}
 use Rattle.wu_machine.specs.Machine.{cancel_done, done}
 use Rattle.wu_passes.specs.Planning.{IsCancelPlan, IsPlan, RefusesCancel}

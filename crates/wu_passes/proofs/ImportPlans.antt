@@ -16,7 +16,7 @@ use Rattle.wu_store.specs.declared.rows.StoredImport.{StoredImport}
 use Rattle.wu_store.specs.declared.changes.Change.TheVariants.{Keep}
 use Rattle.wu_store.proofs.WorldOnce.{once_named, once_number}
 use Rattle.wu_passes.specs.declared.files.Left.{Left}
-use Rattle.wu_passes.specs.declared.imports.Plan.{Plan}
+use Rattle.wu_passes.specs.declared.plan.Plan.{Plan}
 use Rattle.wu_machine.specs.FileRows.{Rule, after_rows, row_verdicts}
 use Rattle.wu_machine.specs.Imports.{Done, Given, first_answer, has_content, import_of, imported, kept_import, keeping, newly_imported, reported_given, rows_read, sent_given}
 use Rattle.wu_machine.specs.Machine.{CameBefore, done, MakesNothing}

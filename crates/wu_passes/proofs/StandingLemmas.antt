@@ -21,7 +21,7 @@ use Rattle.wu_store.specs.Loading.{IsReadOnly, IsStoreFault}
 use Rattle.wu_machine.specs.Requests.{Request}
 use Rattle.wu_passes.specs.Leaving.{LeavesAtMost, RunsFrom}
 use Rattle.wu_passes.specs.Standing.{GoesOn, HasEnded, IsCutBy, MakesSome, ShowsWorld, RefinesAfterFault, FailureCause}
-use Rattle.wu_passes.specs.declared.imports.Plan.{Plan}
+use Rattle.wu_passes.specs.declared.plan.Plan.{Plan}
 use Rattle.wu_machine.specs.declared.command.Answer.{Answer}
 use Rattle.wu_store.specs.declared.changes.Change.{Change}
 

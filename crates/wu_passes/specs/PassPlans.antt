@@ -15,7 +15,7 @@ use Rattle.wu_store.specs.declared.changes.Change.{Change}
 use Rattle.wu_store.specs.declared.changes.Change.TheVariants.{Remove, Replace}
 use Rattle.wu_rules.specs.declared.due.Pass.{Pass}
 use Rattle.wu_rules.specs.declared.due.Pass.TheVariants.{Transition, Validate, Assimilate, Delete, Purge}
-use Rattle.wu_passes.specs.declared.imports.Plan.{Plan}
+use Rattle.wu_passes.specs.declared.plan.Plan.{Plan}
 use Rattle.wu_passes.specs.declared.passes.Ask.{Ask}
 use Rattle.wu_passes.specs.declared.passes.Handled.{Handled}
 use Rattle.wu_passes.specs.declared.passes.Image.{Image}

@@ -19,7 +19,7 @@ use Rattle.wu_store.specs.Changes.{with_import}
 use Rattle.wu_store.specs.Loading.{IsStoreFault}
 use Rattle.wu_store.specs.declared.rows.StoredImport.{StoredImport}
 use Rattle.wu_schema.specs.Refines.{Refines}
-use Rattle.wu_passes.specs.declared.imports.Plan.{Plan}
+use Rattle.wu_passes.specs.declared.plan.Plan.{Plan}
 use Rattle.wu_passes.specs.declared.imports.Source.{Source}
 use Rattle.wu_passes.specs.declared.files.Left.{Left}
 use Rattle.wu_store.specs.declared.changes.Change.{Change}

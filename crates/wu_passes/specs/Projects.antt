@@ -14,7 +14,7 @@ use Rattle.wu_machine.specs.declared.command.Answer.{Answer}
 use Rattle.wu_machine.specs.declared.command.Command.{Command}
 use Rattle.wu_passes.specs.declared.project.Project.{Project}
 use Rattle.wu_machine.specs.Machine.{has_right_limits, MakesNothing}
-use Rattle.wu_passes.specs.declared.imports.Plan.{Plan}
+use Rattle.wu_passes.specs.declared.plan.Plan.{Plan}
 use Rattle.wu_passes.specs.Planning.{NeverEnded, Plans, PlansFor}
 use Rattle.wu_machine.specs.Commands.{request_of}
 use Rattle.wu_machine.specs.Sound.{IsProject}

@@ -12,7 +12,8 @@ ghost use Rattle.wu_machine.specs.Commands.{batch_of};
 ghost use Rattle.wu_machine.specs.Sound.{IsProject};
 ghost use Rattle.wu_store.specs.Loading.{Asks, IsStoreFault, NotRefusedIn, ForEachWorld, ServesUnlessFailed};
 
-use crate::imports::{Plan, batch_source, imported, kept, repeated};
+use crate::imports::{batch_source, imported, kept, repeated};
+use crate::plan::Plan;
 use sqlite::{Alter, Connection};
 use std::alloc::Global;
 use wu_core::{

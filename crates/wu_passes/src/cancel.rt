@@ -6,7 +6,7 @@ ghost use Rattle.wu_machine.specs.Sound.{IsProject};
 ghost use Rattle.wu_machine.specs.Requests.{AskCancel};
 ghost use Rattle.wu_store.specs.Loading.{Asks, NotRefusedIn, ForEachWorld, ServesUnlessFailed};
 
-use crate::imports::Plan;
+use crate::plan::Plan;
 use sqlite::{Alter, Connection};
 use std::alloc::Global;
 use wu_core::{Fault, Name, Workunit};

@@ -10,7 +10,8 @@ ghost use Rattle.wu_passes.specs.Touched.{LeavesRow, TouchesNamed};
 ghost use Rattle.wu_store.specs.Loading.{Asks, IsStoreFault, LoadsNamed, NotRefusedIn, ForEachWorld, ServesUnlessFailed};
 ghost use Rattle.wu_core.specs.Storable.{AreStorable};
 
-use crate::imports::{Plan, Source, file_source, imported, kept, repeated};
+use crate::imports::{Source, file_source, imported, kept, repeated};
+use crate::plan::Plan;
 use crate::touched::{FileRow, Touched};
 use sqlite::{Alter, Connection};
 use std::alloc::Global;

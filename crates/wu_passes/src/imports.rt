@@ -6,16 +6,11 @@ ghost use Rattle.wu_core.specs.Reads.{IsOrWantsMemory};
 ghost use Rattle.wu_passes.specs.Planning.{given_of, IsRepeated, KeepsImport, RefusesRepeat};
 ghost use Rattle.wu_machine.specs.Commands.{batch_of, file_of};
 
+use crate::plan::Plan;
 use std::alloc::Global;
 use wu_core::{Bytes, Fault, ImportKind, Name};
 use wu_machine::{Answer, Batch, RowsFile};
-use wu_store::{Change, Import, StoredImport, Verdicts};
-
-/// What a command will answer, and what it changes.
-pub struct Plan<'a> {
-    pub answer: Answer,
-    pub changes: Vec<Change<'a>>,
-}
+use wu_store::{Import, StoredImport, Verdicts};
 
 /// What is imported: its name and its bytes, which the command lends.
 #[derive(Clone, Copy)]

@@ -7,6 +7,7 @@ mod commit;
 mod files;
 mod imports;
 mod passes;
+mod plan;
 mod project;
 mod touched;
 mod upgrade;

@@ -13,7 +13,7 @@ ghost use Rattle.wu_store.specs.Changing.{archived_from, granted_from};
 ghost use Rattle.wu_store.specs.Loading.{Asks, IsStoreFault, NotRefusedIn, ForEachWorld, ServesUnlessFailed};
 ghost use Rattle.wu_rules.specs.declared.due.Pass.TheVariants as pass;
 
-use crate::imports::Plan;
+use crate::plan::Plan;
 use sqlite::{Alter, Connection};
 use std::alloc::Global;
 use wu_core::{Archived, Fault, Grant, LONGEST_AGE, Moment, Workunit};

@@ -12,16 +12,13 @@ use std::collections::BTreeMap;
 use std::marker::Model;
 use wu_core::{Fault, Name, Workunit};
 use wu_feed::{ReportRow, SendRow};
-use wu_rules::{report, send};
+use wu_rules::{ReportVerdict, SendVerdict, report, send};
 use wu_store::Change;
-
-/// The number of the verdict on a row whose workunit is not present.
-const UNKNOWN: u8 = 1;
 
 /// A row of a file that speaks of an instance of one workunit.
 pub trait FileRow: Drop {
     ghost use Rattle.std.specs.Prelude.{◌≡◌, ◌≢◌, ◌≤◌};
-    ghost use Rattle.wu_machine.specs.FileRows.{KeepsIdentity, Rule};
+    ghost use Rattle.wu_machine.specs.FileRows.{KeepsIdentity, Rule, unknown};
 
     /// The verdict on such a row, and what it makes of its workunit.
     ghost rule: { Rule Self };
@@ -29,6 +26,10 @@ pub trait FileRow: Drop {
     /// The name of its workunit.
     fn workunit(&self) -> &Name
         ensures { result.now ≡ rule.workunit self.now };
+
+    /// The number of the verdict on such a row whose workunit is not present.
+    fn unknown() -> u8
+        ensures { result ≡ unknown };
 
     /// Applies the row to its workunit, or skips it: the number of the verdict, 0 where it was applied.
     fn apply(self, workunit: &mut Workunit) -> u8
@@ -48,6 +49,10 @@ impl FileRow for SendRow {
         &self.workunit
     }
 
+    fn unknown() -> u8 {
+        SendVerdict::Unknown.code()
+    }
+
     fn apply(self, workunit: &mut Workunit) -> u8 {
         send(workunit, self.n, self.host, self.moment).code()
     }
@@ -60,6 +65,10 @@ impl FileRow for ReportRow {
 
     fn workunit(&self) -> &Name {
         &self.workunit
+    }
+
+    fn unknown() -> u8 {
+        ReportVerdict::Unknown.code()
     }
 
     fn apply(self, workunit: &mut Workunit) -> u8 {
@@ -133,7 +142,7 @@ impl Touched {
             (λ w. KeepsIdentity w (left_by R.rule row result w)) }
     {
         let Some(workunit) = self.by_name.get_mut(row.workunit().as_str()) else {
-            return UNKNOWN;
+            return R::unknown();
         };
         row.apply(workunit)
     }

@@ -151,7 +151,8 @@ impl<S: Alter> Project<S> {
     ///
     /// Their lines are all read before the first is handed out: `NotAProject` where a row is no value.
     pub fn walk_archive(&mut self, alloc: Global) -> Result<ArchiveWalk<'_, S>, Fault>
-        ensures* refused { sem 𝓛 (RestsIfRefused S.row S.Store IsArchiveStorable self.entry result) }
+        ensures* refused { sem 𝓛
+            (RestsIfRefused S.row S.Store IsArchiveStorable self.entry result) }
         ensures same_reference { IfOk result
             (λ walk. walk.project.ghost_name ≡ self.entry.ghost_name) }
         ensures ended { IsSessionEnded self.old → result ≡ Err Fault.Ended }

@@ -16,7 +16,7 @@ returns-in_default-clause-verdict g c =
     let none : get_by_text c.self.inside.by_name (g.R.FileRow.rule.workunit c.args.row) ≡ None = search rules in
     let found : touched_named c.args.self.now (g.R.FileRow.rule.workunit c.args.row) ≡ None =
     ap (λ (ws : List Workunit). touched_named ws (g.R.FileRow.rule.workunit c.args.row)) (sym c.self.view_is) ∙ named_is c.self.inside.by_name.entries c.self.invariant (g.R.FileRow.rule.workunit c.args.row) ∙ none in
-    rw found refl
+    rw found c.unknown.ensures
 
 pub invariant_of-self-2 : goal.invariant_of-self-2
 invariant_of-self-2 g c =
