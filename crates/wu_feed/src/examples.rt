@@ -8,7 +8,8 @@ ghost use Rattle.wu_feed.specs.declared.script.LineCause.TheVariants.{NotText, O
 /// word in quotes may hold blanks and quotes.
 #[tactic(auto, unfolding(crate::proofs::OnLiterals::scripts_on_literals))]
 pub fn reads_a_script()
-    ensures blanks { script_of (codes "# a job\n\nbatch --name \"the first\"  --jobs jobs.csv\nshow")
+    ensures blanks { script_of
+        (codes "# a job\n\nbatch --name \"the first\"  --jobs jobs.csv\nshow")
         ≡ Ok (with_words 3 (codes "batch" ∷ codes "--name" ∷ codes "the first" ∷ codes "--jobs"
         ∷ codes "jobs.csv" ∷ []) ∷ with_words 4 (codes "show" ∷ []) ∷ []) }
     ensures returns { script_of (codes "show --view\r\n\r\nshow\r\n")

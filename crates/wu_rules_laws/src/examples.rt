@@ -79,7 +79,8 @@ pub fn wakes()
 pub fn marks_what_is_due()
     ensures empty { marks new_job ≡ wakes_at (Some 0) }
     ensures out { marks one_out ≡ wakes_at (Some a_second_late) }
-    ensures through { marks (one_gone_since 1000) ≡ record (wakes_at None) { purge_from = Some 1000 } }
+    ensures through { marks (one_gone_since 1000)
+        ≡ record (wakes_at None) { purge_from = Some 1000 } }
     ensures back { marks two_agree ≡ record (wakes_at (Some a_second_late)) { to_validate = true } }
     ensures closed { marks two_unneeded ≡ wakes_at (Some 0) }
     ensures deleting { marks one_may_go ≡ record (wakes_at None) { to_delete = true } }

@@ -40,7 +40,8 @@ pub fn deleting_and_adding_is_replacing()
 /// To take the first workunit above the last one, again and again, goes through all above a number, in order.
 pub fn the_first_above_the_last_is_the_next()
     ensures more { (db : Database) (world : World) (number : ℕ) (w : Workunit) → Refines db world
-        → first_above number world ≡ Some w → all_above number world ≡ w ∷ all_above w.number world }
+        → first_above number world ≡ Some w
+        → all_above number world ≡ w ∷ all_above w.number world }
     ensures none { (db : Database) (world : World) (number : ℕ) → Refines db world
         → first_above number world ≡ None → all_above number world ≡ [] }
     ensures all { (world : World) (number : ℕ)

@@ -55,7 +55,8 @@ fn reported(alloc: Global, found: &ArgMatches<'_>) -> Result<Line, Usage>
 /// The line of a transition.
 fn transition(alloc: Global, found: &ArgMatches<'_>) -> Result<Line, Usage>
     ensures line { IfOk result (IsLine (rows_of (found_of found.now)) Subcommand.Transition) }
-    ensures refused { IfErr result (IsLacking (rows_of (found_of found.now)) Subcommand.Transition) }
+    ensures refused { IfErr result
+        (IsLacking (rows_of (found_of found.now)) Subcommand.Transition) }
 {
     Ok(Line::Transition {
         db: text(alloc, found, LineOption::Database)?,
@@ -78,7 +79,8 @@ fn validate(alloc: Global, found: &ArgMatches<'_>) -> Result<Line, Usage>
 /// The line of an assimilation.
 fn assimilate(alloc: Global, found: &ArgMatches<'_>) -> Result<Line, Usage>
     ensures line { IfOk result (IsLine (rows_of (found_of found.now)) Subcommand.Assimilate) }
-    ensures refused { IfErr result (IsLacking (rows_of (found_of found.now)) Subcommand.Assimilate) }
+    ensures refused { IfErr result
+        (IsLacking (rows_of (found_of found.now)) Subcommand.Assimilate) }
 {
     Ok(Line::Assimilate {
         db: text(alloc, found, LineOption::Database)?,
