@@ -5,6 +5,7 @@ mod bytes;
 mod fault;
 mod import;
 mod limits;
+mod marks;
 mod mask;
 mod moment;
 mod name;
@@ -19,6 +20,7 @@ pub use limits::{
     HIGHEST_QUORUM, HIGHEST_TARGET, LAST_DEADLINE, LAST_MOMENT, LONGEST_AGE, LONGEST_DELAY,
     LONGEST_INPUT, LONGEST_NAME, LONGEST_OUTPUT, MOST_CREDIT, MOST_INSTANCES, MOST_WORKUNITS,
 };
+pub use marks::Marks;
 pub use mask::ErrorMask;
 pub use moment::{Deadline, Moment};
 pub use name::{Name, ResultName};

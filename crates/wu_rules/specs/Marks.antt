@@ -9,7 +9,7 @@ use Rattle.wu_rules.specs.Validation as validation
 use Rattle.wu_rules.specs.Waking.{wake}
 use Rattle.wu_rules.specs.declared.due.Pass.{Pass}
 use Rattle.wu_rules.specs.declared.due.Pass.TheVariants.{Transition, Validate, Assimilate, Delete, Purge}
-use Rattle.wu_rules.specs.declared.marks.Marks.{Marks}
+use Rattle.wu_core.specs.declared.marks.Marks.{Marks}
 
 -- assimilated, with nothing left to come or to delete: only its age is wanted
 abbrev pub is_through : Workunit → Bool

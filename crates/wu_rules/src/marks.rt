@@ -7,19 +7,7 @@ use crate::count::wants_validation;
 use crate::deleter::wants_deletion;
 use crate::purge::is_all_spent;
 use crate::waking::wake_of;
-use wu_core::{Assimilate, FileDelete, Moment, Workunit};
-
-/// The marks of a workunit: for each pass, whether or from when it has something to do.
-#[derive(Clone, Copy, Debug, PartialEq, Eq)]
-pub struct Marks {
-    /// The first moment at which the transitioner has something to do, in seconds; None where it waits for nothing.
-    pub wake: Option<u64>,
-    pub to_validate: bool,
-    pub to_assimilate: bool,
-    pub to_delete: bool,
-    /// When it was assimilated, where it waits for nothing but its purge.
-    pub purge_from: Option<Moment>,
-}
+use wu_core::{Assimilate, FileDelete, Marks, Moment, Workunit};
 
 /// Whether the workunit is assimilated, all its instances are over, and its input and outputs are deleted.
 fn is_through(workunit: &Workunit) -> bool

@@ -1,6 +1,6 @@
 -- Marks as they stand in the worked examples.
 use Rattle.std.specs.Prelude.{ℕ, false, Option, None}
-use Rattle.wu_rules.specs.declared.marks.Marks.{Marks}
+use Rattle.wu_core.specs.declared.marks.Marks.{Marks}
 
 -- the transitioner alone has something to do, from this moment
 abbrev pub wakes_at : Option ℕ → Marks
