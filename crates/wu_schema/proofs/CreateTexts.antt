@@ -1,7 +1,14 @@
--- The seven texts make the seven tables.
-use Rattle.wu_schema.proofs.Words.{List, archived_at, codes, everything, first, grant_at, host_at, import_at, project_at, refl, result_at, workunit_at, ℕ}
+-- The texts make the tables, and those of the queue its indexes.
+use Rattle.sqlite_ast.specs.declared.CreateIndex.{CreateIndex}
+use Rattle.sqlite_ast.specs.declared.Statement.TheVariants as written
+use Rattle.sqlite_resolve.specs.Compile.{index_defined_by, index_in}
+use Rattle.wu_schema.specs.Indexes.{queue_assimilate, queue_delete, queue_purge, queue_validate, queue_wake}
+use Rattle.wu_schema.specs.Queue.{queue_table}
+use Rattle.wu_schema.specs.Tables.{queue_at}
+use Rattle.wu_schema.proofs.Words.{List, Statement, [], archived_at, codes, everything, false, first, grant_at, host_at, import_at, project_at, refl, result_at, workunit_at, ℕ}
 use Rattle.wu_schema.proofs.CreateLemmas.{def_by, or_empty}
 use Rattle.wu_schema.proofs.CreateEffect.{Defines}
+use Rattle.wu_schema.proofs.IndexEffect.{DefinesAs}
 
 abbrev pub project_text : List ℕ
 project_text = codes "CREATE TABLE project (\n  one INTEGER PRIMARY KEY CHECK (one = 1),\n  version INTEGER NOT NULL,\n  next_number INTEGER NOT NULL) STRICT"
@@ -23,6 +30,9 @@ archived_text = codes "CREATE TABLE archived (\n  seq INTEGER PRIMARY KEY,\n  nu
 
 abbrev pub import_text : List ℕ
 import_text = codes "CREATE TABLE import (\n  kind INTEGER NOT NULL,\n  name TEXT NOT NULL,\n  template BLOB NOT NULL,\n  content BLOB NOT NULL,\n  first_number INTEGER NOT NULL,\n  verdicts TEXT NOT NULL,\n  PRIMARY KEY (kind, name)) STRICT"
+
+abbrev pub queue_text : List ℕ
+queue_text = codes "CREATE TABLE queue (\n  workunit INTEGER PRIMARY KEY REFERENCES workunit (number) ON DELETE CASCADE,\n  wake INTEGER,\n  to_validate INTEGER NOT NULL,\n  to_assimilate INTEGER NOT NULL,\n  to_delete INTEGER NOT NULL,\n  purge_from INTEGER) STRICT"
 
 pub project_made : Defines project_text (codes "project") project_at
 unfolding everything
@@ -51,3 +61,48 @@ archived_made = record { parsed = or_empty (first archived_text); def = def_by (
 pub import_made : Defines import_text (codes "import") import_at
 unfolding everything
 import_made = record { parsed = or_empty (first import_text); def = def_by (or_empty (first import_text)).statement; read = refl; is = refl; nameless = refl; plain = refl; new = refl; called = refl; unreserved = refl; made = refl; placed = λ tree. refl; whole = refl; text_is = refl; named = λ tree. refl }
+
+pub queue_made : Defines queue_text (codes "queue") queue_at
+unfolding everything
+queue_made = record { parsed = or_empty (first queue_text); def = def_by (or_empty (first queue_text)).statement; read = refl; is = refl; nameless = refl; plain = refl; new = refl; called = refl; unreserved = refl; made = refl; placed = λ tree. refl; whole = refl; text_is = refl; named = λ tree. refl }
+
+-- ---- the indexes of the queue
+
+abbrev index_by : Statement → CreateIndex
+index_by (written.CreateIndex def) = def
+index_by _ = record { if_missing = false; name = []; table = []; columns = []; is_unique = false }
+
+abbrev pub wake_text : List ℕ
+wake_text = codes "CREATE INDEX queue_wake ON queue (wake)"
+
+abbrev pub validate_text : List ℕ
+validate_text = codes "CREATE INDEX queue_validate ON queue (to_validate, workunit)"
+
+abbrev pub assimilate_text : List ℕ
+assimilate_text = codes "CREATE INDEX queue_assimilate ON queue (to_assimilate, workunit)"
+
+abbrev pub delete_text : List ℕ
+delete_text = codes "CREATE INDEX queue_delete ON queue (to_delete, workunit)"
+
+abbrev pub purge_text : List ℕ
+purge_text = codes "CREATE INDEX queue_purge ON queue (purge_from)"
+
+pub wake_made : DefinesAs wake_text queue_table queue_wake
+unfolding everything index_defined_by index_in
+wake_made = record { defines = record { parsed = or_empty (first wake_text); def = index_by (or_empty (first wake_text)).statement; read = refl; is = refl; plain = refl; on = refl; new = refl; shared = refl; text_is = refl }; made = λ tree. refl }
+
+pub validate_made : DefinesAs validate_text queue_table queue_validate
+unfolding everything index_defined_by index_in
+validate_made = record { defines = record { parsed = or_empty (first validate_text); def = index_by (or_empty (first validate_text)).statement; read = refl; is = refl; plain = refl; on = refl; new = refl; shared = refl; text_is = refl }; made = λ tree. refl }
+
+pub assimilate_made : DefinesAs assimilate_text queue_table queue_assimilate
+unfolding everything index_defined_by index_in
+assimilate_made = record { defines = record { parsed = or_empty (first assimilate_text); def = index_by (or_empty (first assimilate_text)).statement; read = refl; is = refl; plain = refl; on = refl; new = refl; shared = refl; text_is = refl }; made = λ tree. refl }
+
+pub delete_made : DefinesAs delete_text queue_table queue_delete
+unfolding everything index_defined_by index_in
+delete_made = record { defines = record { parsed = or_empty (first delete_text); def = index_by (or_empty (first delete_text)).statement; read = refl; is = refl; plain = refl; on = refl; new = refl; shared = refl; text_is = refl }; made = λ tree. refl }
+
+pub purge_made : DefinesAs purge_text queue_table queue_purge
+unfolding everything index_defined_by index_in
+purge_made = record { defines = record { parsed = or_empty (first purge_text); def = index_by (or_empty (first purge_text)).statement; read = refl; is = refl; plain = refl; on = refl; new = refl; shared = refl; text_is = refl }; made = λ tree. refl }

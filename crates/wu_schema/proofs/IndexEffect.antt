@@ -1,17 +1,20 @@
 -- What a plain CREATE INDEX leaves, for any text that makes one, over any schema: one index more, and all else as it
 -- was.
-use Rattle.wu_schema.proofs.Words.{Checked, Command, Compiled, Database, Err, Executes, ExecutesIn, HasTable, Index, IsDatabase, IsPlain, List, None, Ok, Schema, Refines, State, Table, World, [], all_has, and_then, ap, command, command_of, compiled, false, has_either, has_left, inl, inr, is_reserved, is_select, meaning, not, planned, refl, returning, runs_as, same_name, slice_get, statement_of, subst, sym, timed, understood, with_command, ℕ, ◌∙◌, ◌≡◌}
+use Rattle.wu_schema.proofs.Words.{AllByRecursion, Checked, Command, Compiled, Database, Err, Executes, ExecutesIn, Ghosts, Has, HasRun, HasTable, Index, IsDatabase, IsPlain, List, None, Ok, OnOk, Result, Schema, Refines, State, Table, Transaction, World, [], all_has, and_then, ap, command, command_of, compiled, false, has_either, has_left, has_right, inl, inr, is_reserved, is_select, meaning, next_tree, not, planned, refl, returning, runs_as, same_name, slice_get, state, statement_of, subst, sym, timed, understood, with_command, ℕ, ◌++◌, ◌∙◌, ◌∷◌, ◌≡◌, ◌⊎◌}
 use Rattle.sqlite.specs.Command.TheVariants.{CreateIndex as Make}
 use Rattle.sqlite_ast.specs.declared.CreateIndex.{CreateIndex}
-use Rattle.sqlite_catalog.specs.Change.{indexed}
+use Rattle.sqlite_catalog.specs.Change.{indexed, with_index, KeepsRows}
 use Rattle.sqlite_resolve.specs.Define as define
 use Rattle.sqlite_resolve.specs.Lowering.{or_else}
 use Rattle.sqlite_resolve.specs.declared.error.CompileError.TheVariants as wrong
 use Rattle.sqlite_resolve.specs.Compile.{create_index, creates as creates_by, index_defined_by, index_in, target}
-use Rattle.wu_schema.specs.Indexes.{DefinesIndex}
+use Rattle.wu_schema.specs.Indexes.{DefinesIndex, IsIndexed, NamedIndex, index_at}
+use Rattle.wu_schema.specs.Made.{Named}
+use Rattle.wu_schema.specs.Queue.{AddsIndex, AddsIndexes, MakesIndex, MakesIndexes}
+use Rattle.wu_schema.proofs.CallLemmas.{ok_on}
 use Rattle.wu_schema.proofs.EffectLemmas.{went, same_value}
 use Rattle.wu_schema.proofs.CreateEffect.{ok_then, passes, is_new, understood_compiled}
-use Rattle.wu_schema.proofs.StandsOver.{Grows, stands_over}
+use Rattle.wu_schema.proofs.StandsOver.{Grows, grows_same, grows_both, stands_over}
 
 -- ---- what is understood of the text
 
@@ -46,8 +49,9 @@ module _ (text name : List ℕ) (d : DefinesIndex text name) where
       (passes (not (same_name table.name d.def.table)) wrong.Misuse _ i (rw (d.read, d.is) at h)) in
       ap (λ (j : Index). j.is_unique) (sym (same_value columns.2)) ∙ d.shared
 
-  -- CREATE INDEX that runs makes the index, whatever else the schema holds, and leaves all that was there
-  pub makes_index : (old new : State) (at : ℕ) (table : Table) → HasTable old.now.schema name at table → (count : ℕ) → Executes text [] old new (Ok count) → (index : Index) × (new.now.schema ≡ indexed old.now.schema table index) × Grows old.now new.now × IsDatabase new.now
+  -- CREATE INDEX that runs makes the index that it defines, whatever else the schema holds
+  pub makes_index : (old new : State) (at : ℕ) (table : Table) → HasTable old.now.schema name at table → (count : ℕ) → Executes text [] old new (Ok count)
+      → (index : Index) × (index_defined_by table text ≡ Ok index) × (new.now.schema ≡ indexed old.now.schema table index) × KeepsRows old.now.schema.tables old.now.trees new.now.trees × IsDatabase new.now
   unfolding ExecutesIn
   makes_index old new at table has count h =
       let schema = old.now.schema in
@@ -56,24 +60,99 @@ module _ (text name : List ℕ) (d : DefinesIndex text name) where
       let ran = runs_as text [] old new schema refl (Make at) (ap command_of known) (subst IsPlain (sym known) (refl, refl)) count h in
       let done = went (rw (ap (statement_of text) known ∙ d.text_is, has.there) at ran.changed) in
       let made = done.1 in
-      let end : new.now ≡ done.0 = ap (λ p. p.1) (same_value done.2) in
-      let is : new.now.schema ≡ indexed schema table made.index = ap (λ (b : Database). b.schema) end ∙ made.is in
-      let shared = shared_index table made.index made.defined in (
+      let end : new.now ≡ done.0 = ap (λ p. p.1) (same_value done.2) in (
         made.index,
-        is,
-        subst (λ (s : Schema). Grows old.now (record new.now { schema = s })) (sym is) (record {
-          named = λ n k t is_there. record { named = is_there.named; there = is_there.there; low = is_there.low; stands = is_there.stands };
-          owns = λ t there own. own;
-          keeps = record {
-            tables = λ t there. (there, ap (λ (b : Database). b.trees t.tree) end ∙ all_has (λ (u : Table). done.0.trees u.tree ≡ old.now.trees u.tree) schema.tables t made.rows there);
-            indexes = λ i there. has_left schema.indexes _ i there;
-            views = refl;
-          };
-          new_indexes = λ i there. elim (has_either schema.indexes _ i there) [ inl before ↦ inl before | inr (inl same) ↦ inr (λ t listed. rw (ap (λ (j : Index). j.is_unique) same ∙ shared) refl) | inr (inr none) ↦ absurd none ];
-        }),
+        made.defined,
+        ap (λ (b : Database). b.schema) end ∙ made.is,
+        subst (λ (b : Database). KeepsRows schema.tables old.now.trees b.trees) (sym end) made.rows,
         ran.sound,
       )
 
+-- an index more, which is not unique, leaves all that was there
+pub index_grows : (old new : Database) (index : Index) → new.schema ≡ with_index old.schema index → index.is_unique ≡ false → KeepsRows old.schema.tables old.trees new.trees → Grows old new
+index_grows old new index is shared rows = subst (λ (s : Schema). Grows old (record new { schema = s })) (sym is) (record {
+  named = λ n k t is_there. record { named = is_there.named; there = is_there.there; low = is_there.low; stands = is_there.stands };
+  owns = λ t there own. own;
+  keeps = record {
+    tables = λ t there. (there, all_has (λ (u : Table). new.trees u.tree ≡ old.trees u.tree) old.schema.tables t rows there);
+    indexes = λ i there. has_left old.schema.indexes _ i there;
+    views = refl;
+  };
+  new_indexes = λ i there. elim (has_either old.schema.indexes _ i there) [ inl before ↦ inl before | inr (inl same) ↦ inr (λ t listed. rw (ap (λ (j : Index). j.is_unique) same ∙ shared) refl) | inr (inr none) ↦ absurd none ];
+})
+
 -- so the database stands for the world that it stood for
 pub index_stands : (text name : List ℕ) → DefinesIndex text name → (old new : State) (at : ℕ) (table : Table) → HasTable old.now.schema name at table → (count : ℕ) → Executes text [] old new (Ok count) → (world : World) → Refines old.now world → Refines new.now world
-index_stands text name d old new at table has count h world s = let it = makes_index text name d old new at table has count h in stands_over old.now new.now it.2 world s it.3
+index_stands text name d old new at table has count h world s =
+    let it = makes_index text name d old new at table has count h in
+    stands_over old.now new.now (index_grows old.now new.now _ it.2 (shared_index text name d table it.0 it.1) it.3) world s it.4
+
+-- ---- texts whose index is known
+
+-- the text makes this index on the table of this name, in any tree
+pub record DefinesAs (text : List ℕ) (table : Named) (named : NamedIndex) : Type 0 where
+  pub defines : DefinesIndex text table.0
+  pub made : (tree : ℕ) → index_defined_by (table.1 tree) text ≡ Ok (index_at named (table.1 tree).tree 0)
+
+pub adds_index : (text : List ℕ) (table : Named) (named : NamedIndex) → DefinesAs text table named → (old new : State) (count : ℕ) → Executes text [] old new (Ok count) → MakesIndex table named old.now new.now
+adds_index text table named d old new count h at tree has =
+    let it = makes_index text table.0 d.defines old new at (table.1 tree) has count h in
+    let same : it.0 ≡ index_at named (table.1 tree).tree 0 = same_value (sym it.1 ∙ d.made tree) in
+    record { schema = it.2 ∙ ap (indexed old.now.schema (table.1 tree)) same; rows = it.3; sound = it.4 }
+
+-- a CREATE INDEX inside a transaction
+pub makes_known : {S T E : Type 0} (g : Ghosts S) (old new : Transaction S) {text : List ℕ} {table : Named} {named : NamedIndex} → DefinesAs text table named → (r : Result T E) → OnOk r (HasRun text [] (state g old.conn.now) (state g new.conn.now))
+    → OnOk r (MakesIndex table named (state g old.conn.now).now (state g new.conn.now).now)
+makes_known g old new {text} {table} {named} d r ran = ok_on r _ _ (λ it. adds_index text table named d (state g old.conn.now) (state g new.conn.now) it.0 it.1) ran
+
+-- ---- one index after another
+
+pub added_grows : (old new : Database) (table : Table) (named : NamedIndex) → AddsIndex old new table named → Grows old new
+added_grows old new table named adds = index_grows old new (index_at named table.tree (next_tree old.schema)) adds.schema refl adds.rows
+
+pub all_added_grow : (old new : Database) (table : Table) (named : List NamedIndex) → AddsIndexes old new table named → Grows old new
+all_added_grow old new table [] same = grows_same old new same
+all_added_grow old new table (named ∷ more) h = grows_both old h.0 new (added_grows old h.0 table named h.1) (all_added_grow h.0 new table more h.2)
+
+pub added_then : (old mid new : Database) (table : Table) (one two : List NamedIndex) → AddsIndexes old mid table one → AddsIndexes mid new table two → AddsIndexes old new table (one ++ two)
+added_then old mid new table [] two same h = subst (λ d. AddsIndexes d new table two) same h
+added_then old mid new table (named ∷ one) two h k = (h.0, h.1, added_then h.0 mid new table one two h.2 k)
+
+-- where its name finds the table still
+pub index_then : (table : Named) (named : NamedIndex) (more : List NamedIndex) (old mid new : Database) → MakesIndex table named old mid → MakesIndexes table more mid new → MakesIndexes table (named ∷ more) old new
+index_then table named more old mid new one rest at tree has =
+    let first = one at tree has in
+    (mid, first, rest at tree ((added_grows old mid (table.1 tree) named first).named table.0 at (table.1 tree) has))
+
+pub last_index : (table : Named) (named : NamedIndex) (old new : Database) → MakesIndex table named old new → MakesIndexes table (named ∷ []) old new
+last_index table named old new one at tree has = (new, one at tree has, refl)
+
+-- in the end each is there
+pub all_indexed : (old new : Database) (table : Table) (named : List NamedIndex) → AddsIndexes old new table named → AllByRecursion (IsIndexed new.schema table.tree) named
+all_indexed old new table [] same = tt
+all_indexed old new table (named ∷ more) h =
+    let index = index_at named table.tree (next_tree old.schema) in
+    let made = subst (λ (s : Schema). Has s.indexes index) (sym h.1.schema) (has_right old.schema.indexes (index ∷ []) index (inl refl)) in
+    ((next_tree old.schema, (all_added_grow h.0 new table more h.2).keeps.indexes index made), all_indexed h.0 new table more h.2)
+
+-- and nothing else is new
+pub only_indexed : (old new : Database) (table : Table) (named : List NamedIndex) → AddsIndexes old new table named
+    → (new.schema.tables ≡ old.schema.tables) × ((i : Index) → Has new.schema.indexes i → Has old.schema.indexes i ⊎ ((one : NamedIndex) × (tree : ℕ) × Has named one × (i ≡ index_at one table.tree tree)))
+only_indexed old new table [] same = (ap (λ (d : Database). d.schema.tables) same, λ i has. inl (subst (λ (d : Database). Has d.schema.indexes i) same has))
+only_indexed old new table (named ∷ more) h =
+    let rest = only_indexed h.0 new table more h.2 in (
+      rest.0 ∙ ap (λ (s : Schema). s.tables) h.1.schema,
+      λ i has. elim (rest.1 i has) [
+        | inl before ↦ elim (has_either old.schema.indexes _ i (subst (λ (s : Schema). Has s.indexes i) h.1.schema before)) [
+          | inl first ↦ inl first
+          | inr (inl same) ↦ inr (named, next_tree old.schema, inl refl, same)
+          | inr (inr none) ↦ absurd none
+        ]
+        | inr later ↦ inr (later.0, later.1, inr later.2, later.3)
+      ],
+    )
+
+-- the last of them leaves the trees listed
+pub all_added_sound : (old new : Database) (table : Table) (named : List NamedIndex) → IsDatabase old → AddsIndexes old new table named → IsDatabase new
+all_added_sound old new table [] sound same = subst IsDatabase (sym same) sound
+all_added_sound old new table (named ∷ more) sound h = all_added_sound h.0 new table more h.1.sound h.2

@@ -25,5 +25,6 @@ pub mod VersionTexts
 pub mod VersionLemmas
 pub mod StandsOver
 pub mod IndexEffect
+pub mod QueueLemmas
 pub mod OneLemmas
 pub mod AskingLemmas

@@ -9,7 +9,7 @@ use Rattle.wu_schema.proofs.CreateEffect.{index_low, own_table, tree_apart, ungu
 
 -- ---- a list of tables
 
-made_grows : (old new : Database) (named : Named) → HasMade old new named → Grows old new
+pub made_grows : (old new : Database) (named : Named) → HasMade old new named → Grows old new
 made_grows old new named made = record {
   named = made.keeps;
   owns = made.keeps_own;
@@ -82,16 +82,19 @@ all_add old new (named ∷ made) h =
 
 -- ---- what one of them is in the end
 
-record IsMadeIn (end : Database) (name : List ℕ) (table : Table) : Type 0 where
-  has : HasNamed end.schema name table
-  empty : end.trees table.tree ≡ []
+pub record IsMadeIn (end : Database) (name : List ℕ) (table : Table) : Type 0 where
+  pub has : HasNamed end.schema name table
+  pub empty : end.trees table.tree ≡ []
+
+-- whatever was made behind it
+pub still_made : (old mid end : Database) (named : Named) → HasMade old mid named → Grows mid end → IsMadeIn end named.0 (named.1 (next_tree old.schema))
+still_made old mid end named made rest =
+    let table = named.1 (next_tree old.schema) in
+    let there : HasNamed mid.schema named.0 table = (length old.schema.tables, made.has, made.owns) in
+    record { has = still_named mid end rest named.0 table there; empty = (rest.keeps.tables table (is_there mid.schema named.0 table there)).1 ∙ ap (λ n. mid.trees n) made.placed ∙ made.empty }
 
 made_in : (old end : Database) (named : Named) (more : List Named) → MakesAll old end (named ∷ more) → IsMadeIn end named.0 (named.1 (next_tree old.schema))
-made_in old end named more h =
-    let table = named.1 (next_tree old.schema) in
-    let rest = all_grow h.0 end more h.2 in
-    let there : HasNamed h.0.schema named.0 table = (length old.schema.tables, h.1.has, h.1.owns) in
-    record { has = still_named h.0 end rest named.0 table there; empty = (rest.keeps.tables table (is_there h.0.schema named.0 table there)).1 ∙ ap (λ n. h.0.trees n) h.1.placed ∙ h.1.empty }
+made_in old end named more h = still_made old h.0 end named h.1 (all_grow h.0 end more h.2)
 
 abbrev AreMadeIn : (old end : Database) (made : List Named) → MakesAll old end made → Type 0
 AreMadeIn old end [] same = Unit
@@ -101,7 +104,7 @@ all_in : (old end : Database) (made : List Named) (h : MakesAll old end made) �
 all_in old end [] same = tt
 all_in old end (named ∷ more) h = (made_in old end named more h, all_in h.0 end more h.2)
 
-no_list : (rows : List Row) → rows ≡ [] → ListsAll rows []
+pub no_list : (rows : List Row) → rows ≡ [] → ListsAll rows []
 no_list rows none = subst (λ rs. ListsAll rs []) (sym none) (record { shaped = (tt, tt); same = refl })
 
 no_cells : (rows : List Row) → rows ≡ [] → HoldsAll rows []

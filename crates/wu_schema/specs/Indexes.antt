@@ -1,9 +1,12 @@
--- Texts that make an index.
-use Rattle.std.specs.Prelude.{◌≡◌, ℕ, List, [], slice_range, false, Ok}
+-- Indexes: texts that make one, what it leaves of a world, and what each has.
+use Rattle.std.specs.Prelude.{◌≡◌, ℕ, List, [], ◌∷◌, ◌++◌, codes, slice_range, false, Ok}
 use Rattle.sqlite.specs.Held.{Held, state}
 use Rattle.sqlite.specs.State.{Executes}
 use Rattle.sqlite.specs.Store.{Ghosts}
+use Rattle.sqlite.specs.Schema.{Schema}
 use Rattle.sqlite.specs.Table.{Table}
+use Rattle.sqlite_schema.specs.declared.schema.Index.{Index}
+use Rattle.sqlite_rules.specs.Lists.{Has}
 use Rattle.wu_core.specs.World.{World}
 use Rattle.wu_schema.specs.Refines.{Refines}
 use Rattle.wu_schema.specs.Tables.{HasTable}
@@ -30,3 +33,41 @@ LeavesWorlds {S} g text name =
     (old new : Held S) (at : ℕ) (table : Table) → HasTable (state g old).now.schema name at table
     → (count : ℕ) → Executes text [] (state g old) (state g new) (Ok count)
     → (world : World) → Refines (state g old).now world → Refines (state g new).now world
+
+-- an index by its name and by the places of its columns in a row, 0 for the rowid
+abbrev pub NamedIndex : Type 0
+NamedIndex = List ℕ × List ℕ
+
+-- as it stands on the table in the first tree, kept in the second: its columns ascend, and need not be unique
+abbrev pub index_at : NamedIndex → (table tree : ℕ) → Index
+index_at named table tree = record { name = named.0; tree = tree; table = table; columns = named.1; order = record { digits = 0 }; is_unique = false }
+
+-- the table in this tree has the index
+abbrev pub IsIndexed : Schema → ℕ → NamedIndex → Type 0
+IsIndexed schema table named = (tree : ℕ) × Has schema.indexes (index_at named table tree)
+
+-- the queue by the moments of its workunits, and by each mark with their numbers
+abbrev pub queue_wake : NamedIndex
+queue_wake = (codes "queue_wake", 2 ∷ [])
+
+abbrev pub queue_validate : NamedIndex
+queue_validate = (codes "queue_validate", 3 ∷ 0 ∷ [])
+
+abbrev pub queue_assimilate : NamedIndex
+queue_assimilate = (codes "queue_assimilate", 4 ∷ 0 ∷ [])
+
+abbrev pub queue_delete : NamedIndex
+queue_delete = (codes "queue_delete", 5 ∷ 0 ∷ [])
+
+abbrev pub queue_purge : NamedIndex
+queue_purge = (codes "queue_purge", 6 ∷ [])
+
+abbrev pub mark_indexes : List NamedIndex
+mark_indexes = queue_validate ∷ queue_assimilate ∷ queue_delete ∷ []
+
+abbrev pub moment_indexes : List NamedIndex
+moment_indexes = queue_wake ∷ queue_purge ∷ []
+
+-- all five
+abbrev pub queue_indexes : List NamedIndex
+queue_indexes = mark_indexes ++ moment_indexes

@@ -10,3 +10,4 @@ pub mod Made
 pub mod Versions
 pub mod Indexes
 pub mod Restoring
+pub mod Queue

@@ -1,9 +1,10 @@
--- Values as rows of the tables of schema version 1: each column what the value has there.
-use Rattle.std.specs.Prelude.{ℕ, ◌+◌, pos, List, [], ◌∷◌, ◌++◌, map, Option}
+-- Values as rows of the tables: each column what the value has there.
+use Rattle.std.specs.Prelude.{ℕ, ◌+◌, pos, Bool, if◌then◌else◌, List, [], ◌∷◌, ◌++◌, map, Option}
 use Rattle.sqlite.specs.Order.{Row}
 use Rattle.sqlite.specs.Values as values
 use Rattle.sqlite.specs.declared.types.Value.{Value}
 use Rattle.sqlite.specs.declared.types.Value.TheVariants.{Null, Int, Text, Blob}
+use Rattle.wu_core.specs.declared.marks.Marks.{Marks}
 use Rattle.wu_core.specs.declared.workunit.Archived.{Archived}
 use Rattle.wu_core.specs.declared.workunit.Grant.{Grant}
 use Rattle.wu_core.specs.declared.workunit.Instance.{Instance}
@@ -82,6 +83,18 @@ kept_cells import = Blob import.template ∷ Blob import.content ∷ number impo
 
 abbrev pub import_cells : Import → Row
 import_cells import = number (import_kind_code import.kind) ∷ Text import.name ∷ kept_cells import
+
+-- whether something is so: 1 where it is, else 0
+abbrev pub flag : Bool → Value
+flag is = number (if is then 1 else 0)
+
+-- the columns of a row of the queue after its workunit's number
+abbrev pub marks_cells : Marks → Row
+marks_cells m = number_or_null m.wake ∷ flag m.to_validate ∷ flag m.to_assimilate ∷ flag m.to_delete ∷ number_or_null m.purge_from ∷ []
+
+-- as the table keeps it, by the workunit's number
+abbrev pub stored_marks : ℕ × Marks → Row
+stored_marks p = number p.0 ∷ Null ∷ marks_cells p.1
 
 -- the one row of the project, as the table keeps it
 abbrev pub stored_project : World → Row

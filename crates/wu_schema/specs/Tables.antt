@@ -1,4 +1,4 @@
--- The tables of schema version 1, wherever the store puts them, and a schema that has them.
+-- The tables of schema versions 1 and 2, wherever the store puts them, and a schema that has those of version 1.
 use Rattle.std.specs.Prelude.{◌≡◌, ◌^◌, ◌==◌, find, nat_le, false, [], ◌∷◌, Some, None, codes, List, ℕ, true, pos, slice_get}
 use Rattle.sqlite.specs.Collation.TheVariants.{Binary}
 use Rattle.sqlite.specs.declared.types.Value.TheVariants.{Null, Int}
@@ -131,6 +131,18 @@ import_at tree = record (blank (codes "import") tree (needs (codes "kind") Integ
   primary = 1 ∷ 2 ∷ [];
   uniques = (1 ∷ 2 ∷ []) ∷ [];
   orders = record { digits = 0 } ∷ [];
+}
+
+-- a row of the queue goes with its workunit, whose number is its key
+abbrev pub queue_refers : Reference
+queue_refers = record result_refers { columns = 0 ∷ [] }
+
+-- what the passes select by, for each workunit
+abbrev pub queue_at : ℕ → Table
+queue_at tree = record (blank (codes "queue") tree (may (codes "workunit") Integer ∷ may (codes "wake") Integer ∷ needs (codes "to_validate") Integer ∷ needs (codes "to_assimilate") Integer ∷ needs (codes "to_delete") Integer ∷ may (codes "purge_from") Integer ∷ [])) {
+  key = Some 0;
+  primary = 0 ∷ [];
+  references = queue_refers ∷ [];
 }
 
 -- the name finds this table

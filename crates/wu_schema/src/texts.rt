@@ -1,4 +1,4 @@
-//! The texts that make the tables of schema version 1.
+//! The texts that make the tables of schema versions 1 and 2.
 
 pub const CREATE_PROJECT: &str = "CREATE TABLE project (
   one INTEGER PRIMARY KEY CHECK (one = 1),
@@ -70,3 +70,23 @@ pub const CREATE_IMPORT: &str = "CREATE TABLE import (
 /// The one row of a fresh project: its version, and the number of its first workunit.
 pub const INSERT_PROJECT: &str =
     "INSERT INTO project (one, version, next_number) VALUES (1, ?1, 1)";
+
+pub const CREATE_QUEUE: &str = "CREATE TABLE queue (
+  workunit INTEGER PRIMARY KEY REFERENCES workunit (number) ON DELETE CASCADE,
+  wake INTEGER,
+  to_validate INTEGER NOT NULL,
+  to_assimilate INTEGER NOT NULL,
+  to_delete INTEGER NOT NULL,
+  purge_from INTEGER) STRICT";
+
+pub const CREATE_QUEUE_WAKE: &str = "CREATE INDEX queue_wake ON queue (wake)";
+
+pub const CREATE_QUEUE_VALIDATE: &str =
+    "CREATE INDEX queue_validate ON queue (to_validate, workunit)";
+
+pub const CREATE_QUEUE_ASSIMILATE: &str =
+    "CREATE INDEX queue_assimilate ON queue (to_assimilate, workunit)";
+
+pub const CREATE_QUEUE_DELETE: &str = "CREATE INDEX queue_delete ON queue (to_delete, workunit)";
+
+pub const CREATE_QUEUE_PURGE: &str = "CREATE INDEX queue_purge ON queue (purge_from)";

@@ -1,0 +1,64 @@
+-- The queue of schema version 2, beside the tables of a world: which rows it has, and what makes it.
+use Rattle.std.specs.Prelude.{◌≡◌, ◌⊎◌, ℕ, List, [], ◌∷◌, map, codes}
+use Rattle.std.specs.List.{AllByRecursion}
+use Rattle.sqlite.specs.Effect.{Database, IsDatabase}
+use Rattle.sqlite.specs.Table.{Table}
+use Rattle.sqlite_catalog.specs.Change.{next_tree, with_index, KeepsRows}
+use Rattle.sqlite_rules.specs.Lists.{Has}
+use Rattle.sqlite_schema.specs.declared.schema.Index.{Index}
+use Rattle.wu_core.specs.World.{World}
+use Rattle.wu_core.specs.declared.marks.Marks.{Marks}
+use Rattle.wu_schema.specs.Indexes.{NamedIndex, index_at, IsIndexed, queue_indexes}
+use Rattle.wu_schema.specs.Made.{Named, IsSequence, KeepsOthers}
+use Rattle.wu_schema.specs.Refines.{ListsAll, Refines}
+use Rattle.wu_schema.specs.Stored.{stored_marks}
+use Rattle.wu_schema.specs.Tables.{HasNamed, HasTable, queue_at}
+
+-- its name, and it in any tree
+abbrev pub queue_table : Named
+queue_table = (codes "queue", queue_at)
+
+-- the queue is there, in a tree of its own and with its five indexes, and has one row for each of these workunits: its
+-- number and its marks
+pub record HasQueue (db : Database) (marked : List (ℕ × Marks)) : Type 0 where
+  pub tree : ℕ
+  pub table : HasNamed db.schema (codes "queue") (queue_at tree)
+  pub indexes : AllByRecursion (IsIndexed db.schema tree) queue_indexes
+  pub rows : ListsAll (db.trees tree) (map stored_marks marked)
+
+-- one index more is there, on this table, and all else is as it was
+pub record AddsIndex (old new : Database) (table : Table) (named : NamedIndex) : Type 0 where
+  pub schema : new.schema ≡ with_index old.schema (index_at named table.tree (next_tree old.schema))
+  pub rows : KeepsRows old.schema.tables old.trees new.trees
+  pub sound : IsDatabase new
+
+-- one after another
+abbrev pub AddsIndexes : Database → Database → Table → List NamedIndex → Type 0
+AddsIndexes old new table [] = new ≡ old
+AddsIndexes old new table (named ∷ more) = (mid : Database) × AddsIndex old mid table named × AddsIndexes mid new table more
+
+-- the table gets the index, where its name finds it
+abbrev pub MakesIndex : Named → NamedIndex → Database → Database → Type 0
+MakesIndex table named old new = (at tree : ℕ) → HasTable old.schema table.0 at (table.1 tree) → AddsIndex old new (table.1 tree) named
+
+-- it gets these, in this order
+abbrev pub MakesIndexes : Named → List NamedIndex → Database → Database → Type 0
+MakesIndexes table named old new = (at tree : ℕ) → HasTable old.schema table.0 at (table.1 tree) → AddsIndexes old new (table.1 tree) named
+
+-- one of the queue's indexes, wherever they are
+abbrev pub IsQueueIndex : Index → Type 0
+IsQueueIndex i = (named : NamedIndex) × (table tree : ℕ) × Has queue_indexes named × (i ≡ index_at named table tree)
+
+-- what is there now was there, or is the queue's own
+pub record AddsQueue (old new : Database) : Type 0 where
+  pub tables : (t : Table) → Has new.schema.tables t
+      → Has old.schema.tables t ⊎ (((tree : ℕ) × (t ≡ queue_at tree)) ⊎ IsSequence t)
+  pub indexes : (i : Index) → Has new.schema.indexes i → Has old.schema.indexes i ⊎ IsQueueIndex i
+
+-- the queue is made, with no row, beside the world that the tables stand for
+pub record MakesQueue (old new : Database) : Type 0 where
+  pub queue : HasQueue new []
+  pub stands : (world : World) → Refines old world → Refines new world
+  pub keeps : KeepsOthers old new
+  pub adds : AddsQueue old new
+  pub sound : IsDatabase new
