@@ -1,8 +1,14 @@
--- The queue, made beside what was there.
-use Rattle.wu_schema.proofs.Words.{Database, Has, HasMade, inl, inr, length, next_tree, subst}
-use Rattle.wu_schema.specs.Indexes.{mark_indexes, moment_indexes, queue_indexes}
-use Rattle.wu_schema.specs.Queue.{AddsIndexes, MakesIndexes, MakesQueue, queue_table}
+-- The queue: made beside what was there, and what a change of something else leaves of it.
+use Rattle.wu_schema.proofs.Words.{AllByRecursion, Database, Enforced, Has, HasMade, HasNamed, IsCalm, List, ListsAll, ProjectTrees, PutsOne, Refines, Row, Schema, Table, World, [], ap, bytes_eq, codes, false, inl, inr, length, map, next_tree, refl, subst, sym, true, ℕ, ◌∙◌, ◌≡◌, ◌≢◌}
+use Rattle.wu_core.specs.declared.marks.Marks.{Marks}
+use Rattle.wu_schema.specs.Indexes.{IsIndexed, mark_indexes, moment_indexes, queue_indexes}
+use Rattle.wu_schema.specs.Queue.{AddsIndexes, HasQueue, MakesIndexes, MakesQueue, queue_table}
+use Rattle.wu_schema.specs.Stored.{stored_marks}
 use Rattle.wu_schema.specs.Tables.{queue_at}
+use Rattle.wu_schema.proofs.CalmLemmas.{calm_child}
+use Rattle.wu_schema.proofs.RowLemmas.{childless}
+use Rattle.wu_schema.proofs.StandsLemmas.{IsChild, but_one, is_there, lists_still, only_work}
+use Rattle.wu_schema.proofs.Parts.{Part, Project, Workunits, HasParts, IsIn, Keeps, apart, frame, is_part, kept, parts_there, stands_in, table_of, tree_in, placed}
 use Rattle.wu_schema.proofs.MadeLemmas.{made_grows, no_list, still_made}
 use Rattle.wu_schema.proofs.StandsOver.{Grows, grows_both, stands_over}
 use Rattle.wu_schema.proofs.IndexEffect.{added_then, all_added_grow, all_added_sound, all_indexed, only_indexed}
@@ -36,3 +42,61 @@ queue_is_made old first next new made marks moments =
       };
       sound = sound;
     }
+
+-- ---- what stays of it
+
+module _ (old new : Database) (marked after : List (ℕ × Marks)) (q : HasQueue old marked) where
+  -- over the same schema it has the rows that its tree has
+  pub queue_has : new.schema ≡ old.schema → ListsAll (new.trees q.tree) (map stored_marks after) → HasQueue new after
+  queue_has same rows = record {
+    tree = q.tree;
+    table = subst (λ (s : Schema). HasNamed s (codes "queue") (queue_at q.tree)) (sym same) q.table;
+    indexes = subst (λ (s : Schema). AllByRecursion (IsIndexed s q.tree) queue_indexes) (sym same) q.indexes;
+    rows = rows;
+  }
+
+pub queue_still : (old new : Database) (marked : List (ℕ × Marks)) (q : HasQueue old marked) → new.schema ≡ old.schema → new.trees q.tree ≡ old.trees q.tree → HasQueue new marked
+queue_still old new marked q same rows = queue_has old new marked marked q same (lists_still rows q.rows)
+
+-- no table of a project is called so
+called_otherwise : (t : ProjectTrees) (p : Part) → bytes_eq (table_of t p).name (codes "queue") ≡ false
+called_otherwise t Project = refl
+called_otherwise t _ = refl
+
+module _ (old : Database) (world : World) (s : Refines old world) (marked : List (ℕ × Marks)) (q : HasQueue old marked) where
+  pub queue_listed : Has old.schema.tables (queue_at q.tree)
+  queue_listed = is_there old.schema _ _ q.table
+
+  -- its tree is apart from those of the seven tables
+  pub queue_apart : (p : Part) → IsIn p world.version → tree_in s.trees p ≢ q.tree
+  queue_apart p is_in same =
+      let listed = stands_in world.version old s.trees (parts_there old world s) p is_in in
+      let one : table_of s.trees p ≡ queue_at q.tree = q.table.2 (table_of s.trees p) listed (placed s.trees p ∙ same) in
+      absurd (let e : true ≡ false = ap (λ (u : Table). bytes_eq u.name (codes "queue")) (sym one) ∙ called_otherwise s.trees p in cc)
+
+  -- its rows go with their workunits
+  pub queue_child : IsChild old.schema (queue_at q.tree) 0
+  queue_child = record { listed = queue_listed; owns = q.table.2; refers = refl }
+
+  -- a row that is put into one of them leaves it
+  pub rows_beside : (new : Database) (p : Part) → IsIn p world.version → (row : Row) → PutsOne old new (tree_in s.trees p) row → new.trees q.tree ≡ old.trees q.tree
+  rows_beside new p is_in row put = but_one old new (tree_in s.trees p) row put (queue_at q.tree) queue_listed (λ same. queue_apart p is_in (sym same))
+
+  pub queue_beside : (new : Database) (p : Part) → IsIn p world.version → (row : Row) → PutsOne old new (tree_in s.trees p) row → HasQueue new marked
+  queue_beside new p is_in row put = queue_still old new marked q put.schema (rows_beside new p is_in row put)
+
+  -- so does a write of one of them but of the workunits
+  pub queue_calm : (p : Part) → IsIn p world.version → is_part p Workunits ≡ false → IsCalm old.schema Enforced (queue_at q.tree) (tree_in s.trees p)
+  queue_calm p is_in none =
+      let there = parts_there old world s in
+      let work = there Workunits tt in
+      calm_child old.schema (queue_at q.tree) s.trees.workunit (tree_in s.trees p) (childless old.schema _ work.2 refl) (only_work old.schema s.trees.workunit work (queue_at q.tree) 0 queue_child) (apart world.version old s.trees there p Workunits is_in tt none)
+
+  -- and a row that is put into it leaves the world
+  pub world_beside : (new : Database) (row : Row) → PutsOne old new q.tree row → Refines new world
+  world_beside new row put = frame old new world world s (λ p. false) put.schema refl keeps (λ p off rows h. h) (λ p on. absurd (cc)) put.sound
+    where
+      keeps : Keeps world.version s.trees old new (λ p. false)
+      keeps p is_in off =
+          let there = parts_there old world s in
+          kept world.version old s.trees there new p (but_one old new q.tree row put (table_of s.trees p) (stands_in world.version old s.trees there p is_in) (λ same. queue_apart p is_in (sym (placed s.trees p) ∙ same)))

@@ -1,5 +1,6 @@
 -- The INSERTs of the changes: each text with its row, and that it fits its table.
 use Rattle.wu_schema.proofs.Words.{Null, [], append-nil, archived_at, codes, col, everything, grant_at, import_at, lit, refl, result_at, workunit_at, ◌∷◌, ◌++◌}
+use Rattle.wu_schema.specs.Tables.{queue_at}
 use Rattle.wu_schema.proofs.InsertTexts.{Put, PutFits}
 use Rattle.wu_store.proofs.SelectTexts.{instance_columns, workunit_columns}
 
@@ -56,3 +57,15 @@ import_put = record { text = codes "INSERT INTO import (kind, name, template, co
 pub import_fits : PutFits (codes "import") import_at import_put
 unfolding everything
 import_fits = record { read = refl; made = λ schema tree. refl; formats = λ tree. refl; bare = λ tree. refl; plain = λ tree params. append-nil params }
+
+-- ---- the marks of a workunit
+
+abbrev pub queue_put : Put
+queue_put = record {
+  text = codes "INSERT INTO queue (workunit, wake, to_validate, to_assimilate, to_delete, purge_from) VALUES (?1, ?2, ?3, ?4, ?5, ?6)";
+  terms = col 0 0 ∷ lit Null ∷ col 0 1 ∷ col 0 2 ∷ col 0 3 ∷ col 0 4 ∷ col 0 5 ∷ [];
+}
+
+pub queue_fits : PutFits (codes "queue") queue_at queue_put
+unfolding everything
+queue_fits = record { read = refl; made = λ schema tree. refl; formats = λ tree. refl; bare = λ tree. refl; plain = λ tree params. append-nil params }

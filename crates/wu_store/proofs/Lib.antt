@@ -15,6 +15,7 @@ pub mod CreditEffect
 pub mod StandsWith
 pub mod SameWorld
 pub mod ChangeLemmas
+pub mod QueueLemmas
 pub mod UpdateLemmas
 pub mod UpdateEffect
 pub mod ReadingLemmas

@@ -22,7 +22,7 @@ Rises = IsAscending (λ (a b : Workunit). a.number < b.number)
 
 -- ---- the rows of the workunits
 
-numbers_compare : (m n : ℕ) → value_cmp (Int (pos m)) (Int (pos n)) ≡ nat_cmp m n
+pub numbers_compare : (m n : ℕ) → value_cmp (Int (pos m)) (Int (pos n)) ≡ nat_cmp m n
 numbers_compare m n = value_cmp-Int (pos m) (pos n) ∙ tests
   where
     tests : int_cmp (pos m) (pos n) ≡ nat_cmp m n

@@ -8,3 +8,4 @@ pub mod Changing
 pub mod Due
 pub mod Lines
 pub mod Summaries
+pub mod Queues

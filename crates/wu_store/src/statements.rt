@@ -8,12 +8,14 @@ ghost use Rattle.wu_core.specs.declared.fault.Fault.TheVariants.{NotAProject};
 ghost use Rattle.wu_schema.specs.Asking.{Asks};
 ghost use Rattle.wu_schema.specs.Calls.{Answers, AnswersRows, StatementFrame, Does, Changes};
 ghost use Rattle.wu_store.specs.Loading.{IsStoreFault, NotRefusedIn, ServesUnlessFailed};
+ghost use Rattle.wu_store.specs.Queues.{ChangesQueue, KeepsQueue, KeepsWorld, with_marks, without_marks};
 ghost use Rattle.wu_store.specs.Answers.{all_archived, all_credit, all_hosts, all_rows, AnswersSoMany, count_in, has_name, import_count, instance_rows_of, kept_of, last_archived, last_grant, next_row, result_count, row_above, row_named, row_numbered, was_archived, workunit_count};
 
 use crate::changes::Import;
 use sqlite::{Alter, Connection, Error, Row, Transaction, params};
 use wu_core::{
-    Archived, Deadline, Fault, Grant, ImportKind, Instance, Moment, Name, ServerState, Workunit,
+    Archived, Deadline, Fault, Grant, ImportKind, Instance, Marks, Moment, Name, ServerState,
+    Workunit,
 };
 use wu_schema::{execute, query};
 
@@ -61,6 +63,16 @@ fn deadline_of(deadline: Option<Deadline>) -> Option<i64>
     match deadline {
         Some(deadline) => Some(deadline.seconds() as i64),
         None => None,
+    }
+}
+
+/// A number of the schema, where there is one.
+fn signed_of(number: Option<u64>) -> Result<Option<i64>, Error>
+    ensures { IfOk result (λ n. n ≡ option_map pos number) }
+{
+    match number {
+        Some(number) => Ok(Some(signed(number)?)),
+        None => Ok(None),
     }
 }
 
@@ -358,6 +370,7 @@ pub fn insert_workunit<S: Alter>(
     ensures writes { StatementFrame S.Store tx.old tx.new result }
     ensures free { Does S.Store tx.old tx.new result (WasFree workunit.now.number) }
     ensures puts { Changes S.Store tx.old tx.new result (with_placed (bare workunit.now)) }
+    ensures queue { Does S.Store tx.old tx.new result KeepsQueue }
 {
     let params = workunit.params;
     let number = signed(workunit.number)?;
@@ -394,6 +407,7 @@ pub fn insert_instance<S: Alter>(
 ) -> Result<(), Error>
     ensures writes { StatementFrame S.Store tx.old tx.new result }
     ensures puts { Does S.Store tx.old tx.new result (AddsInstance workunit n instance.now) }
+    ensures queue { Does S.Store tx.old tx.new result KeepsQueue }
 {
     let workunit = signed(workunit)?;
     let host = host_of(&instance.host);
@@ -419,10 +433,12 @@ pub fn insert_instance<S: Alter>(
     )
 }
 
-/// Deletes the workunit of this number, if there is one, and its instances.
+/// Deletes the workunit of this number, if there is one, with its instances and its marks in the queue.
 pub fn delete_workunit<S: Alter>(tx: &mut Transaction<'_, S>, number: u64) -> Result<(), Error>
     ensures writes { StatementFrame S.Store tx.old tx.new result }
     ensures deletes { Changes S.Store tx.old tx.new result (without_workunit number) }
+    ensures queue { Does S.Store tx.old tx.new result
+        (ChangesQueue (without_marks number)) }
 {
     execute(
         tx,
@@ -471,6 +487,7 @@ pub fn insert_grant<S: Alter>(
 ) -> Result<(), Error>
     ensures writes { StatementFrame S.Store tx.old tx.new result }
     ensures grants { Does S.Store tx.old tx.new result (AddsGrant seq grant.now) }
+    ensures queue { Does S.Store tx.old tx.new result KeepsQueue }
 {
     insert_grant_row(tx, seq, grant)?;
     add_credit(tx, grant)
@@ -484,6 +501,7 @@ pub fn insert_archived<S: Alter>(
 ) -> Result<(), Error>
     ensures writes { StatementFrame S.Store tx.old tx.new result }
     ensures puts { Does S.Store tx.old tx.new result (AddsArchived seq archived.now) }
+    ensures queue { Does S.Store tx.old tx.new result KeepsQueue }
 {
     let seq = signed(seq)?;
     let number = signed(archived.number)?;
@@ -511,6 +529,7 @@ pub fn insert_import<S: Alter>(
     ensures writes { StatementFrame S.Store tx.old tx.new result }
     ensures puts { Changes S.Store tx.old tx.new result
         (with_import (import_of_change import.now)) }
+    ensures queue { Does S.Store tx.old tx.new result KeepsQueue }
 {
     execute(
         tx,
@@ -526,10 +545,40 @@ pub fn insert_import<S: Alter>(
     )
 }
 
+/// Adds the marks of a workunit to the queue, at its place in order of number. The table's key refuses a number that is
+/// there, and its reference one that no workunit has.
+pub fn insert_marks<S: Alter>(
+    tx: &mut Transaction<'_, S>,
+    workunit: u64,
+    marks: &Marks,
+) -> Result<(), Error>
+    ensures writes { StatementFrame S.Store tx.old tx.new result }
+    ensures puts { Does S.Store tx.old tx.new result
+        (ChangesQueue (with_marks workunit marks.now)) }
+    ensures stays { Does S.Store tx.old tx.new result KeepsWorld }
+{
+    let workunit = signed(workunit)?;
+    let wake = signed_of(marks.wake)?;
+    let purge_from = seconds_of(marks.purge_from);
+    execute(
+        tx,
+        "INSERT INTO queue (workunit, wake, to_validate, to_assimilate, to_delete, purge_from) VALUES (?1, ?2, ?3, ?4, ?5, ?6)",
+        params![
+            workunit,
+            wake,
+            marks.to_validate,
+            marks.to_assimilate,
+            marks.to_delete,
+            purge_from
+        ],
+    )
+}
+
 /// Sets the project's next number.
 pub fn set_next_number<S: Alter>(tx: &mut Transaction<'_, S>, next_number: u64) -> Result<(), Error>
     ensures writes { StatementFrame S.Store tx.old tx.new result }
     ensures sets { Changes S.Store tx.old tx.new result (with_next next_number) }
+    ensures queue { Does S.Store tx.old tx.new result KeepsQueue }
 {
     execute(
         tx,

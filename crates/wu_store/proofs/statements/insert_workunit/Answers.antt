@@ -1,10 +1,9 @@
-use Rattle.wu_schema.proofs.Words.{Blob, HasCleanDisk, OnOk, Refines, Text, World, ap, bound_value, number, state, workunit_row, ◌∙◌, ◌≡◌}
-use Rattle.wu_store.specs.Changes.{LacksNumber, with_placed}
-use Rattle.wu_core.specs.Storable.{bare}
+use Rattle.wu_schema.proofs.Words.{Blob, HasCleanDisk, OnOk, Text, ap, bound_value, number, state, workunit_row, ◌∙◌, ◌≡◌, Executes, Ok, ℕ}
 use Rattle.wu_store.proofs.InsertTexts.{workunit_put}
 use Rattle.wu_schema.proofs.InsertEffect.{also, no_more}
 use Rattle.wu_schema.proofs.CallLemmas.{ok_on, ran_as}
 use Rattle.wu_store.proofs.ChangeLemmas.{sent_number, bound_number_or_null, bound_seconds, puts_workunit}
+use Rattle.wu_store.proofs.QueueLemmas.{workunit_leaves}
 use Rattle.wu_store.proofs.statements.insert_workunit.Goals as goal
 
 pub returns : goal.returns
@@ -27,10 +26,11 @@ returns g c =
     (also (ap bound_value c.params-to_sql-15.ensures ∙ bound_seconds _ w.done_at c.seconds_of-done_at.ensures) no_more)))))))))))))) in
     let old = state g.S.Store c.args.tx.now.conn.now in
     let new = state g.S.Store c.execute.new.tx.conn.now in
-    let made : HasCleanDisk new → OnOk c.execute.result ((world : World) → Refines old.now world → LacksNumber w.number world.workunits × Refines new.now (with_placed (bare w) world)) =
-    λ clean. ran_as old new workunit_put.text _ _ given c.execute.result (c.execute.ensures.ran clean) (λ count ran world s. puts_workunit old new world s w count ran) in
+    let ran : HasCleanDisk new → OnOk c.execute.result ((count : ℕ) × Executes workunit_put.text (workunit_row w) old new (Ok count)) =
+    λ clean. ran_as old new workunit_put.text _ _ given c.execute.result (c.execute.ensures.ran clean) (λ count ran. (count, ran)) in
     record {
       writes = c.execute.ensures.writes;
-      free = λ clean. ok_on c.execute.result _ _ (λ it world s. (it world s).0) (made clean);
-      puts = λ clean. ok_on c.execute.result _ _ (λ it world s. (it world s).1) (made clean);
+      free = λ clean. ok_on c.execute.result _ _ (λ it world s. (puts_workunit old new world s w it.0 it.1).0) (ran clean);
+      puts = λ clean. ok_on c.execute.result _ _ (λ it world s. (puts_workunit old new world s w it.0 it.1).1) (ran clean);
+      queue = λ clean. ok_on c.execute.result _ _ (λ it world marked s q. workunit_leaves old new world s marked q w it.0 it.1) (ran clean);
     }
