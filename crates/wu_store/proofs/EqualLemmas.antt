@@ -1,6 +1,6 @@
 -- When SQL finds two values equal.
-use Rattle.wu_schema.proofs.Words.{Binary, Bool, Equal, Greater, Int, Less, List, Ordering, Some, Text, ap, arith, binary, bytes_eq, equal, false, int_cmp, is_eq, is_true, nat_lt, nat_tests, pos, refl, true, value_cmp, value_cmp-Int, ℕ, ℤ, ◌==◌, ◌∙◌, ◌≡◌}
-use Rattle.std.specs.Ordering.{is_gt}
+use Rattle.wu_schema.proofs.Words.{Binary, Bool, Equal, Greater, Int, Less, List, Ordering, Some, Text, ap, arith, binary, bytes_eq, equal, false, int_cmp, is_eq, is_true, nat_le, nat_lt, nat_tests, pos, refl, true, value_cmp, value_cmp-Int, ℕ, ℤ, ◌==◌, ◌∙◌, ◌≡◌}
+use Rattle.std.specs.Ordering.{is_gt, is_le}
 use Rattle.std.proofs.lemmas.Map.Text.{is_eq-slice_cmp}
 use Rattle.sqlite_value.proofs.OrderLemmas.{value_cmp-Text}
 use Rattle.sqlite_sql.specs.Ops.{test}
@@ -38,4 +38,16 @@ number_above a b = true_if (test compare.Gt (value_cmp (Int (pos a)) (Int (pos b
     tested Greater = refl
 
     tests : is_gt (int_cmp (pos a) (pos b)) ≡ nat_lt b a
+    tests = grind (arith, nat_tests)
+
+pub number_at_most : (a b : ℕ) → is_true (binary (by.Compare compare.Le Binary) (Int (pos a)) (Int (pos b))) ≡ nat_le a b
+unfolding binary
+number_at_most a b = true_if (test compare.Le (value_cmp (Int (pos a)) (Int (pos b)))) ∙ ap (test compare.Le) (value_cmp-Int (pos a) (pos b)) ∙ tested (int_cmp (pos a) (pos b)) ∙ tests
+  where
+    tested : (o : Ordering) → test compare.Le o ≡ is_le o
+    tested Less = refl
+    tested Equal = refl
+    tested Greater = refl
+
+    tests : is_le (int_cmp (pos a) (pos b)) ≡ nat_le a b
     tests = grind (arith, nat_tests)

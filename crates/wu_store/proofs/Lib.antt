@@ -16,6 +16,7 @@ pub mod StandsWith
 pub mod SameWorld
 pub mod ChangeLemmas
 pub mod QueueLemmas
+pub mod QueueAnswers
 pub mod UpdateLemmas
 pub mod UpdateEffect
 pub mod ReadingLemmas

@@ -1,8 +1,10 @@
 -- The SELECTs: each text, what it asks for, and that it fits its table.
 use Rattle.wu_schema.proofs.Words.{Expr-F, Int, List, None, Some, Term, [], archived_at, arith, codes, col, everything, import_at, lit, negsuc, pos, project_at, refl, result_at, roll-Expr, workunit_at, ℕ, ◌∷◌, ◌++◌}
+use Rattle.sqlite_sql.specs.declared.ops.CompareOp.{CompareOp}
 use Rattle.sqlite_sql.specs.declared.ops.CompareOp.TheVariants as compare
+use Rattle.wu_schema.specs.Tables.{queue_at}
 pub use Rattle.wu_schema.proofs.SelectLemmas.{CompilesTo, compiles_to, Asked, Fits}
-use Rattle.wu_schema.proofs.ExprLemmas.{same, more}
+use Rattle.wu_schema.proofs.ExprLemmas.{same, more, parameter}
 
 -- ---- the columns of a workunit and of an instance, as each statement that has all of them lists them
 
@@ -122,3 +124,44 @@ instances_tests = same (col 1 1) (col 0 0) ∷ []
 
 abbrev pub instances_shows : List Term
 instances_shows = col 1 3 ∷ col 1 4 ∷ col 1 5 ∷ col 1 6 ∷ col 1 7 ∷ col 1 8 ∷ col 1 9 ∷ col 1 10 ∷ col 1 11 ∷ []
+
+-- ---- the workunits of a pass, by a mark
+
+-- the first so many numbers in the queue, by one column of theirs
+abbrev pub marked_asked : List ℕ → ℕ → CompareOp → Asked
+marked_asked text place how = record { text = text; parameters = codes "?1" ∷ codes "?2" ∷ []; shown = 0 ∷ []; tests = (place, how, 0) ∷ []; order = Some 0; limit = Some (parameter 2); upto = col 0 1 }
+
+abbrev pub validate_text : List ℕ
+validate_text = codes "SELECT workunit FROM queue WHERE to_validate = ?1 ORDER BY workunit LIMIT ?2"
+
+pub validate_fits : (tree : ℕ) → Fits (codes "queue") (queue_at tree) (marked_asked validate_text 2 compare.Eq)
+unfolding everything
+validate_fits tree = record { shown = refl; tests = refl; strict = refl; order = refl; height = (698, refl); few = omega arith; limit = λ schema. refl; read = refl; typed = refl }
+
+abbrev pub assimilate_text : List ℕ
+assimilate_text = codes "SELECT workunit FROM queue WHERE to_assimilate = ?1 ORDER BY workunit LIMIT ?2"
+
+pub assimilate_fits : (tree : ℕ) → Fits (codes "queue") (queue_at tree) (marked_asked assimilate_text 3 compare.Eq)
+unfolding everything
+assimilate_fits tree = record { shown = refl; tests = refl; strict = refl; order = refl; height = (698, refl); few = omega arith; limit = λ schema. refl; read = refl; typed = refl }
+
+abbrev pub delete_text : List ℕ
+delete_text = codes "SELECT workunit FROM queue WHERE to_delete = ?1 ORDER BY workunit LIMIT ?2"
+
+pub delete_fits : (tree : ℕ) → Fits (codes "queue") (queue_at tree) (marked_asked delete_text 4 compare.Eq)
+unfolding everything
+delete_fits tree = record { shown = refl; tests = refl; strict = refl; order = refl; height = (698, refl); few = omega arith; limit = λ schema. refl; read = refl; typed = refl }
+
+abbrev pub wake_text : List ℕ
+wake_text = codes "SELECT workunit FROM queue WHERE wake <= ?1 ORDER BY workunit LIMIT ?2"
+
+pub wake_fits : (tree : ℕ) → Fits (codes "queue") (queue_at tree) (marked_asked wake_text 1 compare.Le)
+unfolding everything
+wake_fits tree = record { shown = refl; tests = refl; strict = refl; order = refl; height = (698, refl); few = omega arith; limit = λ schema. refl; read = refl; typed = refl }
+
+abbrev pub purge_text : List ℕ
+purge_text = codes "SELECT workunit FROM queue WHERE purge_from <= ?1 ORDER BY workunit LIMIT ?2"
+
+pub purge_fits : (tree : ℕ) → Fits (codes "queue") (queue_at tree) (marked_asked purge_text 5 compare.Le)
+unfolding everything
+purge_fits tree = record { shown = refl; tests = refl; strict = refl; order = refl; height = (698, refl); few = omega arith; limit = λ schema. refl; read = refl; typed = refl }

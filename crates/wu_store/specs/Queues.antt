@@ -1,11 +1,20 @@
--- What each change makes of the queue.
-use Rattle.std.specs.Prelude.{ℕ, ◌==◌, not, List, [], ◌∷◌, filter}
+-- What each statement makes of the queue, and what is asked of it.
+use Rattle.std.specs.Prelude.{◌≡◌, ◌≢◌, ℕ, ◌==◌, nat_le, Bool, false, not, List, [], ◌∷◌, filter, map, take, None, Result, Vec, IfErr}
+use Rattle.std.specs.Option.{option_map_or}
 use Rattle.std.specs.Ordering.{nat_cmp, match_ordering}
 use Rattle.sqlite.specs.Effect.{Database}
+use Rattle.sqlite.specs.Held.{Held, state}
+use Rattle.sqlite.specs.Order.{Row}
+use Rattle.sqlite.specs.State.{HasCleanDisk}
+use Rattle.sqlite.specs.Store.{Ghosts}
 use Rattle.wu_core.specs.World.{World}
+use Rattle.wu_core.specs.declared.fault.Fault.{Fault}
+use Rattle.wu_core.specs.declared.fault.Fault.TheVariants.{NotAProject}
 use Rattle.wu_core.specs.declared.marks.Marks.{Marks}
+use Rattle.wu_schema.specs.Calls.{OnAnswer}
 use Rattle.wu_schema.specs.Queue.{HasQueue}
 use Rattle.wu_schema.specs.Refines.{Refines}
+use Rattle.wu_schema.specs.Stored.{number}
 
 -- something at its place in order of a number, and in place of what has its number
 abbrev pub at_place : {X : Type 0} → (X → ℕ) → X → List X → List X
@@ -31,3 +40,23 @@ KeepsQueue old new = ChangesQueue (λ marked. marked) old new
 -- a world beside a queue is the same then
 abbrev pub KeepsWorld : Database → Database → Type 0
 KeepsWorld old new = (world : World) (marked : List (ℕ × Marks)) → Refines old world → HasQueue old marked → Refines new world
+
+-- the rows of the numbers of the workunits whose marks pass, in order, as far as the limit goes
+abbrev pub first_marked : ℕ → (Marks → Bool) → List (ℕ × Marks) → List Row
+first_marked limit passes marked = take limit (map (λ (p : ℕ × Marks). number p.0 ∷ []) (filter (λ (p : ℕ × Marks). passes p.1) marked))
+
+-- the transitioner has something to do at this moment
+abbrev pub wakes_by : ℕ → Marks → Bool
+wakes_by now marks = option_map_or (λ moment. nat_le moment now) marks.wake false
+
+-- it waits for its purge since this moment, or longer
+abbrev pub waits_since : ℕ → Marks → Bool
+waits_since moment marks = option_map_or (λ since. nat_le since moment) marks.purge_from false
+
+-- the answer is what a queue that is there has
+abbrev pub AnswersQueue : {S A : Type 0} → Ghosts S → Held S → Held S → Result (Vec Row A) Fault → (List (ℕ × Marks) → List Row) → Type 0
+AnswersQueue g old new result answer = OnAnswer g old new result (λ db rows. (marked : List (ℕ × Marks)) → HasQueue db marked → rows.items ≡ answer marked)
+
+-- where the queue is there and steps have no limit, the question is not refused
+abbrev pub NotRefusedQueue : {S T : Type 0} → Ghosts S → Held S → Held S → Result T Fault → Type 0
+NotRefusedQueue g old new result = HasCleanDisk (state g new) → (marked : List (ℕ × Marks)) → HasQueue (state g old).now marked → old.step_limit ≡ None → IfErr result (λ fault. fault ≢ NotAProject)

@@ -8,7 +8,7 @@ ghost use Rattle.wu_core.specs.declared.fault.Fault.TheVariants.{NotAProject};
 ghost use Rattle.wu_schema.specs.Asking.{Asks};
 ghost use Rattle.wu_schema.specs.Calls.{Answers, AnswersRows, StatementFrame, Does, Changes};
 ghost use Rattle.wu_store.specs.Loading.{IsStoreFault, NotRefusedIn, ServesUnlessFailed};
-ghost use Rattle.wu_store.specs.Queues.{ChangesQueue, KeepsQueue, KeepsWorld, with_marks, without_marks};
+ghost use Rattle.wu_store.specs.Queues.{AnswersQueue, ChangesQueue, first_marked, KeepsQueue, KeepsWorld, NotRefusedQueue, waits_since, wakes_by, with_marks, without_marks};
 ghost use Rattle.wu_store.specs.Answers.{all_archived, all_credit, all_hosts, all_rows, AnswersSoMany, count_in, has_name, import_count, instance_rows_of, kept_of, last_archived, last_grant, next_row, result_count, row_above, row_named, row_numbered, was_archived, workunit_count};
 
 use crate::changes::Import;
@@ -359,6 +359,104 @@ pub fn import_kind_rows<S: Alter>(conn: &mut Connection<S>) -> Result<Vec<Row>, 
     ensures unrefused { NotRefusedIn S.Store conn.old conn.new result (λ _. ⊤) }
 {
     query(conn, "SELECT kind FROM import", &[])
+}
+
+/// The rows of the numbers of the first workunits in the queue that are marked for the validator, in order, as far as
+/// the limit goes. A limit from 2^63 on is `NotAProject`.
+pub fn validate_rows<S: Alter>(conn: &mut Connection<S>, limit: u64) -> Result<Vec<Row>, Fault>
+    ensures asks { Asks S.Store conn.old conn.new result }
+    ensures opens { limit < 2 ^ 63 → ServesUnlessFailed S.Store conn.new result }
+    ensures answers { AnswersQueue S.Store conn.old conn.new result
+        (first_marked limit (λ marks. marks.to_validate)) }
+    ensures fault { IfErr result IsStoreFault }
+    ensures unrefused { limit < 2 ^ 63 → NotRefusedQueue S.Store conn.old conn.new result }
+{
+    let limit = key_of(limit)?;
+    query(
+        conn,
+        "SELECT workunit FROM queue WHERE to_validate = ?1 ORDER BY workunit LIMIT ?2",
+        params![1i64, limit],
+    )
+}
+
+/// The rows of the numbers of the first workunits in the queue that are marked for the assimilator, in order, as far as
+/// the limit goes. A limit from 2^63 on is `NotAProject`.
+pub fn assimilate_rows<S: Alter>(conn: &mut Connection<S>, limit: u64) -> Result<Vec<Row>, Fault>
+    ensures asks { Asks S.Store conn.old conn.new result }
+    ensures opens { limit < 2 ^ 63 → ServesUnlessFailed S.Store conn.new result }
+    ensures answers { AnswersQueue S.Store conn.old conn.new result
+        (first_marked limit (λ marks. marks.to_assimilate)) }
+    ensures fault { IfErr result IsStoreFault }
+    ensures unrefused { limit < 2 ^ 63 → NotRefusedQueue S.Store conn.old conn.new result }
+{
+    let limit = key_of(limit)?;
+    query(
+        conn,
+        "SELECT workunit FROM queue WHERE to_assimilate = ?1 ORDER BY workunit LIMIT ?2",
+        params![1i64, limit],
+    )
+}
+
+/// The rows of the numbers of the first workunits in the queue that are marked for the file deleter, in order, as far
+/// as the limit goes. A limit from 2^63 on is `NotAProject`.
+pub fn delete_rows<S: Alter>(conn: &mut Connection<S>, limit: u64) -> Result<Vec<Row>, Fault>
+    ensures asks { Asks S.Store conn.old conn.new result }
+    ensures opens { limit < 2 ^ 63 → ServesUnlessFailed S.Store conn.new result }
+    ensures answers { AnswersQueue S.Store conn.old conn.new result
+        (first_marked limit (λ marks. marks.to_delete)) }
+    ensures fault { IfErr result IsStoreFault }
+    ensures unrefused { limit < 2 ^ 63 → NotRefusedQueue S.Store conn.old conn.new result }
+{
+    let limit = key_of(limit)?;
+    query(
+        conn,
+        "SELECT workunit FROM queue WHERE to_delete = ?1 ORDER BY workunit LIMIT ?2",
+        params![1i64, limit],
+    )
+}
+
+/// The rows of the numbers of the first workunits in the queue for which the transitioner has something to do at a
+/// moment, in order, as far as the limit goes. A limit from 2^63 on is `NotAProject`.
+pub fn wake_rows<S: Alter>(
+    conn: &mut Connection<S>,
+    now: Moment,
+    limit: u64,
+) -> Result<Vec<Row>, Fault>
+    ensures asks { Asks S.Store conn.old conn.new result }
+    ensures opens { limit < 2 ^ 63 → ServesUnlessFailed S.Store conn.new result }
+    ensures answers { AnswersQueue S.Store conn.old conn.new result
+        (first_marked limit (wakes_by now)) }
+    ensures fault { IfErr result IsStoreFault }
+    ensures unrefused { limit < 2 ^ 63 → NotRefusedQueue S.Store conn.old conn.new result }
+{
+    let limit = key_of(limit)?;
+    query(
+        conn,
+        "SELECT workunit FROM queue WHERE wake <= ?1 ORDER BY workunit LIMIT ?2",
+        params![seconds(now), limit],
+    )
+}
+
+/// The rows of the numbers of the first workunits in the queue that wait for their purge since a moment, or longer, in
+/// order, as far as the limit goes. A limit from 2^63 on is `NotAProject`.
+pub fn purge_rows<S: Alter>(
+    conn: &mut Connection<S>,
+    since: Moment,
+    limit: u64,
+) -> Result<Vec<Row>, Fault>
+    ensures asks { Asks S.Store conn.old conn.new result }
+    ensures opens { limit < 2 ^ 63 → ServesUnlessFailed S.Store conn.new result }
+    ensures answers { AnswersQueue S.Store conn.old conn.new result
+        (first_marked limit (waits_since since)) }
+    ensures fault { IfErr result IsStoreFault }
+    ensures unrefused { limit < 2 ^ 63 → NotRefusedQueue S.Store conn.old conn.new result }
+{
+    let limit = key_of(limit)?;
+    query(
+        conn,
+        "SELECT workunit FROM queue WHERE purge_from <= ?1 ORDER BY workunit LIMIT ?2",
+        params![seconds(since), limit],
+    )
 }
 
 /// Adds the row of a workunit at its place in order of number, without its instances. The table's key refuses a number

@@ -1,0 +1,83 @@
+-- What the selections of the passes answer of the queue.
+use Rattle.wu_schema.proofs.Words.{Binary, Bool, Fault, FailsToQuery, Ghosts, Held, IfErr, List, None, NotAProject, Option, Result, Row, Shown, Some, State, Value, Vec, [], ap, binary, col, codes, column, equal, filter, fault_of, holds, is_true, length, list_all, map, map-map, nat_le, number, number_or_null, refl, state, subst, sym, take, true, false, ℕ, ◌∙◌, ◌∷◌, ◌≡◌, ◌≢◌}
+use Rattle.std.specs.Option.{option_map_or}
+use Rattle.sqlite_sql.specs.declared.ops.BinaryOp.TheVariants as by
+use Rattle.sqlite_sql.specs.declared.ops.CompareOp.{CompareOp}
+use Rattle.sqlite_sql.specs.declared.ops.CompareOp.TheVariants as compare
+use Rattle.wu_core.specs.declared.marks.Marks.{Marks}
+use Rattle.wu_schema.specs.Asking.{Asks, FailsAll, IsSelect, ServesUnlessFailed, ShowsAll, TellsQuery}
+use Rattle.wu_schema.specs.Queue.{HasQueue}
+use Rattle.wu_schema.specs.Stored.{flag, stored_marks}
+use Rattle.wu_schema.specs.Tables.{queue_at}
+use Rattle.wu_schema.proofs.AnswerLemmas.{shown_answers}
+use Rattle.wu_schema.proofs.ReadLemmas.{if_ok, if_err}
+use Rattle.wu_schema.proofs.SelectLemmas.{Asked, Fits, IsTyped, compiles, parsed_of, select_of, tests_of}
+use Rattle.wu_schema.proofs.ToldLemmas.{asked_told}
+use Rattle.wu_store.specs.Loading.{IsStoreFault}
+use Rattle.wu_store.specs.Queues.{AnswersQueue, NotRefusedQueue, first_marked}
+use Rattle.wu_store.proofs.AskLemmas.{never_refused}
+use Rattle.wu_store.proofs.EqualLemmas.{number_at_most, number_equal}
+use Rattle.wu_store.proofs.OrderAnswers.{sure_in_order}
+use Rattle.wu_store.proofs.ReadAnswers.{kept_mapped}
+use Rattle.wu_store.proofs.SelectTexts.{marked_asked}
+
+-- what a selection does and answers, and that it is not refused
+pub record HasAskedQueue {S A : Type 0} (g : Ghosts S) (old new : Held S) (result : Result (Vec Row A) Fault) (answer : List (ℕ × Marks) → List Row) : Type 0 where
+  pub asks : Asks g old new result
+  pub opens : ServesUnlessFailed g new result
+  pub answers : AnswersQueue g old new result answer
+  pub fault : IfErr result IsStoreFault
+  pub unrefused : NotRefusedQueue g old new result
+
+module _ (asked : Asked) (fits : (tree : ℕ) → Fits (codes "queue") (queue_at tree) asked) (v : Value) (n : ℕ) where
+  abbrev params : Row
+  params = v ∷ number n ∷ []
+
+  abbrev passing : ℕ → Row → Bool
+  passing tree r = list_all (holds (params ∷ r ∷ [])) (tests_of (codes "queue") (queue_at tree) asked)
+
+  module _ {S : Type 0} (g : Ghosts S) (old new : Held S) (given : Row) (same : given ≡ params) (few : length params ≡ length asked.parameters) (typed : (tree : ℕ) → IsTyped (codes "queue") (queue_at tree) asked params) where
+    selects : IsSelect asked.text
+    selects = record { parsed = parsed_of (codes "queue") (queue_at 0) asked; select = select_of (codes "queue") (queue_at 0) asked; read = (fits 0).read; is = refl }
+
+    never_told : (marked : List (ℕ × Marks)) → HasQueue (state g old).now marked → old.step_limit ≡ None → (fault : Fault) → TellsQuery asked.text given (state g old) (state g new) fault → fault ≢ NotAProject
+    never_told marked q limit fault h is =
+        never_refused (fault_of h.0)
+        (asked_told (codes "queue") q.table.0 (queue_at q.tree) asked (fits q.tree) (state g old) (state g new) q.table.1 params h.0 few (typed q.tree) limit (subst (λ ps. FailsToQuery asked.text ps (state g old) (state g new) h.0) same h.2))
+        (sym h.1 ∙ is)
+
+    pub asked_queue : {A : Type 0} (answer : List (ℕ × Marks) → List Row) → ((rows : List Row) → Shown asked.text params (state g old) (state g new) rows → (marked : List (ℕ × Marks)) → HasQueue (state g old).now marked → rows ≡ answer marked) → (r : Result (Vec Row A) Fault)
+        → (IsSelect asked.text → Asks g old new r) → (IsSelect asked.text → ServesUnlessFailed g new r) → ShowsAll g old new r asked.text given → FailsAll g old new r asked.text given → IfErr r IsStoreFault → HasAskedQueue g old new r answer
+    asked_queue answer found r asks opens shows fails told = record {
+      asks = asks selects;
+      opens = opens selects;
+      answers = λ clean. if_ok r _ _ (λ rows h. found rows.items (subst (λ ps. Shown asked.text ps (state g old) (state g new) rows.items) same h)) (shows clean);
+      fault = told;
+      unrefused = λ clean marked q limit. if_err r _ _ (never_told marked q limit) (fails clean);
+    }
+
+-- ---- by one column
+
+module _ (text : List ℕ) (place : ℕ) (how : CompareOp) (fits : (tree : ℕ) → Fits (codes "queue") (queue_at tree) (marked_asked text place how)) (v : Value) (n : ℕ) (passes : Marks → Bool)
+    (same : (tree : ℕ) (p : ℕ × Marks) → passing (marked_asked text place how) fits v n tree (stored_marks p) ≡ passes p.1) where
+  pub marks_found : (old new : State) (rows : List Row) → Shown text (v ∷ number n ∷ []) old new rows → (marked : List (ℕ × Marks)) → HasQueue old.now marked → rows ≡ first_marked n passes marked
+  marks_found old new rows h marked q =
+      let asked = marked_asked text place how in
+      let given : Row = v ∷ number n ∷ [] in
+      let read = shown_answers text given old new _ _ _ (compiles old.now.schema (codes "queue") q.table.0 (queue_at q.tree) q.table.1 asked (fits q.tree)) rows h in
+      let kept = passing asked fits v n q.tree in
+      sure_in_order q.tree (tests_of (codes "queue") (queue_at q.tree) asked) (col 1 0 ∷ []) (col 0 1) given old.now rows q.table.1.low q.rows.shaped.0 read.answer
+      ∙ ap (λ rs. take n (map (λ (r : Row). column r 0 ∷ []) (filter kept rs))) q.rows.same
+      ∙ ap (λ rs. take n (map (λ (r : Row). column r 0 ∷ []) rs)) (kept_mapped kept (λ (p : ℕ × Marks). passes p.1) stored_marks marked (same q.tree))
+      ∙ ap (take n) (map-map (λ (r : Row). column r 0 ∷ []) stored_marks (filter (λ (p : ℕ × Marks). passes p.1) marked))
+
+-- a mark that is set
+pub is_flag : (b : Bool) → equal Binary (flag b) (number 1) ≡ b
+is_flag true = number_equal 1 1
+is_flag false = number_equal 0 1
+
+-- a moment that has come
+pub has_come : (o : Option ℕ) (now : ℕ) → is_true (binary (by.Compare compare.Le Binary) (number_or_null o) (number now)) ≡ option_map_or (λ moment. nat_le moment now) o false
+unfolding binary
+has_come None now = refl
+has_come (Some n) now = number_at_most n now
