@@ -5,18 +5,26 @@
 // REFUSE_KIND, which calls are refused (memory, read, write, sync, cut, output, or none); REFUSE_AT, which of them is
 // the first, from 1 (of output: how many bytes go out before); REFUSE_ON, whether those behind it are refused too;
 // REFUSE_ERROR, the number of the error. Reads, writes, syncs and cuts are those of files whose names end in ".db" or
-// ".db-wal".
+// ".db-wal". A process that goes on for a minute is killed.
+//
+// Where REFUSE_AT is 0, no call is refused to the process itself: at each call of the kind it stands still, and a child
+// goes on in its place, to which this call alone is refused; behind it another one, to which all from this one on are.
+// When a child has ended, its status is told on the file of number REFUSE_TELL, and a byte is awaited on REFUSE_HEAR;
+// then the database, its log (REFUSE_LEFT is the database's path) and both outputs are made what they were before.
 #define _GNU_SOURCE
 #include <dlfcn.h>
 #include <errno.h>
 #include <fcntl.h>
 #include <limits.h>
 #include <stdint.h>
+#include <stdio.h>
 #include <stdlib.h>
 #include <string.h>
 #include <sys/mman.h>
 #include <sys/stat.h>
+#include <sys/syscall.h>
 #include <sys/uio.h>
+#include <sys/wait.h>
 #include <unistd.h>
 
 enum kind { MEMORY, READ, WRITE, SYNC, CUT, OUTPUT, NONE };
@@ -28,6 +36,17 @@ static uint64_t at;
 static int goes_on;
 static int error;
 static int is_begun;
+static int stands_still, is_child;
+static int tell, hear;
+
+// A file that the program may change, and what it held: -1 bytes where it was not there.
+enum { MOST = 1 << 24 };
+struct left {
+    char path[PATH_MAX];
+    char *bytes;
+    ssize_t length;
+};
+static struct left left[2];
 
 __attribute__((constructor)) static void begin(void) {
     const char *kind = getenv("REFUSE_KIND"), *path = getenv("REFUSE_COUNTS");
@@ -43,14 +62,80 @@ __attribute__((constructor)) static void begin(void) {
     at = strtoull(getenv("REFUSE_AT"), NULL, 10);
     goes_on = *getenv("REFUSE_ON") == '1';
     error = atoi(getenv("REFUSE_ERROR"));
+    stands_still = refused != NONE && refused != OUTPUT && at == 0;
+    if (stands_still) {
+        tell = atoi(getenv("REFUSE_TELL"));
+        hear = atoi(getenv("REFUSE_HEAR"));
+        for (int one = 0; one < 2; one++) {
+            strcpy(left[one].path, getenv("REFUSE_LEFT"));
+            if (one) strcat(left[one].path, "-wal");
+            left[one].bytes = mmap(NULL, MOST, PROT_READ | PROT_WRITE, MAP_PRIVATE | MAP_ANONYMOUS, -1, 0);
+        }
+    } else
+        alarm(60);
     is_begun = 1;
+}
+
+// Keeps what a file holds. No function of this library is called for it.
+static void keep(struct left *file) {
+    int from = syscall(SYS_openat, AT_FDCWD, file->path, O_RDONLY);
+    file->length = from < 0 ? -1 : 0;
+    ssize_t count = 1;
+    while (from >= 0 && (count = syscall(SYS_read, from, file->bytes + file->length, MOST - file->length)) > 0)
+        file->length += count;
+    if (file->length == MOST) abort();
+    if (from >= 0) syscall(SYS_close, from);
+}
+
+// Makes a file what it was.
+static void put_back(const struct left *file) {
+    if (file->length < 0) {
+        unlink(file->path);
+        return;
+    }
+    int to = syscall(SYS_openat, AT_FDCWD, file->path, O_WRONLY);
+    if (to < 0 || syscall(SYS_ftruncate, to, 0L)) abort();
+    if (syscall(SYS_pwrite64, to, file->bytes, file->length, 0L) != file->length) abort();
+    syscall(SYS_close, to);
+}
+
+// A child goes on behind a call that is refused to it. Whether this is the child.
+static int goes_on_as_child(uint64_t number, int child_goes_on) {
+    uint64_t seen[NONE];
+    off_t outputs[3];
+    memcpy(seen, counts, sizeof seen);
+    for (int one = 1; one < 3; one++) outputs[one] = lseek(one, 0, SEEK_CUR);
+    for (int one = 0; one < 2; one++) keep(&left[one]);
+    pid_t child = fork();
+    if (child == 0) {
+        stands_still = 0;
+        is_child = 1;
+        at = number;
+        goes_on = child_goes_on;
+        alarm(60);
+        return 1;
+    }
+    int status = 0;
+    char text[64], answer;
+    if (child < 0 || waitpid(child, &status, 0) != child) abort();
+    int length = snprintf(text, sizeof text, "%llu %d %d\n", (unsigned long long)number, child_goes_on, status);
+    if (syscall(SYS_write, tell, text, (long)length) != length || syscall(SYS_read, hear, &answer, 1L) != 1) abort();
+    for (int one = 0; one < 2; one++) put_back(&left[one]);
+    for (int one = 1; one < 3; one++)
+        if (syscall(SYS_ftruncate, one, outputs[one]) || lseek(one, outputs[one], SEEK_SET) != outputs[one]) abort();
+    memcpy(counts, seen, sizeof seen);
+    return 0;
 }
 
 // Counts a call, and tells whether it is refused.
 static int refuses(enum kind kind) {
     if (!is_begun) return 0;
     uint64_t number = __atomic_add_fetch(&counts[kind], 1, __ATOMIC_RELAXED);
-    if (kind != refused || !(number == at || (goes_on && number > at))) return 0;
+    if (kind != refused) return 0;
+    if (stands_still) {
+        if (!goes_on_as_child(number, 0) && !goes_on_as_child(number, 1)) return 0;
+    } else if (!(number == at || (goes_on && number > at)))
+        return 0;
     errno = error;
     return 1;
 }
@@ -113,7 +198,8 @@ int posix_memalign(void **place, size_t align, size_t size) {
     return refuses(MEMORY) ? ENOMEM : real(place, align, size);
 }
 void free(void *place) {
-    if (is_early(place)) return;
+    // what a child frees would be copied for it first
+    if (is_early(place) || is_child) return;
     FOUND(free)
     real(place);
 }
