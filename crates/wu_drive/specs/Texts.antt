@@ -43,23 +43,23 @@ abbrev pub number_or_dash : ℕ → List ℕ
 number_or_dash n = if n == 0 then codes "-" else decimal n
 
 -- the verdict of this number on a row of sends, if it is the number of one
-abbrev pub send_verdict_of : ℕ → Option SendVerdict
-send_verdict_of number =
+abbrev pub send_verdict_numbered : ℕ → Option SendVerdict
+send_verdict_numbered number =
     find (λ verdict. send_verdict_code verdict == number) (send.Applied ∷ send.Unknown ∷ send.NotUnsent ∷ send.SameHost ∷ [])
 
 -- the verdict of this number on a row of reports
-abbrev pub report_verdict_of : ℕ → Option ReportVerdict
-report_verdict_of number =
+abbrev pub report_verdict_numbered : ℕ → Option ReportVerdict
+report_verdict_numbered number =
     find (λ verdict. report_verdict_code verdict == number)
     (report.Applied ∷ report.Unknown ∷ report.NotSent ∷ report.WrongHost ∷ report.BeforeSent ∷ report.Over ∷ [])
 
 -- why a row of sends was skipped, by the number of its verdict; nothing where it was applied
 abbrev pub send_skip_word : ℕ → Option (List ℕ)
-send_skip_word number = option_map_or send_verdict_word (send_verdict_of number) None
+send_skip_word number = option_map_or send_verdict_word (send_verdict_numbered number) None
 
 -- why a row of reports was skipped
 abbrev pub report_skip_word : ℕ → Option (List ℕ)
-report_skip_word number = option_map_or report_verdict_word (report_verdict_of number) None
+report_skip_word number = option_map_or report_verdict_word (report_verdict_numbered number) None
 
 -- the line of a row, if it was skipped
 abbrev pub skip_line : (ℕ → Option (List ℕ)) → ℕ × ℕ → List ℕ

@@ -5,7 +5,7 @@ use Rattle.sqlite.specs.Held.{Held, state}
 use Rattle.sqlite.specs.State.{State, HasCleanDisk, IsUnchanged, Survives}
 use Rattle.sqlite.specs.Store.{Ghosts}
 use Rattle.wu_core.specs.declared.fault.Fault.{Fault}
-use Rattle.wu_core.specs.declared.fault.Fault.TheVariants.{NewSchema, NotAProject}
+use Rattle.wu_core.specs.declared.fault.Fault.TheVariants.{Broken, NewSchema, NotAProject}
 use Rattle.wu_core.specs.World.{World, empty_world}
 use Rattle.wu_schema.proofs.CallLemmas.{back_none, back_unchanged}
 use Rattle.wu_schema.proofs.VersionLemmas.{has_understood, project_of, project_row}
@@ -19,7 +19,7 @@ use Rattle.wu_machine.specs.Requests.{Request}
 use Rattle.wu_machine.specs.Sound.{IsProject}
 use Rattle.wu_store.specs.Loading.{IsStoreFault}
 use Rattle.wu_passes.specs.Standing.{GoesOn, HasEnded, TellsLater}
-use Rattle.wu_passes.specs.Adopting.{Adopts, FindsProject, IsAdoptionFault, IsRefusalOf, IsVacant, KeepsAll, LeavesFresh, LeavesNoMore, RefusesAdoption}
+use Rattle.wu_passes.specs.Adopting.{Adopts, BreaksBetween, FindsProject, IsAdoptionFault, IsRefusalOf, IsVacant, KeepsAll, LeavesFresh, LeavesNoMore, RefusesAdoption}
 use Rattle.wu_passes.specs.declared.project.Project.{Project}
 use Rattle.wu_passes.specs.Projects.{connection_of, FailsAgain, GoesOnAgain, state_of}
 use Rattle.wu_passes.proofs.StandingLemmas.{goes_read}
@@ -54,6 +54,7 @@ limit_refuses old new fault r = record {
   cause = λ clean. let why = r.cause clean in record {
     stored = λ version is. let s = why.stored version is in record { is_open = s.is_open; there = s.there; stored = s.stored; later = s.later };
     only = why.only;
+    broken = why.broken;
   };
   given = λ clean. let left = r.given clean in record {
     back = record { was_open = left.back.was_open; now = left.back.now; committed = left.back.committed };
@@ -115,6 +116,7 @@ busy_refused s busy = record {
   cause = λ clean. record {
     stored = λ version is. absurd cc;
     only = λ idle has version of. absurd (let no = sym busy ∙ idle in cc);
+    broken = λ is. absurd cc;
   };
   given = λ clean. record {
     back = back_none s;
@@ -177,6 +179,7 @@ module _ (old asked : State) (crash : Survives old asked (λ _. ⊥)) (unlimited
               later = subst (λ n. present_version < n) told later.1;
             };
         only = λ idle has one of. inr (subst (λ n. TellsLater n fault) (one_version old.now has version one (of_row clean has) of) later);
+        broken = λ is. absurd (let no = sym later.0 ∙ is in cc);
       };
       given = λ clean. record {
         back = back_unchanged old asked (same clean);
@@ -198,13 +201,15 @@ module _ (old asked : State) (crash : Survives old asked (λ _. ⊥)) (unlimited
 
   -- it was refused
   pub unasked_refuses : (fault : Fault) → IsStoreFault fault → (HasCleanDisk asked → IsBack old asked) → (HasCleanDisk asked → fault ≡ NotAProject → IsUnchanged old asked)
-      → (HasCleanDisk asked → (has : HasProject old.now.schema) (version : ℕ) → HasVersion old.now has version → IsFailure fault) → RefusesAdoption old asked fault
-  unasked_refuses fault told back serves fails = record {
+      → (HasCleanDisk asked → (has : HasProject old.now.schema) (version : ℕ) → HasVersion old.now has version → IsFailure fault)
+      → (HasCleanDisk asked → fault ≡ Broken → BreaksBetween old asked) → RefusesAdoption old asked fault
+  unasked_refuses fault told back serves fails breaks = record {
     told = adoption_fault fault told;
     clean = crash.clean;
     cause = λ clean. record {
       stored = λ version is. absurd (never_later fault version told is);
       only = λ idle has version of. inl (fails clean has version of);
+      broken = λ is. inl (breaks clean is);
     };
     given = λ clean. record {
       back = back clean;
@@ -280,6 +285,7 @@ module _ (old asked : State) (crash : Survives old asked (λ _. ⊥)) (unlimited
         cause = λ clean. record {
           stored = λ version is. absurd (never_later fault version told is);
           only = λ idle has version of. absurd (has_understood _ has (vacant (before clean)));
+          broken = λ is. inr (vacant (before clean));
         };
         given = λ clean. record {
           back = back_undone clean (undone clean);

@@ -1,10 +1,11 @@
 -- The adoption of a connection: what a session that begins has found or made, and what a refusal tells and leaves.
 use Rattle.std.specs.Prelude.{◌≡◌, ◌⊎◌, ◌<◌, ◌≤◌, ℕ, false, IsTrue, None}
+use Rattle.sqlite_disk.specs.Disk.{MoreFaults}
 use Rattle.sqlite.specs.Effect.{Database}
 use Rattle.sqlite.specs.State.{State, HasCleanDisk}
 use Rattle.sqlite.specs.Tree.{Trees}
 use Rattle.wu_core.specs.declared.fault.Fault.{Fault}
-use Rattle.wu_core.specs.declared.fault.Fault.TheVariants.{NewSchema, NotAProject}
+use Rattle.wu_core.specs.declared.fault.Fault.TheVariants.{Broken, NewSchema, NotAProject}
 use Rattle.wu_core.specs.World.{World, empty_world}
 use Rattle.wu_schema.specs.Calls.{IsBack}
 use Rattle.wu_schema.specs.Faults.{IsFailure}
@@ -85,12 +86,18 @@ pub record StoresLater (s : State) (version : ℕ) : Type 0 where
 abbrev pub IsRefusalOf : ℕ → Fault → Type 0
 IsRefusalOf version fault = IsFailure fault ⊎ TellsLater version fault
 
+-- the disk failed between the two, or the connection was not open
+abbrev pub BreaksBetween : State → State → Type 0
+BreaksBetween old new = MoreFaults old.faults new.faults ⊎ (old.is_open ≡ false)
+
 -- Why it was refused.
-pub record TellsCause (old : State) (fault : Fault) : Type 0 where
+pub record TellsCause (old new : State) (fault : Fault) : Type 0 where
   -- a later version is told only where that one is stored
   pub stored : (version : ℕ) → fault ≡ NewSchema version → StoresLater old version
   -- and over a lone row of a project, whatever stands in other tables, nothing else is told but a failure
   pub only : old.in_transaction ≡ false → (has : HasProject old.now.schema) (version : ℕ) → HasVersion old.now has version → IsRefusalOf version fault
+  -- `Broken` tells that the disk failed, or that the connection was not open; or that no fresh project could be made
+  pub broken : fault ≡ Broken → BreaksBetween old new ⊎ IsVacant old
 
 -- What a refusal leaves.
 pub record GivesBack (old new : State) (fault : Fault) : Type 0 where
@@ -109,5 +116,5 @@ pub record GivesBack (old new : State) (fault : Fault) : Type 0 where
 pub record RefusesAdoption (old new : State) (fault : Fault) : Type 0 where
   pub told : IsAdoptionFault fault
   pub clean : FaultsOnlyGrow old new
-  pub cause : HasCleanDisk new → TellsCause old fault
+  pub cause : HasCleanDisk new → TellsCause old new fault
   pub given : HasCleanDisk new → GivesBack old new fault

@@ -11,8 +11,8 @@ use Rattle.wu_passes.specs.declared.project.Project.{Project}
 use Rattle.wu_passes.specs.Projects.{IsSessionOpen, IsSessionEnded, KeepsLimit, state_of}
 
 -- where the disk did not fail, the session goes on over each world over which it went on before
-abbrev pub KeepsWorld : {S : Type 0} {store : Ghosts S} → Project S store → Project S store → Type 0
-KeepsWorld old new =
+abbrev pub StillGoesOn : {S : Type 0} {store : Ghosts S} → Project S store → Project S store → Type 0
+StillGoesOn old new =
     HasCleanDisk (state_of new) → (world : World) → GoesOn (state_of old) world → GoesOn (state_of new) world
 
 -- a call that ends a session answers Broken

@@ -8,13 +8,13 @@ use Rattle.wu_store.specs.Loading.{IsReadOnly}
 use Rattle.wu_passes.specs.declared.project.Project.{Project}
 use Rattle.wu_passes.specs.Projects.{BreaksOn, IsSessionOpen, IsSessionEnded, KeepsLimit, ServesOn, state_of}
 use Rattle.wu_passes.specs.Standing.{FaultsOnlyGrow}
-use Rattle.wu_report.specs.Projects.{EndsAsBroken, KeepsWorld}
+use Rattle.wu_report.specs.Projects.{EndsAsBroken, StillGoesOn}
 use Rattle.wu_report.specs.Views.{IsViewFault, RefusesEnded, Shows, ShowsUnrefused}
 
 -- The lines of the view are written, up to the first fault.
 pub record Sees {S W T : Type 0} {store : Ghosts S} (contents : W → Option (List ℕ)) (old new : Project S store) (out_old out_new : W) (view : View) (result : Result T Fault) : Type 0 where
   pub text : Shows contents old new out_old out_new view result
-  pub goes : KeepsWorld old new
+  pub goes : StillGoesOn old new
   pub reads : IsReadOnly (state_of old) (state_of new)
   -- what is doubted of the disk stays doubted, and no fault of it is forgotten
   pub clean : FaultsOnlyGrow (state_of old) (state_of new)

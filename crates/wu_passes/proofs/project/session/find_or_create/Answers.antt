@@ -1,5 +1,5 @@
 use Rattle.sqlite.specs.Held.{state}
-use Rattle.std.proofs.Common.{refl}
+use Rattle.std.proofs.Common.{Err, ap, refl}
 use Rattle.wu_schema.proofs.AskingLemmas.{asks_refused, asks_unchanged}
 use Rattle.wu_schema.proofs.CallLemmas.{leaves_only}
 use Rattle.wu_passes.proofs.AskLemmas.{handed_is}
@@ -41,4 +41,5 @@ returns-in_err-version-clause-refused g c =
     rw (handed_is c.from_residual.result c.in_err-version.field-0.0 c.from_residual.ensures.1)
     (bare_refused g.S.Store c.args.conn.now c.set_step_limit.new.self c.set_step_limit.ensures _ c.in_err-version.field-0.0
     (unasked_refuses (state g.S.Store c.set_step_limit.new.self) (state g.S.Store c.version_of.new.conn) c.version_of.ensures.asks.crash unlimited
-    c.in_err-version.field-0.0 c.in_err-version.ensures.told c.in_err-version.ensures.asks.back (asks_refused g.S.Store c.set_step_limit.new.self c.version_of.new.conn c.in_err-version.field-0.0 c.in_err-version.ensures.asks c.in_err-version.ensures.opens) (λ clean has version of. (c.in_err-version.ensures.refuses clean).of_row has version of unlimited)))
+    c.in_err-version.field-0.0 c.in_err-version.ensures.told c.in_err-version.ensures.asks.back (asks_refused g.S.Store c.set_step_limit.new.self c.version_of.new.conn c.in_err-version.field-0.0 c.in_err-version.ensures.asks c.in_err-version.ensures.opens) (λ clean has version of. (c.in_err-version.ensures.refuses clean).of_row has version of unlimited)
+    (λ clean is. c.in_err-version.ensures.asks.broken clean (ap Err is))))
