@@ -164,7 +164,7 @@ day_of_month-is d day e low same =
     rw same (omega (arith, signed_arith, d.day_in.0))
 
 -- the text of the day is that of the date
-date_text-is : (d : Date) (day : ℕ) → epoch_day d ≡ pos day → day ≤ 47_846
+pub date_text-is : (d : Date) (day : ℕ) → epoch_day d ≡ pos day → day ≤ 47_846
     → date_text day ≡ four_digits (unsigned_abs d.year) ++ codes "-" ++ two_digits d.month ++ codes "-" ++ two_digits d.day
 date_text-is d day e h =
     let range = year_range d day e h in

@@ -1,5 +1,6 @@
 mod DayLemmas
 mod HexLemmas
 mod LineLemmas
+mod MomentLemmas
 mod ViewLemmas
 pub mod WritingLemmas

@@ -7,8 +7,8 @@
 use crate::setting::{
     FIRST_ADDED, ONE_JOB, SECOND_JOB, TWO_WORKUNITS, batch, imports, is_bytes, is_count, shows,
 };
-use sqlite::{Alter, Connection, Files, Options};
-use sqlite_disk::{Crash, Fuse, Memory};
+use sqlite::{Alter, Connection, FileStore, Files, Options};
+use sqlite_disk::{Crash, Disk, Fuse, Memory};
 use std::process::Abort;
 use wu_drive::{Command, Project};
 use wu_lives::live_all;
@@ -32,9 +32,23 @@ fn life(rt: &(impl Abort + AllocGlobal), name: &str, file: &[u8]) -> Vec<Command
     commands
 }
 
-/// Sees that the project has the workunits of both batches.
-fn has_both<S: Alter + Drop>(rt: &(impl Abort + AllocGlobal), mut project: Project<S>) {
-    shows(rt, &mut project, TWO_WORKUNITS);
+/// Sees that this is the view of the workunits, and what the first batch answers, whether it comes again or not.
+fn goes_on<S: Alter + Drop>(
+    rt: &(impl Abort + AllocGlobal),
+    mut project: Project<S>,
+    workunits: &str,
+) {
+    shows(rt, &mut project, workunits);
+    imports(rt, &mut project, "b1", ONE_JOB, FIRST_ADDED);
+}
+
+/// The same of a project in two files: no other function here asks anything of such a store.
+fn goes_on_in_files<D: Disk + Drop>(
+    rt: &(impl Abort + AllocGlobal),
+    project: Project<FileStore<D>>,
+    workunits: &str,
+) {
+    goes_on(rt, project, workunits);
 }
 
 /// Lives two lives, of a batch each, and stops once more behind an adoption.
@@ -52,18 +66,12 @@ fn lives_twice<D: Crash + Drop>(rt: &(impl Abort + AllocGlobal), files: Files<D>
         b"batch b1: 1 added, first 1\nbatch b2: 1 added, first 2\n",
     );
     let again = adopt_stop_and_adopt(rt.alloc(), project.release(), Options::new(3));
-    has_both(rt, again.expect(rt, "a project"));
+    goes_on_in_files(rt, again.expect(rt, "a project"), TWO_WORKUNITS);
 }
 
 #[test]
 fn a_life_goes_on_from_the_one_before(rt: HostRuntime) {
     lives_twice(&rt, files(&rt, u64::MAX));
-}
-
-/// Sees that the project is fresh, and takes a batch.
-fn takes_first<S: Alter + Drop>(rt: &(impl Abort + AllocGlobal), mut project: Project<S>) {
-    shows(rt, &mut project, "");
-    imports(rt, &mut project, "b1", ONE_JOB, FIRST_ADDED);
 }
 
 /// Opens files whose calls stop on the way, and what is left of them after a stop.
@@ -73,7 +81,7 @@ fn opens_what_is_left<D: Crash + Drop>(rt: &(impl Abort + AllocGlobal), files: F
         Ok(_) => panic!(rt; "an opening"),
         Err((_, left)) => {
             let again = stop_and_open_left(rt.alloc(), left, Options::new(2));
-            takes_first(rt, again.expect(rt, "a project"));
+            goes_on_in_files(rt, again.expect(rt, "a project"), "");
         }
     }
 }

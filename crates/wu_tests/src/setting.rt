@@ -45,10 +45,6 @@ pub fn adopted<S: Alter>(rt: &impl Abort, conn: Connection<S>) -> Project<S> {
     }
 }
 
-pub fn fresh(rt: &(impl Abort + AllocGlobal)) -> Project<MemStore> {
-    adopted(rt, memory(rt))
-}
-
 pub fn bytes(rt: &(impl Abort + AllocGlobal), items: &[u8]) -> Bytes {
     Bytes::from_vec(Vec::from_slice(rt.alloc(), items).expect(rt, "memory"))
 }
