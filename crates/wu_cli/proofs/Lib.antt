@@ -1,3 +1,4 @@
 mod TextLemmas
 mod ScriptLemmas
 mod WorkLemmas
+mod PrintLemmas

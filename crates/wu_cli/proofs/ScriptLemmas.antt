@@ -141,7 +141,7 @@ commands_around before one after = flat_map-append (λ (s : Step). commands_of_a
 -- ---- one step
 
 module _ {S W : Type 0} {store : Ghosts S} (contents : W → Option (List ℕ)) (old new : Project S store) (out_old out_new : W) where
-  one_goes : (action : Action) → Performs contents old new out_old out_new action None → IsSessionOpen old → IsSessionOpen new
+  pub one_goes : (action : Action) → Performs contents old new out_old out_new action None → IsSessionOpen old → IsSessionOpen new
   one_goes (Commands commands) (run, runs, end) going = elim (cases_Bool (has_ended new)) [
     | inl over ↦
         let ends = runs.ends going over in
@@ -179,7 +179,7 @@ module _ {S W : Type 0} {store : Ghosts S} (contents : W → Option (List ℕ)) 
   )
 
   -- and all of them, where it ends without a fault
-  one_done : (action : Action) → Performs contents old new out_old out_new action None
+  pub one_done : (action : Action) → Performs contents old new out_old out_new action None
       → IsSessionOpen old → HasCleanDisk (state_of new) → (world : World) → IsProject world → GoesOn (state_of old) world
       → (answers : List Answer) × AnswerAll world (commands_of_action action) answers
       × GoesOn (state_of new) (world_of world (commands_of_action action)) × IsProject (world_of world (commands_of_action action))
@@ -196,7 +196,7 @@ module _ {S W : Type 0} {store : Ghosts S} (contents : W → Option (List ℕ)) 
 -- ---- all steps
 
 module _ {S W : Type 0} {store : Ghosts S} (contents : W → Option (List ℕ)) where
-  each_clean : (old new : Project S store) (out_old out_new : W) (steps : List Step) → PerformsEach contents old new out_old out_new steps → FaultsOnlyGrow (state_of old) (state_of new)
+  pub each_clean : (old new : Project S store) (out_old out_new : W) (steps : List Step) → PerformsEach contents old new out_old out_new steps → FaultsOnlyGrow (state_of old) (state_of new)
   unfolding PerformsEach
   each_clean old new out_old out_new [] each = subst (λ p. FaultsOnlyGrow (state_of old) (state_of p)) (sym each.0) (omega arith)
   each_clean old new out_old out_new (one ∷ steps) each =
@@ -204,13 +204,13 @@ module _ {S W : Type 0} {store : Ghosts S} (contents : W → Option (List ℕ)) 
       let rest = each_clean each.0 new each.1 out_new steps each.3 in
       omega (arith, first, rest)
 
-  each_goes : (old new : Project S store) (out_old out_new : W) (steps : List Step) → PerformsEach contents old new out_old out_new steps → IsSessionOpen old → IsSessionOpen new
+  pub each_goes : (old new : Project S store) (out_old out_new : W) (steps : List Step) → PerformsEach contents old new out_old out_new steps → IsSessionOpen old → IsSessionOpen new
   unfolding PerformsEach
   each_goes old new out_old out_new [] each going = subst (λ p. IsSessionOpen p) (sym each.0) going
   each_goes old new out_old out_new (one ∷ steps) each going =
       each_goes each.0 new each.1 out_new steps each.3 (one_goes contents old each.0 out_old each.1 one.action each.2 going)
 
-  each_done : (old new : Project S store) (out_old out_new : W) (steps : List Step) → PerformsEach contents old new out_old out_new steps
+  pub each_done : (old new : Project S store) (out_old out_new : W) (steps : List Step) → PerformsEach contents old new out_old out_new steps
       → IsSessionOpen old → HasCleanDisk (state_of new) → (world : World) → IsProject world → GoesOn (state_of old) world
       → (answers : List Answer) × AnswerAll world (commands_of_steps steps) answers
       × GoesOn (state_of new) (world_of world (commands_of_steps steps)) × IsProject (world_of world (commands_of_steps steps))

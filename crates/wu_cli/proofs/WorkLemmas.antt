@@ -74,7 +74,7 @@ module _ {S W : Type 0} {store : Ghosts S} (contents : W → Option (List ℕ)) 
     whole = line_whole end _ (λ none. refl);
   }
 
-  work_clean : (asked : Work) (done : Result (Unit {0}) Trouble) → PerformsWork contents old new out_old out_new asked done → FaultsOnlyGrow (state_of old) (state_of new)
+  pub work_clean : (asked : Work) (done : Result (Unit {0}) Trouble) → PerformsWork contents old new out_old out_new asked done → FaultsOnlyGrow (state_of old) (state_of new)
   work_clean (work.Line action) done (end, does, is) = one_clean contents old new out_old out_new action end does
   work_clean (work.Script steps) done (end, does, is) = steps_clean contents old new out_old out_new steps end does
 
@@ -98,7 +98,7 @@ module _ {S W : Type 0} {store : Ghosts S} (contents : W → Option (List ℕ)) 
 
 module _ {S W : Type 0} (g : Ghosts S) (contents : W → Option (List ℕ)) (conn again : Held S) (out_old out_new : W) (asked : Work) (done : Result (Unit {0}) Trouble) where
   -- the session begins from the world
-  begins : (does : DoesAdopted g contents conn again out_old out_new asked done) → HasCleanDisk (state_of does.old) → (world : World) → IsProject world
+  pub begins : (does : DoesAdopted g contents conn again out_old out_new asked done) → HasCleanDisk (state_of does.old) → (world : World) → IsProject world
       → BeginsFrom (state g conn) world → GoesOn (state_of does.old) world
   begins does clean world project (inl goes) =
       let first : 1 ≤ world.version = omega (arith, project.present) in

@@ -4,3 +4,4 @@ pub mod Scripting
 pub mod Starting
 pub mod Troubles
 pub mod Working
+pub mod Printing

@@ -2,6 +2,7 @@
 
 ghost use Rattle.std.specs.Prelude.{◌≡◌};
 ghost use Rattle.wu_cli.specs.Performing.{Performs};
+ghost use Rattle.wu_cli.specs.Printing.{PrintsAction, PrintsSteps};
 ghost use Rattle.wu_cli.specs.Scripting.{DrivesSteps, LengthensBySteps, PerformsSteps};
 ghost use Rattle.wu_words.specs.Statuses.{exit_status, status_of_line};
 
@@ -13,7 +14,8 @@ use wu_drive::{Project, drive, show};
 use wu_words::{Action, LineFault, Step, exit_status};
 
 /// Runs the commands of an action, or shows its view. It answers the status of the program, and the fault that ended
-/// it.
+/// it. Over a world that the session goes on over, the machine's answers to the commands are printed, or the view, and
+/// with a fault a beginning of that.
 pub fn perform<S: Alter, W: Write>(
     alloc: Global,
     project: &mut Project<S>,
@@ -23,6 +25,8 @@ pub fn perform<S: Alter, W: Write>(
     ensures does { Performs W.contents project.old project.new out.old out.new
         action.now result.1 }
     ensures status { result.0 ≡ exit_status result.1 }
+    ensures prints { PrintsAction W.contents project.old project.new out.old out.new
+        action.now result.1 }
 {
     let end = match action {
         Action::Commands(commands) => drive(alloc, project, commands.as_slice(), out).end,
@@ -35,7 +39,8 @@ pub fn perform<S: Alter, W: Write>(
 }
 
 /// Does what the steps of a script ask for, in order, up to the first fault. It answers the status of the program, and
-/// the fault that ended it with its line.
+/// the fault that ended it with its line. What is printed is what each step prints over the world that those before it
+/// left, one after another, and with a fault a beginning of that.
 pub fn perform_script<S: Alter, W: Write>(
     alloc: Global,
     project: &mut Project<S>,
@@ -47,6 +52,8 @@ pub fn perform_script<S: Alter, W: Write>(
     ensures status { result.0 ≡ status_of_line result.1 }
     ensures drives { DrivesSteps project.old project.new steps.now result.1 }
     ensures lives { LengthensBySteps project.old project.new steps.now }
+    ensures prints { PrintsSteps W.contents project.old project.new out.old out.new
+        steps.now result.1 }
 {
     for step in steps {
         let (status, end) = perform(alloc, project, &step.action, out);

@@ -2,6 +2,7 @@
 
 ghost use Rattle.std.specs.Prelude.{◌≡◌};
 ghost use Rattle.wu_words.specs.Actions.{bytes_of};
+ghost use Rattle.wu_cli.specs.Printing.{PrintsOver};
 ghost use Rattle.wu_cli.specs.Working.{AsksOfLine, AsksOfScript, DoesOver, DrivesOver, line_outcome, PerformsWork, script_outcome};
 
 use crate::performing::{perform, perform_script};
@@ -95,6 +96,8 @@ impl Work {
         ensures does { DoesOver S.Store W.contents conn result.0 out.old out.new
             self.now result.1 }
         ensures drives { DrivesOver S.Store conn result.0 self.now result.1 }
+        ensures prints { PrintsOver S.Store W.contents conn result.0 out.old out.new
+            self.now result.1 }
     {
         match Project::adopt(conn) {
             Ok(mut project) => {

@@ -14,6 +14,7 @@ use Rattle.sqlite.specs.declared.file.Leftover.{Leftover}
 use Rattle.wu_schema.specs.Faults.{fault_of}
 use Rattle.wu_words.specs.declared.order.Order.{Order}
 use Rattle.wu_cli.specs.Endings.{WritesAll}
+use Rattle.wu_cli.specs.Printing.{PrintsOver}
 use Rattle.wu_cli.specs.Troubles.{trouble_of_opening, trouble_status, trouble_text}
 use Rattle.wu_cli.specs.Working.{DoesOver, DrivesOver}
 use Rattle.wu_cli.specs.declared.trouble.Trouble.{Trouble}
@@ -38,6 +39,7 @@ module _ {D W : Type 0} {g : Ghosts D} (contents : W → Option (List ℕ)) wher
     pub again : Held (FileStore D g)
     pub does : DoesOver over_files contents conn again old new work done
     pub drives : DrivesOver over_files conn again work done
+    pub prints : PrintsOver over_files contents conn again old new work done
     pub closed : IsLeftByClose again left
 
 -- the words ask for no work: the trouble of that is told, and nothing goes out

@@ -3,6 +3,7 @@ use Rattle.std.proofs.lemmas.List.{take_all}
 use Rattle.wu_cli.specs.Performing.{Performs}
 use Rattle.wu_cli.specs.Scripting.{PerformsEach}
 use Rattle.wu_cli.proofs.ScriptLemmas.{drives_steps, each_next, each_none, lengthens_steps, until_here}
+use Rattle.wu_cli.proofs.PrintLemmas.{steps_print}
 use Rattle.wu_cli.proofs.performing.perform_script.Goals as goal
 
 pub loop-step-init : goal.loop-step-init
@@ -33,3 +34,11 @@ pub returns-clause-lives : goal.returns-clause-lives
 returns-clause-lives g c =
     let all = subst (λ l. PerformsEach g.W.Write.contents c.args.project.now c.loop-step.project c.args.out.now c.loop-step.out l) (take_all c.loop-step.step-index c.args.steps.now c.loop-step-test.false) c.loop-step.invariant in
     lengthens_steps g.W.Write.contents _ _ _ _ c.args.steps.now None all
+
+pub returns-in-Some-clause-prints : goal.returns-in-Some-clause-prints
+returns-in-Some-clause-prints g c = steps_print g.W.Write.contents _ _ _ _ c.args.steps.now (Some (record { number = c.step-item.result.number; fault = c.in-Some.fault })) (returns-in-Some-clause-does g c)
+
+pub returns-clause-prints : goal.returns-clause-prints
+returns-clause-prints g c =
+    let all = subst (λ l. PerformsEach g.W.Write.contents c.args.project.now c.loop-step.project c.args.out.now c.loop-step.out l) (take_all c.loop-step.step-index c.args.steps.now c.loop-step-test.false) c.loop-step.invariant in
+    steps_print g.W.Write.contents _ _ _ _ c.args.steps.now None all

@@ -1,6 +1,7 @@
 use Rattle.std.proofs.Common.{inl, inr, refl, Err}
 use Rattle.std.proofs.lemmas.Bool.{cases_Bool}
 use Rattle.wu_cli.proofs.WorkLemmas.{drives_over, same_refusal}
+use Rattle.wu_cli.proofs.PrintLemmas.{prints_over}
 use Rattle.wu_cli.specs.declared.trouble.Trouble.TheVariants.{Fault}
 use Rattle.wu_cli.proofs.work.Work.perform_over.Goals as goal
 
@@ -20,6 +21,11 @@ returns-in-Ok-clause-drives g c =
     drives_over g.S.Store g.W.Write.contents c.args.conn c.release.result c.args.out.now c.perform-done.new.out c.args.self.now c.perform-done.result
     (returns-in-Ok-clause-does g c)
 
+pub returns-in-Ok-clause-prints : goal.returns-in-Ok-clause-prints
+returns-in-Ok-clause-prints g c =
+    prints_over g.S.Store g.W.Write.contents c.args.conn c.release.result c.args.out.now c.perform-done.new.out c.args.self.now c.perform-done.result
+    (returns-in-Ok-clause-does g c)
+
 pub returns-in-Err-clause-does : goal.returns-in-Err-clause-does
 returns-in-Err-clause-does g c = inr (record {
   fault = c.in-Err.fault;
@@ -32,4 +38,9 @@ returns-in-Err-clause-does g c = inr (record {
 pub returns-in-Err-clause-drives : goal.returns-in-Err-clause-drives
 returns-in-Err-clause-drives g c =
     drives_over g.S.Store g.W.Write.contents c.args.conn c.in-Err.conn c.args.out.now c.args.out.now c.args.self.now (Err (Fault c.in-Err.fault))
+    (returns-in-Err-clause-does g c)
+
+pub returns-in-Err-clause-prints : goal.returns-in-Err-clause-prints
+returns-in-Err-clause-prints g c =
+    prints_over g.S.Store g.W.Write.contents c.args.conn c.in-Err.conn c.args.out.now c.args.out.now c.args.self.now (Err (Fault c.in-Err.fault))
     (returns-in-Err-clause-does g c)
