@@ -8,7 +8,7 @@ use wu_machine::View;
 
 /// What a line asks for, with the values of its options as they were written. Names, moments and files are read later,
 /// limits and ages are any 64-bit numbers.
-#[derive(Debug, Drop)]
+#[derive(Debug)]
 pub enum Line {
     /// Adds the jobs of a file, with the parameters of a template.
     Batch {
@@ -74,6 +74,69 @@ pub enum Line {
     Upgrade {
         db: Word,
     },
+}
+
+// It is written out, so that a caller does not prove again how each part is dropped.
+impl Drop for Line {
+    fn drop(self) {
+        match self {
+            Line::Batch {
+                db: _db,
+                name: _name,
+                jobs: _jobs,
+                template: _template,
+            } => {}
+            Line::Sent {
+                db: _db,
+                name: _name,
+                file: _file,
+            }
+            | Line::Reported {
+                db: _db,
+                name: _name,
+                file: _file,
+            } => {}
+            Line::Transition {
+                db: _db,
+                now: _now,
+                limit: _limit,
+            }
+            | Line::Assimilate {
+                db: _db,
+                now: _now,
+                limit: _limit,
+            } => {}
+            Line::Validate {
+                db: _db,
+                limit: _limit,
+            }
+            | Line::Delete {
+                db: _db,
+                limit: _limit,
+            } => {}
+            Line::Purge {
+                db: _db,
+                now: _now,
+                limit: _limit,
+                min_age: _min_age,
+            }
+            | Line::Cycle {
+                db: _db,
+                now: _now,
+                limit: _limit,
+                min_age: _min_age,
+            } => {}
+            Line::Cancel {
+                db: _db,
+                workunit: _workunit,
+            } => {}
+            Line::Show {
+                db: _db,
+                view: _view,
+            } => {}
+            Line::Upgrade { db: _db } => {}
+        }
+    }
 }
 
 impl Line {
