@@ -8,7 +8,7 @@ use std::marker::Model;
 use wu_core::{Archived, Bytes, Grant, ImportKind, Name, Workunit};
 
 /// What is kept for good of an imported file.
-#[derive(Debug, Drop)]
+#[derive(Drop)]
 pub struct Imported {
     kind: ImportKind,
     name: Name,
@@ -82,7 +82,7 @@ impl Imported {
 
 /// A world held in memory: workunits in order of number, grants and archived rows in order of their making, and imports
 /// in any order.
-#[derive(Debug, Drop)]
+#[derive(Drop)]
 pub struct Loaded {
     workunits: Vec<Workunit>,
     grants: Vec<Grant>,

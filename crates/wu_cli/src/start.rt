@@ -10,7 +10,7 @@ use wu_core::Fault;
 use wu_words::{Usage, Word};
 
 /// What the program does with the words of its process.
-#[derive(Debug, Drop)]
+#[derive(Drop)]
 pub enum Start {
     /// The demonstration: there is no word after the program's name.
     Demonstration,

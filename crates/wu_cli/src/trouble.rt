@@ -16,7 +16,7 @@ use wu_schema::fault_of;
 use wu_words::{BadLine, LineFault, UNOPENED, Usage, fault_status};
 
 /// What ends a run of the program before all of it is done.
-#[derive(Debug, Drop)]
+#[derive(Drop)]
 pub enum Trouble {
     /// The words are no line.
     Usage(Usage),

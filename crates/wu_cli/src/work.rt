@@ -16,7 +16,7 @@ use wu_words::{Action, FedEntry, Line, LineFault, Steps, prepare, prepare_script
 
 /// What is asked of a project. It holds what the files of the words hold, so that all of them are read before it is
 /// done.
-#[derive(Debug, Drop)]
+#[derive(Drop)]
 pub enum Work {
     Line(Action),
     Script(Steps),

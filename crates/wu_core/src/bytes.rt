@@ -6,9 +6,15 @@ use std::alloc::Global;
 use std::marker::Model;
 
 /// Bytes that contracts see as a list.
-#[derive(Debug, Drop)]
 pub struct Bytes {
     items: Vec<u8>,
+}
+
+// It is written out, so that a caller does not prove again how each part is dropped.
+impl Drop for Bytes {
+    fn drop(self) {
+        let Bytes { items: _items } = self;
+    }
 }
 
 impl Model for Bytes {
@@ -36,7 +42,8 @@ impl Bytes {
     pub fn into_vec(self) -> Vec<u8>
         ensures { result.items ≡ self }
     {
-        self.items
+        let Bytes { items } = self;
+        items
     }
 
     pub fn as_slice(&self) -> &[u8]

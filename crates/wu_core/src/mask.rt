@@ -5,7 +5,7 @@ ghost use Rattle.wu_core.specs.Codes.{Decodes};
 ghost use Rattle.wu_core.specs.Mask.{error_mask_code, no_errors};
 
 /// Why a workunit is given up: one flag for each bit of BOINC's mask.
-#[derive(Clone, Copy, Debug, PartialEq, Eq)]
+#[derive(Clone, Copy, PartialEq, Eq)]
 pub struct ErrorMask {
     /// Bit 1, which this project never sets.
     pub couldnt_send_result: bool,

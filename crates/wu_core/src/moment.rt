@@ -7,7 +7,7 @@ use crate::limits::{LAST_DEADLINE, LAST_MOMENT};
 use std::marker::Model;
 
 /// A moment that is handed in: 0 to 4102444799, the last second of the year 2099.
-#[derive(Clone, Copy, Debug, PartialEq, Eq, PartialOrd, Ord)]
+#[derive(Clone, Copy, PartialEq, Eq, PartialOrd, Ord)]
 pub struct Moment {
     seconds: u64,
 }
@@ -60,7 +60,7 @@ impl Moment {
 }
 
 /// When a sent instance is due: 0 to 4133980799, a year after the last moment.
-#[derive(Clone, Copy, Debug, PartialEq, Eq, PartialOrd, Ord)]
+#[derive(Clone, Copy, PartialEq, Eq, PartialOrd, Ord)]
 pub struct Deadline {
     seconds: u64,
 }

@@ -13,9 +13,15 @@ use std::fmt;
 use std::marker::Model;
 
 /// A name of a workunit, a host or an import: 1 to 64 bytes, each an ASCII letter, a digit, `_`, `.` or `-`.
-#[derive(Debug, Drop)]
 pub struct Name {
     text: String,
+}
+
+// It is written out, so that a caller does not prove again how each part is dropped.
+impl Drop for Name {
+    fn drop(self) {
+        let Name { text: _text } = self;
+    }
 }
 
 impl Model for Name {
@@ -122,7 +128,7 @@ impl fmt::Display for Name {
 }
 
 /// The name of an instance: that of its workunit, and its place among the workunit's instances, 0 to 99.
-#[derive(Debug, Drop)]
+#[derive(Drop)]
 pub struct ResultName {
     pub workunit: Name,
     pub n: u32,

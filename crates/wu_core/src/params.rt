@@ -17,7 +17,7 @@ use std::marker::Model;
 /// How many results a workunit wants, how many it bears, how long each may take and what it is worth.
 ///
 /// Each value is in the range of a template, but for the target, which the validator may raise to 101.
-#[derive(Clone, Copy, Debug, PartialEq, Eq)]
+#[derive(Clone, Copy, PartialEq, Eq)]
 pub struct Params {
     min_quorum: u32,
     target_nresults: u32,

@@ -8,7 +8,7 @@ ghost use Rattle.wu_core.specs.Statuses.{status_of, outcome_of};
 use std::fmt;
 
 /// Where an instance is on its way to a volunteer's machine and back.
-#[derive(Clone, Copy, Debug, PartialEq, Eq)]
+#[derive(Clone, Copy, PartialEq, Eq)]
 pub enum ServerState {
     Inactive = 1,
     Unsent = 2,
@@ -59,7 +59,7 @@ impl fmt::Display for ServerState {
 }
 
 /// How an instance ended.
-#[derive(Clone, Copy, Debug, PartialEq, Eq)]
+#[derive(Clone, Copy, PartialEq, Eq)]
 pub enum Outcome {
     Init = 0,
     Success = 1,
@@ -122,7 +122,7 @@ impl fmt::Display for Outcome {
 }
 
 /// What the validator found of an instance.
-#[derive(Clone, Copy, Debug, PartialEq, Eq)]
+#[derive(Clone, Copy, PartialEq, Eq)]
 pub enum ValidateState {
     Init = 0,
     Valid = 1,
@@ -179,7 +179,7 @@ impl fmt::Display for ValidateState {
 }
 
 /// Whether a workunit waits for the assimilator.
-#[derive(Clone, Copy, Debug, PartialEq, Eq)]
+#[derive(Clone, Copy, PartialEq, Eq)]
 pub enum Assimilate {
     Init = 0,
     Ready = 1,
@@ -227,7 +227,7 @@ impl fmt::Display for Assimilate {
 }
 
 /// Whether an input or an output waits for the file deleter.
-#[derive(Clone, Copy, Debug, PartialEq, Eq)]
+#[derive(Clone, Copy, PartialEq, Eq)]
 pub enum FileDelete {
     Init = 0,
     Ready = 1,
@@ -278,7 +278,7 @@ impl fmt::Display for FileDelete {
 }
 
 /// How a host says that an instance ended.
-#[derive(Clone, Copy, Debug, PartialEq, Eq)]
+#[derive(Clone, Copy, PartialEq, Eq)]
 pub enum Status {
     Success,
     ClientError,

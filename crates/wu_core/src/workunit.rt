@@ -17,7 +17,7 @@ use std::marker::Model;
 use std::slice::Iter;
 
 /// One copy of a workunit's job, for one host. Its place in the workunit's list is its number n.
-#[derive(Debug, Drop)]
+#[derive(Drop)]
 pub struct Instance {
     pub server_state: ServerState,
     pub outcome: Outcome,
@@ -71,9 +71,15 @@ fn append_unsent(alloc: Global, items: &mut Vec<Instance>, count: usize) -> Resu
 }
 
 /// The instances of a workunit, at most 100, in order of their numbers.
-#[derive(Debug, Drop)]
 pub struct Instances {
     items: Vec<Instance>,
+}
+
+// It is written out, so that a caller does not prove again how each part is dropped.
+impl Drop for Instances {
+    fn drop(self) {
+        let Instances { items: _items } = self;
+    }
 }
 
 impl Model for Instances {
@@ -112,7 +118,8 @@ impl Instances {
         ensures items { result.items ≡ self }
         ensures within { length self ≤ most_instances }
     {
-        self.items
+        let Instances { items } = self;
+        items
     }
 
     pub fn len(&self) -> usize
@@ -164,7 +171,7 @@ impl Instances {
 }
 
 /// A job: its parameters and its input, how far it is, and its instances.
-#[derive(Debug, Drop)]
+#[derive(Drop)]
 pub struct Workunit {
     /// From 1, never used again.
     pub number: u64,
@@ -184,7 +191,7 @@ pub struct Workunit {
 }
 
 /// Credit for one valid result.
-#[derive(Debug, Drop, PartialEq, Eq)]
+#[derive(Drop, PartialEq, Eq)]
 pub struct Grant {
     pub workunit: u64,
     pub n: u32,
@@ -193,7 +200,7 @@ pub struct Grant {
 }
 
 /// What the assimilator keeps of a workunit for good.
-#[derive(Debug, Drop)]
+#[derive(Drop)]
 pub struct Archived {
     pub number: u64,
     pub name: Name,

@@ -14,7 +14,7 @@ use wu_report::{Piece, flush, write_pieces};
 use wu_rules::{ReportVerdict, SendVerdict};
 
 /// An imported file whose rows are applied one by one, or skipped.
-#[derive(Clone, Copy, Debug)]
+#[derive(Clone, Copy)]
 enum AppliedFile {
     /// Instances that were sent to hosts.
     Sends,

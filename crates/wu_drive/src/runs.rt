@@ -15,7 +15,7 @@ use wu_passes::{Batch, Command, Project};
 use wu_report::{View, show};
 
 /// How far a list of commands went.
-#[derive(Clone, Copy, Debug, PartialEq, Eq)]
+#[derive(Clone, Copy, PartialEq, Eq)]
 pub struct Run {
     /// How many commands were done, also one whose text could not be written.
     pub acknowledged: usize,

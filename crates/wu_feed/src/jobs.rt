@@ -16,7 +16,7 @@ use std::alloc::Global;
 use wu_core::{Bytes, Fault, FileCause, LONGEST_INPUT, Name};
 
 /// A job of a batch: the name of its workunit, and its input of at most 4,096 bytes.
-#[derive(Debug, Drop)]
+#[derive(Drop)]
 pub struct Job {
     pub name: Name,
     pub input: Bytes,

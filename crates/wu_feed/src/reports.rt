@@ -17,7 +17,7 @@ use std::alloc::Global;
 use wu_core::{Bytes, Fault, FileCause, LONGEST_OUTPUT, Moment, Name, Status};
 
 /// An instance, by its workunit's name and its number, was reported by a host: how it ended, and its output.
-#[derive(Debug, Drop)]
+#[derive(Drop)]
 pub struct ReportRow {
     pub workunit: Name,
     /// 0 to 99.

@@ -17,7 +17,7 @@ use std::slice::Iter;
 use wu_core::{Fault, FileCause};
 
 /// The rows of a file in their order, which contracts see as a list.
-#[derive(Debug, Drop)]
+#[derive(Drop)]
 pub struct Rows<R> {
     items: Vec<R>,
 }

@@ -18,7 +18,7 @@ use std::alloc::{AllocError, Global};
 use wu_core::{Fault, FileCause};
 
 /// Why a line of a script has no words.
-#[derive(Clone, Copy, Debug, PartialEq, Eq)]
+#[derive(Clone, Copy, PartialEq, Eq)]
 pub enum LineCause {
     /// A quote is not closed on the line.
     OpenQuote,
@@ -29,7 +29,7 @@ pub enum LineCause {
 }
 
 /// A line of a script that has words, or a cause for which it has none.
-#[derive(Debug, Drop)]
+#[derive(Drop)]
 pub struct ScriptLine {
     /// The number of the line in its text, from 1.
     pub number: u64,

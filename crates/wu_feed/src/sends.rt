@@ -16,7 +16,7 @@ use std::alloc::Global;
 use wu_core::{Fault, FileCause, Moment, Name, ResultName};
 
 /// An instance, by its workunit's name and its number, was sent to a host.
-#[derive(Debug, Drop)]
+#[derive(Drop)]
 pub struct SendRow {
     pub workunit: Name,
     /// 0 to 99.

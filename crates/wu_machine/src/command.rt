@@ -4,7 +4,7 @@ use wu_core::{Bytes, ImportKind, Moment, Name};
 use wu_rules::Pass;
 
 /// A file of jobs and the template of their parameters, under the name of the batch.
-#[derive(Debug, Drop)]
+#[derive(Drop)]
 pub struct Batch {
     pub name: Name,
     pub template: Bytes,
@@ -12,7 +12,7 @@ pub struct Batch {
 }
 
 /// A file of rows that are applied one by one, or skipped, under the name of its import.
-#[derive(Debug, Drop)]
+#[derive(Drop)]
 pub struct RowsFile {
     pub name: Name,
     pub file: Bytes,
@@ -22,7 +22,6 @@ pub struct RowsFile {
 ///
 /// A pass changes the first workunits of the world's list, up to its limit of 1 to 1000, that are due for it; in a
 /// sound world they are the first by number. The least age of a purge is at most a year of 365 days.
-#[derive(Debug, Drop)]
 pub enum Command {
     /// Adds the jobs of a batch.
     Batch(Batch),
@@ -62,8 +61,35 @@ pub enum Command {
     Upgrade,
 }
 
+// It is written out, so that a caller does not prove again how each part is dropped.
+impl Drop for Command {
+    fn drop(self) {
+        match self {
+            Command::Batch(_batch) => {}
+            Command::Sent(_file) | Command::Reported(_file) => {}
+            Command::Transition {
+                now: _now,
+                limit: _limit,
+            }
+            | Command::Assimilate {
+                now: _now,
+                limit: _limit,
+            } => {}
+            Command::Validate { limit: _limit } | Command::Delete { limit: _limit } => {}
+            Command::Purge {
+                now: _now,
+                limit: _limit,
+                min_age: _min_age,
+            } => {}
+            Command::Cancel {
+                workunit: _workunit,
+            } => {}
+            Command::Upgrade => {}
+        }
+    }
+}
+
 /// What a project answers to a command that it accepted.
-#[derive(Debug, Drop)]
 pub enum Answer {
     /// A file was imported, now or at an earlier command.
     Imported {
@@ -88,4 +114,29 @@ pub enum Answer {
         from: u64,
         to: u64,
     },
+}
+
+// It is written out, so that a caller does not prove again how each part is dropped.
+impl Drop for Answer {
+    fn drop(self) {
+        match self {
+            Answer::Imported {
+                kind: _kind,
+                name: _name,
+                first: _first,
+                verdicts: _verdicts,
+            } => {}
+            Answer::Passed {
+                pass: _pass,
+                handled: _handled,
+            } => {}
+            Answer::Cancelled {
+                workunit: _workunit,
+            } => {}
+            Answer::Upgraded {
+                from: _from,
+                to: _to,
+            } => {}
+        }
+    }
 }

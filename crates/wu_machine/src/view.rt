@@ -1,7 +1,7 @@
 //! What is shown of a project.
 
 /// A view of a project.
-#[derive(Clone, Copy, Debug, PartialEq, Eq)]
+#[derive(Clone, Copy, PartialEq, Eq)]
 pub enum View {
     /// A line for each workunit, in order of number.
     Workunits,

@@ -17,7 +17,7 @@ use std::io::Write;
 use wu_core::{Deadline, Fault, Moment};
 
 /// A piece of a line.
-#[derive(Debug, Drop)]
+#[derive(Drop)]
 pub enum Piece<'a> {
     Text(&'a str),
     /// In decimal, without leading zeros.

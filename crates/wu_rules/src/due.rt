@@ -11,7 +11,7 @@ use crate::waking::wake_of;
 use wu_core::{Assimilate, Moment, Workunit};
 
 /// A pass over the workunits of a project, in BOINC's words.
-#[derive(Clone, Copy, Debug, PartialEq, Eq)]
+#[derive(Clone, Copy, PartialEq, Eq)]
 pub enum Pass {
     Transition,
     Validate,

@@ -17,7 +17,7 @@ use std::alloc::Global;
 use wu_core::{Assimilate, ErrorMask, Fault, FileDelete, Instance, Instances, Moment, Workunit};
 
 /// What the transitioner is to do with a workunit, once what is overdue has timed out.
-#[derive(Clone, Copy, Debug, PartialEq, Eq)]
+#[derive(Clone, Copy, PartialEq, Eq)]
 pub struct Plan {
     pub has_too_many_errors: bool,
     pub has_too_many_total: bool,

@@ -6,7 +6,7 @@ ghost use Rattle.wu_rules.specs.Verdicts.{report_verdict_code, report_verdict_wo
 
 /// What becomes of a row that says an instance was sent to a host: the first that holds, from `Unknown` on, or
 /// `Applied`.
-#[derive(Clone, Copy, Debug, PartialEq, Eq)]
+#[derive(Clone, Copy, PartialEq, Eq)]
 pub enum SendVerdict {
     Applied = 0,
     /// No such instance is present.
@@ -52,7 +52,7 @@ impl SendVerdict {
 }
 
 /// What becomes of a row that says how an instance ended: the first that holds, from `Unknown` on, or `Applied`.
-#[derive(Clone, Copy, Debug, PartialEq, Eq)]
+#[derive(Clone, Copy, PartialEq, Eq)]
 pub enum ReportVerdict {
     Applied = 0,
     /// No such instance is present.

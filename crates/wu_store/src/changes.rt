@@ -15,7 +15,7 @@ use std::alloc::Global;
 use wu_core::{Archived, Grant, ImportKind, Name, Workunit};
 
 /// What is kept for good of an import: its content, which is lent, and its first answer.
-#[derive(Debug, Drop)]
+#[derive(Drop)]
 pub struct Import<'a> {
     pub kind: ImportKind,
     pub name: &'a Name,
@@ -27,7 +27,6 @@ pub struct Import<'a> {
 }
 
 /// One change of a project's tables.
-#[derive(Debug, Drop)]
 pub enum Change<'a> {
     /// A workunit of a new number is added, with its instances.
     Add(Workunit),
@@ -43,6 +42,19 @@ pub enum Change<'a> {
     Next(u64),
     /// An import is kept.
     Keep(Import<'a>),
+}
+
+// It is written out, so that a caller does not prove again how each part is dropped.
+impl Drop for Change<'_> {
+    fn drop(self) {
+        match self {
+            Change::Add(_workunit) | Change::Replace(_workunit) => {}
+            Change::Granted(_seq, _grant) => {}
+            Change::Archive(_seq, _archived) => {}
+            Change::Remove(_number) | Change::Next(_number) => {}
+            Change::Keep(_import) => {}
+        }
+    }
 }
 
 /// Adds the rows of a workunit's instances, numbered from 0. Its own row is there without them.

@@ -18,7 +18,7 @@ use wu_core::{
 use wu_schema::number_at;
 
 /// What the view of workunits shows of one.
-#[derive(Debug, Drop)]
+#[derive(Drop)]
 pub struct WorkunitLine {
     pub number: u64,
     pub name: Name,
@@ -87,7 +87,7 @@ pub(crate) fn workunit_lines_from(alloc: Global, rows: &[Row]) -> Result<Vec<Wor
 }
 
 /// What the view of results shows of an instance.
-#[derive(Debug, Drop)]
+#[derive(Drop)]
 pub struct ResultLine {
     /// The name of its workunit.
     pub workunit: Name,
@@ -162,7 +162,7 @@ pub(crate) fn add_result_lines(lines: &mut Vec<ResultLine>, workunit: Workunit) 
 }
 
 /// What the view of hosts shows of one.
-#[derive(Debug, Drop)]
+#[derive(Drop)]
 pub struct HostLine {
     pub name: Name,
     /// The credit of all its grants.
@@ -211,7 +211,7 @@ pub(crate) fn archived_lines_from(alloc: Global, rows: &[Row]) -> Result<Vec<Arc
 }
 
 /// How much a project holds.
-#[derive(Clone, Copy, Debug, PartialEq, Eq)]
+#[derive(Clone, Copy, PartialEq, Eq)]
 pub struct Summary {
     /// Of the schema.
     pub version: u64,

@@ -17,7 +17,7 @@ use wu_feed::read_moment;
 use wu_machine::{Batch, Command, RowsFile, View, cycle};
 
 /// Commands in the order in which they run.
-#[derive(Debug, Drop)]
+#[derive(Drop)]
 pub struct Commands {
     items: Vec<Command>,
 }
@@ -52,7 +52,7 @@ impl Commands {
 }
 
 /// What a line asks of a project.
-#[derive(Debug, Drop)]
+#[derive(Drop)]
 pub enum Action {
     /// Commands are run.
     Commands(Commands),

@@ -17,7 +17,7 @@ use wu_core::Fault;
 use wu_feed::LineCause;
 
 /// Why a line of a script can't be run.
-#[derive(Debug, Drop)]
+#[derive(Drop)]
 pub enum Refusal {
     /// It is not taken apart into words.
     Text(LineCause),
@@ -59,7 +59,7 @@ impl Refusal {
 }
 
 /// A line of a script that has words.
-#[derive(Debug, Drop)]
+#[derive(Drop)]
 pub struct Entry {
     /// Its place among the lines of the script, from 1.
     pub number: u64,
@@ -81,7 +81,7 @@ impl Entry {
 }
 
 /// The entries of a script in the order of its lines.
-#[derive(Debug, Drop)]
+#[derive(Drop)]
 pub struct Entries {
     items: Vec<Entry>,
 }

@@ -10,7 +10,7 @@ use std::alloc::{AllocError, Global};
 use wu_feed::{LONGEST_FILE, LONGEST_TEMPLATE};
 
 /// A file that a line names.
-#[derive(Debug, Drop)]
+#[derive(Drop)]
 pub struct LineFile<'a> {
     /// Where it lies. A template that the line leaves out lies nowhere, and has no bytes.
     pub path: Option<&'a str>,

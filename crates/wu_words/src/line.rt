@@ -8,7 +8,6 @@ use wu_machine::View;
 
 /// What a line asks for, with the values of its options as they were written. Names, moments and files are read later,
 /// limits and ages are any 64-bit numbers.
-#[derive(Debug)]
 pub enum Line {
     /// Adds the jobs of a file, with the parameters of a template.
     Batch {

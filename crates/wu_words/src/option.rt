@@ -4,7 +4,7 @@ ghost use Rattle.std.specs.Prelude.{◌≡◌};
 ghost use Rattle.wu_words.specs.CommandLine.{is_number, is_required, option_name};
 
 /// An option of the command line. Each takes one value.
-#[derive(Clone, Copy, Debug, PartialEq, Eq)]
+#[derive(Clone, Copy, PartialEq, Eq)]
 pub enum LineOption {
     /// The file that holds the project.
     Database,

@@ -4,7 +4,7 @@ use crate::line::Line;
 use crate::word::Word;
 
 /// A script: a file with a command a line, over the project in a database.
-#[derive(Debug, Drop)]
+#[derive(Drop)]
 pub struct ScriptFile {
     /// The file that holds the project.
     pub db: Word,
@@ -13,7 +13,7 @@ pub struct ScriptFile {
 }
 
 /// What words ask for: a line of their own, or the lines of a script.
-#[derive(Debug, Drop)]
+#[derive(Drop)]
 pub enum Order {
     Line(Line),
     Script(ScriptFile),

@@ -12,14 +12,14 @@ use wu_core::Fault;
 
 /// An entry of a script with what its files hold, in the order of `Entry::files`: None for one that could not be read,
 /// no bytes for a template that is left out.
-#[derive(Debug, Drop)]
+#[derive(Drop)]
 pub struct FedEntry {
     pub entry: Entry,
     pub contents: Vec<Option<Vec<u8>>>,
 }
 
 /// What a line of a script asks of a project.
-#[derive(Debug, Drop)]
+#[derive(Drop)]
 pub struct Step {
     /// Its place among the lines of the script, from 1.
     pub number: u64,
@@ -27,7 +27,7 @@ pub struct Step {
 }
 
 /// The first line of a script that can't be run, and why.
-#[derive(Debug, Drop)]
+#[derive(Drop)]
 pub struct BadLine {
     /// Its place among the lines of the script, from 1.
     pub number: u64,
@@ -44,7 +44,7 @@ impl BadLine {
 }
 
 /// The line of a script whose fault ended it.
-#[derive(Clone, Copy, Debug, PartialEq, Eq)]
+#[derive(Clone, Copy, PartialEq, Eq)]
 pub struct LineFault {
     /// Its place among the lines of the script, from 1.
     pub number: u64,
@@ -52,7 +52,7 @@ pub struct LineFault {
 }
 
 /// The steps of a script in the order of its lines.
-#[derive(Debug, Drop)]
+#[derive(Drop)]
 pub struct Steps {
     items: Vec<Step>,
 }

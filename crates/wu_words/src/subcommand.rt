@@ -6,7 +6,7 @@ ghost use Rattle.wu_words.specs.CommandLine.{options_of, subcommand_name, subcom
 use crate::option::LineOption;
 
 /// What a line asks for.
-#[derive(Clone, Copy, Debug, PartialEq, Eq)]
+#[derive(Clone, Copy, PartialEq, Eq)]
 pub enum Subcommand {
     Batch,
     Sent,

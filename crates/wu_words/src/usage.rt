@@ -10,7 +10,7 @@ use clap::error::ErrorKind;
 use std::alloc::{AllocError, Global};
 
 /// Why words are no line.
-#[derive(Debug, Drop)]
+#[derive(Drop)]
 pub enum Usage {
     /// `clap` refused the words, or they ask for help: the text of its error, of which no contract of `clap` speaks.
     Refused(Word),
