@@ -13,6 +13,6 @@ pub program_more : (shapes : List Shape) (shape : Shape) → with_subcommand (pr
 program_more [] shape = refl
 program_more (first ∷ shapes) shape = refl
 
--- a line has to name a subcommand
+-- a line has to name a subcommand, or asks for the version
 abbrev pub requiring : App → App
-requiring app = record app { top = record app.top { subcommand_required = true } }
+requiring app = record app { top = record app.top { subcommand_required = true; has_version = true } }

@@ -97,7 +97,7 @@ are_none (first ∷ shapes) = false
 -- the program with these subcommands, of which a line has to name one
 abbrev pub program_with : List Shape → App
 program_with subcommands = record {
-  top = record (new_app (codes "lintelthyme")).top { is_leaf = are_none subcommands; subcommand_required = true };
+  top = record (new_app (codes "lintelthyme")).top { is_leaf = are_none subcommands; subcommand_required = true; has_version = true };
   subs = subcommands;
 }
 

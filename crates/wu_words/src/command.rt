@@ -42,12 +42,17 @@ fn subcommand<'a>(alloc: Global, subcommand: Subcommand) -> Result<Command<'a>, 
     Ok(command)
 }
 
+/// What `--version` tells behind the program's name. No contract speaks of it: a play shows it, and `tools/docs` holds
+/// it against the schema's present version and the toolchain's logic.
+const VERSION: &str = "0.1.0 (schema version 1, logic dac8208d650f15bf)";
+
 /// The command of the program: one subcommand a line, each with its options.
 pub fn command<'a>(alloc: Global) -> Result<Command<'a>, AllocError>
     ensures { IfOk result (λ command. app_of command ≡ program) }
 {
     let mut command = Command::new(alloc, "lintelthyme")
         .about("The back end of a BOINC project: one command on a project in a database file")
+        .version(VERSION)
         .after_help(
             "With no word after its name, the program runs a demonstration in memory.\nStatus: 0 done; 1 refused; 2 wrong words; 3 the database failed or could not be opened; 4 no memory; 5 the output failed.",
         )

@@ -6,7 +6,7 @@ use Rattle.wu_words.specs.declared.subcommand.Subcommand.TheVariants.{Batch}
 use Rattle.wu_words.proofs.command.command.Goals as goal
 
 pub loop-each-init : goal.loop-each-init
-loop-each-init c = rw (c.subcommand_required-command.ensures, c.after_help.ensures, c.about.ensures) (ap requiring c.new.ensures.app)
+loop-each-init c = rw (c.subcommand_required-command.ensures, c.after_help.ensures, c.version.ensures, c.about.ensures) (ap requiring c.new.ensures.app)
 
 pub loop-each-preserved : goal.loop-each-preserved
 loop-each-preserved c =
