@@ -1,4 +1,5 @@
 -- What is found where the two files of a connection are opened again after a stop.
+use Rattle.std.specs.Prelude.{Option, Some, None, IfSome}
 use Rattle.std.proofs.Common.{◌≡◌, IsTrue, ◌&&◌, true, false, Bool, refl, sym, ap, subst, ◌∙◌, arith}
 use Rattle.std.proofs.Math.Logic.{∥∥₁_elim, ∥∥₁_map}
 use Rattle.sqlite_disk.specs.declared.Disk.{Ghosts}
@@ -26,6 +27,11 @@ use Rattle.wu_machine_laws.proofs.SoundLemmas.{empty_sound, is_project}
 use Rattle.wu_passes.specs.Committing.{FoundAs}
 use Rattle.wu_passes.specs.Standing.{GoesOn}
 use Rattle.wu_stops.specs.Stopping.{IsCommitted, IsReopened}
+
+-- what holds of a value that is there, by what held of it
+pub some_then : {T : Type 0} {P Q : T → Type 0} (r : Option T) → ((it : T) → P it → Q it) → IfSome r P → IfSome r Q
+some_then None next held = tt
+some_then (Some it) next held = next it held
 
 pub and_both : (a b c d : Bool) → (IsTrue c → IsTrue a) → (IsTrue d → IsTrue b) → IsTrue (c && d) → IsTrue (a && b)
 and_both a b true true f h is = rw (f refl, h refl) refl

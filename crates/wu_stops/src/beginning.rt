@@ -2,15 +2,30 @@
 
 ghost use Rattle.std.specs.Prelude.{false, IfSome, IsTrue};
 ghost use Rattle.sqlite.specs.Files.{file_state};
+ghost use Rattle.sqlite.specs.Held.{state};
+ghost use Rattle.wu_passes.specs.Adopting.{Adopts};
 ghost use Rattle.wu_passes.specs.Projects.{IsSessionOpen, IsOpen, IsUnlimited, state_of};
 ghost use Rattle.wu_stops.specs.Beginning.{BeginsAgain, BeginsEmpty, GoesFromTables, GoesAgain};
 ghost use Rattle.wu_stops.specs.Stopping.{WasClean};
 
 use crate::stopping::stop_and_open;
-use sqlite::{Connection, FileStore, Files, Options};
+use sqlite::{Alter, Connection, FileStore, Files, Options};
 use sqlite_disk::{Crash, Disk};
 use std::alloc::Global;
 use wu_passes::Project;
+
+/// Begins a session over the project in a database. `None` where the adoption fails.
+///
+/// It is one call over any store: over two files each such call costs its caller's proof as much again.
+pub fn begin<S: Alter + Drop>(conn: Connection<S>) -> Option<Project<S>>
+    ensures begins { IfSome result IsSessionOpen }
+    ensures adopted { IfSome result (λ project. Adopts (state S.Store conn) (state_of project)) }
+{
+    match Project::adopt(conn) {
+        Ok(project) => Some(project),
+        Err(_) => None,
+    }
+}
 
 /// Opens two files and begins a session over the project in them.
 ///
@@ -30,10 +45,7 @@ pub fn open_and_adopt<D: Disk + Drop>(
     ensures found { IfSome result (GoesFromTables D.Disk files) }
 {
     match Connection::open_files(alloc, files, options) {
-        Ok(conn) => match Project::adopt(conn) {
-            Ok(project) => Some(project),
-            Err(_) => None,
-        },
+        Ok(conn) => begin(conn),
         Err(_) => None,
     }
 }

@@ -10,6 +10,7 @@ ghost use Rattle.wu_stops.specs.Beginning.{BeginsAgain, GoesAgain};
 ghost use Rattle.wu_stops.specs.Closing.{AfterClose, BeginsUnclosed, FindsClosed, FindsStopped, FindsUnclosed, GoesUnclosed, KeepsClosed, KeepsUnclosed, KeepsWorlds, WasCleanClosed, WasCleanUnclosed};
 ghost use Rattle.wu_stops.specs.Stopping.{FindsAgain, WasClean};
 
+use crate::beginning::begin;
 use sqlite::{Connection, Error, FileStore, Files, Options};
 use sqlite_disk::Crash;
 use std::alloc::Global;
@@ -100,10 +101,7 @@ pub fn stop_and_adopt_unclosed<D: Crash + Drop>(
     ensures found { IfSome result (GoesUnclosed left) }
 {
     let again = stop_and_open_unclosed(alloc, left, options)?;
-    match Project::adopt(again) {
-        Ok(project) => Some(project),
-        Err(_) => None,
-    }
+    begin(again)
 }
 
 /// Closes a connection; then the machine stops, the two files are opened again, and the project in them is adopted. It
@@ -123,8 +121,6 @@ pub fn close_stop_and_adopt<D: Crash + Drop>(
     ensures found { IfSome result (λ r. AfterClose conn r.0 (GoesAgain conn r.1)) }
 {
     let (closed, again) = close_stop_and_open(alloc, conn, options)?;
-    match Project::adopt(again) {
-        Ok(project) => Some((closed, project)),
-        Err(_) => None,
-    }
+    let project = begin(again)?;
+    Some((closed, project))
 }

@@ -6,6 +6,7 @@ ghost use Rattle.std.specs.Prelude.{IfSome};
 ghost use Rattle.wu_passes.specs.Projects.{IsSessionOpen, IsOpen, IsUnlimited};
 ghost use Rattle.wu_stops.specs.Leftovers.{BeginsAfter, GoesAfter};
 
+use crate::beginning::begin;
 use sqlite::{Connection, FileStore, Files, Leftover, Options};
 use sqlite_disk::Crash;
 use std::alloc::Global;
@@ -32,10 +33,7 @@ pub fn stop_and_open_left<D: Crash + Drop>(
     log.crash();
     db.crash();
     match Connection::open_files(alloc, Files { log, db }, options) {
-        Ok(conn) => match Project::adopt(conn) {
-            Ok(project) => Some(project),
-            Err(_) => None,
-        },
+        Ok(conn) => begin(conn),
         Err(_) => None,
     }
 }
