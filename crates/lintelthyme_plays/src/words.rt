@@ -5,7 +5,7 @@ use sqlite_disk::Wary;
 use std::io::Write;
 use wu_feed::{LineCause, Words, read_script};
 use wu_plays::{write_comment, write_status};
-use wu_program::obey;
+use wu_program::run_with;
 
 /// The words of a process: the program's name, and those of a line.
 fn process_words(rt: &HostRuntime, words: Result<Words, LineCause>) -> Result<Vec<String>> {
@@ -18,9 +18,9 @@ fn process_words(rt: &HostRuntime, words: Result<Words, LineCause>) -> Result<Ve
 }
 
 /// Runs the program with these words: what it prints, what it tells of a fault, and its status.
-fn run(rt: &HostRuntime, words: &[String], transcript: &mut Vec<u8>) -> Result<()> {
+fn run(rt: &HostRuntime, words: Vec<String>, transcript: &mut Vec<u8>) -> Result<()> {
     let mut told = Vec::new(rt.alloc());
-    let status = obey(rt, words, Wary, transcript, &mut told).status;
+    let status = run_with(rt, Ok(words), Wary, transcript, &mut told).status;
     transcript.write_all(told.as_slice())?;
     write_status(status, transcript)?;
     Ok(())
@@ -31,8 +31,7 @@ fn play_line(rt: &HostRuntime, line: &str, transcript: &mut Vec<u8>) -> Result<(
     write_comment(line, transcript)?;
     for line_of_words in read_script(rt.alloc(), line.as_bytes())?.into_vec() {
         writeln!(transcript, "> {line}")?;
-        let words = process_words(rt, line_of_words.words)?;
-        run(rt, words.as_slice(), transcript)?;
+        run(rt, process_words(rt, line_of_words.words)?, transcript)?;
     }
     Ok(())
 }

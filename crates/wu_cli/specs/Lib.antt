@@ -1,4 +1,5 @@
 pub mod Endings
+pub mod Explaining
 pub mod Performing
 pub mod Scripting
 pub mod Starting

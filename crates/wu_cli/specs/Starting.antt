@@ -1,5 +1,6 @@
 -- What the program does with the words of its process.
-use Rattle.std.specs.Prelude.{◌≡◌, ◌⊎◌, if◌then◌else◌, nat_le, vec_len, MatchResult, Result, Ok, Err, String}
+use Rattle.std.specs.Prelude.{◌≡◌, ◌⊎◌, ℕ, Bool, false, bytes_eq, codes, if◌then◌else◌, List, map, nat_le, slice_get, string_bytes, vec_len, MatchResult, Result, Ok, Err, String}
+use Rattle.std.specs.Option.{option_map_or}
 use Rattle.std.specs.IoError.{error_kind}
 use Rattle.std.specs.declared.alloc.Global.{Global}
 use Rattle.std.specs.declared.io.Error.{Error}
@@ -11,7 +12,7 @@ use Rattle.wu_feed.specs.declared.script.LineCause.TheVariants.{NotText}
 use Rattle.wu_words.specs.declared.usage.Usage.TheVariants.{Refused}
 use Rattle.wu_cli.specs.Endings.{cause_text}
 use Rattle.wu_cli.specs.declared.start.Start.{Start}
-use Rattle.wu_cli.specs.declared.start.Start.TheVariants.{Demonstration, Words}
+use Rattle.wu_cli.specs.declared.start.Start.TheVariants.{Demonstration, Explanation, Words}
 use Rattle.wu_cli.specs.declared.trouble.Trouble.{Trouble}
 use Rattle.wu_cli.specs.declared.trouble.Trouble.TheVariants as trouble
 
@@ -20,7 +21,16 @@ abbrev pub IsUnheard : ErrorKind → Trouble → Type 0
 IsUnheard OutOfMemory told = told ≡ trouble.Fault fault.Memory
 IsUnheard _ told = (told ≡ trouble.Usage (Refused (cause_text NotText))) ⊎ (told ≡ trouble.Fault fault.Memory)
 
--- with no word after the program's name the demonstration, else what the words ask for; or why they could not be had
+-- the word behind the program's name is `explain`
+abbrev pub asks_to_explain : List (List ℕ) → Bool
+asks_to_explain words = option_map_or (λ word. bytes_eq word (codes "explain")) (slice_get words 1) false
+
+-- with no word after the program's name the demonstration, behind `explain` an explanation, else what the words ask for
+abbrev pub start_by : Vec (String Global) Global → Start
+start_by words =
+    if nat_le (vec_len words) 1 then Demonstration else (if asks_to_explain (map string_bytes words.items) then Explanation words else Words words)
+
+-- so the program starts; or why its words could not be had
 abbrev pub StartsBy : Result (Vec (String Global) Global) Error → Result Start Trouble → Type 0
-StartsBy (Ok words) result = result ≡ Ok (if nat_le (vec_len words) 1 then Demonstration else Words words)
+StartsBy (Ok words) result = result ≡ Ok (start_by words)
 StartsBy (Err error) result = MatchResult result (λ _. ⊥) (IsUnheard (error_kind error))

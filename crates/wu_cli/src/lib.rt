@@ -1,12 +1,14 @@
 //! The command line: what is done over a project for its words, the status that it ends with, and the lines of faults.
 #![tactic(auto)]
 
+mod explaining;
 mod performing;
 mod start;
 mod texts;
 mod trouble;
 mod work;
 
+pub use explaining::explain;
 pub use performing::{perform, perform_script};
 pub use start::{Start, start_of};
 pub use texts::{write_bad_line, write_fault, write_line_fault, write_unopened, write_usage};

@@ -1,7 +1,8 @@
 //! What the program does with the words of its process.
 
+ghost use Rattle.std.specs.Prelude.{◌≡◌, map, string_bytes};
 ghost use Rattle.std.specs.IoError.{error_kind};
-ghost use Rattle.wu_cli.specs.Starting.{IsUnheard, StartsBy};
+ghost use Rattle.wu_cli.specs.Starting.{asks_to_explain, IsUnheard, StartsBy};
 
 use crate::trouble::Trouble;
 use std::alloc::Global;
@@ -14,6 +15,8 @@ use wu_words::{Usage, Word};
 pub enum Start {
     /// The demonstration: there is no word after the program's name.
     Demonstration,
+    /// A topic is explained, which stands behind the program's name and `explain`.
+    Explanation(Vec<String>),
     /// What these words ask for, of which the first is the program's name.
     Words(Vec<String>),
 }
@@ -31,13 +34,25 @@ fn unheard(alloc: Global, error: &io::Error) -> Trouble
     }
 }
 
+/// Whether the word behind the program's name is `explain`.
+fn asks_to_explain(words: &[String]) -> bool
+    ensures { result ≡ asks_to_explain (map string_bytes words.now) }
+{
+    match words.get(1) {
+        Some(word) => word.as_str() == "explain",
+        None => false,
+    }
+}
+
 /// What the program does with the words of its process, of which the first is its name: with no other the
-/// demonstration, else what they ask for. Words that are no UTF-8 text are refused, with status 2.
+/// demonstration, behind `explain` an explanation, else what they ask for. Words that are no UTF-8 text are refused,
+/// with status 2.
 pub fn start_of(alloc: Global, words: io::Result<Vec<String>>) -> Result<Start, Trouble>
     ensures { StartsBy words result }
 {
     match words {
         Ok(words) if words.len() <= 1 => Ok(Start::Demonstration),
+        Ok(words) if asks_to_explain(words.as_slice()) => Ok(Start::Explanation(words)),
         Ok(words) => Ok(Start::Words(words)),
         Err(error) => Err(unheard(alloc, &error)),
     }

@@ -1,7 +1,8 @@
 //! The lines that the program writes on its standard error.
 
-ghost use Rattle.std.specs.Prelude.{◌++◌, codes, flat_map};
+ghost use Rattle.std.specs.Prelude.{◌++◌, codes, flat_map, IsOkUnless};
 ghost use Rattle.std.specs.Fmt.{decimal};
+ghost use Rattle.wu_core.specs.declared.fault.Fault.TheVariants.{Output};
 ghost use Rattle.wu_report.specs.Texts.{line_end};
 ghost use Rattle.wu_report.specs.Writing.{piece_text, WritesTo};
 ghost use Rattle.wu_cli.specs.Endings.{bad_line_text, cause_text, fault_line, line_fault_text, line_front, refusal_text, unopened_line, usage_text, WritesAll};
@@ -17,6 +18,15 @@ fn write_flushed<W: Write>(out: &mut W, pieces: &[Piece<'_>]) -> Result<(), Faul
     ensures { WritesTo W.contents out.old out.new (flat_map piece_text pieces.now) result }
 {
     write_pieces(out, pieces)?;
+    flush(out)
+}
+
+/// Writes a text, and flushes.
+pub(crate) fn write_text<W: Write>(out: &mut W, text: &str) -> Result<(), Fault>
+    ensures bytes { WritesTo W.contents out.old out.new text.now result }
+    ensures fault { IsOkUnless result Output }
+{
+    write_pieces(out, &[Piece::Text(text)])?;
     flush(out)
 }
 

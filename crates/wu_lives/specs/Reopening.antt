@@ -12,8 +12,9 @@ use Rattle.wu_stops.specs.Stopping.{FindsAgain}
 use Rattle.wu_drive.specs.Driving.{AnswerAll, EndsBy, EndsEarly, LengthensLife, world_after}
 use Rattle.wu_machine.specs.Sound.{IsProject}
 use Rattle.wu_passes.specs.Adopting.{Adopts}
-use Rattle.wu_passes.specs.Projects.{IsSessionOpen, IsSessionEnded, state_of}
+use Rattle.wu_passes.specs.Projects.{connection_of, IsSessionOpen, IsSessionEnded, state_of}
 use Rattle.wu_passes.specs.Standing.{GoesOn, MayEnd}
+use Rattle.wu_drive.specs.Running.{RunsList}
 use Rattle.wu_drive.specs.Writing.{WritesAnswers}
 use Rattle.wu_machine.specs.declared.command.Answer.{Answer}
 use Rattle.wu_machine.specs.declared.command.Command.{Command}
@@ -37,6 +38,12 @@ DoesAll commands run = (run.acknowledged ≤ length commands) × (run.end ≡ No
 abbrev pub TellsEnded : {S W : Type 0} {g : Store.Ghosts S} → Project S g → W → W → Run → Type 0
 TellsEnded old out_old out_new run =
     IsSessionEnded old → (out_new ≡ out_old) × (run.acknowledged ≡ 0) × IfSome run.end (λ fault. fault ≡ Ended)
+
+-- a list of commands was run, and what that left of the session was let go
+pub record DrivesAndReleases {S W : Type 0} {g : Store.Ghosts S} (contents : W → Option (List ℕ)) (old : Project S g) (out_old out_new : W) (commands : List Command) (run : Run) (conn : Held S) : Type 0 where
+  pub left : Project S g
+  pub runs : RunsList contents old left out_old out_new commands run
+  pub released : conn ≡ connection_of left
 
 module _ {D : Type 0} {g : Ghosts D} where
   -- over a session that went on, why the run ended early

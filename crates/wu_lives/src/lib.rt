@@ -1,6 +1,7 @@
 //! The laws of a project over lives: lists of commands, stops, and the sessions that go on over what is found.
 #![tactic(auto)]
 
+mod driving;
 mod reopening;
 mod runs;
 mod soundness;

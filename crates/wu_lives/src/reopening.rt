@@ -9,12 +9,13 @@ ghost use Rattle.wu_lives.specs.Lives.{GoesOnAfter, RunsEach, TellsLives};
 ghost use Rattle.wu_lives.specs.Reopening.{AdoptsLeft, DoesAll, TellsEnded, FindsBeginning, FindsLeft, TellsEnd, TellsReplies};
 ghost use Rattle.wu_stops.specs.Stopping.{WasClean};
 
+use crate::driving::drive_and_release;
 use sqlite::{Connection, FileStore, Options};
 use sqlite_disk::Crash;
 use std::alloc::Global;
 use std::io::Write;
-use wu_drive::{Command, Project, Run, drive};
-use wu_stops::stop_and_open;
+use wu_drive::{Command, Project, Run};
+use wu_stops::{begin, stop_and_open};
 
 /// Runs a list of commands; then the machine stops, and the two files are opened again.
 ///
@@ -24,7 +25,7 @@ use wu_stops::stop_and_open;
 /// ended is as of `drive`. `None` where the open fails.
 pub fn drive_stop_and_open<D: Crash + Drop, W: Write>(
     alloc: Global,
-    mut project: Project<FileStore<D>>,
+    project: Project<FileStore<D>>,
     commands: &[Command],
     out: &mut W,
     options: Options,
@@ -40,8 +41,8 @@ pub fn drive_stop_and_open<D: Crash + Drop, W: Write>(
     ensures ends { IfSome result (λ r. TellsEnd project commands.now r.0 (file_state r.1)) }
     ensures reopened { IfSome result (λ r. FindsLeft project commands.now r.0 (file_state r.1)) }
 {
-    let run = drive(alloc, &mut project, commands, out);
-    match stop_and_open(alloc, project.release(), options) {
+    let (run, conn) = drive_and_release(alloc, project, commands, out);
+    match stop_and_open(alloc, conn, options) {
         Some(again) => Some((run, again)),
         None => None,
     }
@@ -74,9 +75,9 @@ pub fn live<D: Crash + Drop, W: Write>(
     ensures reopened { IfSome result (λ r. AdoptsLeft project commands.now r.0 r.1) }
 {
     match drive_stop_and_open(alloc, project, commands, out, options) {
-        Some((run, conn)) => match Project::adopt(conn) {
-            Ok(again) => Some((run, again)),
-            Err(_) => None,
+        Some((run, conn)) => match begin(conn) {
+            Some(again) => Some((run, again)),
+            None => None,
         },
         None => None,
     }

@@ -9,11 +9,13 @@ ghost use Rattle.wu_passes.specs.Projects.{IsSessionOpen, state_of};
 ghost use Rattle.wu_lives.specs.Reopening.{DoesAll, TellsEnded};
 ghost use Rattle.wu_lives.specs.Runs.{AnswersFirst, AreLeft, BeginsBlank, BeginsOver, EndsFirst, LeavesFirst, LeavesBeginnings, LeavesUnclosed, LivesOver, TellsAnswers, WhyEnded};
 
+use crate::driving::drive_and_release;
 use sqlite::{Connection, FileFrom, FileStore, Files, Start};
 use sqlite_disk::Disk;
 use std::alloc::Global;
 use std::io::Write;
-use wu_drive::{Command, Project, Run, drive};
+use wu_drive::{Command, Project, Run};
+use wu_stops::begin;
 
 /// Runs a list of commands over a project, and lets its two files go.
 ///
@@ -22,7 +24,7 @@ use wu_drive::{Command, Project, Run, drive};
 /// `drive`.
 pub fn run_and_leave<D: Disk + Drop, W: Write>(
     alloc: Global,
-    mut project: Project<FileStore<D>>,
+    project: Project<FileStore<D>>,
     commands: &[Command],
     out: &mut W,
 ) -> (Run, Files<D>)
@@ -34,8 +36,8 @@ pub fn run_and_leave<D: Disk + Drop, W: Write>(
     ensures ended { TellsEnded project out.old out.new result.0 }
     ensures ends { WhyEnded project commands.now result.0 result.1 }
 {
-    let run = drive(alloc, &mut project, commands, out);
-    (run, project.release().into_store().close())
+    let (run, conn) = drive_and_release(alloc, project, commands, out);
+    (run, conn.into_store().close())
 }
 
 /// Runs a list of commands over a project, and closes its database, as the program does.
@@ -45,7 +47,7 @@ pub fn run_and_leave<D: Disk + Drop, W: Write>(
 /// that is numbered. So `begin_at` goes on from there.
 pub fn run_and_close<D: Disk + Drop, W: Write>(
     alloc: Global,
-    mut project: Project<FileStore<D>>,
+    project: Project<FileStore<D>>,
     commands: &[Command],
     out: &mut W,
 ) -> (Run, Result<Files<D>, FileStore<D>>)
@@ -57,8 +59,8 @@ pub fn run_and_close<D: Disk + Drop, W: Write>(
     ensures all { DoesAll commands.now result.0 }
     ensures ended { TellsEnded project out.old out.new result.0 }
 {
-    let run = drive(alloc, &mut project, commands, out);
-    match project.release().close_files() {
+    let (run, conn) = drive_and_release(alloc, project, commands, out);
+    match conn.close_files() {
         Ok(files) => (run, Ok(files)),
         Err((_, store)) => (run, Err(store)),
     }
@@ -78,10 +80,7 @@ pub fn begin_at<S: Start>(
     ensures found { IfSome result (λ project. BeginsOver (image_at S.Start) (state_of project)) }
 {
     match Connection::open_from(rt, path, false, start) {
-        Ok(conn) => match Project::adopt(conn) {
-            Ok(project) => Some(project),
-            Err(_) => None,
-        },
+        Ok(conn) => begin(conn),
         Err(_) => None,
     }
 }

@@ -3,3 +3,4 @@ pub mod Closing
 pub mod Contents
 pub mod Opening
 pub mod Running
+pub mod Processes

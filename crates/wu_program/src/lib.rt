@@ -4,21 +4,25 @@
 //! clauses hold whatever they are. That they lie where the words say, no clause can say.
 #![tactic(auto)]
 
-ghost use Rattle.std.specs.Prelude.{map, string_bytes};
+ghost use Rattle.std.specs.Prelude.{◌≡◌, map, None, string_bytes};
 ghost use Rattle.wu_program.specs.Running.{Obeys, RunsWords, TellsTrouble};
+ghost use Rattle.wu_program.specs.Processes.{Demonstrates, RunsProcess};
 
 mod contents;
 mod database;
+mod signs;
 mod work;
 
 pub use database::Left;
 use database::open_and_perform;
+use signs::{Cleared, Signs, Watched};
 use sqlite::FileFrom;
 use sqlite_disk::{Disk, Wary};
+use std::alloc::Global;
 use std::env;
-use std::io::{self, BufWriter, Write};
+use std::io::{self, BufWriter, IsTerminal, Write};
 use work::{database_in, order_and_work};
-use wu_cli::{Start, Trouble, start_of};
+use wu_cli::{Start, Trouble, explain, start_of};
 use wu_core::Fault;
 use wu_drive::demo;
 
@@ -86,19 +90,53 @@ pub fn obey<S: sqlite::Start, O: Write, E: Write>(
     }
 }
 
-/// Does what the words ask for, with the outputs of the process, over a database file of which nothing is supposed.
-fn obey_here(rt: &HostRuntime, words: &[String]) -> u8 {
-    match BufWriter::new(rt.alloc(), rt.stdout()) {
-        Ok(mut out) => obey(rt, words, Wary, &mut out, &mut rt.stderr()).status,
-        Err(_) => tell(Err(Trouble::Fault(Fault::Memory)), &mut rt.stderr()).0,
+/// The end of a run that opens no database.
+fn unopened_end<D: Disk>(status: u8, is_told: bool) -> End<D>
+    ensures status { result.status ≡ status }
+    ensures told { result.is_told ≡ is_told }
+    ensures left { result.left ≡ None }
+{
+    End {
+        status,
+        is_told,
+        left: None,
     }
 }
 
-/// The demonstration, and the status to end with: 0, or 1 on a fault.
-fn demonstrate(rt: &HostRuntime) -> u8 {
-    match demo(rt.alloc(), &mut rt.stdout()) {
+/// The demonstration, and the status to end with: 0, or 1 on a fault, which is not told.
+fn demonstrate<O: Write>(alloc: Global, out: &mut O) -> u8
+    ensures { Demonstrates (O.contents out.old) (O.contents out.new) result }
+{
+    match demo(alloc, out) {
         None => 0,
         Some(_) => 1,
+    }
+}
+
+/// Does what the words of a process ask for, of which the first is the program's name: with no other it is the
+/// demonstration, behind `explain` a topic is explained, and else it is as of `obey`. Words that could not be had are
+/// told as such.
+pub fn run_with<S: sqlite::Start, O: Write, E: Write>(
+    rt: &HostRuntime,
+    words: io::Result<Vec<String>>,
+    start: S,
+    out: &mut O,
+    err: &mut E,
+) -> End<FileFrom<S>>
+    ensures { RunsProcess O.contents E.contents out.old out.new err.old err.new result words }
+{
+    let alloc = rt.alloc();
+    match start_of(alloc, words) {
+        Ok(Start::Demonstration) => unopened_end(demonstrate(alloc, out), true),
+        Ok(Start::Explanation(words)) => {
+            let (status, is_told) = tell(explain(alloc, words.as_slice(), out), err);
+            unopened_end(status, is_told)
+        }
+        Ok(Start::Words(words)) => obey(rt, words.as_slice(), start, out, err),
+        Err(trouble) => {
+            let (status, is_told) = tell(Err(trouble), err);
+            unopened_end(status, is_told)
+        }
     }
 }
 
@@ -107,12 +145,21 @@ fn words(rt: &HostRuntime) -> io::Result<Vec<String>> {
     Ok(env::args(rt)?.collect(rt.alloc())?)
 }
 
-/// Does what the words of the command line ask for, and answers the status to end with. With no word after the
-/// program's name it is the demonstration. The text of a trouble goes to standard error.
+/// Does what the words of the command line ask for, as `run_with`, with the outputs of the process, over a database file of
+/// which nothing is supposed. Where standard error is a terminal, it shows there meanwhile how many answers have gone
+/// out. It answers the status to end with.
 pub fn run(rt: &HostRuntime) -> u8 {
-    match start_of(rt.alloc(), words(rt)) {
-        Ok(Start::Demonstration) => demonstrate(rt),
-        Ok(Start::Words(words)) => obey_here(rt, words.as_slice()),
-        Err(trouble) => tell(Err(trouble), &mut rt.stderr()).0,
+    let is_terminal = rt.stderr().is_terminal();
+    let mut err = Cleared::new(rt.stderr(), is_terminal);
+    match BufWriter::new(rt.alloc(), rt.stdout()) {
+        Ok(out) => {
+            let signs = Signs::new(is_terminal.then_some(rt.stderr()));
+            let mut out = Watched::new(out, signs);
+            out.begin();
+            let status = run_with(rt, words(rt), Wary, &mut out, &mut err).status;
+            out.end();
+            status
+        }
+        Err(_) => tell(Err(Trouble::Fault(Fault::Memory)), &mut err).0,
     }
 }

@@ -13,8 +13,8 @@ use Rattle.wu_passes.specs.declared.project.Project.{Project}
 use Rattle.wu_machine.specs.Machine.{present_version}
 use Rattle.wu_machine.specs.Sound.{IsProject}
 use Rattle.wu_passes.specs.Projects.{state_of}
-use Rattle.wu_passes.specs.Adopting.{IsVacant}
-use Rattle.wu_passes.specs.Standing.{GoesOn}
+use Rattle.wu_passes.specs.Adopting.{IsVacant, LeavesFresh}
+use Rattle.wu_passes.specs.Standing.{FaultsOnlyGrow, GoesOn}
 use Rattle.wu_stops.specs.Stopping.{IsCommitted}
 
 module _ {D : Type 0} (g : Ghosts D) (files : Files D) where
@@ -38,6 +38,13 @@ module _ {D : Type 0} (g : Ghosts D) (files : Files D) where
   GoesFromTables new =
       (world : World) → ∥ HoldWorld world ∥₁ → HasCleanDisk (state_of new)
       → ∥ GoesOn (state_of new) world × (world.version ≡ present_version) ∥₁
+
+-- A database is given back after an adoption, whether that was refused or not: a stop leaves what it left before, or a
+-- fresh project, and the session of a world goes on.
+pub record LeavesAdopted (old new : State) : Type 0 where
+  pub clean : FaultsOnlyGrow old new
+  pub left : HasCleanDisk new → LeavesFresh old new
+  pub goes : HasCleanDisk new → (world : World) → 1 ≤ world.version → GoesOn old world → GoesOn new world
 
 -- no project is there, all is committed, and a stop leaves nothing else
 pub record AwaitsProject (s : State) : Type 0 where

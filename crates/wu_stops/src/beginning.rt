@@ -5,7 +5,7 @@ ghost use Rattle.sqlite.specs.Files.{file_state};
 ghost use Rattle.sqlite.specs.Held.{state};
 ghost use Rattle.wu_passes.specs.Adopting.{Adopts};
 ghost use Rattle.wu_passes.specs.Projects.{IsSessionOpen, IsOpen, IsUnlimited, state_of};
-ghost use Rattle.wu_stops.specs.Beginning.{BeginsAgain, BeginsEmpty, GoesFromTables, GoesAgain};
+ghost use Rattle.wu_stops.specs.Beginning.{BeginsAgain, BeginsEmpty, GoesFromTables, GoesAgain, LeavesAdopted};
 ghost use Rattle.wu_stops.specs.Stopping.{WasClean};
 
 use crate::stopping::stop_and_open;
@@ -24,6 +24,18 @@ pub fn begin<S: Alter + Drop>(conn: Connection<S>) -> Option<Project<S>>
     match Project::adopt(conn) {
         Ok(project) => Some(project),
         Err(_) => None,
+    }
+}
+
+/// Adopts the project of a database and gives the database back, whether it was adopted or not.
+///
+/// It is one call over any store, as `begin`.
+fn adopt_and_release<S: Alter + Drop>(conn: Connection<S>) -> Connection<S>
+    ensures { LeavesAdopted (state S.Store conn) (state S.Store result) }
+{
+    match Project::adopt(conn) {
+        Ok(project) => project.release(),
+        Err((conn, _)) => conn,
     }
 }
 
@@ -66,15 +78,8 @@ pub fn adopt_stop_and_adopt<D: Crash + Drop>(
     ensures free { IfSome result (BeginsAgain conn) }
     ensures found { IfSome result (GoesAgain conn) }
 {
-    let conn = match Project::adopt(conn) {
-        Ok(project) => project.release(),
-        Err((conn, _)) => conn,
-    };
-    match stop_and_open(alloc, conn, options) {
-        Some(again) => match Project::adopt(again) {
-            Ok(project) => Some(project),
-            Err(_) => None,
-        },
+    match stop_and_open(alloc, adopt_and_release(conn), options) {
+        Some(again) => begin(again),
         None => None,
     }
 }

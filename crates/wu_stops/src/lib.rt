@@ -7,7 +7,7 @@ mod closing;
 mod leftovers;
 mod stopping;
 
-pub use beginning::{adopt_stop_and_adopt, open_and_adopt};
+pub use beginning::{adopt_stop_and_adopt, begin, open_and_adopt};
 pub use closing::{
     close_stop_and_adopt, close_stop_and_open, stop_and_adopt_unclosed, stop_and_open_files,
     stop_and_open_unclosed,

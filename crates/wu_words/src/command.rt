@@ -54,7 +54,7 @@ pub fn command<'a>(alloc: Global) -> Result<Command<'a>, AllocError>
         .about("The back end of a BOINC project: one command on a project in a database file")
         .version(VERSION)
         .after_help(
-            "With no word after its name, the program runs a demonstration in memory.\nStatus: 0 done; 1 refused; 2 wrong words; 3 the database failed or could not be opened; 4 no memory; 5 the output failed.",
+            "With no word after its name, the program runs a demonstration in memory.\nlintelthyme explain lists what it explains: each fault, status, view, file and key.\nStatus: 0 done; 1 refused; 2 wrong words; 3 the database failed or could not be opened; 4 no memory; 5 the output failed.",
         )
         .subcommand_required(true);
     for each in SUBCOMMANDS {

@@ -9,38 +9,40 @@ use Rattle.wu_lives.proofs.reopening.drive_stop_and_open.Goals as goal
 
 pub returns-in-Some : goal.returns-in-Some
 returns-in-Some g c =
-    let mid = c.drive-run.new.project in
+    let mid = c.drive_and_release-conn.ensures.left in
+    let it = c.drive_and_release-conn.ensures.runs in
+    let same = c.drive_and_release-conn.ensures.released in
     let here = c.in-Some.again in
-    let run = c.drive-run.result in
-    let again : HasCleanDisk (file_state here) → IsReopened (file_state mid.conn) (file_state here) = λ clean. subst (λ h. IsReopened (file_state h) (file_state here)) c.release.ensures.same (c.in-Some.ensures.reopened clean) in
-    let early : HasCleanDisk (file_state here) → HasCleanDisk (file_state mid.conn) = λ clean. subst (λ h. HasCleanDisk (file_state h)) c.release.ensures.same (c.in-Some.ensures.clean clean) in
-    let (answers, written, drives) = c.drive-run.ensures.answers in
+    let run = c.drive_and_release-conn.result.0 in
+    let again : HasCleanDisk (file_state here) → IsReopened (file_state mid.conn) (file_state here) = λ clean. subst (λ h. IsReopened (file_state h) (file_state here)) same (c.in-Some.ensures.reopened clean) in
+    let early : HasCleanDisk (file_state here) → HasCleanDisk (file_state mid.conn) = λ clean. subst (λ h. HasCleanDisk (file_state h)) same (c.in-Some.ensures.clean clean) in
+    let (answers, written, drives) = it.answers in
     record {
-      clean = λ clean. let now = early clean in omega (arith, now, c.drive-run.ensures.clean);
+      clean = λ clean. let now = early clean in omega (arith, now, it.clean);
       answers = (
         answers,
         written,
         λ clean world project goes. elim (cases_Bool c.args.project.has_ended) [
-          | inl was ↦ answers_none world c.args.commands.now answers run (c.drive-run.ensures.ended was).2 written.counted
+          | inl was ↦ answers_none world c.args.commands.now answers run (it.ended was).2 written.counted
           | inr going ↦ (drives going (early clean) world project goes).answered
         ],
       );
       found = λ clean world project goes. elim (cases_Bool c.args.project.has_ended) [
         | inl was ↦
-            let ended = c.drive-run.ensures.ended was in
+            let ended = it.ended was in
             holds_none world c.args.commands.now _ _ (again clean) project run ended.2 (subst (λ p. GoesOn (file_state p.conn) world) (sym ended.0) goes)
-        | inr going ↦ holds_beginning world c.args.commands.now _ _ (again clean) project answers run mid.has_ended (c.drive-run.ensures.ends going) (drives going (early clean) world project goes)
+        | inr going ↦ holds_beginning world c.args.commands.now _ _ (again clean) project answers run mid.has_ended (it.ends going) (drives going (early clean) world project goes)
       ];
-      all = (c.drive-run.ensures.count, c.drive-run.ensures.all);
-      ended = λ was. let (same, unwritten, none, why) = c.drive-run.ensures.ended was in (unwritten, none, why);
+      all = (it.count, it.all);
+      ended = λ was. let (unchanged, unwritten, none, why) = it.ended was in (unwritten, none, why);
       ends = λ going clean world project goes. (drives going (early clean) world project goes).end;
       reopened = (
         mid,
         record {
-          ends = c.drive-run.ensures.ends;
-          broken = c.drive-run.ensures.broken;
-          same = λ was. (c.drive-run.ensures.ended was).0;
-          lives = c.drive-run.ensures.lives;
+          ends = it.ends;
+          broken = it.broken;
+          same = λ was. (it.ended was).0;
+          lives = it.lives;
         },
         again,
       );

@@ -3,28 +3,31 @@ use Rattle.std.proofs.Math.Logic.{∥∥₁_map}
 use Rattle.wu_drive.specs.Driving.{world_after}
 use Rattle.wu_lives.proofs.reopening.live.Goals as goal
 
-pub returns-in-Ok-clause-found : goal.returns-in-Ok-clause-found
-returns-in-Ok-clause-found g c clean world project goes =
-    ∥∥₁_map (c.in-Some.ensures.found (omega (arith, c.in-Ok.ensures.adopted.clean)) world project goes) (λ holds.
+pub returns-in-Some-begin-clause-clean : goal.returns-in-Some-begin-clause-clean
+returns-in-Some-begin-clause-clean g c clean = c.in-Some.ensures.clean (omega (arith, clean, c.in-Some-begin.ensures.adopted.clean))
+
+pub returns-in-Some-begin-clause-found : goal.returns-in-Some-begin-clause-found
+returns-in-Some-begin-clause-found g c clean world project goes =
+    ∥∥₁_map (c.in-Some.ensures.found (omega (arith, clean, c.in-Some-begin.ensures.adopted.clean)) world project goes) (λ holds.
     let first : 1 ≤ (world_after world c.args.commands.now holds.count).version = omega (arith, holds.project.present) in
     record {
       count = holds.count;
       kept = holds.kept;
-      goes = (c.in-Ok.ensures.adopted.goes clean (world_after world c.args.commands.now holds.count) first holds.goes).0;
+      goes = (c.in-Some-begin.ensures.adopted.goes clean (world_after world c.args.commands.now holds.count) first holds.goes).0;
       project = holds.project;
     })
 
-pub returns-in-Ok-clause-answers : goal.returns-in-Ok-clause-answers
-returns-in-Ok-clause-answers g c =
+pub returns-in-Some-begin-clause-answers : goal.returns-in-Some-begin-clause-answers
+returns-in-Some-begin-clause-answers g c =
     let (answers, written, told) = c.in-Some.ensures.answers in
-    (answers, written, λ clean world project goes. told (omega (arith, c.in-Ok.ensures.adopted.clean)) world project goes)
+    (answers, written, λ clean world project goes. told (omega (arith, clean, c.in-Some-begin.ensures.adopted.clean)) world project goes)
 
-pub returns-in-Ok-clause-ends : goal.returns-in-Ok-clause-ends
-returns-in-Ok-clause-ends g c going clean = c.in-Some.ensures.ends going (omega (arith, c.in-Ok.ensures.adopted.clean))
+pub returns-in-Some-begin-clause-ends : goal.returns-in-Some-begin-clause-ends
+returns-in-Some-begin-clause-ends g c going clean = c.in-Some.ensures.ends going (omega (arith, clean, c.in-Some-begin.ensures.adopted.clean))
 
-pub returns-in-Ok-clause-reopened : goal.returns-in-Ok-clause-reopened
-returns-in-Ok-clause-reopened g c = record {
+pub returns-in-Some-begin-clause-reopened : goal.returns-in-Some-begin-clause-reopened
+returns-in-Some-begin-clause-reopened g c = record {
   again = c.in-Some.conn;
   found = c.in-Some.ensures.reopened;
-  adopted = c.in-Ok.ensures.adopted;
+  adopted = c.in-Some-begin.ensures.adopted;
 }

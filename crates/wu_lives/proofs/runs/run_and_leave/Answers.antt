@@ -10,13 +10,13 @@ use Rattle.wu_lives.proofs.runs.run_and_leave.Goals as goal
 pub returns : goal.returns
 returns g c =
     let old = c.args.project in
-    let mid = c.drive-run.new.project in
+    let mid = c.drive_and_release-conn.ensures.left in
     let list = c.args.commands.now in
-    let run = c.drive-run.result in
+    let run = c.drive_and_release-conn.result.0 in
     let files = c.close.result in
     let store = c.into_store.result in
-    let it = c.drive-run.ensures in
-    let quiet : IsQuiet view faults recovers is_shielded mid.conn.store store = subst (λ h. IsQuiet view faults recovers is_shielded h.store store) c.release.ensures.same c.into_store.ensures.quiet in
+    let it = c.drive_and_release-conn.ensures.runs in
+    let quiet : IsQuiet view faults recovers is_shielded mid.conn.store store = subst (λ h. IsQuiet view faults recovers is_shielded h.store store) c.drive_and_release-conn.ensures.released c.into_store.ensures.quiet in
     let early : AreClean g.D.Disk files.log files.db → HasCleanDisk (file_state mid.conn) = was_clean mid.conn store files c.into_store.ensures.numbered c.into_store.ensures.sound quiet c.close.ensures in
     let (answers, written, drives) = it.answers in
     record {

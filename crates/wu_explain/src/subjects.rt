@@ -1,0 +1,131 @@
+//! What else there is to tell.
+
+ghost use Rattle.std.specs.Prelude.{◌≤◌, IfSome, length};
+
+/// What is told of this subject; with no name, of which there is something to tell.
+pub fn subject_text<'a>(name: &str) -> Option<&'a str>
+    ensures { IfSome result (λ text. 1 ≤ length text.now) }
+{
+    match name {
+        "" => Some(
+            "lintelthyme explain TOPIC tells what is meant, what stands afterwards, what to do
+  F1 to F17     a fault, as it is told: explain F3
+  0 to 5        the status that the program ends with: explain 3
+  view VIEW     workunits, results, hosts, archive or summary: explain view hosts
+  file FILE     jobs, sends or reports: explain file jobs
+  causes        why a file is refused
+  skips         why a row of sends or reports is skipped
+  template      the keys of a template, with their ranges and defaults
+  names         of imports, workunits, hosts and instances
+  moments       how a moment is written
+  imports       what becomes of one that comes again
+  passes        what each pass does, and whether there is more to do
+  mask          why a workunit is given up
+  scripts       many commands in one opening
+",
+        ),
+        "causes" => Some(
+            "Why a file is refused, as F3 BadFile ROW CAUSE: the first faulty row, and there
+the first of
+  unreadable    row 0: the program could not read the file
+  too_long      row 0: it has more than 1,048,576 bytes
+  header        row 1: it does not begin with its header
+  too_many_rows row 1002: it has more than 1,000 rows
+  fields        it has more or fewer fields than the header
+  name input    of a job: the name is none; the input is no hex, or too long
+  result host moment
+                of a send or a report: no instance's name, no name, no moment
+  status output of a report: no status; no hex, too long, or an output where the
+                status has none
+",
+        ),
+        "skips" => Some(
+            "Why a row of sends or reports is skipped: the first of
+  unknown       the instance is not there
+and of sends
+  not_unsent    it does not wait to be sent
+  same_host     it would go to a host that has an instance of the workunit
+and of reports
+  not_sent      it was never sent
+  wrong_host    it was sent to another host
+  before_sent   it was sent after the moment of the report
+  over          it has ended; only one that ended for want of a reply may still be
+                reported
+The other rows are applied.
+",
+        ),
+        "template" => Some(
+            "A template: TOML of at most 65,536 bytes, with whole numbers
+  key                  range              default
+  min_quorum           1 to 20            2
+    successes that have to be there before the validator looks
+  target_nresults      min_quorum to 20   2
+    results that are wanted
+  max_error_results    0 to 100           3
+    errors that a workunit bears
+  max_total_results    1 to 100           10
+    instances that may be made
+  max_success_results  0 to 100           6
+    successes without a consensus that a workunit bears
+  delay_bound          1 to 31536000      604800
+    seconds from the sending of an instance to its deadline
+  credit               0 to 1000000       1
+    what a valid result is worth
+A key that is absent has its default. A quorum above 2 needs a target. Refused as
+F2 BadTemplate KEY: document (too long, no UTF-8 or no TOML), unknown, or the first
+key at fault.
+",
+        ),
+        "names" => Some(
+            "A name of an import, a workunit or a host: 1 to 64 ASCII letters, digits, _, . or -
+An instance is its workunit's name, _ and its number, 0 to 99 without leading
+zeros: job_1_0. It is cut at the last _.
+",
+        ),
+        "moments" => Some(
+            "A moment is the one text of 20 bytes YYYY-MM-DDTHH:MM:SSZ, in UTC, of a day and a
+time that exist, from 1970 to 2099: 2026-03-01T13:00:00Z
+`date -u +%FT%TZ` prints the present one.
+",
+        ),
+        "imports" => Some(
+            "An import is known by its kind (batch, sent, reported) and its name. The same name
+and content again, and for a batch the same template, answers what it answered
+first and changes nothing of the project; other content under the name is F4. A
+name that was refused is not used up. So after a stop an import may be repeated
+under its name: it acts once.
+",
+        ),
+        "passes" => Some(
+            "A pass takes the first workunits by number that it changes, up to its limit. Where
+it answers its limit, more may be left: run it again.
+  transition    times out what is overdue, makes instances, closes what is given up
+  validate      compares results, finds canonical ones and grants credit
+  assimilate    closes what is ready, and keeps its canonical output for good
+  delete        deletes the inputs and outputs that nobody needs any more
+  purge         removes workunits that are through and were assimilated long enough
+                ago
+A cycle runs transition, validate, transition, assimilate, transition, delete and
+purge. A pass that is repeated does what is still to do.
+",
+        ),
+        "mask" => Some(
+            "The mask of a workunit is a sum, 0 where it is not given up
+  2             too many errors
+  4             too many successes without a consensus
+  8             too many instances
+  16            cancelled
+",
+        ),
+        "scripts" => Some(
+            "A script has a command a line, without the program's name and without --db. Blanks
+stand between words; a word in double quotes may hold blanks. A line that begins
+with # is a comment. At most 1,000 lines, in at most 1,048,576 bytes.
+All lines, and all files that they name, are read before the database is opened: a
+line that can't be run is told with its number, and nothing is done. Then the
+commands run in one opening up to the first fault; the lines before it are done.
+",
+        ),
+        _ => None,
+    }
+}

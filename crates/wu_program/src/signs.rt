@@ -1,0 +1,120 @@
+//! Signs of life on a terminal while work goes on: how many answers have gone out. No contract speaks of the terminal:
+//! what it shows is wiped before anything else is written.
+
+use std::io::{self, Write};
+
+/// Takes away what stands on the last line of a terminal.
+const WIPE: &[u8] = b"\r\x1b[K";
+
+/// What is told on a terminal; nothing where there is none.
+#[derive(Drop)]
+pub struct Signs<T: Drop> {
+    terminal: Option<T>,
+    answers: u64,
+    is_shown: bool,
+}
+
+impl<T: Write + Drop> Signs<T> {
+    pub fn new(terminal: Option<T>) -> Self {
+        Signs {
+            terminal,
+            answers: 0,
+            is_shown: false,
+        }
+    }
+
+    /// Tells how many answers went out.
+    fn tell(&mut self) {
+        let answers = self.answers;
+        if let Some(terminal) = &mut self.terminal {
+            let _ = write!(terminal, "lintelthyme: at work, {answers} done");
+            self.is_shown = true;
+        }
+    }
+
+    /// Takes away what was told.
+    fn wipe(&mut self) {
+        if !self.is_shown {
+            return;
+        }
+        self.is_shown = false;
+        if let Some(terminal) = &mut self.terminal {
+            let _ = terminal.write_all(WIPE);
+        }
+    }
+
+    /// Tells of one answer more.
+    fn count(&mut self) {
+        self.answers = self.answers.saturating_add(1);
+        self.tell();
+    }
+}
+
+/// A writer of answers, each of which is flushed: then the terminal is told of it.
+#[derive(Drop)]
+pub struct Watched<O: Drop, T: Drop> {
+    out: O,
+    signs: Signs<T>,
+}
+
+impl<O: Write + Drop, T: Write + Drop> Watched<O, T> {
+    pub fn new(out: O, signs: Signs<T>) -> Self {
+        Watched { out, signs }
+    }
+
+    /// Tells that work begins.
+    pub fn begin(&mut self) {
+        self.signs.tell();
+    }
+
+    /// Takes away what was told.
+    pub fn end(&mut self) {
+        self.signs.wipe();
+    }
+}
+
+impl<O: Write + Drop, T: Write + Drop> Write for Watched<O, T> {
+    ghost contents = { λ w. O.contents w.out };
+
+    fn write(&mut self, bytes: &[u8]) -> io::Result<usize> {
+        self.signs.wipe();
+        self.out.write(bytes)
+    }
+
+    fn flush(&mut self) -> io::Result<()> {
+        self.signs.wipe();
+        let flushed = self.out.flush();
+        self.signs.count();
+        flushed
+    }
+}
+
+/// A writer that wipes the last line of a terminal before its first bytes, where it is one.
+#[derive(Drop)]
+pub struct Cleared<E: Drop> {
+    out: E,
+    is_to_wipe: bool,
+}
+
+impl<E: Write + Drop> Cleared<E> {
+    pub fn new(out: E, is_terminal: bool) -> Self {
+        Cleared {
+            out,
+            is_to_wipe: is_terminal,
+        }
+    }
+}
+
+impl<E: Write + Drop> Write for Cleared<E> {
+    fn write(&mut self, bytes: &[u8]) -> io::Result<usize> {
+        if self.is_to_wipe {
+            self.is_to_wipe = false;
+            let _ = self.out.write_all(WIPE);
+        }
+        self.out.write(bytes)
+    }
+
+    fn flush(&mut self) -> io::Result<()> {
+        self.out.flush()
+    }
+}
