@@ -2,8 +2,9 @@
 
     python3 plain.py FILE    prints a line 'name<TAB>milliseconds' for each command
 
-It keeps the same tables, reads the same files and follows the same rules, without the proofs: rows are read with two
-queries a pass, judged in Python, and written with executemany.
+It keeps the same tables with the same queue, reads the same files and follows the same rules, without the proofs: a
+pass reads the rows of its first workunits by the queue with two queries, judges them in Python, and writes them with
+executemany, the queue's too.
 """
 
 import csv
@@ -28,7 +29,13 @@ CREATE TABLE credit_grant (seq INTEGER PRIMARY KEY, workunit INTEGER NOT NULL, n
 CREATE TABLE host (name TEXT PRIMARY KEY NOT NULL, total INTEGER NOT NULL, grants INTEGER NOT NULL) STRICT;
 CREATE TABLE archived (seq INTEGER PRIMARY KEY, number INTEGER NOT NULL UNIQUE, name TEXT NOT NULL UNIQUE, error_mask INTEGER NOT NULL, canonical INTEGER, output BLOB NOT NULL, done_at INTEGER NOT NULL) STRICT;
 CREATE TABLE import (kind INTEGER NOT NULL, name TEXT NOT NULL, template BLOB NOT NULL, content BLOB NOT NULL, first_number INTEGER NOT NULL, verdicts TEXT NOT NULL, PRIMARY KEY (kind, name)) STRICT;
-INSERT INTO project VALUES (1, 1, 1);
+CREATE TABLE queue (workunit INTEGER PRIMARY KEY REFERENCES workunit (number) ON DELETE CASCADE, wake INTEGER, to_validate INTEGER NOT NULL, to_assimilate INTEGER NOT NULL, to_delete INTEGER NOT NULL, purge_from INTEGER) STRICT;
+CREATE INDEX queue_wake ON queue (wake);
+CREATE INDEX queue_validate ON queue (to_validate, workunit);
+CREATE INDEX queue_assimilate ON queue (to_assimilate, workunit);
+CREATE INDEX queue_delete ON queue (to_delete, workunit);
+CREATE INDEX queue_purge ON queue (purge_from);
+INSERT INTO project VALUES (1, 2, 1);
 """
 
 WORKUNIT = "number name min_quorum target_nresults max_error_results max_total_results max_success_results delay_bound credit input error_mask canonical assimilate file_delete done_at".split()
@@ -65,6 +72,7 @@ def batch(db, name, content):
         added.append((number, job, 2, 2, 3, 10, 6, 604800, 1, bytes.fromhex(data), 0, None, 0, 0, None))
         number += 1
     db.executemany("INSERT INTO workunit VALUES (" + ", ".join("?" * 15) + ")", added)
+    mark(db, [(dict(zip(WORKUNIT, row)), []) for row in added])
     db.execute("UPDATE project SET next_number = ?", (number,))
     keep(db, 1, name, content, first, "0" * len(added))
     db.execute("COMMIT")
@@ -80,7 +88,7 @@ def instance(db, text):
 
 def sent(db, name, content):
     db.execute("BEGIN")
-    verdicts = []
+    verdicts, changed = [], set()
     for text, host, moment in rows(content):
         found = instance(db, text)
         if found is None:
@@ -92,7 +100,9 @@ def sent(db, name, content):
         else:
             at = seconds(moment)
             db.execute("UPDATE result SET server_state = 4, host = ?, sent_at = ?, deadline = ? WHERE workunit = ? AND n = ?", (host, at, at + found[6], found[0], found[1]))
+            changed.add(found[0])
             verdicts.append("0")
+    mark_all(db, changed)
     keep(db, 2, name, content, 0, "".join(verdicts))
     db.execute("COMMIT")
 
@@ -100,7 +110,7 @@ def sent(db, name, content):
 def reported(db, name, content):
     db.execute("BEGIN")
     outcomes = {"success": SUCCESS, "client_error": CLIENT_ERROR, "detached": 7}
-    verdicts = []
+    verdicts, changed = [], set()
     for text, host, moment, status, output in rows(content):
         found = instance(db, text)
         at = seconds(moment)
@@ -119,17 +129,35 @@ def reported(db, name, content):
                 "UPDATE result SET server_state = 5, outcome = ?, validate_state = 0, file_delete = 0, received_at = ?, output = ? WHERE workunit = ? AND n = ?",
                 (outcomes[status], at, bytes.fromhex(output), found[0], found[1]),
             )
+            changed.add(found[0])
             verdicts.append("0")
+    mark_all(db, changed)
     keep(db, 3, name, content, 0, "".join(verdicts))
     db.execute("COMMIT")
 
 
-def load(db):
+def load(db, selects, values):
+    """Those that the queue selects so, in order."""
+    first = f"SELECT workunit FROM queue WHERE {selects} ORDER BY workunit LIMIT ?"
     instances = {}
-    for row in db.execute("SELECT * FROM result ORDER BY workunit, n"):
+    for row in db.execute(f"SELECT * FROM result WHERE workunit IN ({first}) ORDER BY workunit, n", values):
         instances.setdefault(row[0], []).append(dict(zip(RESULT, row)))
-    for row in db.execute("SELECT * FROM workunit ORDER BY number"):
-        yield dict(zip(WORKUNIT, row)), instances.get(row[0], [])
+    found = db.execute(f"SELECT * FROM workunit WHERE number IN ({first}) ORDER BY number", values).fetchall()
+    return [(dict(zip(WORKUNIT, row)), instances.get(row[0], [])) for row in found]
+
+
+def mark(db, workunits):
+    db.executemany("INSERT OR REPLACE INTO queue VALUES (?, ?, ?, ?, ?, ?)", [marks(w, its) for w, its in workunits])
+
+
+def mark_all(db, numbers):
+    """The marks of these workunits, read anew."""
+    found = []
+    for number in sorted(numbers):
+        (row,) = db.execute("SELECT * FROM workunit WHERE number = ?", (number,))
+        its = db.execute("SELECT * FROM result WHERE workunit = ? ORDER BY n", (number,))
+        found.append((dict(zip(WORKUNIT, row)), [dict(zip(RESULT, it)) for it in its]))
+    mark(db, found)
 
 
 def viable(instances):
@@ -149,6 +177,37 @@ def wants_validation(w, instances):
     if w["canonical"] is not None:
         return bool(new)
     return bool(new) and len(viable(instances)) >= w["min_quorum"]
+
+
+def is_due(w, instances):
+    """The transitioner has something to do, whatever the moment."""
+    if w["error_mask"]:
+        return w["assimilate"] == 0 or any(i["server_state"] == UNSENT for i in instances) or bool(viable(instances)) or is_to_ready(w, instances)
+    if w["canonical"] is None:
+        if sum(i["outcome"] == CLIENT_ERROR for i in instances) > w["max_error_results"]:
+            return True
+        out = sum(i["server_state"] in (UNSENT, IN_PROGRESS) for i in instances)
+        kept = sum(i["server_state"] == OVER and i["outcome"] == SUCCESS and i["validate_state"] != INVALID for i in instances)
+        if w["target_nresults"] > out + kept:
+            if len(instances) < w["max_total_results"] or not out and not wants_validation(w, instances):
+                return True
+    return is_to_ready(w, instances)
+
+
+def is_to_ready(w, instances):
+    if w["assimilate"] != DONE:
+        return False
+    over, late = all(i["server_state"] == OVER for i in instances), viable(instances)
+    if w["file_delete"] == 0 and over:
+        return True
+    return any(i["file_delete"] == 0 and ((over and not late) if i["n"] == w["canonical"] else (i["server_state"] == OVER and i not in late)) for i in instances)
+
+
+def marks(w, instances):
+    wake = 0 if is_due(w, instances) else min((i["deadline"] + 1 for i in instances if i["server_state"] == IN_PROGRESS), default=None)
+    to_delete = w["file_delete"] == READY or any(i["file_delete"] == READY for i in instances)
+    through = w["assimilate"] == DONE and w["file_delete"] == DONE and all(i["server_state"] == OVER and i["file_delete"] == DONE for i in instances)
+    return w["number"], wake, int(wants_validation(w, instances)), int(w["assimilate"] == READY), int(to_delete), w["done_at"] if through else None
 
 
 def transition(w, instances, now):
@@ -248,27 +307,23 @@ def delete(w, instances):
     return changed
 
 
-def purgeable(w, instances, now, min_age):
-    return w["assimilate"] == DONE and w["file_delete"] == DONE and w["done_at"] + min_age <= now and all(i["server_state"] == OVER and i["file_delete"] == DONE for i in instances)
-
-
-def run_pass(db, change, limit):
+def run_pass(db, change, limit, selects, *values):
     db.execute("BEGIN")
     workunits, instances = [], []
-    for w, its in load(db):
-        if change(w, its):
-            workunits.append(w)
-            instances.extend(its)
-            if len(workunits) == limit:
-                break
+    found = load(db, selects, (*values, limit))
+    for w, its in found:
+        assert change(w, its)
+        workunits.append(w)
+        instances.extend(its)
     db.executemany("UPDATE workunit SET " + ", ".join(f"{c} = :{c}" for c in WORKUNIT[1:]) + " WHERE number = :number", workunits)
     db.executemany("INSERT OR REPLACE INTO result VALUES (" + ", ".join(":" + c for c in RESULT) + ")", instances)
+    mark(db, found)
     return len(workunits)
 
 
 def validation(db, limit):
     grants = []
-    handled = run_pass(db, lambda w, i: validate(w, i, grants), limit)
+    handled = run_pass(db, lambda w, i: validate(w, i, grants), limit, "to_validate = 1")
     (seq,) = db.execute("SELECT coalesce(max(seq), 0) FROM credit_grant").fetchone()
     db.executemany("INSERT INTO credit_grant VALUES (?, ?, ?, ?, ?)", [(seq + k + 1, *g) for k, g in enumerate(grants)])
     db.executemany("INSERT INTO host VALUES (?, ?, 1) ON CONFLICT (name) DO UPDATE SET total = total + excluded.total, grants = grants + 1", [(g[2], g[3]) for g in grants])
@@ -278,27 +333,28 @@ def validation(db, limit):
 
 def assimilation(db, now, limit):
     archived = []
-    handled = run_pass(db, lambda w, i: assimilate(w, i, now, archived), limit)
+    handled = run_pass(db, lambda w, i: assimilate(w, i, now, archived), limit, "to_assimilate = 1")
     (seq,) = db.execute("SELECT coalesce(max(seq), 0) FROM archived").fetchone()
     db.executemany("INSERT INTO archived VALUES (?, ?, ?, ?, ?, ?, ?)", [(seq + k + 1, *a) for k, a in enumerate(archived)])
     db.execute("COMMIT")
     return handled
 
 
-def plain_pass(db, change, limit):
-    handled = run_pass(db, change, limit)
+def transitions(db, now, limit):
+    handled = run_pass(db, lambda w, i: transition(w, i, now), limit, "wake <= ?", now)
+    db.execute("COMMIT")
+    return handled
+
+
+def deletion(db, limit):
+    handled = run_pass(db, delete, limit, "to_delete = 1")
     db.execute("COMMIT")
     return handled
 
 
 def purge(db, now, limit, min_age):
     db.execute("BEGIN")
-    gone = []
-    for w, its in load(db):
-        if purgeable(w, its, now, min_age):
-            gone.append((w["number"],))
-            if len(gone) == limit:
-                break
+    gone = db.execute("SELECT workunit FROM queue WHERE purge_from <= ? ORDER BY workunit LIMIT ?", (now - min_age, limit)).fetchall()
     db.executemany("DELETE FROM workunit WHERE number = ?", gone)
     db.execute("COMMIT")
     return len(gone)
@@ -333,33 +389,50 @@ REPORTS = "result,host,moment,status,output"
 
 def day(db, place, first):
     timed(f"{place}: batch", lambda: batch(db, f"b_{first}", a_thousand("name,input", first, ",00ff")))
-    timed(f"{place}: transition", lambda: plain_pass(db, lambda w, i: transition(w, i, NOON), 1000))
+    timed(f"{place}: transition", lambda: transitions(db, NOON, 1000))
     timed(f"{place}: sends", lambda: sent(db, f"s0_{first}", a_thousand(SENDS, first, "_0,h1,2026-03-01T13:00:00Z")))
     sent(db, f"s1_{first}", a_thousand(SENDS, first, "_1,h2,2026-03-01T13:00:00Z"))
     timed(f"{place}: reports", lambda: reported(db, f"r0_{first}", a_thousand(REPORTS, first, "_0,h1,2026-03-01T14:00:00Z,success,aa")))
     reported(db, f"r1_{first}", a_thousand(REPORTS, first, "_1,h2,2026-03-01T14:00:00Z,success,aa"))
     timed(f"{place}: validate", lambda: validation(db, 1000))
     timed(f"{place}: assimilate", lambda: assimilation(db, AFTERNOON, 1000))
-    timed(f"{place}: transition after", lambda: plain_pass(db, lambda w, i: transition(w, i, AFTERNOON), 1000))
-    timed(f"{place}: delete", lambda: plain_pass(db, delete, 1000))
+    timed(f"{place}: transition after", lambda: transitions(db, AFTERNOON, 1000))
+    timed(f"{place}: delete", lambda: deletion(db, 1000))
     timed(f"{place}: purge", lambda: purge(db, AFTERNOON, 1000, 0))
+
+
+def idle(db, place):
+    """Each pass where nothing is due."""
+    timed(f"{place}: transition of none", lambda: transitions(db, AFTERNOON, 1000))
+    timed(f"{place}: validate of none", lambda: validation(db, 1000))
+    timed(f"{place}: assimilate of none", lambda: assimilation(db, AFTERNOON, 1000))
+    timed(f"{place}: delete of none", lambda: deletion(db, 1000))
+    timed(f"{place}: purge of none", lambda: purge(db, AFTERNOON, 1000, 0))
+
+
+def more(db, first, count):
+    for k in range(first, first + count):
+        batch(db, f"more_{k}", a_thousand("name,input", 1_000_001 + 1000 * k, ",00ff"))
+        transitions(db, NOON, 1000)
 
 
 def main(path):
     db = open_file(path)
     db.executescript("BEGIN;" + SCHEMA + "COMMIT;")
     day(db, "alone", 1)
-    for k in range(20):
-        batch(db, f"more_{k}", a_thousand("name,input", 100_001 + 1000 * k, ",00ff"))
-        plain_pass(db, lambda w, i: transition(w, i, NOON), 1000)
+    more(db, 0, 20)
     day(db, "among 20,000", 200_001)
+    idle(db, "among 20,000")
     timed("view of 20,000 lines", lambda: view(db))
+    more(db, 20, 80)
+    day(db, "among 100,000", 300_001)
+    idle(db, "among 100,000")
     db.close()
 
     def reopened():
         return open_file(path).execute("SELECT version FROM project").fetchone()[0]
 
-    timed("opening with 20,000", reopened)
+    timed("opening with 100,000", reopened)
 
 
 main(sys.argv[1])

@@ -13,7 +13,7 @@ use Rattle.wu_machine.specs.declared.command.Answer.{Answer}
 use Rattle.wu_machine.specs.declared.command.Command.{Command}
 use Rattle.wu_machine.specs.Commands.{request_of}
 use Rattle.wu_machine.specs.Machine.{reply, step}
-use Rattle.wu_machine.specs.Sound.{IsProject}
+use Rattle.wu_passes.specs.Planning.{IsPresentProject}
 use Rattle.wu_passes.specs.declared.project.Project.{Project}
 use Rattle.wu_passes.specs.Projects.{IsSessionOpen, state_of}
 use Rattle.wu_passes.specs.Standing.{GoesOn}
@@ -94,7 +94,7 @@ module _ {S W : Type 0} {store : Ghosts S} (contents : W → Option (List ℕ)) 
 
 module _ {S W : Type 0} {store : Ghosts S} (contents : W → Option (List ℕ)) where
   each_prints : (old new : Project S store) (out_old out_new : W) (steps : List Step) → PerformsEach contents old new out_old out_new steps
-      → IsSessionOpen old → HasCleanDisk (state_of new) → (world : World) → IsProject world → GoesOn (state_of old) world
+      → IsSessionOpen old → HasCleanDisk (state_of new) → (world : World) → IsPresentProject world → GoesOn (state_of old) world
       → Appends (contents out_old) (contents out_new) (printed_steps world steps)
   unfolding PerformsEach
   each_prints old new out_old out_new [] each going clean world project goes =
@@ -132,7 +132,7 @@ module _ {S W : Type 0} {store : Ghosts S} (contents : W → Option (List ℕ)) 
 
 module _ {S W : Type 0} {store : Ghosts S} (contents : W → Option (List ℕ)) (old new : Project S store) (out_old out_new : W) where
   work_prints : (asked : Work) (done : Result (Unit {0}) Trouble) → PerformsWork contents old new out_old out_new asked done
-      → IsSessionOpen old → HasCleanDisk (state_of new) → (world : World) → IsProject world → GoesOn (state_of old) world
+      → IsSessionOpen old → HasCleanDisk (state_of new) → (world : World) → IsPresentProject world → GoesOn (state_of old) world
       → WritesTo contents out_old out_new (printed_work world asked) done
   work_prints (work.Line action) done (end, does, is) going clean world project goes =
       subst (λ d. WritesTo contents out_old out_new (printed_action world action) d) (sym is)

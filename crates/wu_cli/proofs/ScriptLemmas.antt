@@ -17,7 +17,7 @@ use Rattle.wu_machine.specs.declared.command.Command.{Command}
 use Rattle.wu_passes.specs.declared.project.Project.{Project}
 use Rattle.wu_machine.specs.Machine.{fold_steps, step}
 use Rattle.wu_machine.specs.Commands.{request_of}
-use Rattle.wu_machine.specs.Sound.{IsProject}
+use Rattle.wu_passes.specs.Planning.{IsPresentProject}
 use Rattle.wu_passes.specs.Projects.{IsSessionOpen, has_ended, state_of}
 use Rattle.wu_machine.specs.Requests.{Request}
 use Rattle.wu_machine.specs.Sessions.{world_of_life}
@@ -126,11 +126,11 @@ module _ (world : World) (before xs after : List Command) (done answers : List A
     ended = λ ended.
         let at = drives.ended ended in
         (at.0, get_within before xs after run.acknowledged at.0 at.1, subst (λ w. HasEnded new w (request_of at.0)) (sym next) at.2);
-    project = subst (λ w. IsProject w) (sym next) drives.project;
+    project = subst (λ w. IsPresentProject w) (sym next) drives.project;
     cut_project = λ ended cut there.
         let at = drives.ended ended in
         let same : at.0 ≡ cut = same_command at.0 cut (sym (get_within before xs after run.acknowledged at.0 at.1) ∙ there) in
-        subst (λ w. IsProject (step w (request_of cut))) (sym next) (drives.cut_project ended cut (at.1 ∙ ap (λ c. Some c) same));
+        subst (λ w. IsPresentProject (step w (request_of cut))) (sym next) (drives.cut_project ended cut (at.1 ∙ ap (λ c. Some c) same));
   }
 
 -- the commands of steps with one among them
@@ -159,7 +159,7 @@ module _ {S W : Type 0} {store : Ghosts S} (contents : W → Option (List ℕ)) 
 
   -- what a step does of its commands
   pub one_drives : (action : Action) (end : Option Fault) → Performs contents old new out_old out_new action end
-      → IsSessionOpen old → HasCleanDisk (state_of new) → (world : World) → IsProject world → GoesOn (state_of old) world
+      → IsSessionOpen old → HasCleanDisk (state_of new) → (world : World) → IsPresentProject world → GoesOn (state_of old) world
       → (answers : List Answer) × (run : Run) × (is_cut : Bool) × Drives world (commands_of_action action) answers run is_cut (state_of new)
   one_drives (Commands commands) end (run, runs, is) going clean world project goes =
       (runs.answers.0, run, has_ended new, runs.answers.2 going clean world project goes)
@@ -180,16 +180,16 @@ module _ {S W : Type 0} {store : Ghosts S} (contents : W → Option (List ℕ)) 
 
   -- and all of them, where it ends without a fault
   pub one_done : (action : Action) → Performs contents old new out_old out_new action None
-      → IsSessionOpen old → HasCleanDisk (state_of new) → (world : World) → IsProject world → GoesOn (state_of old) world
+      → IsSessionOpen old → HasCleanDisk (state_of new) → (world : World) → IsPresentProject world → GoesOn (state_of old) world
       → (answers : List Answer) × AnswerAll world (commands_of_action action) answers
-      × GoesOn (state_of new) (world_of world (commands_of_action action)) × IsProject (world_of world (commands_of_action action))
+      × GoesOn (state_of new) (world_of world (commands_of_action action)) × IsPresentProject (world_of world (commands_of_action action))
   one_done (Commands commands) (run, runs, end) going clean world project goes =
       let all : take run.acknowledged commands ≡ commands = ap (λ k. take k commands) (runs.all end) ∙ take-length commands in
       let drives = runs.answers.2 going clean world project goes in (
         runs.answers.0,
         subst (λ cs. AnswerAll world cs runs.answers.0) all drives.answered,
         subst (λ cs. GoesOn (state_of new) (world_of world cs)) all (drives.goes (one_goes (Commands commands) (run, runs, end) going)),
-        subst (λ cs. IsProject (world_of world cs)) all drives.project,
+        subst (λ cs. IsPresentProject (world_of world cs)) all drives.project,
       )
   one_done (Look view) sees going clean world project goes = ([], tt, sees.goes clean world goes, project)
 
@@ -211,9 +211,9 @@ module _ {S W : Type 0} {store : Ghosts S} (contents : W → Option (List ℕ)) 
       each_goes each.0 new each.1 out_new steps each.3 (one_goes contents old each.0 out_old each.1 one.action each.2 going)
 
   pub each_done : (old new : Project S store) (out_old out_new : W) (steps : List Step) → PerformsEach contents old new out_old out_new steps
-      → IsSessionOpen old → HasCleanDisk (state_of new) → (world : World) → IsProject world → GoesOn (state_of old) world
+      → IsSessionOpen old → HasCleanDisk (state_of new) → (world : World) → IsPresentProject world → GoesOn (state_of old) world
       → (answers : List Answer) × AnswerAll world (commands_of_steps steps) answers
-      × GoesOn (state_of new) (world_of world (commands_of_steps steps)) × IsProject (world_of world (commands_of_steps steps))
+      × GoesOn (state_of new) (world_of world (commands_of_steps steps)) × IsPresentProject (world_of world (commands_of_steps steps))
   unfolding PerformsEach
   each_done old new out_old out_new [] each going clean world project goes =
       ([], tt, subst (λ p. GoesOn (state_of p) world) (sym each.0) goes, project)
@@ -228,7 +228,7 @@ module _ {S W : Type 0} {store : Ghosts S} (contents : W → Option (List ℕ)) 
         first.0 ++ rest.0,
         answer_both world mine (commands_of_steps steps) first.0 rest.0 first.1 rest.1,
         subst (λ w. GoesOn (state_of new) w) both rest.2,
-        subst (λ w. IsProject w) both rest.3,
+        subst (λ w. IsPresentProject w) both rest.3,
       )
 
   pub steps_clean : (old new : Project S store) (out_old out_new : W) (steps : List Step) (end : Option LineFault) → PerformsSteps contents old new out_old out_new steps end → FaultsOnlyGrow (state_of old) (state_of new)
@@ -253,7 +253,7 @@ module _ {S W : Type 0} {store : Ghosts S} (contents : W → Option (List ℕ)) 
           end = λ fault told. absurd (cc);
           goes = λ still. subst (λ cs. GoesOn (state_of new) (world_of world cs)) (sym whole) done.2;
           ended = λ ended. absurd (cc);
-          project = subst (λ cs. IsProject (world_of world cs)) (sym whole) done.3;
+          project = subst (λ cs. IsPresentProject (world_of world cs)) (sym whole) done.3;
           cut_project = λ ended cut there. absurd (cc);
         };
         whole = λ none. refl;

@@ -6,7 +6,7 @@ use Rattle.sqlite.specs.State.{HasCleanDisk}
 use Rattle.sqlite.specs.Store.{Ghosts}
 use Rattle.wu_core.specs.declared.fault.Fault.{Fault}
 use Rattle.wu_core.specs.World.{World}
-use Rattle.wu_machine.specs.Sound.{IsProject}
+use Rattle.wu_passes.specs.Planning.{IsPresentProject}
 use Rattle.wu_passes.specs.declared.project.Project.{Project}
 use Rattle.wu_passes.specs.Projects.{IsSessionOpen, has_ended, state_of}
 use Rattle.wu_passes.specs.Standing.{GoesOn, FaultsOnlyGrow}
@@ -39,7 +39,7 @@ script_whole (Some fault) whole of_none = tt
 
 module _ {S W : Type 0} {store : Ghosts S} (contents : W → Option (List ℕ)) (old new : Project S store) (out_old out_new : W) where
   line_works : (action : Action) (end : Option Fault) → Performs contents old new out_old out_new action end
-      → IsSessionOpen old → HasCleanDisk (state_of new) → (world : World) → IsProject world → GoesOn (state_of old) world
+      → IsSessionOpen old → HasCleanDisk (state_of new) → (world : World) → IsPresentProject world → GoesOn (state_of old) world
       → DrivesWork world (work.Line action) (line_outcome end) (state_of new)
   line_works (Commands commands) end (run, runs, is) going clean world project goes =
       let driven = runs.answers.2 going clean world project goes in
@@ -80,7 +80,7 @@ module _ {S W : Type 0} {store : Ghosts S} (contents : W → Option (List ℕ)) 
 
   -- a beginning of its commands is done over each world that the session goes on over
   work_drives : (asked : Work) (done : Result (Unit {0}) Trouble) → PerformsWork contents old new out_old out_new asked done
-      → IsSessionOpen old → HasCleanDisk (state_of new) → (world : World) → IsProject world → GoesOn (state_of old) world
+      → IsSessionOpen old → HasCleanDisk (state_of new) → (world : World) → IsPresentProject world → GoesOn (state_of old) world
       → DrivesWork world asked done (state_of new)
   work_drives (work.Line action) done (end, does, is) going clean world project goes =
       subst (λ d. DrivesWork world (work.Line action) d (state_of new)) (sym is) (line_works action end does going clean world project goes)
@@ -98,10 +98,10 @@ module _ {S W : Type 0} {store : Ghosts S} (contents : W → Option (List ℕ)) 
 
 module _ {S W : Type 0} (g : Ghosts S) (contents : W → Option (List ℕ)) (conn again : Held S) (out_old out_new : W) (asked : Work) (done : Result (Unit {0}) Trouble) where
   -- the session begins from the world
-  pub begins : (does : DoesAdopted g contents conn again out_old out_new asked done) → HasCleanDisk (state_of does.old) → (world : World) → IsProject world
+  pub begins : (does : DoesAdopted g contents conn again out_old out_new asked done) → HasCleanDisk (state_of does.old) → (world : World) → IsPresentProject world
       → BeginsFrom (state g conn) world → GoesOn (state_of does.old) world
   begins does clean world project (inl goes) =
-      let first : 1 ≤ world.version = omega (arith, project.present) in
+      let first : 1 ≤ world.version = project.1.first in
       (does.adopts.goes clean world first goes).0
   begins does clean world project (inr (vacant, is)) = subst (λ w. GoesOn (state_of does.old) w) (sym is) (does.adopts.fresh clean vacant).goes
 

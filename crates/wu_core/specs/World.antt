@@ -40,9 +40,9 @@ pub record World : Type 0 where
   -- of the schema
   pub version : ℕ
 
--- before any command
+-- before any command, at the present version
 abbrev pub empty_world : World
-empty_world = record { workunits = []; grants = []; archived = []; imports = []; next_number = 1; version = 1 }
+empty_world = record { workunits = []; grants = []; archived = []; imports = []; next_number = 1; version = 2 }
 
 -- its workunits are in order of their numbers, and no two have one
 abbrev pub IsInOrder : World → Type 0

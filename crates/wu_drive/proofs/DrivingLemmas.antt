@@ -1,5 +1,5 @@
 -- From command to command of a list.
-use Rattle.std.proofs.Common.{◌≡◌, ◌⊎◌, inl, inr, ℕ, ◌+◌, ◌<◌, ◌≤◌, Bool, true, false, List, [], ◌∷◌, ◌++◌, length, get_or, map, take, Option, Some, None, Ok, Err, refl, sym, ap, subst, ◌∙◌, arith}
+use Rattle.std.proofs.Common.{nat_lt, is_some, if◌then◌else◌, IfSome, ◌≡◌, ◌⊎◌, inl, inr, ℕ, ◌+◌, ◌<◌, ◌≤◌, Bool, true, false, List, [], ◌∷◌, ◌++◌, length, get_or, map, take, Option, Some, None, Ok, Err, refl, sym, ap, subst, ◌∙◌, arith}
 use Rattle.std.proofs.lemmas.List.{map-append, take_more}
 use Rattle.std.proofs.lemmas.Option.{slice_get-get_or}
 use Rattle.std.specs.Prelude.{slice_get}
@@ -9,7 +9,7 @@ use Rattle.sqlite.specs.State.{State, HasCleanDisk}
 use Rattle.sqlite.specs.Store.{Ghosts}
 use Rattle.wu_schema.specs.Faults.{IsFailure}
 use Rattle.wu_core.specs.declared.fault.Fault.{Fault}
-use Rattle.wu_core.specs.declared.fault.Fault.TheVariants.{BadLimit, Ended, Output}
+use Rattle.wu_core.specs.declared.fault.Fault.TheVariants.{BadLimit, Ended, OldSchema, Output}
 use Rattle.std.proofs.lemmas.List.Elements.{All-nil}
 use Rattle.wu_core.specs.World.{Import, World, empty_world}
 use Rattle.wu_core.specs.Storable.{AreVerdicts, IsStorable}
@@ -17,12 +17,16 @@ use Rattle.wu_machine.specs.declared.command.Answer.{Answer}
 use Rattle.wu_machine.specs.declared.command.Command.{Command}
 use Rattle.wu_drive.specs.declared.runs.Run.{Run}
 use Rattle.wu_drive.specs.Driving.{AnswerAll, Drives, MakeNothing, NotDone, world_after}
-use Rattle.wu_machine.specs.Machine.{fold_steps, has_right_limits, MakesNothing, reply, step}
+use Rattle.wu_machine.specs.Machine.{fold_steps, has_right_limits, is_upgrade, MakesNothing, present_version, reply, step}
 use Rattle.wu_machine.specs.Commands.{request_of, reply_of_answer}
-use Rattle.wu_machine.specs.Sound.{IsProject}
+use Rattle.wu_passes.specs.Planning.{IsPresentProject}
 use Rattle.wu_store.specs.Loading.{IsStoreFault}
 use Rattle.wu_passes.specs.Adopting.{KeepsAll}
-use Rattle.wu_passes.specs.Projects.{AnswersEnded, Broke, IsOpen, RefusesLimit, ServesRight, state_of}
+use Rattle.wu_passes.specs.Projects.{AnswersEnded, Broke, IsOpen, IsPlanned, older_version, RefusesEarly, ServesRight, state_of}
+use Rattle.wu_passes.proofs.SessionLemmas.{some_right}
+use Rattle.wu_machine.proofs.ImportLemmas.{stays_step}
+use Rattle.wu_machine.proofs.Versions.{up_to_date}
+use Rattle.std.proofs.lemmas.Bool.Decides.{nat_tests}
 use Rattle.wu_machine.specs.Laws.{KeepsProjects}
 use Rattle.wu_passes.specs.declared.project.Project.{Project}
 use Rattle.wu_machine.specs.Requests.{Request}
@@ -46,15 +50,26 @@ next_world world commands i command d low there =
     ∙ ap (λ rs. fold_steps world rs) (map-append request_of (take i commands) (command ∷ [])) ∙ fold_more world (map request_of (take i commands)) (request_of command)
 
 -- a fresh project is one
-pub empty_project : IsProject empty_world
-empty_project = record {
-  present = refl;
-  above = tt;
-  next = (omega arith, omega arith);
-  verdicts = All-nil (λ (i : Import). AreVerdicts i.kind i.verdicts);
-  storable = All-nil IsStorable;
-  names = λ i j d order low. absurd (omega (arith, low));
-}
+pub empty_project : IsPresentProject empty_world
+empty_project = (
+  refl,
+  record {
+    first = omega arith;
+    known = omega arith;
+    above = tt;
+    next = (omega arith, omega arith);
+    verdicts = All-nil (λ (i : Import). AreVerdicts i.kind i.verdicts);
+    storable = All-nil IsStorable;
+    names = λ i j d order low. absurd (omega (arith, low));
+  },
+)
+
+-- what a request makes of a project of the present version is one
+pub keeps_present : (request : Request) → KeepsProjects request → (world : World) → IsPresentProject world → IsPresentProject (step world request)
+keeps_present request keeps world (is, project) =
+    let younger : nat_lt world.version present_version ≡ false = grind (arith, nat_tests, is) in
+    let still = keeps world project in
+    (up_to_date (step world request) still ((stays_step world request).version younger), still)
 
 pub one_fault : (a b : Fault) → ◌≡◌ {A = Option Fault} (Some a) (Some b) → a ≡ b
 one_fault a b same = cc
@@ -100,9 +115,9 @@ pub record IsDriving (world : World) (commands : List Command) (answers : List A
   pub going : has_ended ≡ false
   pub answered : AnswerAll world (take count commands) answers
   pub goes : GoesOn new (world_after world commands count)
-  pub project : IsProject (world_after world commands count)
+  pub project : IsPresentProject (world_after world commands count)
 
-pub driving_none : (world : World) (commands : List Command) (has_ended : Bool) (s : State) → has_ended ≡ false → IsProject world → GoesOn s world → IsDriving world commands [] 0 has_ended s
+pub driving_none : (world : World) (commands : List Command) (has_ended : Bool) (s : State) → has_ended ≡ false → IsPresentProject world → GoesOn s world → IsDriving world commands [] 0 has_ended s
 driving_none world commands has_ended s going project goes = record { going = going; answered = tt; goes = goes; project = project }
 
 module _ (world : World) (commands : List Command) (answers : List Answer) (i : ℕ) (was : Bool) (old : State) (driving : IsDriving world commands answers i was old)
@@ -115,7 +130,7 @@ module _ (world : World) (commands : List Command) (answers : List Answer) (i : 
         answered = subst (λ cs. AnswerAll world cs (answers ++ answer ∷ [])) (sym (take_more commands i d low ∙ ap (λ c. take i commands ++ c ∷ []) there))
             (answer_more world (take i commands) answers command answer driving.answered answered);
         goes = subst (λ w. GoesOn new w) (sym next) goes;
-        project = subst (λ w. IsProject w) (sym next) (keeps (world_after world commands i) driving.project);
+        project = subst (λ w. IsPresentProject w) (sym next) (keeps_present (request_of command) keeps (world_after world commands i) driving.project);
       }
 
   pub drives_cut : (fault : Fault) (is : Bool) (new : State) (run : Run) → run.acknowledged ≡ i → run.end ≡ Some fault → Runs (world_after world commands i) (request_of command) is new (Err fault)
@@ -129,7 +144,7 @@ module _ (world : World) (commands : List Command) (answers : List Answer) (i : 
     goes = λ going. subst (λ b. RefinesAfterFault b new (world_after world commands i) (request_of command)) going stands;
     ended = λ ended. (command, there_is commands i command d low there, subst (λ b. RefinesAfterFault b new (world_after world commands i) (request_of command)) ended stands);
     project = driving.project;
-    cut_project = λ ended cut cut_there. subst (λ c. IsProject (step (world_after world commands i) (request_of c))) (same_command command cut (sym (there_is commands i command d low there) ∙ cut_there)) (keeps (world_after world commands i) driving.project);
+    cut_project = λ ended cut cut_there. subst (λ c. IsPresentProject (step (world_after world commands i) (request_of c))) (same_command command cut (sym (there_is commands i command d low there) ∙ cut_there)) (keeps_present (request_of command) keeps (world_after world commands i) driving.project);
   })
 
 -- between two commands: the list has ended, or a text was not written
@@ -147,19 +162,34 @@ drives_so_far world commands answers i is s run within count end driving = subst
 
 -- ---- whether the connection is open
 
-module _ {S : Type 0} {g : Ghosts S} (old new : Project S g) (command : Command) (result : Result Answer Fault) (serves : ServesRight new command result) (refuses : RefusesLimit old new command result) where
+module _ {S : Type 0} {g : Ghosts S} (old new : Project S g) (command : Command) (result : Result Answer Fault) (serves : ServesRight old new command result) (refuses : RefusesEarly old new command result) where
+  -- refused before anything was asked
+  abbrev IsRefusedEarly : Type 0
+  IsRefusedEarly = (fault : Fault) × (result ≡ Err fault) × (new ≡ old)
+
+  by_session : (older : Option ℕ) → older_version old ≡ older → (up : Bool) → is_upgrade (request_of command) ≡ up → (right : Bool) → has_right_limits (request_of command) ≡ right → IsPlanned old command ⊎ IsRefusedEarly
+  by_session older is true up true right = inl (record { present = λ some. up; right = right })
+  by_session (Some version) is true up false wrong =
+      absurd (let right = some_right (request_of command) (older_version old) (ap (λ b. if b then None else older_version old) up) (ap is_some is) in let no = sym right ∙ wrong in cc)
+  by_session (Some version) is false other right at = (let (told, same) = subst (λ (o : Option ℕ). IfSome o (λ v. (result ≡ Err (OldSchema v)) × (new ≡ old))) is (refuses.older other) in inr (OldSchema version, told, same))
+  by_session None is up at false wrong = (let (told, same) = refuses.limits is wrong in inr (BadLimit, told, same))
+  by_session None is false other true right = inl (record { present = λ some. absurd (let no : false ≡ true = ap is_some (sym is) ∙ some in cc); right = right })
+
+  planned_or_refused : IsPlanned old command ⊎ IsRefusedEarly
+  planned_or_refused = by_session (older_version old) refl (is_upgrade (request_of command)) refl (has_right_limits (request_of command)) refl
+
   -- after a command that was done it is
   pub serves_done : (answer : Answer) → result ≡ Ok answer → IsOpen new
-  serves_done answer is clean = elim (cases_Bool (has_right_limits (request_of command))) [
-    | inl right ↦ subst (λ r. MatchResult r (λ _. IsTrue (state_of new).is_open) (λ fault. IsFailure fault ⊎ IsTrue (state_of new).is_open)) is (serves right clean)
-    | inr wrong ↦ absurd (let no : ◌≡◌ {A = Result Answer Fault} (Ok answer) (Err BadLimit) = sym is ∙ (refuses wrong).0 in cc)
+  serves_done answer is clean = elim planned_or_refused [
+    | inl planned ↦ subst (λ r. MatchResult r (λ _. IsTrue (state_of new).is_open) (λ fault. IsFailure fault ⊎ IsTrue (state_of new).is_open)) is (serves planned clean)
+    | inr (fault, refused, same) ↦ absurd (let no : ◌≡◌ {A = Result Answer Fault} (Ok answer) (Err fault) = sym is ∙ refused in cc)
   ]
 
   -- after one that was refused it is where it was, but for want of memory or of the disk
   pub serves_or_rests : (fault : Fault) → result ≡ Err fault → IsOpen old → HasCleanDisk (state_of new) → IsFailure fault ⊎ IsTrue (state_of new).is_open
-  serves_or_rests fault is was clean = elim (cases_Bool (has_right_limits (request_of command))) [
-    | inl right ↦ subst (λ r. MatchResult r (λ _. IsTrue (state_of new).is_open) (λ f. IsFailure f ⊎ IsTrue (state_of new).is_open)) is (serves right clean)
-    | inr wrong ↦ inr (subst (λ project. IsOpen project) (sym (refuses wrong).1) was clean)
+  serves_or_rests fault is was clean = elim planned_or_refused [
+    | inl planned ↦ subst (λ r. MatchResult r (λ _. IsTrue (state_of new).is_open) (λ f. IsFailure f ⊎ IsTrue (state_of new).is_open)) is (serves planned clean)
+    | inr (early, refused, same) ↦ inr (subst (λ project. IsOpen project) (sym same) was clean)
   ]
 
 -- ---- what makes nothing

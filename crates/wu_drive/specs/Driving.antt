@@ -12,7 +12,7 @@ use Rattle.wu_core.specs.declared.fault.Fault.{Fault}
 use Rattle.wu_core.specs.declared.fault.Fault.TheVariants.{Ended, Output}
 use Rattle.wu_machine.specs.Machine.{fold_steps, MakesNothing, reply, step}
 use Rattle.wu_machine.specs.Commands.{request_of, reply_of_answer}
-use Rattle.wu_machine.specs.Sound.{IsProject}
+use Rattle.wu_passes.specs.Planning.{IsPresentProject}
 use Rattle.wu_store.specs.Loading.{IsStoreFault}
 use Rattle.wu_passes.specs.Standing.{GoesOn, HasEnded, FailureCause}
 use Rattle.wu_machine.specs.declared.command.Answer.{Answer}
@@ -53,8 +53,8 @@ pub record Drives (world : World) (commands : List Command) (answers : List Answ
   pub goes : has_ended ≡ false → GoesOn new (world_after world commands run.acknowledged)
   pub ended : has_ended ≡ true → (cut : Command) × (slice_get commands run.acknowledged ≡ Some cut) × HasEnded new (world_after world commands run.acknowledged) (request_of cut)
   -- further commands may run over either
-  pub project : IsProject (world_after world commands run.acknowledged)
-  pub cut_project : has_ended ≡ true → (cut : Command) → slice_get commands run.acknowledged ≡ Some cut → IsProject (step (world_after world commands run.acknowledged) (request_of cut))
+  pub project : IsPresentProject (world_after world commands run.acknowledged)
+  pub cut_project : has_ended ≡ true → (cut : Command) → slice_get commands run.acknowledged ≡ Some cut → IsPresentProject (step (world_after world commands run.acknowledged) (request_of cut))
 
 -- the session of a run: the commands that it acknowledged, and the one that was cut where the session ended
 abbrev pub session_of : List Command → Run → Bool → Session
@@ -71,7 +71,7 @@ Lengthens start life session new =
 -- so a run drives a project of any world over which its session goes on, where the disk does not fail
 abbrev pub DrivesProject : {S : Type 0} {store : Ghosts S} → Project S store → Project S store → List Command → List Answer → Run → Type 0
 DrivesProject old new commands answers run =
-    IsSessionOpen old → HasCleanDisk (state_of new) → (world : World) → IsProject world → GoesOn (state_of old) world
+    IsSessionOpen old → HasCleanDisk (state_of new) → (world : World) → IsPresentProject world → GoesOn (state_of old) world
     → Drives world commands answers run (has_ended new) (state_of new)
 
 -- why the next command was not done
@@ -87,13 +87,13 @@ NotWritten run has_ended fault = (fault ≡ Output) × (1 ≤ run.acknowledged) 
 -- over an adopted project a run that ended early tells why
 abbrev pub DrivesWhy : {S : Type 0} {store : Ghosts S} → Project S store → Project S store → List Command → Run → Type 0
 DrivesWhy old new commands run =
-    IsSessionOpen old → HasCleanDisk (state_of new) → IsUnlimited old → (world : World) → IsProject world → GoesOn (state_of old) world
+    IsSessionOpen old → HasCleanDisk (state_of new) → IsUnlimited old → (world : World) → IsPresentProject world → GoesOn (state_of old) world
     → (fault : Fault) → run.end ≡ Some fault → NotDone (Broke old new) world commands run (has_ended new) fault ⊎ NotWritten run (has_ended new) fault
 
 -- and lengthens any life that led to that world
 abbrev pub LengthensLife : {S : Type 0} {store : Ghosts S} → Project S store → Project S store → List Command → Run → Type 0
 LengthensLife old new commands run =
-    IsSessionOpen old → HasCleanDisk (state_of new) → (start : World) (life : List Lived) → IsProject (world_of_life start life)
+    IsSessionOpen old → HasCleanDisk (state_of new) → (start : World) (life : List Lived) → IsPresentProject (world_of_life start life)
     → GoesOn (state_of old) (world_of_life start life)
     → Lengthens start life (session_of commands run (has_ended new)) (state_of new)
 
@@ -122,7 +122,7 @@ MakeNothing world (command ∷ commands) =
 -- so it is where it makes nothing by all that were done
 abbrev pub LeavesAllIdle : {S : Type 0} {store : Ghosts S} → Project S store → Project S store → List Command → Run → Type 0
 LeavesAllIdle old new commands run =
-    IsSessionOpen old → HasCleanDisk (state_of new) → (world : World) → IsProject world → GoesOn (state_of old) world
+    IsSessionOpen old → HasCleanDisk (state_of new) → (world : World) → IsPresentProject world → GoesOn (state_of old) world
     → MakeNothing world (take run.acknowledged commands) → EndsBy run IsFailure ⊎ KeepsAll (state_of old) (state_of new)
 
 -- over a session that went on an open connection stays so, but where the run ended for want of memory or of the disk

@@ -80,9 +80,9 @@ Nothing was changed. Status 1.
         ),
         "F11" => Some(
             "F11 OldSchema VERSION
-The project is of this older version. Run upgrade. At schema version 1 it never
-comes.
-Nothing was done. Keep a copy of the file and its log before. Status 1.
+The project is of this older version. Copy its file, and its log where there is
+one, then run upgrade.
+Nothing was done. Status 1.
 ",
         ),
         "F12" => Some(

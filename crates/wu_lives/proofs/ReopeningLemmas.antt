@@ -23,13 +23,11 @@ use Rattle.sqlite.specs.Files.{Finds, IsOpened, file_state}
 use Rattle.sqlite.proofs.Theorems.{next_run}
 use Rattle.wu_core.specs.World.{World}
 use Rattle.wu_schema.specs.Calls.{LeavesOnly}
-use Rattle.wu_schema.specs.Refines.{Refines}
-use Rattle.wu_schema.proofs.StandsLemmas.{stands_again}
 use Rattle.wu_passes.specs.Committing.{FoundAs}
 use Rattle.wu_drive.specs.Driving.{AnswerAll, Drives, EndsBy, world_after}
 use Rattle.wu_machine.specs.Machine.{fold_steps, step}
 use Rattle.wu_machine.specs.Commands.{request_of}
-use Rattle.wu_machine.specs.Sound.{IsProject}
+use Rattle.wu_passes.specs.Planning.{IsPresentProject}
 use Rattle.wu_passes.specs.Standing.{GoesOn, MayEnd}
 use Rattle.wu_machine.specs.declared.command.Answer.{Answer}
 use Rattle.wu_machine.specs.declared.command.Command.{Command}
@@ -56,11 +54,11 @@ pub record IsBeginning (world : World) (commands : List Command) (run : Run) (db
   pub count : ℕ
   pub kept : IsKept commands run count
   pub found : FoundAs db (world_after world commands count)
-  pub project : IsProject (world_after world commands count)
+  pub project : IsPresentProject (world_after world commands count)
 
 -- after a run of commands
-module _ (world : World) (commands : List Command) (mid : State) (project : IsProject world) (db : Trees) (may : mid.may_leave db) where
-  beginning_at : (run : Run) (count : ℕ) → run.acknowledged ≤ count → count ≤ run.acknowledged + 1 → (run.acknowledged < count → EndsBy run MayEnd) → count ≤ length commands → IsProject (world_after world commands count)
+module _ (world : World) (commands : List Command) (mid : State) (project : IsPresentProject world) (db : Trees) (may : mid.may_leave db) where
+  beginning_at : (run : Run) (count : ℕ) → run.acknowledged ≤ count → count ≤ run.acknowledged + 1 → (run.acknowledged < count → EndsBy run MayEnd) → count ≤ length commands → IsPresentProject (world_after world commands count)
       → FoundAs db (world_after world commands count) → IsBeginning world commands run db
   beginning_at run count has most cut within still found = record {
     count = count;
@@ -79,7 +77,7 @@ module _ (world : World) (commands : List Command) (mid : State) (project : IsPr
         | inr after ↦
             let next = next_world world commands run.acknowledged cut there in
             beginning_at run (run.acknowledged + 1) (omega arith) (omega arith) (λ more. ends refl) (omega (arith, low))
-            (subst (λ w. IsProject w) (sym next) (drives.cut_project refl cut there)) (subst (λ w. FoundAs db w) (sym next) after)
+            (subst (λ w. IsPresentProject w) (sym next) (drives.cut_project refl cut there)) (subst (λ w. FoundAs db w) (sym next) after)
       ]
 
   -- over a session that had ended no command is done
@@ -90,7 +88,7 @@ pub holds_from : (world : World) (commands : List Command) (run : Run) (new : St
 holds_from world commands run new whole it = record { count = it.count; kept = it.kept; goes = goes_again new _ whole it.found; project = it.project }
 
 -- and what is found of it
-module _ (world : World) (commands : List Command) (mid new : State) (again : IsReopened mid new) (project : IsProject world) where
+module _ (world : World) (commands : List Command) (mid new : State) (again : IsReopened mid new) (project : IsPresentProject world) where
   pub holds_beginning : (answers : List Answer) (run : Run) (has_ended : Bool) → (has_ended ≡ true → EndsBy run MayEnd) → Drives world commands answers run has_ended mid → ∥ HoldsBeginning world commands run new ∥₁
   holds_beginning answers run has_ended ends drives = ∥∥₁_map again.found (λ may. holds_from world commands run new again.whole (beginning_of world commands mid project _ may answers run has_ended ends drives))
 
@@ -110,7 +108,7 @@ sessions_more world [] (l ∷ life) next lived all it = absurd all
 sessions_more world (t ∷ told) [] next lived all it = absurd all
 sessions_more world (t ∷ told) (l ∷ life) next lived (first, all) it = (first, sessions_more (world_lived world l) told life next lived all it)
 
-pub lived_none : (world : World) (s : State) → IsProject world → GoesOn s world → HasLived world [] s
+pub lived_none : (world : World) (s : State) → IsPresentProject world → GoesOn s world → HasLived world [] s
 lived_none world s project goes = record { life = []; sessions = tt; goes = goes; project = project }
 
 -- a beginning of its commands is found, so it is lived
@@ -155,7 +153,7 @@ lived_more world told next old new lived holds answered =
       life = lived.life ++ it.lived ∷ [];
       sessions = sessions_more world told lived.life next it.lived lived.sessions it.is;
       goes = subst (λ w. GoesOn new w) (sym left) holds.goes;
-      project = subst IsProject (sym left) holds.project;
+      project = subst IsPresentProject (sym left) holds.project;
     }
 
 pub written_more : (old mid new : Option (List ℕ)) (told : List Transcript) (next : Transcript) → WritesTold old mid told → WritesAnswers mid new next.answers next.run → WritesTold old new (told ++ next ∷ [])

@@ -25,7 +25,7 @@ use Rattle.wu_core.specs.World.{World}
 use Rattle.wu_drive.specs.Driving.{AnswerAll, DrivesProject, EndsBy, world_after}
 use Rattle.wu_drive.specs.declared.runs.Run.{Run}
 use Rattle.wu_machine.specs.Sessions.{world_of_life}
-use Rattle.wu_machine.specs.Sound.{IsProject}
+use Rattle.wu_passes.specs.Planning.{IsPresentProject}
 use Rattle.wu_machine.specs.declared.command.Answer.{Answer}
 use Rattle.wu_machine.specs.declared.command.Command.{Command}
 use Rattle.wu_passes.specs.Adopting.{IsVacant}
@@ -69,7 +69,7 @@ beginning_copied old files stays copied world commands run each image may =
 
 -- what a run left of its session stands for the world after a beginning of its list
 module _ {D : Type 0} {g : Ghosts D} (old mid : Project (FileStore D g) over_files) (commands : List Command) (answers : List Answer) (run : Run) (counted : length answers ≡ run.acknowledged)
-    (drives : DrivesProject old mid commands answers run) (ends : IsSessionOpen old → IsSessionEnded mid → EndsBy run MayEnd) (ended : IsSessionEnded old → (mid ≡ old) × (run.acknowledged ≡ 0)) (clean : HasCleanDisk (state_of mid)) (world : World) (project : IsProject world) (goes : GoesOn (state_of old) world) where
+    (drives : DrivesProject old mid commands answers run) (ends : IsSessionOpen old → IsSessionEnded mid → EndsBy run MayEnd) (ended : IsSessionEnded old → (mid ≡ old) × (run.acknowledged ≡ 0)) (clean : HasCleanDisk (state_of mid)) (world : World) (project : IsPresentProject world) (goes : GoesOn (state_of old) world) where
   pub begins_at : (db : Trees) → (state_of mid).may_leave db → IsBeginning world commands run db
   begins_at db may = elim (cases_Bool old.has_ended) [
     | inl was ↦
@@ -98,7 +98,7 @@ pub lives_on : {D : Type 0} {g : Ghosts D} (old : Project (FileStore D g) over_f
 lives_on old commands run before after answers files image new tells leaves begins honest may clean world told lived =
     let start : World = world_of_life world lived.life in
     ∥∥₁_map (leaves honest start lived.project lived.goes image may) (λ it.
-    let first : 1 ≤ (world_after start commands it.count).version = omega (arith, it.project.present) in
+    let first : 1 ≤ (world_after start commands it.count).version = it.project.1.first in
     let goes : GoesOn new (world_after start commands it.count) = (begins (world_after start commands it.count) first it.held clean).0 in
     lived_more world told (told_by commands answers run) (state_of old) new lived (record { count = it.count; kept = it.kept; goes = goes; project = it.project })
     (tells.1 honest start lived.project lived.goes))

@@ -10,7 +10,7 @@ use Rattle.wu_drive.specs.Writing.{WritesAnswers}
 use Rattle.wu_machine.specs.declared.command.Answer.{Answer}
 use Rattle.wu_machine.specs.declared.command.Command.{Command}
 use Rattle.wu_passes.specs.declared.project.Project.{Project}
-use Rattle.wu_machine.specs.Sound.{IsProject}
+use Rattle.wu_passes.specs.Planning.{IsPresentProject}
 use Rattle.wu_passes.specs.Projects.{IsSessionOpen}
 use Rattle.wu_machine.specs.Sessions.{Lived, world_lived, world_of_life}
 use Rattle.wu_passes.specs.Standing.{GoesOn, MayEnd}
@@ -43,7 +43,7 @@ pub record HasLived (world : World) (told : List Transcript) (found : State) : T
   pub life : List Lived
   pub sessions : AreSessionsOf world told life
   pub goes : GoesOn found (world_of_life world life)
-  pub project : IsProject (world_of_life world life)
+  pub project : IsPresentProject (world_of_life world life)
 
 -- the texts of the answers of each session, one after another
 abbrev pub WritesTold : Option (List ℕ) → Option (List ℕ) → List Transcript → Type 0

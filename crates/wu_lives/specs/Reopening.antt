@@ -10,7 +10,7 @@ use Rattle.wu_core.specs.World.{World}
 use Rattle.wu_core.specs.declared.fault.Fault.TheVariants.{Broken, Ended}
 use Rattle.wu_stops.specs.Stopping.{FindsAgain}
 use Rattle.wu_drive.specs.Driving.{AnswerAll, EndsBy, EndsEarly, LengthensLife, world_after}
-use Rattle.wu_machine.specs.Sound.{IsProject}
+use Rattle.wu_passes.specs.Planning.{IsPresentProject}
 use Rattle.wu_passes.specs.Adopting.{Adopts}
 use Rattle.wu_passes.specs.Projects.{connection_of, IsSessionOpen, IsSessionEnded, state_of}
 use Rattle.wu_passes.specs.Standing.{GoesOn, MayEnd}
@@ -23,7 +23,7 @@ use Rattle.wu_drive.specs.declared.runs.Run.{Run}
 
 -- This holds of each world of a project that the old tables stood for, over a disk that had no fault by the new state.
 abbrev pub OfEachWorld : State → State → (World → Type 0) → Type 0
-OfEachWorld old new holds = HasCleanDisk new → (world : World) → IsProject world → GoesOn old world → holds world
+OfEachWorld old new holds = HasCleanDisk new → (world : World) → IsPresentProject world → GoesOn old world → holds world
 
 -- What a life tells: the texts of its answers, which are the machine's replies to the commands that it acknowledged.
 abbrev pub TellsReplies : Option (List ℕ) → Option (List ℕ) → State → List Command → Run → State → Type 0
@@ -85,7 +85,7 @@ pub record HoldsBeginning (world : World) (commands : List Command) (run : Run) 
   pub kept : IsKept commands run count
   pub goes : GoesOn found (world_after world commands count)
   -- so that further commands go on from there
-  pub project : IsProject (world_after world commands count)
+  pub project : IsPresentProject (world_after world commands count)
 
 -- a beginning of the list is found
 abbrev pub FindsBeginning : State → List Command → Run → State → Type 0

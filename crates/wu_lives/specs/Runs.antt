@@ -16,7 +16,7 @@ use Rattle.wu_drive.specs.Driving.{AnswerAll, EndsEarly, world_after}
 use Rattle.wu_drive.specs.Writing.{WritesAnswers}
 use Rattle.wu_drive.specs.declared.runs.Run.{Run}
 use Rattle.wu_machine.specs.Machine.{present_version}
-use Rattle.wu_machine.specs.Sound.{IsProject}
+use Rattle.wu_passes.specs.Planning.{IsPresentProject}
 use Rattle.wu_machine.specs.declared.command.Answer.{Answer}
 use Rattle.wu_machine.specs.declared.command.Command.{Command}
 use Rattle.wu_passes.specs.Committing.{FoundAs}
@@ -40,16 +40,16 @@ pub record HoldsBeginningIn (world : World) (commands : List Command) (run : Run
   pub kept : IsKept commands run count
   pub held : HoldsWorld image (world_after world commands count)
   -- so that further commands go on from there
-  pub project : IsProject (world_after world commands count)
+  pub project : IsPresentProject (world_after world commands count)
 
 -- over files with no byte in the database a session begins from the empty world
 abbrev pub BeginsBlank : Image → State → Type 0
-BeginsBlank image new = image.db ≡ [] → HasCleanDisk new → GoesOn new empty_world × IsProject empty_world
+BeginsBlank image new = image.db ≡ [] → HasCleanDisk new → GoesOn new empty_world × IsPresentProject empty_world
 
 -- over the tables of a world it goes on from that world, which is of the present version
 abbrev pub BeginsOver : Image → State → Type 0
 BeginsOver image new =
-    (world : World) → 1 ≤ world.version → HoldsWorld image world → HasCleanDisk new → GoesOn new world × (world.version ≡ present_version)
+    (world : World) → 1 ≤ world.version → HoldsWorld image world → HasCleanDisk new → GoesOn new world × (world.version ≤ present_version)
 
 -- what a run told
 abbrev pub told_by : List Command → List Answer → Run → Transcript
@@ -66,7 +66,7 @@ module _ {D : Type 0} {g : Ghosts D} (old : Project (FileStore D g) over_files) 
 
   -- this holds of each world of a project that it began with, over a disk that had no fault by its end
   abbrev pub OfFirst : Files D → (World → Type 0) → Type 0
-  OfFirst files holds = AreClean g files.log files.db → (world : World) → IsProject world → GoesOn (state_of old) world → holds world
+  OfFirst files holds = AreClean g files.log files.db → (world : World) → IsPresentProject world → GoesOn (state_of old) world → holds world
 
   -- the texts of these answers are written, which are the machine's replies to the commands that it acknowledged
   abbrev pub TellsFirst : Option (List ℕ) → Option (List ℕ) → List Answer → Files D → Type 0

@@ -8,7 +8,7 @@ use Rattle.std.proofs.lemmas.List.Folds.{list_any-append}
 use Rattle.std.proofs.lemmas.List.Elements.{All-append, All-from_recursion, All-head, All-nil, All-push, All-replicate, All-tail}
 use Rattle.std.proofs.Math.Seq.{take-append_seam}
 use Rattle.std.specs.List.{AllByRecursion, enumerate_from}
-use Rattle.std.specs.Prelude.{◌≢◌, All, take, find, bytes_eq, if◌then◌else◌}
+use Rattle.std.specs.Prelude.{◌≢◌, ◌&&◌, not, All, take, find, bytes_eq, if◌then◌else◌}
 use Rattle.wu_core.specs.declared.fault.Fault.{Fault}
 use Rattle.wu_core.specs.declared.fault.Fault.TheVariants.{NameUsed}
 use Rattle.wu_core.specs.declared.workunit.Workunit.{Workunit}
@@ -23,10 +23,11 @@ use Rattle.wu_feed.specs.Templates.{template_of}
 use Rattle.wu_feed.proofs.RangeLemmas.{jobs_ranged, template_ranged}
 use Rattle.wu_machine.specs.Batches.{all_applied, first_number, first_taken, is_one_of, job_names, new_workunit, unless_taken, with_jobs}
 use Rattle.wu_machine.specs.Imports.{batch_given, batch_read, Done, Given, jobs_kept, first_answer, has_content, import_of, imported, imported_after, kept_import}
-use Rattle.wu_machine.specs.Machine.{done, step, world_of}
+use Rattle.wu_machine.specs.Machine.{done, done_now, IsUpToDate, is_upgrade, present_version, step, world_of}
 use Rattle.wu_machine.specs.Sound.{IsProject}
-use Rattle.wu_machine.specs.Requests.{AskBatch}
+use Rattle.wu_machine.specs.Requests.{AskBatch, Request}
 use Rattle.wu_machine.proofs.ApartLemmas.{Apart, apart_more, apart_pairs, names_of, pairs_apart}
+use Rattle.wu_machine.proofs.Versions.{done_up_to_date}
 
 abbrev pub news : Parameters → List (ℕ × Job) → List Workunit
 news params ps = map (λ p. new_workunit params p.0 p.1) ps
@@ -39,9 +40,9 @@ pub above_more : (n : ℕ) (ws : List Workunit) (w : Workunit) → IsAbove n ws 
 above_more n [] w above is = (omega (arith, is), tt)
 above_more n (u ∷ ws) w above is = (omega (arith, above.0), above_more n ws w above.1 is)
 
--- what is asked of a batch over a project
-pub asked_of : (world : World) → IsProject world → (name template file : List ℕ) → done world (AskBatch name template file) ≡ imported world (batch_given name template file)
-asked_of world project name template file = rw project.present refl
+-- what is asked of a batch over a world of the present version
+pub asked_of : (world : World) → IsUpToDate world → (name template file : List ℕ) → done world (AskBatch name template file) ≡ imported world (batch_given name template file)
+asked_of world is name template file = done_up_to_date world (AskBatch name template file) is
 
 above_news : (params : Parameters) (n : ℕ) (jobs : List Job) (ws : List Workunit) → IsAbove n ws → IsAbove (n + length jobs) (ws ++ news params (enumerate_from n jobs))
 above_news params n [] ws above = let same : n ≡ n + 0 = omega arith in subst (λ k. IsAbove k (ws ++ [])) same (subst (λ us. IsAbove n us) (sym (append-nil ws)) above)
@@ -59,10 +60,15 @@ pub keeps_if : (b : Bool) (world : World) (one other : Result Done Fault) → Ke
 keeps_if true world one other first second = first
 keeps_if false world one other first second = second
 
+-- before an upgrade nothing else is done of an older project
+pub keeps_done : (world : World) (request : Request) → IsProject world → KeepsProject world (done_now world request) → IsProject (step world request)
+keeps_done world request project now = keeps_if (nat_lt world.version present_version && not (is_upgrade request)) world _ _ project now
+
 -- one that keeps an import more
 pub keeps_import : (after : World) → IsProject after → (import : Import) → AreVerdicts import.kind import.verdicts → IsProject (with_kept import after)
 keeps_import after project import told = record {
-  present = project.present;
+  first = project.first;
+  known = project.known;
   above = project.above;
   next = project.next;
   verdicts = All-push (λ (i : Import). AreVerdicts i.kind i.verdicts) after.imports import project.verdicts told;
@@ -135,7 +141,8 @@ module _ (world : World) (project : IsProject world) where
     | inr few ↦
         let within : world.next_number + length jobs ≤ most_workunits + 1 = grind (arith, nat_tests) in
         rw few (keeps_import (with_jobs world params jobs) (record {
-          present = project.present;
+          first = project.first;
+          known = project.known;
           above = above_news params world.next_number jobs world.workunits project.above;
           next = (let first = project.next.0 in omega (arith, first), within);
           verdicts = project.verdicts;
@@ -156,4 +163,4 @@ module _ (world : World) (project : IsProject world) where
   keeps_imported name template file None = keeps_read (batch_given name template file) (template_of template) (jobs_of_file file) (template_ranged template) (jobs_ranged file)
 
   pub keeps_project : (name template file : List ℕ) → IsProject (step world (AskBatch name template file))
-  keeps_project name template file = subst (λ r. KeepsProject world r) (sym (asked_of world project name template file)) (keeps_imported name template file (import_of world (batch_given name template file)))
+  keeps_project name template file = keeps_done world (AskBatch name template file) project (keeps_imported name template file (import_of world (batch_given name template file)))

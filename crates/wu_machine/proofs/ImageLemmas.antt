@@ -13,10 +13,10 @@ use Rattle.wu_rules.specs.Transition.{ended, extended, readied, settled, timed, 
 use Rattle.wu_rules.specs.Validation.{decided, is_to_validate, left_open, validated, validated_by}
 use Rattle.wu_rules.specs.Due.{chosen}
 use Rattle.wu_rules.specs.declared.due.Pass.{Pass}
-use Rattle.wu_machine.specs.Machine.{done, is_limit_right, pass_done}
+use Rattle.wu_machine.specs.Machine.{done, is_limit_right, IsUpToDate, pass_done}
 use Rattle.wu_machine.specs.Passes.{archives, granted, handled, images, is_among, passed}
-use Rattle.wu_machine.specs.Sound.{IsProject}
 use Rattle.wu_machine.specs.Requests.{AskPass, Passed}
+use Rattle.wu_machine.proofs.Versions.{done_up_to_date}
 
 -- ---- the number and the name of an image
 
@@ -148,9 +148,9 @@ passed_none pass now min_age limit world nothing =
     }) nothing
     ∙ (λ i. record world { workunits = leaves_all (images pass now) world.workunits i; grants = append-nil world.grants i; archived = append-nil world.archived i })
 
-module _ (world : World) (project : IsProject world) (pass : Pass) (now limit min_age : ℕ) where
+module _ (world : World) (is : IsUpToDate world) (pass : Pass) (now limit min_age : ℕ) where
   asked_pass : done world (AskPass pass now limit min_age) ≡ pass_done world pass now limit min_age
-  asked_pass = rw project.present refl
+  asked_pass = done_up_to_date world (AskPass pass now limit min_age) is
 
   pub pass_asked : is_limit_right pass limit min_age ≡ true
       → done world (AskPass pass now limit min_age) ≡ Ok (Passed pass (handled pass now min_age limit world), passed pass now min_age limit world)

@@ -4,3 +4,4 @@ pub mod BatchKeeps
 pub mod StorableLemmas
 pub mod ImageLemmas
 pub mod PassKeeps
+pub mod Versions

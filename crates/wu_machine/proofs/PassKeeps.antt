@@ -1,5 +1,5 @@
 -- A cancel and each pass keep a project one: what they make of a workunit can be read.
-use Rattle.std.proofs.Common.{◌≡◌, ◌≢◌, ◌⊎◌, ℕ, ◌<◌, ◌≤◌, Bool, true, false, List, [], ◌∷◌, ◌++◌, length, Option, Some, None, Ok, is_some, refl, sym, subst, ◌∙◌, ap, inl, inr, arith}
+use Rattle.std.proofs.Common.{◌≡◌, ◌≢◌, ◌⊎◌, ℕ, ◌<◌, ◌≤◌, Bool, true, false, List, [], ◌∷◌, ◌++◌, length, Option, Some, None, is_some, refl, sym, subst, ◌∙◌, ap, inl, inr, arith}
 use Rattle.std.proofs.lemmas.List.Elements.{All-from_recursion, recursion_from_All}
 use Rattle.std.specs.List.{AllByRecursion}
 use Rattle.std.specs.Prelude.{⊤, ◌^◌, flat_map, if◌then◌else◌}
@@ -19,14 +19,14 @@ use Rattle.wu_core.specs.Storable.{IsMoment, IsName, IsPlace, IsStoredInstance, 
 use Rattle.wu_rules.specs.declared.due.Pass.{Pass}
 use Rattle.wu_rules.specs.declared.due.Pass.TheVariants.{Transition, Validate, Assimilate, Delete, Purge}
 use Rattle.wu_machine.specs.FileRows.{Rule, after_row}
-use Rattle.wu_machine.specs.Machine.{cancel_done, done, HasValues, is_limit_right, pass_done, present_version, step}
+use Rattle.wu_machine.specs.Machine.{cancel_done, HasValues, is_limit_right, step}
 use Rattle.wu_machine.specs.Passes.{images, is_among, passed}
 use Rattle.wu_machine.specs.Sound.{IsProject}
 use Rattle.wu_machine.specs.Laws.{KeepsProjects}
-use Rattle.wu_machine.specs.Requests.{Request, AskBatch, AskSent, AskReported, AskCancel, AskPass, AskUpgrade, Upgraded}
+use Rattle.wu_machine.specs.Requests.{Request, AskBatch, AskSent, AskReported, AskCancel, AskPass, AskUpgrade}
 use Rattle.wu_machine.specs.Worlds.{workunit_named}
 use Rattle.wu_machine.proofs.ApartLemmas.{Apart, apart_pairs, pairs_apart}
-use Rattle.wu_machine.proofs.BatchKeeps.{KeepsProject, keeps_if, keeps_project}
+use Rattle.wu_machine.proofs.BatchKeeps.{keeps_done, KeepsProject, keeps_if, keeps_project}
 use Rattle.wu_machine.proofs.StorableLemmas.{IsKeeping, keeps_project_reported, keeps_project_sent, row_keeps}
 
 -- ---- a workunit that can be read, as a rule leaves it
@@ -96,9 +96,7 @@ module _ (world : World) (project : IsProject world) where
 
   -- a cancel keeps a project one, whatever becomes of it
   pub keeps_project_cancel : (name : List ℕ) → IsProject (step world (AskCancel name))
-  keeps_project_cancel name =
-      let asked : done world (AskCancel name) ≡ cancel_done world name (workunit_named world name) = rw project.present refl in
-      subst (λ r. KeepsProject world r) (sym asked) (cancel_found name (workunit_named world name) refl)
+  keeps_project_cancel name = keeps_done world (AskCancel name) project (cancel_found name (workunit_named world name) refl)
 
 -- ---- a pass
 
@@ -191,7 +189,8 @@ leaves_images Purge now low w storable = tt
 module _ (world : World) (project : IsProject world) where
   passed_keeps : (pass : Pass) (now limit min_age : ℕ) → now ≤ last_moment → IsProject (passed pass now min_age limit world)
   passed_keeps pass now limit min_age low = record {
-    present = project.present;
+    first = project.first;
+    known = project.known;
     above = all_above change leaves world.next_number world.workunits stored project.above;
     next = project.next;
     verdicts = project.verdicts;
@@ -216,18 +215,17 @@ module _ (world : World) (project : IsProject world) where
   -- a pass keeps a project one, whatever becomes of it
   pub keeps_project_pass : (pass : Pass) (now limit min_age : ℕ) → now ≤ last_moment → IsProject (step world (AskPass pass now limit min_age))
   keeps_project_pass pass now limit min_age low =
-      let asked : done world (AskPass pass now limit min_age) ≡ pass_done world pass now limit min_age = rw project.present refl in
-      subst (λ r. KeepsProject world r) (sym asked)
+      keeps_done world (AskPass pass now limit min_age) project
       (keeps_if (is_limit_right pass limit min_age) world _ _ (passed_keeps pass now limit min_age low) project)
 
 -- ---- a command
 
--- an upgrade finds the present version
+-- an upgrade leaves the present version, of an older one too
 keeps_project_upgrade : (world : World) → IsProject world → IsProject (step world AskUpgrade)
 keeps_project_upgrade world project =
-    let asked : done world AskUpgrade ≡ Ok (Upgraded world.version present_version, record world { version = present_version }) = rw project.present refl in
-    subst (λ r. KeepsProject world r) (sym asked) (record {
-      present = refl;
+    keeps_done world AskUpgrade project (record {
+      first = omega arith;
+      known = omega arith;
       above = project.above;
       next = project.next;
       verdicts = project.verdicts;

@@ -33,13 +33,13 @@ use Rattle.wu_rules.specs.declared.verdicts.SendVerdict.{SendVerdict}
 use Rattle.wu_rules.specs.declared.verdicts.SendVerdict.TheVariants as send
 use Rattle.wu_core.specs.Storable.{AreStoredInstances, AreVerdicts, IsStoredInstance, IsStorable, IsAbove}
 use Rattle.wu_machine.specs.FileRows.{Rule, after_row, after_rows, report_rule, row_verdict, row_verdicts, send_rule, unknown}
-use Rattle.wu_machine.specs.Imports.{Given, first_answer, has_content, import_of, imported, imported_after, kept_import, reported_given, rows_read, sent_given}
-use Rattle.wu_machine.specs.Machine.{done, step}
+use Rattle.wu_machine.specs.Imports.{Given, first_answer, has_content, import_of, imported_after, kept_import, reported_given, rows_read, sent_given}
+use Rattle.wu_machine.specs.Machine.{step}
 use Rattle.wu_machine.specs.Sound.{IsProject}
 use Rattle.wu_machine.specs.Requests.{AskReported, AskSent}
 use Rattle.wu_machine.specs.Worlds.{workunit_named}
 use Rattle.wu_machine.proofs.ApartLemmas.{Apart, apart_changed, apart_pairs, pairs_apart}
-use Rattle.wu_machine.proofs.BatchKeeps.{KeepsProject, keeps_if, keeps_import}
+use Rattle.wu_machine.proofs.BatchKeeps.{keeps_done, KeepsProject, keeps_if, keeps_import}
 
 -- ---- what is found can be read
 
@@ -105,7 +105,8 @@ module _ {Row : Type 0} (rule : Rule Row) (row : Row) (keeps : IsKeeping rule ro
   pub row_keeps : (world : World) → IsProject world → IsProject (after_row rule world row)
   row_keeps world project = elim (cases_Bool (row_verdict rule world row == 0)) [
     | inl applied ↦ rw applied (record {
-      present = project.present;
+      first = project.first;
+      known = project.known;
       above = above_kept world.next_number world.workunits project.above;
       next = project.next;
       verdicts = project.verdicts;
@@ -278,9 +279,7 @@ module _ (world : World) (project : IsProject world) where
 
   -- a file of sends keeps a project one, whatever becomes of it
   pub keeps_project_sent : (name file : List ℕ) → IsProject (step world (AskSent name file))
-  keeps_project_sent name file =
-      let asked : done world (AskSent name file) ≡ imported world (sent_given name file) = rw project.present refl in
-      subst (λ r. KeepsProject world r) (sym asked) (sent_imported name file (import_of world (sent_given name file)))
+  keeps_project_sent name file = keeps_done world (AskSent name file) project (sent_imported name file (import_of world (sent_given name file)))
 
   reported_imported : (name file : List ℕ) (earlier : Option Import) → KeepsProject world (imported_after world (reported_given name file) earlier)
   reported_imported name file (Some import) = keeps_if (has_content (reported_given name file) import) world (Ok (first_answer import, world)) (Err NameUsed) project project
@@ -289,6 +288,4 @@ module _ (world : World) (project : IsProject world) where
 
   -- so does a file of reports
   pub keeps_project_reported : (name file : List ℕ) → IsProject (step world (AskReported name file))
-  keeps_project_reported name file =
-      let asked : done world (AskReported name file) ≡ imported world (reported_given name file) = rw project.present refl in
-      subst (λ r. KeepsProject world r) (sym asked) (reported_imported name file (import_of world (reported_given name file)))
+  keeps_project_reported name file = keeps_done world (AskReported name file) project (reported_imported name file (import_of world (reported_given name file)))

@@ -1,5 +1,5 @@
--- The machine: what each request answers and makes of a world, at schema version 1. It knows no tables, no transaction
--- and no fault of the disk or of memory.
+-- The machine: what each request answers and makes of a world. It knows no tables, no transaction and no fault of the
+-- disk or of memory.
 use Rattle.std.specs.Prelude.{◌≡◌, ℕ, ⊤, ◌≤◌, nat_le, nat_lt, Bool, true, not, ◌&&◌, if◌then◌else◌, IsSome, List, [], ◌∷◌, Option, Some, None, Result, Ok, Err}
 use Rattle.wu_core.specs.declared.fault.Fault.{Fault}
 use Rattle.wu_core.specs.declared.fault.Fault.TheVariants.{BadLimit, UnknownWorkunit, NotOpenToCancel, OldSchema}
@@ -19,7 +19,7 @@ use Rattle.wu_machine.specs.Worlds.{workunit_named, with_named}
 
 -- the version that a project is created at
 abbrev pub present_version : ℕ
-present_version = 1
+present_version = 2
 
 -- a least age is asked of the purge alone, and is at most a year
 abbrev pub is_age_right : Pass → ℕ → Bool
@@ -59,7 +59,7 @@ abbrev pub cancel_done : World → List ℕ → Option Workunit → Result Done 
 cancel_done world name None = Err UnknownWorkunit
 cancel_done world name (Some w) = if is_undecided w then Ok (Cancelled name, with_named world name cancelled) else Err NotOpenToCancel
 
--- of a project at the present version
+-- of a project at the present version; an upgrade, of any
 abbrev pub done_now : World → Request → Result Done Fault
 done_now world (AskBatch name template file) = imported world (batch_given name template file)
 done_now world (AskSent name file) = imported world (sent_given name file)
@@ -102,12 +102,16 @@ fold_steps world (request ∷ more) = fold_steps (step world request) more
 abbrev pub CameBefore : World → Given → Type 0
 CameBefore world given = IsSome (import_of world given)
 
--- The machine makes nothing of a world at the present version: an import that comes again, a pass that changes no
--- workunit, an upgrade.
+-- a world of the present version
+abbrev pub IsUpToDate : World → Type 0
+IsUpToDate world = world.version ≡ present_version
+
+-- The machine makes nothing of a world: an import that comes again, a pass that changes no workunit, an upgrade of one
+-- that is up to date. It makes nothing of an older one, but by an upgrade.
 abbrev pub MakesNothing : World → Request → Type 0
 MakesNothing world (AskBatch name template file) = CameBefore world (batch_given name template file)
 MakesNothing world (AskSent name file) = CameBefore world (sent_given name file)
 MakesNothing world (AskReported name file) = CameBefore world (reported_given name file)
 MakesNothing world (AskPass pass now limit min_age) = chosen pass now min_age limit world ≡ []
 MakesNothing world (AskCancel name) = ⊥
-MakesNothing world AskUpgrade = ⊤
+MakesNothing world AskUpgrade = IsUpToDate world

@@ -1,4 +1,4 @@
--- What a project is asked at schema version 1, and what it answers.
+-- What a project is asked, and what it answers.
 use Rattle.std.specs.Prelude.{ℕ, List}
 use Rattle.wu_core.specs.declared.import.ImportKind.{ImportKind}
 use Rattle.wu_rules.specs.declared.due.Pass.{Pass}

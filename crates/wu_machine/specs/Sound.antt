@@ -57,10 +57,11 @@ pub record IsSound (world : World) : Type 0 where
 abbrev pub HasVerdicts : World → Type 0
 HasVerdicts world = All (λ import. AreVerdicts import.kind import.verdicts) world.imports
 
--- A world at the present version, as each sound world is: workunits are below the next number, that and the verdicts of
--- imports are in range, each workunit can be read, and no two have one name.
+-- A world of a version that this program knows, as each sound world is: workunits are below the next number, that and the
+-- verdicts of imports are in range, each workunit can be read, and no two have one name.
 pub record IsProject (world : World) : Type 0 where
-  pub present : world.version ≡ present_version
+  pub first : 1 ≤ world.version
+  pub known : world.version ≤ present_version
   pub above : IsAbove world.next_number world.workunits
   pub next : LoadsNext world
   pub verdicts : HasVerdicts world

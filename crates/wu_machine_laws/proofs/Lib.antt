@@ -18,3 +18,4 @@ pub mod FileLaws
 pub mod RowLaws
 pub mod Answered
 pub mod Staying
+pub mod Older

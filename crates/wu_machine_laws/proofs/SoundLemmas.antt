@@ -1,5 +1,5 @@
 -- What follows from soundness.
-use Rattle.std.proofs.Common.{◌≡◌, ℕ, suc, ◌<◌, List, [], ◌∷◌, length, get_or, refl, arith}
+use Rattle.std.proofs.Common.{ℕ, suc, ◌<◌, ◌≤◌, List, [], ◌∷◌, length, get_or, arith}
 use Rattle.std.proofs.lemmas.List.Elements.{All-get_or, All-nil, All-weaker}
 use Rattle.wu_core.specs.World.{World, Import, empty_world}
 use Rattle.wu_core.specs.declared.workunit.Workunit.{Workunit}
@@ -17,10 +17,11 @@ sound_above : (world : World) → IsSound world → IsAbove world.next_number wo
 sound_above world sound = above_from world.next_number world.workunits
     (λ i d within. (All-get_or (λ w. IsGiven world w.number) world.workunits i d within sound.given).1)
 
--- a sound world of the present version is one that a command runs over
-pub is_project : (world : World) → IsSound world → world.version ≡ present_version → IsProject world
-is_project world sound present = record {
-  present = present;
+-- a sound world of a version that is known is one that a command runs over
+pub is_project : (world : World) → IsSound world → 1 ≤ world.version → world.version ≤ present_version → IsProject world
+is_project world sound first known = record {
+  first = first;
+  known = known;
   above = sound_above world sound;
   next = sound.next_number;
   verdicts = All-weaker (λ (i : Import). IsName i.name × AreVerdicts i.kind i.verdicts) (λ (i : Import). AreVerdicts i.kind i.verdicts)
@@ -58,7 +59,7 @@ sound_now world sound = record {
 
 -- a sound world at the present version is one that a command runs over
 pub project_now : (world : World) → IsSound world → IsProject (now_of world)
-project_now world sound = is_project (now_of world) (sound_now world sound) refl
+project_now world sound = is_project (now_of world) (sound_now world sound) (omega arith) (omega arith)
 
 -- a fresh project is sound
 pub empty_sound : IsSound empty_world

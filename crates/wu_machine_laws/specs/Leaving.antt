@@ -1,9 +1,10 @@
 -- What a request leaves of the workunits of a world, which it takes out, and which it adds.
-use Rattle.std.specs.Prelude.{◌≡◌, ◌≢◌, ◌⊎◌, ℕ, ◌+◌, true, false, not, All, List, [], ◌∷◌, ◌++◌, filter, length, map, slice_get, Some, None, Ok, Err, IsSomeAnd}
+use Rattle.std.specs.Prelude.{◌≡◌, ◌≢◌, ◌⊎◌, ℕ, ◌+◌, ◌<◌, true, false, not, All, List, [], ◌∷◌, ◌++◌, filter, length, map, slice_get, Some, None, Ok, Err, IsSomeAnd}
 use Rattle.wu_core.specs.declared.import.ImportKind.TheVariants as kind
 use Rattle.wu_core.specs.declared.states.Assimilate.TheVariants as assimilate
 use Rattle.wu_core.specs.declared.states.FileDelete.TheVariants as file_delete
 use Rattle.wu_core.specs.declared.fault.Fault.{Fault}
+use Rattle.wu_core.specs.declared.fault.Fault.TheVariants.{OldSchema}
 use Rattle.wu_core.specs.declared.workunit.Workunit.{Workunit}
 use Rattle.wu_core.specs.Parameters.{Parameters}
 use Rattle.wu_core.specs.World.{World, IsInOrder}
@@ -21,7 +22,6 @@ use Rattle.wu_rules.specs.Due.{chosen}
 use Rattle.wu_machine.specs.Batches.{is_one_of}
 use Rattle.wu_machine.specs.Imports.{batch_given, import_of}
 use Rattle.wu_machine.specs.Machine.{MakesNothing, present_version, reply, step}
-use Rattle.wu_machine.specs.Sound.{IsProject}
 use Rattle.wu_machine.specs.Passes.{is_among, passed}
 use Rattle.wu_machine.specs.Requests.{Request, AskBatch, AskCancel, AskPass, AskReported, AskSent, AskUpgrade, Cancelled, Imported, Upgraded}
 use Rattle.wu_machine.specs.Worlds.{workunit_named}
@@ -128,8 +128,20 @@ pub record DoesAsAnswered (world : World) : Type 0 where
 abbrev pub CancelsAndUpgrades : Type 0
 CancelsAndUpgrades = (world : World) → DoesAsAnswered world
 
+-- A world of an older version answers that version to all but an upgrade. An upgrade is answered whatever the version,
+-- with that and the present one, and changes nothing else: with its version put back, the world is the one before.
+pub record UpgradesFirst (world : World) : Type 0 where
+  pub refused : (request : Request) → request ≢ AskUpgrade → world.version < present_version
+      → reply world request ≡ Err (OldSchema world.version)
+  pub answered : reply world AskUpgrade ≡ Ok (Upgraded world.version present_version)
+  pub alone : record (step world AskUpgrade) { version = world.version } ≡ world
+
+abbrev pub OlderProjectsUpgradeFirst : Type 0
+OlderProjectsUpgradeFirst = (world : World) → UpgradesFirst world
+
 -- ---- what is left as it was
 
 -- where the machine makes nothing of a world, that stays
 abbrev pub StaysByNothing : Type 0
-StaysByNothing = (world : World) (request : Request) → IsProject world → MakesNothing world request → step world request ≡ world
+StaysByNothing =
+    (world : World) (request : Request) → MakesNothing world request → step world request ≡ world

@@ -1,5 +1,5 @@
 -- Every list of requests keeps a sound world sound.
-use Rattle.std.specs.Prelude.{◌≡◌, List, All}
+use Rattle.std.specs.Prelude.{◌≤◌, List, All}
 use Rattle.wu_core.specs.World.{World}
 use Rattle.wu_machine.specs.Machine.{fold_steps, HasValues, present_version, step}
 use Rattle.wu_machine.specs.Requests.{Request}
@@ -14,6 +14,8 @@ abbrev pub ListsKeepSound : Type 0
 ListsKeepSound =
     (world : World) (requests : List Request) → All HasValues requests → IsSound world → IsSound (fold_steps world requests)
 
--- a sound world of the present version is one that a command runs over
+-- a sound world of a version that is known, the present one or an older one, is one that a command runs over
 abbrev pub SoundIsEnough : Type 0
-SoundIsEnough = (world : World) → IsSound world → world.version ≡ present_version → IsProject world
+SoundIsEnough =
+    (world : World) → IsSound world → 1 ≤ world.version → world.version ≤ present_version
+    → IsProject world

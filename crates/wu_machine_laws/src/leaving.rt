@@ -1,6 +1,6 @@
 //! Laws of what a request leaves, takes out and adds: each function's contract is one, for every world.
 
-ghost use Rattle.wu_machine_laws.specs.Leaving.{CancelsAndUpgrades, GoesByPurgeAlone, LeavesWhatIsNotNamed, NumbersBatches, PurgedIsGone, StaysByNothing};
+ghost use Rattle.wu_machine_laws.specs.Leaving.{CancelsAndUpgrades, GoesByPurgeAlone, LeavesWhatIsNotNamed, NumbersBatches, OlderProjectsUpgradeFirst, PurgedIsGone, StaysByNothing};
 
 /// Where workunits are in order of number, no request but a purge takes one out, and that only one that may be purged.
 pub fn goes_by_purge_alone()
@@ -29,8 +29,14 @@ pub fn cancels_and_upgrades()
     ensures { CancelsAndUpgrades }
 {}
 
+/// A project of an older version answers that version to all but an upgrade. An upgrade is answered with the version
+/// that it found and the present one, and changes nothing but the version.
+pub fn older_projects_upgrade_first()
+    ensures { OlderProjectsUpgradeFirst }
+{}
+
 /// Where the machine makes nothing of a world, the world after a request is the one before it: an import that comes
-/// again, a pass that changes no workunit, an upgrade.
+/// again, a pass that changes no workunit, an upgrade of a world that is at the present version.
 pub fn stays_where_nothing_is_made()
     ensures { StaysByNothing }
 {}

@@ -4,7 +4,7 @@ ghost use Rattle.wu_core.specs.World.{empty_world};
 ghost use Rattle.wu_machine_laws.specs.Sound.{KeepsSound, ListsKeepSound, SoundIsEnough};
 ghost use Rattle.wu_machine.specs.Sound.{IsSound};
 
-/// What a command asks of a world, a sound world of the present version has.
+/// What a command asks of a world, a sound world has whose version is the present one or an older one.
 pub fn a_sound_world_is_a_project()
     ensures { SoundIsEnough }
 {}

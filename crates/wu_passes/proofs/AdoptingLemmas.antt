@@ -1,5 +1,7 @@
 -- What an adoption gives, from what its question for the version and its creation give.
-use Rattle.std.proofs.Common.{refl, ◌≡◌, ◌⊎◌, true, false, ◌<◌, ◌≤◌, ℕ, Option, None, Some, Result, Ok, Err, IfErr, IfOk, OnErr, OnOk, IsTrue, sym, ap, subst, ◌∙◌, inl, inr, arith}
+use Rattle.std.proofs.Common.{refl, ◌≡◌, ◌⊎◌, true, false, nat_lt, if◌then◌else◌, ◌<◌, ◌≤◌, ℕ, Option, None, Some, Result, Ok, Err, IfErr, IfOk, IsTrue, sym, ap, subst, ◌∙◌, inl, inr, arith}
+use Rattle.std.proofs.lemmas.Bool.{cases_Bool}
+use Rattle.std.proofs.lemmas.Bool.Decides.{nat_tests}
 use Rattle.sqlite.specs.Effect.{Database}
 use Rattle.sqlite.specs.Held.{Held, state}
 use Rattle.sqlite.specs.State.{State, HasCleanDisk, IsUnchanged, Survives}
@@ -11,15 +13,17 @@ use Rattle.wu_schema.proofs.CallLemmas.{back_none, back_unchanged}
 use Rattle.wu_schema.proofs.VersionLemmas.{has_understood, project_of, project_row}
 use Rattle.wu_schema.specs.Calls.{IsBack, IsDone, IsMade, IsRefused, IsUndone, LeavesOnly}
 use Rattle.wu_schema.specs.Faults.{IsFailure}
-use Rattle.wu_schema.specs.Made.{MakesProject}
+use Rattle.wu_schema.specs.Fresh.{MakesProject}
 use Rattle.wu_schema.specs.Refines.{Refines}
 use Rattle.wu_schema.specs.Versions.{AnswersVersion, HasProject, HasVersion}
 use Rattle.wu_machine.specs.Machine.{present_version}
 use Rattle.wu_machine.specs.Requests.{Request}
 use Rattle.wu_machine.specs.Sound.{IsProject}
 use Rattle.wu_store.specs.Loading.{IsStoreFault}
+use Rattle.wu_store.specs.StandsFor.{StandsFor}
 use Rattle.wu_passes.specs.Standing.{GoesOn, HasEnded, TellsLater}
-use Rattle.wu_passes.specs.Adopting.{Adopts, BreaksBetween, FindsProject, IsAdoptionFault, IsRefusalOf, IsVacant, KeepsAll, LeavesFresh, LeavesNoMore, RefusesAdoption}
+use Rattle.wu_passes.specs.Adopting.{Adopts, BreaksBetween, FindsProject, IsAdoptionFault, IsRefusalOf, IsVacant, KeepsAll, KnowsVersion, LeavesFresh, LeavesNoMore, older_than_present, RefusesAdoption}
+use Rattle.wu_passes.specs.Older.{IsOfVersion}
 use Rattle.wu_passes.specs.declared.project.Project.{Project}
 use Rattle.wu_passes.specs.Projects.{connection_of, FailsAgain, GoesOnAgain, state_of}
 use Rattle.wu_passes.proofs.StandingLemmas.{goes_read}
@@ -47,6 +51,9 @@ limit_adopts old new a = record {
   left = a.left;
 }
 
+limit_knows : (old new : State) (version : ℕ) → KnowsVersion (no_limit old) new version → KnowsVersion old new version
+limit_knows old new version k = record { known = k.known; found = k.found; fresh = k.fresh; over = k.over }
+
 limit_refuses : (old new : State) (fault : Fault) → RefusesAdoption (no_limit old) new fault → RefusesAdoption old new fault
 limit_refuses old new fault r = record {
   told = r.told;
@@ -67,16 +74,14 @@ limit_refuses old new fault r = record {
 }
 
 module _ {S : Type 0} (g : Ghosts S) (old bare : Held S) (is : bare ≡ record old { step_limit = None }) (new : State) where
-  pub bare_adopts : (r : Result (Unit {0}) Fault) → OnOk r (Adopts (state g bare) new) → OnOk r (Adopts (state g old) new)
-  bare_adopts (Ok x) adopts = limit_adopts (state g old) new (subst (λ h. Adopts (state g h) new) is adopts)
-  bare_adopts (Err e) adopts = tt
+  pub bare_adopts : Adopts (state g bare) new → Adopts (state g old) new
+  bare_adopts adopts = limit_adopts (state g old) new (subst (λ h. Adopts (state g h) new) is adopts)
+
+  pub bare_knows : (version : ℕ) → KnowsVersion (state g bare) new version → KnowsVersion (state g old) new version
+  bare_knows version knows = limit_knows (state g old) new version (subst (λ h. KnowsVersion (state g h) new version) is knows)
 
   pub bare_refused : (fault : Fault) → RefusesAdoption (state g bare) new fault → RefusesAdoption (state g old) new fault
   bare_refused fault refuses = limit_refuses (state g old) new fault (subst (λ h. RefusesAdoption (state g h) new fault) is refuses)
-
-  pub bare_refuses : (r : Result (Unit {0}) Fault) → IfErr r (RefusesAdoption (state g bare) new) → IfErr r (RefusesAdoption (state g old) new)
-  bare_refuses (Ok x) refuses = tt
-  bare_refuses (Err e) refuses = bare_refused e refuses
 
   pub bare_settled : (IsTrue (state g old).is_open → (state g old).now ≡ (state g old).committed) → IsTrue (state g bare).is_open → (state g bare).now ≡ (state g bare).committed
   bare_settled settled = subst (λ h. IsTrue (state g h).is_open → (state g h).now ≡ (state g h).committed) (sym is) settled
@@ -103,6 +108,10 @@ one_version db has a b (first, one) (second, other) = let same = sym one.1 ∙ o
 -- a world's version is that of the row
 pub version_stands : (db : Database) (world : World) (stands : Refines db world) → 1 ≤ world.version → HasVersion db (project_of db world stands) world.version
 version_stands db world stands first = (first, project_row db world stands)
+
+-- a fresh project stands for the empty world
+pub fresh_stands : (old new : Database) → MakesProject old new → StandsFor new empty_world
+fresh_stands old new makes = record { refines = makes.stands; queue = λ _. makes.queue }
 
 never_vacant : (s : State) (world : World) → Refines s.now world → ¬ IsVacant s
 never_vacant s world stands vacant = absurd (has_understood _ (project_of s.now world stands) vacant)
@@ -151,21 +160,29 @@ module _ (old asked : State) (crash : Survives old asked (λ _. ⊥)) (unlimited
     of_world : HasCleanDisk asked → (world : World) → Refines old.now world → version ≡ world.version
     of_world clean world stands = let so = sym is ∙ (answers clean).of_world world stands in cc
 
-    known_adopts : version ≤ present_version → Adopts old asked
+    pub known_adopts : version ≤ present_version → Adopts old asked
     known_adopts known = record {
       clean = crash.clean;
       unlimited = crash.limit ∙ unlimited;
       was_open = λ clean. (same clean).0.was_open;
       is_open = λ clean. (same clean).0.is_open;
       goes = λ clean world first goes.
-          let is = of_world clean world (goes.stands (same clean).0.was_open).0 in
-          (goes_asked world clean (back_unchanged old asked (same clean)) goes, omega (arith, is, known, first));
+          let is = of_world clean world (goes.stands (same clean).0.was_open).0.refines in
+          (goes_asked world clean (back_unchanged old asked (same clean)) goes, omega (arith, is, known));
       found = λ clean _. record { kept = keeps_all clean (same clean); known = λ has. (version, of_row clean has, known) };
       fresh = λ clean vacant. absurd (there clean vacant);
       left = λ clean db may. inl (leaves_no_more clean db may);
     }
 
-    later_refuses : (fault : Fault) → TellsLater version fault → RefusesAdoption old asked fault
+    pub found_knows : version ≤ present_version → KnowsVersion old asked version
+    found_knows known = record {
+      known = known;
+      found = of_row;
+      fresh = λ clean vacant. absurd (there clean vacant);
+      over = λ clean world first shows. of_world clean world (shows (same clean).0.was_open).0.refines;
+    }
+
+    pub later_refuses : (fault : Fault) → TellsLater version fault → RefusesAdoption old asked fault
     later_refuses fault later = record {
       told = inr (version, later);
       clean = crash.clean;
@@ -190,14 +207,6 @@ module _ (old asked : State) (crash : Survives old asked (λ _. ⊥)) (unlimited
         serves = λ idle. inr (same clean).0.is_open;
       };
     }
-
-    pub found_adopts : (r : Result (Unit {0}) Fault) → OnOk r (version ≤ present_version) → OnOk r (Adopts old asked)
-    found_adopts (Ok x) known = known_adopts known
-    found_adopts (Err e) known = tt
-
-    pub found_refuses : (r : Result (Unit {0}) Fault) → IfErr r (TellsLater version) → IfErr r (RefusesAdoption old asked)
-    found_refuses (Ok x) later = tt
-    found_refuses (Err e) later = later_refuses e later
 
   -- it was refused
   pub unasked_refuses : (fault : Fault) → IsStoreFault fault → (HasCleanDisk asked → IsBack old asked) → (HasCleanDisk asked → fault ≡ NotAProject → IsUnchanged old asked)
@@ -232,21 +241,21 @@ module _ (old asked : State) (crash : Survives old asked (λ _. ⊥)) (unlimited
     leaves_fresh : HasCleanDisk made → LeavesFresh old made
     leaves_fresh clean db may = elim (creates.crash clean db may) [
       | inl was ↦ inl (leaves_no_more (before clean) db was)
-      | inr fresh ↦ inr (record { database = fresh.0; same = fresh.1; stands = fresh.2.stands })
+      | inr fresh ↦ inr (record { database = fresh.0; same = fresh.1; stands = fresh_stands asked.now fresh.0 fresh.2 })
     ]
 
     fresh_goes : IsDone MakesProject asked made → GoesOn made empty_world
     fresh_goes created =
-        let stands = created.makes.stands in
+        let stands = fresh_stands asked.now made.now created.makes in
         record { stands = λ is_open. (stands, created.committed); left = λ db may. record { database = made.now; same = sym (created.left.only db may); stands = stands } }
 
-    fresh_adopts : (HasCleanDisk made → IsDone MakesProject asked made) → Adopts old made
+    pub fresh_adopts : (HasCleanDisk made → IsDone MakesProject asked made) → Adopts old made
     fresh_adopts created = record {
       clean = omega (arith, crash.clean, creates.clean);
       unlimited = creates.limit ∙ crash.limit ∙ unlimited;
       was_open = λ clean. (same (before clean)).0.was_open;
       is_open = λ clean. (created clean).is_open;
-      goes = λ clean world first goes. absurd (never_vacant old world (goes.stands (same (before clean)).0.was_open).0 (vacant (before clean)));
+      goes = λ clean world first goes. absurd (never_vacant old world (goes.stands (same (before clean)).0.was_open).0.refines (vacant (before clean)));
       found = λ clean there. absurd (there (vacant (before clean)));
       fresh = λ clean _. record {
         beside = subst (λ (d : Database). MakesProject d made.now) (same (before clean)).0.now_is (created clean).makes;
@@ -255,9 +264,13 @@ module _ (old asked : State) (crash : Survives old asked (λ _. ⊥)) (unlimited
       left = leaves_fresh;
     }
 
-    pub made_adopts : (r : Result (Unit {0}) Fault) → (HasCleanDisk made → OnOk r (IsDone MakesProject asked made)) → OnOk r (Adopts old made)
-    made_adopts (Ok x) created = fresh_adopts created
-    made_adopts (Err e) created = tt
+    pub fresh_knows : KnowsVersion old made present_version
+    fresh_knows = record {
+      known = omega arith;
+      found = λ clean has. absurd (has_understood _ has (vacant (before clean)));
+      fresh = λ clean _. refl;
+      over = λ clean world first shows. absurd (never_vacant old world (shows (same (before clean)).0.was_open).0.refines (vacant (before clean)));
+    }
 
     module _ (settled : IsTrue old.is_open → old.now ≡ old.committed) (only : IsTrue asked.is_open → LeavesOnly asked asked.committed.trees) where
       keeps_refused : HasCleanDisk made → IsRefused asked made → KeepsAll old made
@@ -278,7 +291,7 @@ module _ (old asked : State) (crash : Survives old asked (λ _. ⊥)) (unlimited
             committed = λ is_open. (undone.now is_open).1 ∙ was.0.committed_is;
           }
 
-      unmade_refuses : (fault : Fault) → IsStoreFault fault → (HasCleanDisk made → IsUndone asked made) → (HasCleanDisk made → fault ≡ NotAProject → IsRefused asked made) → RefusesAdoption old made fault
+      pub unmade_refuses : (fault : Fault) → IsStoreFault fault → (HasCleanDisk made → IsUndone asked made) → (HasCleanDisk made → fault ≡ NotAProject → IsRefused asked made) → RefusesAdoption old made fault
       unmade_refuses fault told undone refused = record {
         told = adoption_fault fault told;
         clean = omega (arith, crash.clean, creates.clean);
@@ -292,18 +305,13 @@ module _ (old asked : State) (crash : Survives old asked (λ _. ⊥)) (unlimited
           left = leaves_fresh clean;
           kept = λ there. absurd (there (vacant (before clean)));
           whole = λ is. keeps_refused clean (refused clean is);
-          goes = λ world goes. absurd (never_vacant old world (goes.stands (same (before clean)).0.was_open).0 (vacant (before clean)));
+          goes = λ world goes. absurd (never_vacant old world (goes.stands (same (before clean)).0.was_open).0.refines (vacant (before clean)));
           serves = λ idle. elim told [
             | inl wanted ↦ inl (inl wanted)
             | inr other ↦ elim other [ inl failed ↦ inl (inr failed) | inr is ↦ inr (refused clean is).is_open ]
           ];
         };
       }
-
-      pub made_refuses : (r : Result (Unit {0}) Fault) → IfErr r IsStoreFault → (HasCleanDisk made → OnErr r (IsUndone asked made)) → (HasCleanDisk made → IfErr r (λ fault. fault ≡ NotAProject → IsRefused asked made))
-          → IfErr r (RefusesAdoption old made)
-      made_refuses (Ok x) told undone refused = tt
-      made_refuses (Err e) told undone refused = unmade_refuses e told undone refused
 
 -- ---- what follows
 
@@ -322,7 +330,7 @@ module _ (old new : State) (fault : Fault) (clean : HasCleanDisk new) (refuses :
     | inl store ↦ inl store
     | inr (version, later) ↦
         let why = (refuses.cause clean).stored version later.0 in
-        let stands = (goes.stands why.is_open).0 in
+        let stands = (goes.stands why.is_open).0.refines in
         let same : version ≡ world.version = one_version old.now (project_of old.now world stands) version world.version (why.stored (project_of old.now world stands)) (version_stands old.now world stands first) in
         inr (subst (λ n. TellsLater n fault) same later)
   ]
@@ -347,17 +355,37 @@ told_later old new fault version refuses is = elim refuses.told [
 pub project_found : (old new : State) → Adopts old new → HasCleanDisk new → HasProject old.now.schema → FindsProject old new
 project_found old new adopts clean has = adopts.found clean (has_understood _ has)
 
+-- ---- the older version of a session that begins
+
+-- each world that its tables stand for is of that version
+older_known : (old new : State) (version : ℕ) → Adopts old new → KnowsVersion old new version → version < present_version → HasCleanDisk new → (world : World) → Refines new.now world → world.version ≡ version
+older_known old new version adopts knows low clean world stands =
+    let there : ¬ IsVacant old = λ vacant. let same = knows.fresh clean vacant in absurd (omega (arith, same, low)) in
+    let was : Refines old.now world = subst (λ (d : Database). Refines d world) (adopts.found clean there).kept.now stands in
+    let has = project_of old.now world was in
+    let of : HasVersion old.now has version = knows.found clean has in
+    one_version old.now has world.version version (subst (λ n. 1 ≤ n) (let same = sym of.1.1 ∙ (project_row old.now world was).1 in cc) of.0, project_row old.now world was) of
+
+pub starts_known : (old new : State) (version : ℕ) → Adopts old new → KnowsVersion old new version → (v : ℕ) → older_than_present version ≡ Some v → (v < present_version) × (false ≡ false → HasCleanDisk new → IsOfVersion new v)
+starts_known old new version adopts knows v is = elim (cases_Bool (nat_lt version present_version)) [
+  | inl older ↦
+      let low : version < present_version = grind (arith, nat_tests, older) in
+      let same : version ≡ v = let e : Some version ≡ Some v = subst (λ b. (if b then Some version else None) ≡ Some v) older is in cc in
+      subst (λ n. (n < present_version) × (false ≡ false → HasCleanDisk new → IsOfVersion new n)) same (low, λ going clean. (adopts.is_open clean, older_known old new version adopts knows low clean))
+  | inr none ↦ absurd (let e : None ≡ Some v = subst (λ b. (if b then Some version else None) ≡ Some v) none is in cc)
+]
+
 -- ---- a new session over the connection of one that a fault ended
 
 pub adopts_again : (old new : State) (world : World) (cut : Request) → Adopts old new → HasCleanDisk new → IsTrue old.is_open → IsProject world → HasEnded old world cut → GoesOn new world
-adopts_again old new world cut adopts clean is_open project ended = (adopts.goes clean world (omega (arith, project.present)) (ended.stands is_open)).0
+adopts_again old new world cut adopts clean is_open project ended = (adopts.goes clean world project.first (ended.stands is_open)).0
 
 pub refuses_again : (old new : State) (fault : Fault) (world : World) (cut : Request) → RefusesAdoption old new fault → HasCleanDisk new → old.in_transaction ≡ false → IsTrue old.is_open → IsProject world
     → HasEnded old world cut → GoesOn new world × IsFailure fault
 refuses_again old new fault world cut refuses clean idle is_open project ended =
     let goes = ended.stands is_open in
-    let stands = (goes.stands is_open).0 in
-    ((refuses.given clean).goes world goes, known_refused old new fault clean refuses idle (project_of old.now world stands) world.version (version_stands old.now world stands (omega (arith, project.present))) (omega (arith, project.present)))
+    let stands = (goes.stands is_open).0.refines in
+    ((refuses.given clean).goes world goes, known_refused old new fault clean refuses idle (project_of old.now world stands) world.version (version_stands old.now world stands project.first) project.known)
 
 pub goes_again : {S : Type 0} {g : Ghosts S} (old : Project S g) (r : Result (Project S g) (Held S × Fault)) → IfOk r (λ new. Adopts (state_of old) (state_of new)) → IfOk r (GoesOnAgain old)
 goes_again old (Ok new) adopts = λ clean is_open world cut project ended. adopts_again (state_of old) (state_of new) world cut adopts clean is_open project ended

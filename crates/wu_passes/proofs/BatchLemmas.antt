@@ -15,19 +15,20 @@ use Rattle.wu_feed.specs.Jobs.{jobs_of_file}
 use Rattle.wu_feed.specs.Templates.{template_of}
 use Rattle.wu_machine.specs.Batches.{all_applied, first_number, first_taken, new_workunit, with_jobs}
 use Rattle.wu_store.specs.Changing.{AreRight, import_of_change, made, made_all}
-use Rattle.wu_machine.specs.Imports.{batch_given, Done, Given, first_answer, import_of, imported, kept_import}
-use Rattle.wu_machine.specs.Machine.{done}
+use Rattle.wu_machine.specs.Imports.{batch_given, Done, Given, first_answer, import_of, kept_import}
+use Rattle.wu_machine.specs.Machine.{done, IsUpToDate}
 use Rattle.wu_passes.specs.Planning.{additions, first_of, IsNewBatch, IsPlan, Plans, TellsTaken}
 use Rattle.wu_machine.specs.Commands.{reply_of_answer}
 use Rattle.wu_machine.specs.Sound.{IsProject}
 use Rattle.wu_store.specs.Loading.{IsStoreFault}
+use Rattle.wu_store.specs.StandsFor.{IsQueued}
 use Rattle.wu_machine.specs.Requests.{AskBatch, Reply}
 use Rattle.wu_passes.specs.declared.plan.Plan.{Plan}
 use Rattle.wu_store.specs.declared.changes.Change.{Change}
 use Rattle.wu_store.specs.declared.changes.Change.TheVariants.{Next, Keep}
 use Rattle.wu_store.specs.declared.changes.Import.{Import as Kept}
 use Rattle.wu_passes.proofs.ImportPlans.{never_before}
-use Rattle.wu_passes.proofs.PlanLemmas.{added}
+use Rattle.wu_passes.proofs.PlanLemmas.{added, queued}
 use Rattle.wu_machine.proofs.BatchKeeps.{above_more, asked_of, news, with_kept}
 
 -- the world with workunits more
@@ -41,11 +42,11 @@ made_adds params (p ∷ ps) rest world =
     made_adds params ps rest (made (added params p) world)
     ∙ ap (λ ws. made_all rest (record world { workunits = ws })) (append_assoc world.workunits (new_workunit params p.0 p.1 ∷ []) (news params ps))
 
-right_adds : (params : Parameters) (n : ℕ) (jobs : List Job) (rest : List Change) (world : World) → IsAbove n world.workunits
+right_adds : (params : Parameters) (n : ℕ) (jobs : List Job) (rest : List Change) (world : World) → IsQueued world → IsAbove n world.workunits
     → ((after : World) → AreRight rest after) → AreRight (map (added params) (enumerate_from n jobs) ++ rest) world
-right_adds params n [] rest world above right = right world
-right_adds params n (job ∷ jobs) rest world above right =
-    (above, right_adds params (n + 1) jobs rest (made (added params (n, job)) world) (above_more n world.workunits (new_workunit params n job) above refl) right)
+right_adds params n [] rest world queue above right = right world
+right_adds params n (job ∷ jobs) rest world queue above right =
+    ((queue, above), right_adds params (n + 1) jobs rest (made (added params (n, job)) world) queue (above_more n world.workunits (new_workunit params n job) above refl) right)
 
 first_is : (world : World) (jobs : List Job) → first_number world jobs ≡ first_of world.next_number (length jobs)
 first_is world [] = refl
@@ -55,10 +56,7 @@ few_enough : (n : ℕ) → n ≤ most_workunits + 1 → nat_lt (most_workunits +
 few_enough n few = grind (arith, nat_tests)
 
 -- a batch that is not refused
-module _ (world : World) (project : IsProject world) (name template file : List ℕ) (params : Parameters) (jobs : List Job) where
-  asked : done world (AskBatch name template file) ≡ imported world (batch_given name template file)
-  asked = rw project.present refl
-
+module _ (world : World) (is : IsUpToDate world) (project : IsProject world) (name template file : List ℕ) (params : Parameters) (jobs : List Job) where
   made_new : (kept : Kept) → made_all (additions params world.next_number jobs ++ Keep kept ∷ []) world ≡ with_kept (import_of_change kept) (with_jobs world params jobs)
   made_new kept =
       let adds = map (added params) (enumerate_from world.next_number jobs) in
@@ -69,13 +67,13 @@ module _ (world : World) (project : IsProject world) (name template file : List 
   right_new kept =
       let adds = map (added params) (enumerate_from world.next_number jobs) in
       subst (λ changes. AreRight changes world) (sym (append_assoc adds (Next (world.next_number + length jobs) ∷ []) (Keep kept ∷ [])))
-      (right_adds params world.next_number jobs (Next (world.next_number + length jobs) ∷ Keep kept ∷ []) world project.above (λ after. (tt, (tt, tt))))
+      (right_adds params world.next_number jobs (Next (world.next_number + length jobs) ∷ Keep kept ∷ []) world (queued world is) project.above (λ after. (tt, (tt, tt))))
 
   pub added_jobs : import_of world (batch_given name template file) ≡ None → template_of template ≡ Ok params → jobs_of_file file ≡ Ok jobs → first_taken world jobs ≡ None
       → world.next_number + length jobs ≤ most_workunits + 1 → (plan : Plan) → IsNewBatch (batch_given name template file) world.next_number params jobs plan
       → Plans world (AskBatch name template file) plan.answer plan.changes.items
   added_jobs fresh template_is file_is free few plan new = record {
-    done = asked ∙ rw (fresh, template_is, file_is, free, few_enough _ few) (ap (λ (it : Done). Ok it) same);
+    done = asked_of world is name template file ∙ rw (fresh, template_is, file_is, free, few_enough _ few) (ap (λ (it : Done). Ok it) same);
     right = subst (λ changes. AreRight changes world) (sym new.changes) (right_new new.kept);
     idle = λ before. absurd (never_before world (batch_given name template file) fresh before);
   }
@@ -94,23 +92,23 @@ module _ (world : World) (project : IsProject world) (name template file : List 
           ∙ ap {B = Done} (λ (w : World). (reply_of_answer plan.answer, w)) (sym (ap (λ changes. made_all changes world) new.changes ∙ made_new new.kept))
 
 -- a batch that is refused
-module _ (world : World) (project : IsProject world) (name template file : List ℕ) where
+module _ (world : World) (is_now : IsUpToDate world) (project : IsProject world) (name template file : List ℕ) where
   pub bad_template : (fault : Fault) → import_of world (batch_given name template file) ≡ None → template_of template ≡ Err fault → done world (AskBatch name template file) ≡ Err fault
-  bad_template fault fresh is = asked_of world project name template file ∙ rw (fresh, is) refl
+  bad_template fault fresh is = asked_of world is_now name template file ∙ rw (fresh, is) refl
 
   pub bad_file : (params : Parameters) (fault : Fault) → import_of world (batch_given name template file) ≡ None → template_of template ≡ Ok params → jobs_of_file file ≡ Err fault
       → done world (AskBatch name template file) ≡ Err fault
-  bad_file params fault fresh template_is is = asked_of world project name template file ∙ rw (fresh, template_is, is) refl
+  bad_file params fault fresh template_is is = asked_of world is_now name template file ∙ rw (fresh, template_is, is) refl
 
   pub name_taken : (params : Parameters) (jobs : List Job) (place : ℕ × List ℕ) → import_of world (batch_given name template file) ≡ None → template_of template ≡ Ok params
       → jobs_of_file file ≡ Ok jobs → first_taken world jobs ≡ Some place → done world (AskBatch name template file) ≡ Err (WorkunitUsed (place.0 + 2))
-  name_taken params jobs place fresh template_is file_is taken = asked_of world project name template file ∙ rw (fresh, template_is, file_is, taken) refl
+  name_taken params jobs place fresh template_is file_is taken = asked_of world is_now name template file ∙ rw (fresh, template_is, file_is, taken) refl
 
   pub too_many : (params : Parameters) (jobs : List Job) → import_of world (batch_given name template file) ≡ None → template_of template ≡ Ok params
       → jobs_of_file file ≡ Ok jobs → first_taken world jobs ≡ None → most_workunits + 1 < world.next_number + length jobs → done world (AskBatch name template file) ≡ Err TooMany
   too_many params jobs fresh template_is file_is free many =
       let is : nat_lt (most_workunits + 1) (world.next_number + length jobs) ≡ true = grind (arith, nat_tests) in
-      asked_of world project name template file ∙ rw (fresh, template_is, file_is, free, is) refl
+      asked_of world is_now name template file ∙ rw (fresh, template_is, file_is, free, is) refl
 
   pub names_refused : (params : Parameters) (jobs : List Job) (fault : Fault) → import_of world (batch_given name template file) ≡ None → template_of template ≡ Ok params
       → jobs_of_file file ≡ Ok jobs → TellsTaken world jobs fault ⊎ IsStoreFault fault → (done world (AskBatch name template file) ≡ Err fault) ⊎ IsStoreFault fault
@@ -122,6 +120,6 @@ module _ (world : World) (project : IsProject world) (name template file : List 
       → jobs_of_file file ≡ Ok jobs → first_taken world jobs ≡ None → next ≡ world.next_number → next + length jobs ≤ most_workunits + 1
       → IfOk r (IsNewBatch (batch_given name template file) next params jobs) → IfErr r (λ fault. fault ≡ Memory) → IsPlan world (AskBatch name template file) r
   jobs_planned params jobs next (Ok plan) fresh template_is file_is free next_is few new err =
-      added_jobs world project name template file params jobs fresh template_is file_is free (subst (λ n. n + length jobs ≤ most_workunits + 1) next_is few) plan
+      added_jobs world is_now project name template file params jobs fresh template_is file_is free (subst (λ n. n + length jobs ≤ most_workunits + 1) next_is few) plan
       (subst (λ n. IsNewBatch (batch_given name template file) n params jobs plan) next_is new)
   jobs_planned params jobs next (Err fault) fresh template_is file_is free next_is few new err = inr (inl err)

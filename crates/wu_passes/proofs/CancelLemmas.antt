@@ -9,17 +9,19 @@ use Rattle.wu_core.specs.World.{World}
 use Rattle.wu_rules.specs.Cancelling.{cancelled}
 use Rattle.wu_schema.specs.Refines.{Refines}
 use Rattle.wu_store.specs.Changing.{AreRight, made_all}
+use Rattle.wu_store.specs.StandsFor.{IsQueued}
 use Rattle.wu_store.specs.declared.changes.Change.TheVariants.{Replace}
 use Rattle.wu_store.proofs.WorldOnce.{once_named, once_number}
 use Rattle.wu_passes.specs.declared.plan.Plan.{Plan}
 use Rattle.wu_machine.specs.Imports.{Done}
-use Rattle.wu_machine.specs.Machine.{cancel_done, done}
+use Rattle.wu_machine.specs.Machine.{cancel_done, done, IsUpToDate}
 use Rattle.wu_passes.specs.Planning.{IsCancelPlan, IsPlan, RefusesCancel}
 use Rattle.wu_machine.specs.Commands.{reply_of_answer}
-use Rattle.wu_machine.specs.Sound.{IsProject}
 use Rattle.wu_machine.specs.Requests.{AskCancel, Cancelled, Reply}
 use Rattle.wu_passes.specs.Touched.{AreImages, touched_named, with_touched}
 use Rattle.wu_machine.specs.Worlds.{workunit_named, with_named}
+use Rattle.wu_machine.proofs.Versions.{done_up_to_date}
+use Rattle.wu_passes.proofs.PlanLemmas.{queued}
 use Rattle.wu_passes.proofs.TouchedLemmas.{images_by_row, images_empty, images_loaded, left_by_row, loaded, loaded_found, name_found, replaced_all, touched_empty}
 
 module _ (db : Database) (world : World) (stands : Refines db world) (name : List ℕ) (w : Workunit) (present : workunit_named world name ≡ Some w) where
@@ -41,7 +43,7 @@ module _ (db : Database) (world : World) (stands : Refines db world) (name : Lis
     ]
 
     pub replaced_one : (change : Workunit → Workunit) → change w ≡ image
-        → (made_all (Replace image ∷ []) world ≡ with_named world name change) × AreRight (Replace image ∷ []) world
+        → (made_all (Replace image ∷ []) world ≡ with_named world name change) × (IsQueued world → AreRight (Replace image ∷ []) world)
     replaced_one change makes =
         let all = images_by_row world (w ∷ []) (image ∷ []) name w image there images named numbered found_by in
         let now = left_by_row world (w ∷ []) (image ∷ []) name w image there images named numbered found_by change makes in
@@ -56,9 +58,9 @@ same_number : (v : Workunit) → (cancelled v).number ≡ v.number
 unfolding cancelled
 same_number v = refl
 
-module _ (db : Database) (world : World) (stands : Refines db world) (project : IsProject world) (name : List ℕ) where
+module _ (db : Database) (world : World) (stands : Refines db world) (is : IsUpToDate world) (name : List ℕ) where
   asked : done world (AskCancel name) ≡ cancel_done world name (workunit_named world name)
-  asked = rw project.present refl
+  asked = done_up_to_date world (AskCancel name) is
 
   pub cancel_unknown : workunit_named world name ≡ None → done world (AskCancel name) ≡ Err UnknownWorkunit
   cancel_unknown none = asked ∙ ap (cancel_done world name) none
@@ -68,7 +70,7 @@ module _ (db : Database) (world : World) (stands : Refines db world) (project : 
       let one = replaced_one db world stands name w present (cancelled w) (same_name w) (same_number w) cancelled refl in
       record {
         done = asked ∙ ap (cancel_done world name) present ∙ rw it.undecided (ap (λ (d : Done). Ok d) (same one.0));
-        right = subst (λ changes. AreRight changes world) (sym it.changes) one.1;
+        right = subst (λ changes. AreRight changes world) (sym it.changes) (one.1 (queued world is));
         idle = λ none. absurd none;
       }
     where

@@ -19,13 +19,14 @@ use Rattle.wu_passes.specs.declared.files.Left.{Left}
 use Rattle.wu_passes.specs.declared.plan.Plan.{Plan}
 use Rattle.wu_machine.specs.FileRows.{Rule, after_rows, row_verdicts}
 use Rattle.wu_machine.specs.Imports.{Done, Given, first_answer, has_content, import_of, imported, kept_import, keeping, newly_imported, reported_given, rows_read, sent_given}
-use Rattle.wu_machine.specs.Machine.{CameBefore, done, MakesNothing}
+use Rattle.wu_machine.specs.Machine.{CameBefore, done, IsUpToDate, MakesNothing}
 use Rattle.wu_passes.specs.Planning.{has_same_content, IsNewFile, IsPlan, IsRepeated, KeepsImport, PlansRows, RefusesRepeat}
 use Rattle.wu_machine.specs.Commands.{reply_of_answer}
-use Rattle.wu_machine.specs.Sound.{IsProject}
 use Rattle.wu_machine.specs.Requests.{AskReported, AskSent, Imported, Reply, Request}
 use Rattle.wu_passes.specs.Touched.{IsLeft}
+use Rattle.wu_machine.proofs.Versions.{done_up_to_date}
 use Rattle.wu_passes.proofs.AskLemmas.{kind_is}
+use Rattle.wu_passes.proofs.PlanLemmas.{queued}
 use Rattle.wu_passes.proofs.TouchedLemmas.{rows_then}
 
 -- what is found passes the test
@@ -52,17 +53,17 @@ file_planned rule given rows db world stands left is (Ok plan) new err =
       keeps = subst (λ (verdicts : List ℕ). KeepsImport given 0 verdicts new.kept) is.told new.keeps;
       reply = new.reply;
       made = subst (λ changes. made_all changes world ≡ with_import (import_of_change new.kept) (after_rows rule world rows)) (sym new.changes) made.0;
-      right = subst (λ changes. AreRight changes world) (sym new.changes) made.1;
+      right = λ queue. subst (λ changes. AreRight changes world) (sym new.changes) (made.1 queue);
     }
 file_planned rule given rows db world stands left is (Err fault) new err = inl err
 
 -- ---- what the machine answers
 
-pub asked_sent : (world : World) → IsProject world → (name file : List ℕ) → done world (AskSent name file) ≡ imported world (sent_given name file)
-asked_sent world project name file = rw project.present refl
+pub asked_sent : (world : World) → IsUpToDate world → (name file : List ℕ) → done world (AskSent name file) ≡ imported world (sent_given name file)
+asked_sent world is name file = done_up_to_date world (AskSent name file) is
 
-pub asked_reported : (world : World) → IsProject world → (name file : List ℕ) → done world (AskReported name file) ≡ imported world (reported_given name file)
-asked_reported world project name file = rw project.present refl
+pub asked_reported : (world : World) → IsUpToDate world → (name file : List ℕ) → done world (AskReported name file) ≡ imported world (reported_given name file)
+asked_reported world is name file = done_up_to_date world (AskReported name file) is
 
 none_found : (found : Option Import) → found ≡ None → IsSome found → ⊥
 none_found (Some import) fresh came = absurd cc
@@ -83,11 +84,11 @@ module _ (world : World) (request : Request) (given : Given) (asked : done world
   pub newly_refused : (fault : Fault) → import_of world given ≡ None → newly_imported world given given.kind ≡ Err fault → done world request ≡ Err fault
   newly_refused fault fresh is = asked ∙ rw fresh is
 
-  pub rows_planned : {Row : Type 0} → (rule : Rule Row) (rows : List Row) → import_of world given ≡ None → newly_imported world given given.kind ≡ rows_read rule given world (Ok rows)
+  pub rows_planned : {Row : Type 0} → (rule : Rule Row) (rows : List Row) → IsUpToDate world → import_of world given ≡ None → newly_imported world given given.kind ≡ rows_read rule given world (Ok rows)
       → (MakesNothing world request → CameBefore world given) → (r : Result Plan Fault) → PlansRows rule given rows r world → IsPlan world request r
-  rows_planned rule rows fresh read before (Ok plan) it = record {
+  rows_planned rule rows is fresh read before (Ok plan) it = record {
     done = asked ∙ rw fresh (read ∙ ap (λ (d : Done). Ok d) same);
-    right = it.right;
+    right = it.right (queued world is);
     idle = λ none. absurd (never_before world given fresh (before none));
   }
     where
@@ -98,7 +99,7 @@ module _ (world : World) (request : Request) (given : Given) (asked : done world
       same = ap {B = Done} (λ (i : Import). (first_answer i, with_import i (after_rows rule world rows))) import_is
           ∙ ap {B = Done} (λ (a : Reply). (a, with_import (import_of_change it.kept) (after_rows rule world rows))) (sym it.reply)
           ∙ ap {B = Done} (λ (w : World). (reply_of_answer plan.answer, w)) (sym it.made)
-  rows_planned rule rows fresh read before (Err fault) it = inr it
+  rows_planned rule rows is fresh read before (Err fault) it = inr it
 
   kind_of : (kept : Import) → is_import given.kind given.name kept ≡ true → kept.kind ≡ given.kind
   kind_of kept is = kind_is kept.kind given.kind (both_true _ _ is).0

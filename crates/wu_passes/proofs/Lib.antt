@@ -11,3 +11,4 @@ mod ImportPlans
 pub mod WalkLemmas
 mod CancelLemmas
 pub mod PassLemmas
+pub mod SessionLemmas

@@ -12,6 +12,7 @@ use Rattle.wu_rules.proofs.Lists.{any-map}
 use Rattle.wu_schema.specs.Refines.{Refines}
 use Rattle.wu_store.specs.Changes.{HasNumber, IsNextPlace, with_replaced, without_workunit}
 use Rattle.wu_store.specs.Changing.{AreRight, archived_from, granted_from, made_all}
+use Rattle.wu_store.specs.StandsFor.{IsQueued}
 use Rattle.wu_rules.specs.Due.{changes, chosen}
 use Rattle.wu_store.specs.declared.changes.Change.{Change}
 use Rattle.wu_store.specs.declared.changes.Change.TheVariants.{Remove, Replace}
@@ -79,11 +80,11 @@ module _ (image : Workunit → Workunit) (numbers : (w : Workunit) → (image w)
   still_has : (t : Workunit) (n : ℕ) (ws : List Workunit) → HasNumber n ws → HasNumber n (replaced t ws)
   still_has t n ws has = any-map (λ (v : Workunit). v.number == n) (λ (v : Workunit). v.number == n) (λ v. if v.number == t.number then t else v) (λ v. ap (λ m. m == n) (number_kept t v)) ws ∙ has
 
-  right_put : (ts : List Workunit) (world : World) → Have world.workunits ts → AreRight (map (λ w. Replace (image w)) ts) world
-  right_put [] world has = tt
-  right_put (t ∷ ts) world has = (
-    subst (λ n. HasNumber n world.workunits) (sym (numbers t)) has.0,
-    right_put ts (with_replaced (image t) world)
+  right_put : (ts : List Workunit) (world : World) → IsQueued world → Have world.workunits ts → AreRight (map (λ w. Replace (image w)) ts) world
+  right_put [] world queue has = tt
+  right_put (t ∷ ts) world queue has = (
+    (queue, subst (λ n. HasNumber n world.workunits) (sym (numbers t)) has.0),
+    right_put ts (with_replaced (image t) world) queue
         (all_then (λ v. HasNumber v.number world.workunits) (λ v. HasNumber v.number (replaced (image t) world.workunits)) (λ v. still_has (image t) v.number world.workunits) ts has.1),
   )
 
@@ -153,8 +154,8 @@ module _ (db : Database) (world : World) (stands : Refines db world) (pass : Pas
         ∙ ap (λ ws. record world { workunits = ws }) (put_part image numbers chosen_part (world_rises db world stands))
         ∙ (λ i. record world { workunits = flat_map (leaves (λ w. sym (is w) i) (chosen pass now min_age limit world)) world.workunits })
 
-    pub pass_replaces_right : AreRight (replacements image (chosen pass now min_age limit world)) world
-    pass_replaces_right = right_put image numbers (chosen pass now min_age limit world) world (part_all (λ v. HasNumber v.number world.workunits) chosen_part (own_numbers world.workunits))
+    pub pass_replaces_right : IsQueued world → AreRight (replacements image (chosen pass now min_age limit world)) world
+    pass_replaces_right queue = right_put image numbers (chosen pass now min_age limit world) world queue (part_all (λ v. HasNumber v.number world.workunits) chosen_part (own_numbers world.workunits))
 
 -- a purge takes each chosen workunit out
 module _ (db : Database) (world : World) (stands : Refines db world) (now min_age limit : ℕ) where
@@ -215,11 +216,11 @@ module _ (db : Database) (world : World) (stands : Refines db world) (pass : Pas
   pass_makes =
       pass_made world pass now min_age limit place row_place (replacements image (chosen pass now min_age limit world)) (pass_replaces db world stands pass now min_age limit image numbers is)
 
-  pub pass_makes_right : IsNextPlace place world.grants → IsNextPlace row_place world.archived
+  pub pass_makes_right : IsQueued world → IsNextPlace place world.grants → IsNextPlace row_place world.archived
       → AreRight (and_given pass now min_age limit world place row_place (replacements image (chosen pass now min_age limit world))) world
-  pass_makes_right =
+  pass_makes_right queue =
       pass_made_right world pass now min_age limit place row_place (replacements image (chosen pass now min_age limit world)) (pass_replaces db world stands pass now min_age limit image numbers is)
-      (pass_replaces_right db world stands pass now min_age limit image numbers is)
+      (pass_replaces_right db world stands pass now min_age limit image numbers is queue)
 
 -- a purge
 module _ (db : Database) (world : World) (stands : Refines db world) (now min_age limit place row_place : ℕ) where

@@ -13,6 +13,7 @@ use Rattle.wu_rules.specs.Validation as validation
 use Rattle.wu_schema.specs.Refines.{Refines}
 use Rattle.wu_store.specs.Changes.{IsNextPlace}
 use Rattle.wu_store.specs.Changing.{archived_from, AreRight, granted_from, made_all}
+use Rattle.wu_store.specs.StandsFor.{IsQueued}
 use Rattle.wu_rules.specs.Due.{chosen}
 use Rattle.wu_store.specs.declared.changes.Change.{Change}
 use Rattle.wu_store.specs.declared.changes.Change.TheVariants.{Archive, Granted}
@@ -21,15 +22,14 @@ use Rattle.wu_rules.specs.declared.due.Pass.TheVariants.{Transition, Validate, A
 use Rattle.wu_machine.specs.declared.command.Answer.TheVariants as answer
 use Rattle.wu_passes.specs.declared.passes.Ask.{Ask}
 use Rattle.wu_passes.specs.declared.passes.Handled.{Handled}
-use Rattle.wu_machine.specs.Machine.{is_limit_right}
+use Rattle.wu_machine.specs.Machine.{is_limit_right, IsUpToDate}
 use Rattle.wu_machine.specs.Passes.{archives, granted, handled, passed}
 use Rattle.wu_passes.specs.PassPlans.{asked, change_by, HandlesAll, HasGiven}
 use Rattle.wu_passes.specs.Planning.{Plans}
-use Rattle.wu_machine.specs.Sound.{IsProject}
 use Rattle.wu_machine.specs.Requests.{Passed}
 use Rattle.wu_passes.proofs.PassLemmas.{and_given, pass_makes, pass_makes_right, purge_makes, purge_makes_right}
 use Rattle.wu_machine.proofs.ImageLemmas.{assimilated_of, emptied_of, pass_asked, transitioned_of, validated_of}
-use Rattle.wu_passes.proofs.PlanLemmas.{enumerate_more}
+use Rattle.wu_passes.proofs.PlanLemmas.{enumerate_more, queued}
 
 -- ---- one more at the next place
 
@@ -65,16 +65,16 @@ module _ (db : Database) (world : World) (stands : Refines db world) (now min_ag
   pass_all_makes Delete = pass_makes db world stands Delete now min_age limit place row_place emptied (λ w. (emptied_of w).0) (λ w. refl)
   pass_all_makes Purge = purge_makes db world stands now min_age limit place row_place
 
-  module _ (next : IsNextPlace place world.grants) (row_next : IsNextPlace row_place world.archived) where
+  module _ (queue : IsQueued world) (next : IsNextPlace place world.grants) (row_next : IsNextPlace row_place world.archived) where
     pub pass_all_right : (pass : Pass) → AreRight (all_changes pass) world
-    pass_all_right Transition = pass_makes_right db world stands Transition now min_age limit place row_place (λ w. transitioned w now) (λ w. (transitioned_of now w).0) (λ w. refl) next row_next
-    pass_all_right Validate = pass_makes_right db world stands Validate now min_age limit place row_place validation.validated (λ w. (validated_of w).0) (λ w. refl) next row_next
-    pass_all_right Assimilate = pass_makes_right db world stands Assimilate now min_age limit place row_place (λ w. assimilated w now) (λ w. (assimilated_of now w).0) (λ w. refl) next row_next
-    pass_all_right Delete = pass_makes_right db world stands Delete now min_age limit place row_place emptied (λ w. (emptied_of w).0) (λ w. refl) next row_next
+    pass_all_right Transition = pass_makes_right db world stands Transition now min_age limit place row_place (λ w. transitioned w now) (λ w. (transitioned_of now w).0) (λ w. refl) queue next row_next
+    pass_all_right Validate = pass_makes_right db world stands Validate now min_age limit place row_place validation.validated (λ w. (validated_of w).0) (λ w. refl) queue next row_next
+    pass_all_right Assimilate = pass_makes_right db world stands Assimilate now min_age limit place row_place (λ w. assimilated w now) (λ w. (assimilated_of now w).0) (λ w. refl) queue next row_next
+    pass_all_right Delete = pass_makes_right db world stands Delete now min_age limit place row_place emptied (λ w. (emptied_of w).0) (λ w. refl) queue next row_next
     pass_all_right Purge = purge_makes_right db world stands now min_age limit place row_place next row_next
 
 -- the changes of what was handled of the workunits that are chosen, with their places
-module _ (db : Database) (world : World) (stands : Refines db world) (project : IsProject world) (ask : Ask) (right : is_limit_right ask.pass ask.limit ask.min_age ≡ true)
+module _ (db : Database) (world : World) (stands : Refines db world) (is : IsUpToDate world) (ask : Ask) (right : is_limit_right ask.pass ask.limit ask.min_age ≡ true)
     (taken : List Workunit) (are : taken ≡ chosen ask.pass ask.moment ask.min_age ask.limit world)
     (done_with : Handled) (all : HandlesAll ask.pass ask.moment taken done_with) (changes : List Change) (given : HasGiven world done_with changes) where
   changes_are : changes ≡ all_changes db world stands ask.moment ask.min_age ask.limit given.place given.row_place ask.pass
@@ -90,10 +90,10 @@ module _ (db : Database) (world : World) (stands : Refines db world) (project : 
       let number : handled ask.pass ask.moment ask.min_age ask.limit world ≡ count = sym (counted ∙ ap (λ ts. length ts) are) in
       record {
         done =
-            pass_asked world project ask.pass ask.moment ask.limit ask.min_age right
+            pass_asked world is ask.pass ask.moment ask.limit ask.min_age right
             ∙ (λ i. Ok (Passed ask.pass (number i), sym made i));
         right = subst (λ cs. AreRight cs world) (sym changes_are)
-            (pass_all_right db world stands ask.moment ask.min_age ask.limit given.place given.row_place given.next given.row_next ask.pass);
+            (pass_all_right db world stands ask.moment ask.min_age ask.limit given.place given.row_place (queued world is) given.next given.row_next ask.pass);
         idle = λ none. given.changes_are
             ∙ (λ i. all.changes i ++ granted_from given.place (all.grants i) ++ archived_from given.row_place (all.archived i))
             ∙ ap (λ ts. map (change_by ask.pass ask.moment) ts ++ granted_from given.place (flat_map (granted ask.pass) ts) ++ archived_from given.row_place (flat_map (archives ask.pass ask.moment) ts)) (are ∙ none);

@@ -10,6 +10,7 @@ use Rattle.wu_core.specs.Reads.{IsOrWantsMemory}
 use Rattle.wu_core.specs.declared.import.ImportKind.TheVariants as kind
 use Rattle.wu_machine.specs.Batches.{new_workunit}
 use Rattle.wu_machine.specs.Imports.{Given, first_answer}
+use Rattle.wu_machine.specs.Machine.{IsUpToDate}
 use Rattle.wu_machine.specs.Requests.{Imported}
 use Rattle.wu_passes.specs.Planning.{additions, first_of, IsNewBatch, KeepsImport}
 use Rattle.wu_machine.specs.Commands.{reply_of_answer}
@@ -22,10 +23,15 @@ use Rattle.wu_core.specs.declared.workunit.Workunit.{Workunit}
 use Rattle.wu_core.specs.World.{World}
 use Rattle.wu_core.specs.Storable.{AreStorable, IsStorable}
 use Rattle.wu_store.specs.Loading.{LoadsNamed}
+use Rattle.wu_store.specs.StandsFor.{IsQueued}
 use Rattle.wu_machine.proofs.StorableLemmas.{found_is}
 
 pub named_loads : (world : World) → AreStorable world → (name : List ℕ) → LoadsNamed name world
 named_loads world storable name = found_is IsStorable (λ (w : Workunit). bytes_eq w.name name) world.workunits storable
+
+-- a world of the present version has a queue
+pub queued : (world : World) → IsUpToDate world → IsQueued world
+queued world is = omega (arith, is)
 
 -- a job at a number as a change
 abbrev pub added : Parameters → ℕ × Job → Change

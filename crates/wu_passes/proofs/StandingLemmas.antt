@@ -1,9 +1,9 @@
 -- What stands of a session after each exit of a command.
-use Rattle.std.proofs.Common.{refl, ◌≡◌, ◌≢◌, ◌⊎◌, Bool, true, false, List, [], Result, Ok, Err, IfErr, IsTrue, OnOk, sym, ap, subst, ◌∙◌, inl, inr}
+use Rattle.std.proofs.Common.{refl, ◌≡◌, ◌≢◌, ◌⊎◌, ◌<◌, ℕ, arith, Bool, true, false, List, [], Result, Ok, Err, IfErr, IsTrue, OnOk, sym, ap, subst, ◌∙◌, inl, inr}
 use Rattle.sqlite.specs.Effect.{Database}
 use Rattle.sqlite.specs.State.{State, HasCleanDisk, Survives}
 use Rattle.wu_core.specs.declared.fault.Fault.{Fault}
-use Rattle.wu_core.specs.declared.fault.Fault.TheVariants.{Broken, NotAProject}
+use Rattle.wu_core.specs.declared.fault.Fault.TheVariants.{Broken, Memory, NotAProject}
 use Rattle.wu_schema.specs.Faults.{IsFailure}
 use Rattle.wu_core.specs.World.{World}
 use Rattle.sqlite.specs.Held.{Held, state}
@@ -11,13 +11,16 @@ use Rattle.sqlite.specs.Store.{Ghosts}
 use Rattle.wu_schema.specs.Asking.{IsAsBefore}
 use Rattle.wu_schema.specs.Calls.{LeavesOnly, IsBack, IsDone, IsMade, IsRefused, IsUndone}
 use Rattle.wu_passes.specs.Adopting.{KeepsAll, LeavesNoMore}
-use Rattle.wu_schema.specs.Refines.{Refines}
 use Rattle.wu_store.specs.Changing.{AreRight, made_all, MakesWorlds}
+use Rattle.wu_schema.specs.Refines.{Refines}
+use Rattle.wu_machine.specs.Machine.{IsUpToDate, present_version}
+use Rattle.wu_passes.specs.Older.{IsOfVersion}
 use Rattle.wu_passes.specs.Committing.{FoundAs}
 use Rattle.wu_machine.specs.Machine.{done, reply, reply_of, step, world_of}
 use Rattle.wu_passes.specs.Planning.{IsPlan, Plans}
 use Rattle.wu_machine.specs.Commands.{reply_of_answer}
 use Rattle.wu_store.specs.Loading.{IsReadOnly, IsStoreFault}
+use Rattle.wu_store.specs.StandsFor.{StandsFor}
 use Rattle.wu_machine.specs.Requests.{Request}
 use Rattle.wu_passes.specs.Leaving.{LeavesAtMost, RunsFrom}
 use Rattle.wu_passes.specs.Standing.{GoesOn, HasEnded, IsCutBy, MakesSome, ShowsWorld, RefinesAfterFault, FailureCause}
@@ -30,7 +33,7 @@ pub shows_back : (old new : State) (world : World) → IsBack old new → ShowsW
 shows_back old new world back shows is_open =
     let was = shows (back.was_open is_open) in
     let now : new.now ≡ old.now = elim (back.now is_open) [ inl same ↦ same | inr last ↦ last ∙ was.1 ] in
-    (subst (λ (d : Database). Refines d world) (sym now) was.0, back.committed is_open ∙ was.1 ∙ sym now)
+    (subst (λ (d : Database). StandsFor d world) (sym now) was.0, back.committed is_open ∙ was.1 ∙ sym now)
 
 pub leaves_read : (old new : State) → HasCleanDisk new → Survives old new (λ _. ⊥) → LeavesNoMore old new
 leaves_read old new clean survives db may = elim (survives.crash clean db may) [ inl before ↦ before | inr none ↦ absurd none ]
@@ -45,7 +48,7 @@ pub goes_ended : (s : State) (world : World) (request : Request) → GoesOn s wo
 goes_ended s world request goes = record { stands = λ _. goes; left = λ db may. inl (goes.left db may) }
 
 -- the changes are done
-pub goes_done : (old new : State) (world : World) (changes : List Change) → Refines old.now world → AreRight changes world → IsDone (MakesWorlds changes) old new → GoesOn new (made_all changes world)
+pub goes_done : (old new : State) (world : World) (changes : List Change) → StandsFor old.now world → AreRight changes world → IsDone (MakesWorlds changes) old new → GoesOn new (made_all changes world)
 goes_done old new world changes stands right is_done =
     let after = is_done.makes world stands right in
     record { stands = λ is_open. (after, is_done.committed); left = λ db may. record { database = new.now; same = sym (is_done.left.only db may); stands = after } }
@@ -55,7 +58,7 @@ pub goes_refused : (old new : State) (world : World) → GoesOn old world → Is
 goes_refused old new world goes undone refused =
     let was = goes.stands (undone.was_open refused.is_open) in
     let now : new.now ≡ old.now = refused.now ∙ was.1 in
-    let stands : Refines new.now world = subst (λ (d : Database). Refines d world) (sym now) was.0 in
+    let stands : StandsFor new.now world = subst (λ (d : Database). StandsFor d world) (sym now) was.0 in
     record {
       stands = λ is_open. (stands, refused.committed ∙ sym refused.now);
       left = λ db may. record { database = new.now; same = ap (λ (d : Database). d.trees) refused.now ∙ sym (refused.left.only db may); stands = stands };
@@ -67,13 +70,13 @@ goes_undone old new world goes undone is_open =
     let was = goes.stands (undone.was_open is_open) in
     let (now, committed) = undone.now is_open in
     let same : new.now ≡ old.now = now ∙ was.1 in
-    let stands : Refines new.now world = subst (λ (d : Database). Refines d world) (sym same) was.0 in
+    let stands : StandsFor new.now world = subst (λ (d : Database). StandsFor d world) (sym same) was.0 in
     record {
       stands = λ _. (stands, committed ∙ sym now);
       left = λ db may. record { database = new.now; same = ap (λ (d : Database). d.trees) now ∙ sym ((undone.left is_open).only db may); stands = stands };
     }
 
-pub ended_undone : (old new : State) (world : World) (request : Request) (changes : List Change) → HasCleanDisk new → Refines old.now world → GoesOn old world → AreRight changes world
+pub ended_undone : (old new : State) (world : World) (request : Request) (changes : List Change) → HasCleanDisk new → StandsFor old.now world → GoesOn old world → AreRight changes world
     → step world request ≡ made_all changes world → IsUndone old new → Survives old new (IsMade (MakesWorlds changes) old.now) → HasEnded new world request
 ended_undone old new world request changes clean stands goes right is undone survives = record {
   stands = λ is_open. goes_undone old new world goes undone is_open;
@@ -97,7 +100,7 @@ error_is f g is = cc
 
 -- a fault of a plan over a connection that was open, or for want of memory or of the disk
 pub plan_refused : (old new : State) (world : World) (request : Request) (fault : Fault) → ShowsWorld old world → IsBack old new
-    → IsFailure fault ⊎ IsTrue new.is_open → (Refines old.now world → IsPlan world request (Err fault)) → (reply world request ≡ Err fault) ⊎ IsStoreFault fault
+    → IsFailure fault ⊎ IsTrue new.is_open → (StandsFor old.now world → IsPlan world request (Err fault)) → (reply world request ≡ Err fault) ⊎ IsStoreFault fault
 plan_refused old new world request fault shows back (inl (inl memory)) plan = inr (inl memory)
 plan_refused old new world request fault shows back (inl (inr broken)) plan = inr (inr (inl broken))
 plan_refused old new world request fault shows back (inr still) plan = refused_is world request fault (plan (shows (back.was_open still)).0)
@@ -189,7 +192,7 @@ from_nothing old new world request answer changes ended none same plans = (
 )
 
 -- the changes are done
-pub from_done : (old new : State) (world : World) (request : Request) (answer : Answer) (changes : List Change) (ended : Bool) → Refines old.now world → Plans world request answer changes
+pub from_done : (old new : State) (world : World) (request : Request) (answer : Answer) (changes : List Change) (ended : Bool) → StandsFor old.now world → Plans world request answer changes
     → IsDone (MakesWorlds changes) old new → RunsFrom old world request ended new (Ok answer)
 from_done old new world request answer changes ended stands plans is_done = (
   reply_is world request answer changes plans,
@@ -201,10 +204,10 @@ pub from_refused : (old new : State) (world : World) (request : Request) (fault 
     → RunsFrom old world request false new (Err fault)
 from_refused old new world request fault shows store undone refused kept =
     let was = shows (undone.was_open refused.is_open) in
-    (inr store, λ is_open. (subst (λ (d : Database). Refines d world) (sym kept.now) was.0, kept.committed ∙ was.1 ∙ sym kept.now), kept.left)
+    (inr store, λ is_open. (subst (λ (d : Database). StandsFor d world) (sym kept.now) was.0, kept.committed ∙ was.1 ∙ sym kept.now), kept.left)
 
 -- they were cut
-pub from_cut : (old new : State) (world : World) (request : Request) (answer : Answer) (changes : List Change) (fault : Fault) → HasCleanDisk new → Refines old.now world → ShowsWorld old world
+pub from_cut : (old new : State) (world : World) (request : Request) (answer : Answer) (changes : List Change) (fault : Fault) → HasCleanDisk new → StandsFor old.now world → ShowsWorld old world
     → Plans world request answer changes → IsStoreFault fault → IsUndone old new → Survives old new (IsMade (MakesWorlds changes) old.now) → RunsFrom old world request true new (Err fault)
 from_cut old new world request answer changes fault clean stands shows plans store undone survives = (
   inr store,
@@ -212,7 +215,7 @@ from_cut old new world request answer changes fault clean stands shows plans sto
       let was = shows (undone.was_open is_open) in
       let (now, committed) = undone.now is_open in
       let same : new.now ≡ old.now = now ∙ was.1 in
-      (subst (λ (d : Database). Refines d world) (sym same) was.0, committed ∙ sym now),
+      (subst (λ (d : Database). StandsFor d world) (sym same) was.0, committed ∙ sym now),
   λ db may. elim (survives.crash clean db may) [ inl before ↦ inl before | inr after ↦ inr (subst (λ w. FoundAs db w) (sym (step_is world request answer changes plans)) (record { database = after.0; same = after.1; stands = after.2 world stands plans.right })) ],
 )
 
@@ -233,3 +236,24 @@ from_then old mid new world request ended (Ok answer) kept runs = (
   elim runs.1 [ inl goes ↦ inl goes | inr same ↦ inr (same.0, keeps_then old mid new kept same.1) ],
 )
 from_then old mid new world request ended (Err fault) kept runs = (runs.0, runs.1, most_then ended old mid new world request kept.left runs.2)
+
+-- ---- the older version of a session
+
+-- after a call that reads
+pub older_back : (old new : State) (version : ℕ) → IsOfVersion old version → old.now ≡ old.committed → IsBack old new → IsTrue new.is_open → IsOfVersion new version
+older_back old new version of settled back is_open =
+    (is_open, λ world stands. of.1 world (subst (λ (d : Database). Refines d world) (elim (back.now is_open) [ inl same ↦ same | inr last ↦ last ∙ sym settled ]) stands))
+
+-- after changes that were refused
+pub older_refused : (old new : State) (version : ℕ) → IsOfVersion old version → old.now ≡ old.committed → IsRefused old new → IsOfVersion new version
+older_refused old new version of settled refused = (refused.is_open, λ world stands. of.1 world (subst (λ (d : Database). Refines d world) (refused.now ∙ sym settled) stands))
+
+-- no world of the present version
+pub never_older : (s : State) (world : World) (version : ℕ) → IsOfVersion s version → version < present_version → IsUpToDate world → ShowsWorld s world → ⊥
+never_older s world version of low is shows = let same = of.1 world (shows of.0).0.refines in absurd (omega (arith, same, low, is))
+
+-- a fault that is none of memory or of the disk leaves the connection open
+pub open_unless : (s : State) (fault : Fault) → IsFailure fault ⊎ IsTrue s.is_open → fault ≢ Memory → fault ≢ Broken → IsTrue s.is_open
+open_unless s fault (inl (inl memory)) other whole = absurd (other memory)
+open_unless s fault (inl (inr broken)) other whole = absurd (whole broken)
+open_unless s fault (inr is_open) other whole = is_open

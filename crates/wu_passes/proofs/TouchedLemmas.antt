@@ -10,6 +10,7 @@ use Rattle.wu_core.specs.World.{World}
 use Rattle.wu_core.specs.declared.workunit.Workunit.{Workunit}
 use Rattle.wu_store.specs.Changes.{HasNumber, with_replaced}
 use Rattle.wu_store.specs.Changing.{AreRight, IsRight, made, made_all}
+use Rattle.wu_store.specs.StandsFor.{IsQueued}
 use Rattle.wu_store.specs.declared.changes.Change.{Change}
 use Rattle.wu_store.specs.declared.changes.Change.TheVariants.{Replace}
 use Rattle.wu_machine.specs.FileRows.{Rule, after_row, after_rows, row_verdict, row_verdicts, unknown}
@@ -365,12 +366,12 @@ module _ (world : World) (t : Workunit) (ts : List Workunit) (names : NamesOnce 
 
 -- every touched workunit takes the place of the present one of its number: that makes the world with them
 pub replaced_all : (ts : List Workunit) (world : World) → NamesOnce world → NumbersOnce world → AreImages world ts → AreDistinct ts
-    → (made_all (map Replace ts) world ≡ with_touched ts world) × AreRight (map Replace ts) world
-replaced_all [] world names numbers images distinct = (sym (touched_empty world), tt)
+    → (made_all (map Replace ts) world ≡ with_touched ts world) × (IsQueued world → AreRight (map Replace ts) world)
+replaced_all [] world names numbers images distinct = (sym (touched_empty world), λ queued. tt)
 replaced_all (t ∷ ts) world names numbers images distinct =
     let rest = replaced_all ts (with_replaced t world) (names_then world t ts names numbers images distinct) (numbers_then world t ts names numbers images distinct)
     (images_then world t ts names numbers images distinct) (distinct_then world t ts names numbers images distinct) in
-    (rest.0 ∙ touched_then world t ts names numbers images distinct, (right_first world t ts names numbers images distinct, rest.1))
+    (rest.0 ∙ touched_then world t ts names numbers images distinct, λ queued. ((queued, right_first world t ts names numbers images distinct), rest.1 queued))
 
 -- ---- changes one after another
 
@@ -385,8 +386,8 @@ right_append (change ∷ more) next world right later = (right.0, right_append m
 -- what rows left, and a change more
 pub rows_then : {Row : Type 0} (rule : Rule Row) (rows : List Row) (world : World) (ts : List Workunit) (verdicts : List ℕ) (change : Change) → NamesOnce world → NumbersOnce world
     → IsLeft rule rows world ts verdicts → AreDistinct ts → IsRight change (after_rows rule world rows)
-    → (made_all (map Replace ts ++ change ∷ []) world ≡ made change (after_rows rule world rows)) × AreRight (map Replace ts ++ change ∷ []) world
+    → (made_all (map Replace ts ++ change ∷ []) world ≡ made change (after_rows rule world rows)) × (IsQueued world → AreRight (map Replace ts ++ change ∷ []) world)
 rows_then rule rows world ts verdicts change names numbers left distinct right =
     let all = replaced_all ts world names numbers left.images distinct in
     let after : made_all (map Replace ts) world ≡ after_rows rule world rows = all.0 ∙ left.left in
-    (made_append (map Replace ts) (change ∷ []) world ∙ ap (made change) after, right_append (map Replace ts) (change ∷ []) world all.1 (subst (IsRight change) (sym after) right, tt))
+    (made_append (map Replace ts) (change ∷ []) world ∙ ap (made change) after, λ queued. right_append (map Replace ts) (change ∷ []) world (all.1 queued) (subst (IsRight change) (sym after) right, tt))

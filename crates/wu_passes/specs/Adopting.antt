@@ -1,5 +1,5 @@
 -- The adoption of a connection: what a session that begins has found or made, and what a refusal tells and leaves.
-use Rattle.std.specs.Prelude.{◌≡◌, ◌⊎◌, ◌<◌, ◌≤◌, ℕ, false, IsTrue, None}
+use Rattle.std.specs.Prelude.{◌≡◌, ◌⊎◌, ◌<◌, ◌≤◌, ℕ, nat_lt, false, if◌then◌else◌, IsTrue, None, Option, Some}
 use Rattle.sqlite_disk.specs.Disk.{MoreFaults}
 use Rattle.sqlite.specs.Effect.{Database}
 use Rattle.sqlite.specs.State.{State, HasCleanDisk}
@@ -9,12 +9,12 @@ use Rattle.wu_core.specs.declared.fault.Fault.TheVariants.{Broken, NewSchema, No
 use Rattle.wu_core.specs.World.{World, empty_world}
 use Rattle.wu_schema.specs.Calls.{IsBack}
 use Rattle.wu_schema.specs.Faults.{IsFailure}
-use Rattle.wu_schema.specs.Made.{MakesProject}
+use Rattle.wu_schema.specs.Fresh.{MakesProject}
 use Rattle.wu_schema.specs.Versions.{HasProject, HasVersion, LacksProject}
 use Rattle.wu_machine.specs.Machine.{present_version}
 use Rattle.wu_store.specs.Loading.{IsStoreFault}
 use Rattle.wu_passes.specs.Committing.{FoundAs}
-use Rattle.wu_passes.specs.Standing.{GoesOn, FaultsOnlyGrow, TellsLater}
+use Rattle.wu_passes.specs.Standing.{GoesOn, FaultsOnlyGrow, ShowsWorld, TellsLater}
 
 -- no project is there: nothing has its name, or what has it lacks a column
 abbrev pub IsVacant : State → Type 0
@@ -50,9 +50,9 @@ pub record MakesFresh (old new : State) : Type 0 where
   pub beside : MakesProject old.now new.now
   pub goes : GoesOn new empty_world
 
--- the session goes on over the world that the tables stood for, and that is of the present version
+-- the session goes on over the world that the tables stood for, and that is of a version that this program knows
 abbrev pub GoesOver : State → State → World → Type 0
-GoesOver old new world = 1 ≤ world.version → GoesOn old world → GoesOn new world × (world.version ≡ present_version)
+GoesOver old new world = 1 ≤ world.version → GoesOn old world → GoesOn new world × (world.version ≤ present_version)
 
 -- A session begins over the connection. What is said of its tables is said of a disk that did not fail.
 pub record Adopts (old new : State) : Type 0 where
@@ -68,6 +68,26 @@ pub record Adopts (old new : State) : Type 0 where
   -- and where none was
   pub fresh : HasCleanDisk new → IsVacant old → MakesFresh old new
   pub left : HasCleanDisk new → LeavesFresh old new
+
+-- Which version a session has that begins. What is said of tables is said of a disk that did not fail.
+pub record KnowsVersion (old new : State) (version : ℕ) : Type 0 where
+  pub known : version ≤ present_version
+  -- where a project was found, the one that its row has,
+  pub found : HasCleanDisk new → (has : HasProject old.now.schema) → HasVersion old.now has version
+  -- and where one was made, the present one
+  pub fresh : HasCleanDisk new → IsVacant old → version ≡ present_version
+  -- so over a world, that world's
+  pub over : HasCleanDisk new → (world : World) → 1 ≤ world.version → ShowsWorld old world → version ≡ world.version
+
+-- the version, where it is older than the present one
+abbrev pub older_than_present : ℕ → Option ℕ
+older_than_present version = if nat_lt version present_version then Some version else None
+
+-- The older version that a session is over which begins, where it is over one.
+pub record StartsOver (old new : State) (older : Option ℕ) : Type 0 where
+  pub version : ℕ
+  pub knows : KnowsVersion old new version
+  pub is : older ≡ older_than_present version
 
 -- ---- with a fault
 

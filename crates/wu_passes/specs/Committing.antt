@@ -3,10 +3,10 @@ use Rattle.std.specs.Prelude.{◌≡◌}
 use Rattle.sqlite.specs.Effect.{Database}
 use Rattle.sqlite.specs.Tree.{Trees}
 use Rattle.wu_core.specs.World.{World}
-use Rattle.wu_schema.specs.Refines.{Refines}
+use Rattle.wu_store.specs.StandsFor.{StandsFor}
 
 -- what a stop left stands for this world
 pub record FoundAs (db : Trees) (world : World) : Type 0 where
   pub database : Database
   pub same : database.trees ≡ db
-  pub stands : Refines database world
+  pub stands : StandsFor database world

@@ -7,3 +7,4 @@ pub mod Leaving
 pub mod Projects
 pub mod Walks
 pub mod PassPlans
+pub mod Older

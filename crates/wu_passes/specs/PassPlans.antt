@@ -19,7 +19,7 @@ use Rattle.wu_passes.specs.declared.plan.Plan.{Plan}
 use Rattle.wu_passes.specs.declared.passes.Ask.{Ask}
 use Rattle.wu_passes.specs.declared.passes.Handled.{Handled}
 use Rattle.wu_passes.specs.declared.passes.Image.{Image}
-use Rattle.wu_machine.specs.Machine.{is_limit_right}
+use Rattle.wu_machine.specs.Machine.{is_limit_right, IsUpToDate}
 use Rattle.wu_machine.specs.Passes.{archives, granted}
 use Rattle.wu_passes.specs.Planning.{IsPlan}
 use Rattle.wu_machine.specs.Sound.{IsProject}
@@ -87,5 +87,5 @@ AddsGiven handled result world = IfOk result (λ changes. HasGiven world handled
 -- of the workunits that a pass chooses, the plan of what the machine does
 abbrev pub PlansTaken : Ask → List Workunit → Result Plan Fault → World → Type 0
 PlansTaken ask taken result world =
-    IsProject world → taken ≡ chosen ask.pass ask.moment ask.min_age ask.limit world
+    IsUpToDate world → IsProject world → taken ≡ chosen ask.pass ask.moment ask.min_age ask.limit world
     → is_limit_right ask.pass ask.limit ask.min_age ≡ true → IsPlan world (asked ask) result

@@ -17,6 +17,7 @@ use Rattle.wu_feed.specs.Jobs.{jobs_of_file}
 use Rattle.wu_feed.specs.Templates.{template_of}
 use Rattle.wu_store.specs.Changes.{with_import}
 use Rattle.wu_store.specs.Loading.{IsStoreFault}
+use Rattle.wu_store.specs.StandsFor.{IsQueued, StandsFor}
 use Rattle.wu_store.specs.declared.rows.StoredImport.{StoredImport}
 use Rattle.wu_schema.specs.Refines.{Refines}
 use Rattle.wu_passes.specs.declared.plan.Plan.{Plan}
@@ -30,11 +31,11 @@ use Rattle.wu_machine.specs.Batches.{all_applied, first_taken, is_one_of, job_na
 use Rattle.wu_store.specs.Changing.{AreRight, import_of_change, made_all}
 use Rattle.wu_machine.specs.Imports.{Given, first_answer, kept_import}
 use Rattle.wu_machine.specs.FileRows.{Rule, after_rows, row_verdicts}
-use Rattle.wu_machine.specs.Machine.{done, MakesNothing}
+use Rattle.wu_machine.specs.Machine.{done, is_upgrade, IsUpToDate, MakesNothing}
 use Rattle.wu_passes.specs.Touched.{AreDistinct, IsLeft}
 use Rattle.wu_machine.specs.declared.command.Answer.{Answer}
 use Rattle.wu_machine.specs.declared.command.Answer.TheVariants as answer
-use Rattle.wu_machine.specs.Requests.{Request}
+use Rattle.wu_machine.specs.Requests.{Request, AskUpgrade}
 use Rattle.wu_machine.specs.Commands.{request_of_batch, reply_of_answer}
 use Rattle.wu_machine.specs.Sound.{IsProject}
 
@@ -130,7 +131,7 @@ pub record IsFilePlan {Row : Type 0} (rule : Rule Row) (given : Given) (rows : L
   pub keeps : KeepsImport given 0 (row_verdicts rule world rows) kept
   pub reply : reply_of_answer plan.answer ≡ first_answer (import_of_change kept)
   pub made : made_all plan.changes.items world ≡ with_import (import_of_change kept) (after_rows rule world rows)
-  pub right : AreRight plan.changes.items world
+  pub right : IsQueued world → AreRight plan.changes.items world
 
 -- ---- what a call that reads says of the tables, and of each world that they stand for
 
@@ -138,6 +139,15 @@ pub record IsFilePlan {Row : Type 0} (rule : Rule Row) (given : Given) (rows : L
 abbrev pub NeverRefused : {S T : Type 0} → Ghosts S → Held S → Held S → Result T Fault → Type 0
 NeverRefused g old new result =
     HasCleanDisk (state g new) → (world : World) → Refines (state g old).now world → old.step_limit ≡ None → IfErr result (λ fault. fault ≢ NotAProject)
+
+-- this holds of each world that the tables, its queue among them, stand for
+abbrev pub ForEachProject : {S : Type 0} → Ghosts S → Held S → Held S → (World → Type 0) → Type 0
+ForEachProject g old new Is = HasCleanDisk (state g new) → (world : World) → StandsFor (state g old).now world → Is world
+
+-- where they stand for such a world and steps have no limit, no read is refused
+abbrev pub NotRefusedOver : {S T : Type 0} → Ghosts S → Held S → Held S → Result T Fault → (World → Type 0) → Type 0
+NotRefusedOver g old new result Is =
+    HasCleanDisk (state g new) → (world : World) → StandsFor (state g old).now world → Is world → old.step_limit ≡ None → IfErr result (λ fault. fault ≢ NotAProject)
 
 -- whether the name is taken by a workunit or an archived row
 abbrev pub KnowsTaken : List ℕ → Result Bool Fault → World → Type 0
@@ -151,9 +161,33 @@ KnowsUsed earlier name result world = MatchResult result (λ used. used ≡ is_o
 abbrev pub FindsFree : {T : Type 0} → List Job → Result T Fault → World → Type 0
 FindsFree jobs result world = MatchResult result (λ _. first_taken world jobs ≡ None) (λ fault. TellsTaken world jobs fault ⊎ IsStoreFault fault)
 
+-- a project of the present version
+abbrev pub IsPresentProject : World → Type 0
+IsPresentProject world = IsUpToDate world × IsProject world
+
+-- over a project the version of its tables is told
+abbrev pub TellsVersion : Result ℕ Fault → World → Type 0
+TellsVersion result world = IsProject world → MatchResult result (λ version. version ≡ world.version) IsStoreFault
+
 -- over a project, the plan of a request
 abbrev pub PlansFor : Request → Result Plan Fault → World → Type 0
 PlansFor request result world = IsProject world → IsPlan world request result
+
+-- over one of the present version
+abbrev pub PlansNow : Request → Result Plan Fault → World → Type 0
+PlansNow request result world = IsUpToDate world → IsProject world → IsPlan world request result
+
+-- such a one, or one of an older version that is to be upgraded
+abbrev pub IsReadyFor : Request → World → Type 0
+IsReadyFor request world = (is_upgrade request ≡ false → IsUpToDate world) × IsProject world
+
+-- over one of this version that is ready, the plan of a request
+abbrev pub PlansAt : ℕ → Request → Result Plan Fault → World → Type 0
+PlansAt version request result world = version ≡ world.version → IsReadyFor request world → IsPlan world request result
+
+-- over one of this version, the plan of an upgrade
+abbrev pub PlansUpgrade : ℕ → Result Plan Fault → World → Type 0
+PlansUpgrade version result world = version ≡ world.version → IsProject world → IsPlan world AskUpgrade result
 
 -- of a file of these rows, whose name is new,
 abbrev pub PlansRows : {Row : Type 0} → Rule Row → Given → List Row → Result Plan Fault → World → Type 0
@@ -161,13 +195,13 @@ PlansRows rule given rows result world = MatchResult result (IsFilePlan rule giv
 
 -- of a batch,
 abbrev pub PlansBatch : Batch → Result Plan Fault → World → Type 0
-PlansBatch batch = PlansFor (request_of_batch batch)
+PlansBatch batch = PlansNow (request_of_batch batch)
 
 -- of one whose name is new,
 abbrev pub PlansNew : Batch → Result Plan Fault → World → Type 0
-PlansNew batch result world = IsProject world → IsNew world batch.name → IsPlan world (request_of_batch batch) result
+PlansNew batch result world = IsUpToDate world → IsProject world → IsNew world batch.name → IsPlan world (request_of_batch batch) result
 
 -- and of these jobs
 abbrev pub PlansJobs : Batch → Parameters → List Job → Result Plan Fault → World → Type 0
 PlansJobs batch params jobs result world =
-    IsProject world → IsNew world batch.name → template_of batch.template ≡ Ok params → jobs_of_file batch.file ≡ Ok jobs → IsPlan world (request_of_batch batch) result
+    IsUpToDate world → IsProject world → IsNew world batch.name → template_of batch.template ≡ Ok params → jobs_of_file batch.file ≡ Ok jobs → IsPlan world (request_of_batch batch) result

@@ -1,25 +1,26 @@
--- A project as its callers know it: what its connection shows, and whether its session has ended.
-use Rattle.std.specs.Prelude.{◌≡◌, ◌⊎◌, ◌≤◌, Bool, true, false, List, IfErr, IsErrAnd, IsTrue, None, OnOk, Result, Err}
+-- A project as its callers know it: what its connection shows, whether its session has ended, and over which older
+-- version it is.
+use Rattle.std.specs.Prelude.{◌≡◌, ◌≢◌, ◌⊎◌, ◌≤◌, ℕ, Bool, true, false, if◌then◌else◌, List, [], IfErr, IfSome, IsErrAnd, IsSome, IsTrue, MatchResult, None, OnOk, Option, Result, Err}
 use Rattle.sqlite.specs.Held.{Held, state}
 use Rattle.sqlite.specs.State.{State, HasCleanDisk}
 use Rattle.sqlite.specs.Store.{Ghosts}
 use Rattle.wu_core.specs.declared.fault.Fault.{Fault}
-use Rattle.wu_core.specs.declared.fault.Fault.TheVariants.{BadLimit, Broken, Ended}
+use Rattle.wu_core.specs.declared.fault.Fault.TheVariants.{BadLimit, Broken, Ended, Memory, OldSchema}
 use Rattle.wu_core.specs.World.{World}
 use Rattle.wu_schema.specs.Calls.{HasBroken}
 use Rattle.wu_schema.specs.Faults.{IsFailure}
-use Rattle.wu_schema.specs.Refines.{Refines}
 use Rattle.wu_store.specs.declared.changes.Change.{Change}
 use Rattle.wu_machine.specs.declared.command.Answer.{Answer}
 use Rattle.wu_machine.specs.declared.command.Command.{Command}
 use Rattle.wu_passes.specs.declared.project.Project.{Project}
-use Rattle.wu_machine.specs.Machine.{has_right_limits, MakesNothing}
+use Rattle.wu_machine.specs.Machine.{has_right_limits, is_upgrade, MakesNothing}
 use Rattle.wu_passes.specs.declared.plan.Plan.{Plan}
-use Rattle.wu_passes.specs.Planning.{NeverEnded, Plans, PlansFor}
+use Rattle.wu_passes.specs.Planning.{ForEachProject, IsPresentProject, NeverEnded, NotRefusedOver, Plans, PlansFor}
 use Rattle.wu_machine.specs.Commands.{request_of}
 use Rattle.wu_machine.specs.Sound.{IsProject}
-use Rattle.wu_store.specs.Loading.{Asks, NotRefusedIn, ForEachWorld, ServesUnlessFailed}
+use Rattle.wu_store.specs.Loading.{Asks, ForEachWorld, NotRefusedIn, ServesUnlessFailed}
 use Rattle.wu_store.specs.Lines.{summary_of}
+use Rattle.wu_store.specs.StandsFor.{StandsFor}
 use Rattle.wu_store.specs.Summaries.{FindsAt, IsCountable}
 use Rattle.wu_store.specs.declared.lines.Summary.{Summary}
 use Rattle.wu_machine.specs.Requests.{Request}
@@ -44,6 +45,18 @@ IsSessionEnded project = has_ended project ≡ true
 
 abbrev pub IsSessionOpen : {S : Type 0} {g : Ghosts S} → Project S g → Type 0
 IsSessionOpen project = has_ended project ≡ false
+
+-- the older version than the present one that it is over, where it is over one and knows it
+abbrev pub older_version : {S : Type 0} {g : Ghosts S} → Project S g → Option ℕ
+older_version project = project.older
+
+-- an upgrade is refused for none
+abbrev pub refused_for : Request → Option ℕ → Option ℕ
+refused_for request older = if is_upgrade request then None else older
+
+-- it is over none, or does not know it
+abbrev pub IsPresentSession : {S : Type 0} {g : Ghosts S} → Project S g → Type 0
+IsPresentSession project = older_version project ≡ None
 
 -- no limit is set on the steps of a statement
 abbrev pub IsUnlimited : {S : Type 0} {g : Ghosts S} → Project S g → Type 0
@@ -73,6 +86,10 @@ FailsAgain {S} {g} old refusal =
 abbrev pub KeepsLimit : {S : Type 0} {g : Ghosts S} → Project S g → Project S g → Type 0
 KeepsLimit old new = (state_of new).step_limit ≡ (state_of old).step_limit
 
+-- it is over the version that it was
+abbrev pub KeepsVersion : {S : Type 0} {g : Ghosts S} → Project S g → Project S g → Type 0
+KeepsVersion old new = older_version new ≡ older_version old
+
 -- What a call keeps of a session, whatever it answers.
 pub record KeepsSession {S T : Type 0} {g : Ghosts S} (old new : Project S g) (result : Result T Fault) : Type 0 where
   -- it ends with `Broken`, and else only for want of memory
@@ -84,6 +101,8 @@ pub record KeepsSession {S T : Type 0} {g : Ghosts S} (old new : Project S g) (r
   pub clean : FaultsOnlyGrow (state_of old) (state_of new)
   pub counts : (state_of old).faults ≤ (state_of new).faults
   pub limit : KeepsLimit old new
+  -- it stays over its version; after an answer it is over no older one, and want of memory may leave it unknown
+  pub version : KeepsVersion old new ⊎ IsPresentSession new
 
 -- the disk failed in this call, or the connection was not open
 abbrev pub Broke : {S : Type 0} {g : Ghosts S} → Project S g → Project S g → Type 0
@@ -97,15 +116,25 @@ BreaksOn old new result = HasCleanDisk (state_of new) → result ≡ Err Broken 
 abbrev pub AnswersEnded : {S T : Type 0} {g : Ghosts S} → Project S g → Project S g → Result T Fault → Type 0
 AnswersEnded old new result = (result ≡ Err Ended) × (new ≡ old)
 
--- whatever world the tables stood for, the command runs over it
+-- so does each but an upgrade over an older version
+abbrev pub AnswersOlder : {S T : Type 0} {g : Ghosts S} → Project S g → Project S g → Result T Fault → Type 0
+AnswersOlder old new result = IfSome (older_version old) (λ version. (result ≡ Err (OldSchema version)) × (new ≡ old))
+
+-- whatever world of the present version the tables stood for, the command runs over it
 abbrev pub RunsOn : {S : Type 0} {g : Ghosts S} → Project S g → Project S g → Command → Result Answer Fault → Type 0
 RunsOn old new command result =
-    HasCleanDisk (state_of new) → (world : World) → IsProject world → GoesOn (state_of old) world → Runs world (request_of command) (has_ended new) (state_of new) result
+    HasCleanDisk (state_of new) → (world : World) → IsPresentProject world → GoesOn (state_of old) world → Runs world (request_of command) (has_ended new) (state_of new) result
+
+-- so it does in a session that is over an older one: all but an upgrade is refused
+abbrev pub RunsOlder : {S : Type 0} {g : Ghosts S} → Project S g → Project S g → Command → Result Answer Fault → Type 0
+RunsOlder old new command result =
+    HasCleanDisk (state_of new) → (world : World) → IsProject world → IsSome (older_version old) → GoesOn (state_of old) world
+    → Runs world (request_of command) (has_ended new) (state_of new) result
 
 -- so it does whatever a stop could leave before it
 abbrev pub RunsFromAny : {S : Type 0} {g : Ghosts S} → Project S g → Project S g → Command → Result Answer Fault → Type 0
 RunsFromAny old new command result =
-    HasCleanDisk (state_of new) → (world : World) → IsProject world → ShowsWorld (state_of old) world
+    HasCleanDisk (state_of new) → (world : World) → IsPresentProject world → ShowsWorld (state_of old) world
     → RunsFrom (state_of old) world (request_of command) (has_ended new) (state_of new) result
 
 -- What a command makes of the world that the tables stand for.
@@ -114,42 +143,63 @@ pub record RunsOver {S : Type 0} {g : Ghosts S} (old new : Project S g) (command
   pub goes : RunsOn old new command result
   -- and whatever it could leave
   pub from : RunsFromAny old new command result
+  -- over an older version
+  pub older : RunsOlder old new command result
 
 -- what its questions do to its connection
 abbrev pub AsksOn : {S T : Type 0} {g : Ghosts S} → Project S g → Project S g → Result T Fault → Type 0
 AsksOn {S} {T} {g} old new result = Asks g (connection_of old) (connection_of new) result
 
+-- What a question keeps of a session: `Broken` ends it, and nothing else does.
+pub record KeepsAsking {S T : Type 0} {g : Ghosts S} (old new : Project S g) (result : Result T Fault) : Type 0 where
+  pub ends : IsSessionOpen old → IsSessionEnded new → result ≡ Err Broken
+  pub broken : result ≡ Err Broken → IsSessionEnded new
+  -- it stays over its version, but for want of memory, which may leave it unknown
+  pub version : KeepsVersion old new ⊎ ((result ≡ Err Memory) × IsPresentSession new)
+
 -- over an adopted project no read is refused
 abbrev pub ReadsUnrefused : {S T : Type 0} {g : Ghosts S} → Project S g → Project S g → Result T Fault → Type 0
-ReadsUnrefused {S} {T} {g} old new result = NotRefusedIn g (connection_of old) (connection_of new) result IsProject
+ReadsUnrefused {S} {T} {g} old new result = NotRefusedOver g (connection_of old) (connection_of new) result IsProject
 
 -- the plan of the command is made, or the machine refuses it
 abbrev pub PlansOn : {S : Type 0} {g : Ghosts S} → Project S g → Project S g → Command → Result Plan Fault → Type 0
-PlansOn {S} {g} old new command result = ForEachWorld g (connection_of old) (connection_of new) (PlansFor (request_of command) result)
+PlansOn {S} {g} old new command result = ForEachProject g (connection_of old) (connection_of new) (PlansFor (request_of command) result)
 
 -- the changes of a plan are made, and its answer given
 abbrev pub CarriesOut : {S : Type 0} {g : Ghosts S} → Project S g → Project S g → Answer → List Change → Result Answer Fault → Type 0
 CarriesOut old new answer changes result =
-    HasCleanDisk (state_of new) → (world : World) (request : Request) → Refines (state_of old).now world → GoesOn (state_of old) world
+    HasCleanDisk (state_of new) → (world : World) (request : Request) → StandsFor (state_of old).now world → GoesOn (state_of old) world
     → Plans world request answer changes → Runs world request (has_ended new) (state_of new) result
 
 -- so they are whatever a stop could leave before it
 abbrev pub CarriesOutFrom : {S : Type 0} {g : Ghosts S} → Project S g → Project S g → Answer → List Change → Result Answer Fault → Type 0
 CarriesOutFrom old new answer changes result =
-    HasCleanDisk (state_of new) → (world : World) (request : Request) → Refines (state_of old).now world → ShowsWorld (state_of old) world
+    HasCleanDisk (state_of new) → (world : World) (request : Request) → StandsFor (state_of old).now world → ShowsWorld (state_of old) world
     → Plans world request answer changes → RunsFrom (state_of old) world request (has_ended new) (state_of new) result
 
 -- after Ok, and after each fault but want of memory or of the disk, the connection is open
 abbrev pub ServesOn : {S T : Type 0} {g : Ghosts S} → Project S g → Result T Fault → Type 0
 ServesOn {S} {T} {g} new result = ServesUnlessFailed g (connection_of new) result
 
--- so it is where the limits of a pass are right
-abbrev pub ServesRight : {S T : Type 0} {g : Ghosts S} → Project S g → Command → Result T Fault → Type 0
-ServesRight new command result = has_right_limits (request_of command) ≡ true → ServesOn new result
+-- where changes are made it is over no older version then; else over the same as before
+abbrev pub ReachesPresent : {S T : Type 0} {g : Ghosts S} → Project S g → Project S g → List Change → Result T Fault → Type 0
+ReachesPresent old new changes result = MatchResult result (λ _. changes ≢ [] → IsPresentSession new) (λ _. KeepsVersion old new)
 
--- a pass whose limits are wrong is refused, and nothing is touched
-abbrev pub RefusesLimit : {S T : Type 0} {g : Ghosts S} → Project S g → Project S g → Command → Result T Fault → Type 0
-RefusesLimit old new command result = has_right_limits (request_of command) ≡ false → (result ≡ Err BadLimit) × (new ≡ old)
+-- the command is planned, since the session is over the present version or it is an upgrade, and its limits are right
+pub record IsPlanned {S : Type 0} {g : Ghosts S} (old : Project S g) (command : Command) : Type 0 where
+  pub present : IsSome (older_version old) → is_upgrade (request_of command) ≡ true
+  pub right : has_right_limits (request_of command) ≡ true
+
+-- so it is then
+abbrev pub ServesRight : {S T : Type 0} {g : Ghosts S} → Project S g → Project S g → Command → Result T Fault → Type 0
+ServesRight old new command result = IsPlanned old command → ServesOn new result
+
+-- Else it is refused before anything is asked, and nothing is touched.
+pub record RefusesEarly {S T : Type 0} {g : Ghosts S} (old new : Project S g) (command : Command) (result : Result T Fault) : Type 0 where
+  -- over an older version each command but an upgrade, whatever its limits,
+  pub older : is_upgrade (request_of command) ≡ false → AnswersOlder old new result
+  -- and over the present one a pass whose limits are wrong
+  pub limits : IsPresentSession old → has_right_limits (request_of command) ≡ false → (result ≡ Err BadLimit) × (new ≡ old)
 
 -- with a fault, but for want of memory or of the disk, all is as it was: every table, and what a stop may leave
 abbrev pub LeavesUntouched : {S T : Type 0} {g : Ghosts S} → Project S g → Project S g → Result T Fault → Type 0
@@ -159,16 +209,21 @@ LeavesUntouched old new result = HasCleanDisk (state_of new) → IfErr result (�
 -- nothing
 abbrev pub LeavesIdle : {S T : Type 0} {g : Ghosts S} → Project S g → Project S g → Command → Result T Fault → Type 0
 LeavesIdle old new command result =
-    HasCleanDisk (state_of new) → (world : World) → IsProject world → GoesOn (state_of old) world → MakesNothing world (request_of command)
+    HasCleanDisk (state_of new) → (world : World) → IsPresentProject world → GoesOn (state_of old) world → MakesNothing world (request_of command)
     → OnOk result (KeepsAll (state_of old) (state_of new))
 
 -- over an adopted project it is told why a command was not done
 abbrev pub TellsWhy : {S T : Type 0} {g : Ghosts S} → Project S g → Project S g → Command → Result T Fault → Type 0
 TellsWhy old new command result =
-    HasCleanDisk (state_of new) → IsUnlimited old → (world : World) → IsProject world → GoesOn (state_of old) world
+    HasCleanDisk (state_of new) → IsUnlimited old → (world : World) → IsPresentProject world → GoesOn (state_of old) world
     → IfErr result (FailureCause (Broke old new) (has_ended new) world (request_of command))
 
 -- ---- a question
+
+-- it is refused before anything is asked after the end of a session, and over an older version
+pub record AnswersFirst {S T : Type 0} {g : Ghosts S} (old new : Project S g) (result : Result T Fault) : Type 0 where
+  pub ended : IsSessionEnded old → AnswersEnded old new result
+  pub older : IsSessionOpen old → AnswersOlder old new result
 
 abbrev pub WasOpenBefore : {S T E : Type 0} {g : Ghosts S} → Project S g → Project S g → Result T E → Type 0
 WasOpenBefore old new result = HasCleanDisk (state_of new) → OnOk result (IsTrue (state_of old).is_open)

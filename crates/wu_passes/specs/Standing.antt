@@ -6,17 +6,17 @@ use Rattle.sqlite.specs.Tree.{Trees}
 use Rattle.wu_core.specs.declared.fault.Fault.{Fault}
 use Rattle.wu_core.specs.declared.fault.Fault.TheVariants.{Memory, Broken, NewSchema, NotAProject}
 use Rattle.wu_core.specs.World.{World}
-use Rattle.wu_schema.specs.Refines.{Refines}
 use Rattle.wu_machine.specs.declared.command.Answer.{Answer}
 use Rattle.wu_passes.specs.Committing.{FoundAs}
 use Rattle.wu_machine.specs.Machine.{MakesNothing, present_version, reply, step}
 use Rattle.wu_machine.specs.Commands.{reply_of_answer}
 use Rattle.wu_store.specs.Loading.{IsStoreFault}
+use Rattle.wu_store.specs.StandsFor.{StandsFor}
 use Rattle.wu_machine.specs.Requests.{Reply, Request}
 
 -- while the connection is open, the tables stand for this world, and all is committed
 abbrev pub ShowsWorld : State → World → Type 0
-ShowsWorld s world = IsTrue s.is_open → Refines s.now world × (s.committed ≡ s.now)
+ShowsWorld s world = IsTrue s.is_open → StandsFor s.now world × (s.committed ≡ s.now)
 
 -- the tables stand for this world, all is committed, and a stop leaves nothing but tables that stand for it
 pub record GoesOn (s : State) (world : World) : Type 0 where

@@ -1,18 +1,19 @@
 -- A walk over lines of a project: what it borrows, and what it has left to hand out.
-use Rattle.std.specs.Prelude.{◌≡◌, ℕ, List, [], ◌∷◌, Option, Result, IfOk, IsOk, MatchOption}
+use Rattle.std.specs.Prelude.{◌≡◌, ℕ, List, [], ◌∷◌, Option, Result, Err, IfOk, IfSome, IsOk, IsSome, MatchOption}
 use Rattle.std.specs.Borrow.{Fml, MutBor, RattleType, RestsIfErr}
 use Rattle.std.specs.Vec.Iter.{into_iter_items, into_iter_len}
 use Rattle.std.specs.declared.vec.IntoIter.{IntoIter}
 use Rattle.sqlite.specs.State.{HasCleanDisk}
 use Rattle.sqlite.specs.Store.{Ghosts}
 use Rattle.wu_core.specs.declared.fault.Fault.{Fault}
+use Rattle.wu_core.specs.declared.fault.Fault.TheVariants.{Ended, OldSchema}
 use Rattle.wu_core.specs.World.{World}
 use Rattle.wu_schema.specs.Refines.{Refines}
 use Rattle.wu_store.specs.Loading.{IsReadOnly, NotRefusedIn, StaysUnlessFailed}
 use Rattle.wu_passes.specs.contracts.project.Project as project
 use Rattle.wu_passes.specs.declared.project.Project.{Project}
 use Rattle.wu_passes.specs.declared.project.walk.LineWalk.{LineWalk}
-use Rattle.wu_passes.specs.Projects.{BreaksOn, connection_of, IsSessionOpen, has_ended, IsSessionEnded, KeepsLimit, ServesOn, state_of}
+use Rattle.wu_passes.specs.Projects.{BreaksOn, connection_of, IsPresentSession, IsSessionOpen, older_version, has_ended, IsSessionEnded, KeepsLimit, KeepsVersion, ServesOn, state_of}
 
 -- the project that it borrows, as it stands
 abbrev pub walked : {S L : Type 0} {g : Ghosts S} → LineWalk S L g → Project S g
@@ -28,17 +29,20 @@ HasLeft walk lines = into_iter_items walk.lines ≡ lines
 
 -- ---- a walk begins
 
--- a walk only reads: the session goes on or not as before, nothing is committed, and the limit on steps stays
+-- a walk only reads: the session goes on or not as before, over the same version, nothing is committed, and the limit on
+-- steps stays
 pub record OnlyReads {S : Type 0} {g : Ghosts S} (old new : Project S g) : Type 0 where
   pub session : has_ended new ≡ has_ended old
   pub read : IsReadOnly (state_of old) (state_of new)
   pub limit : KeepsLimit old new
+  pub version : KeepsVersion old new
 
--- so does one that is refused; where the session had ended, nothing is touched
+-- so does one that is refused; where the session had ended or is over an older version, nothing is touched
 pub record RefusesWalk {S T : Type 0} {g : Ghosts S} (IsReadable : World → Type 0) (old : Project S g) (result : Result T Fault) (new : Project S g) : Type 0 where
   pub reads : OnlyReads old new
   pub untouched : IsSessionEnded old → new ≡ old
-  pub serves : IsSessionOpen old → ServesOn new result
+  pub older : IsSome (older_version old) → new ≡ old
+  pub serves : IsSessionOpen old → IsPresentSession old → ServesOn new result
   pub broke : BreaksOn old new result
   -- over a world whose values can be read it is for want of memory or of the disk
   pub unrefused : NotRefusedIn g (connection_of old) (connection_of new) result IsReadable
@@ -47,6 +51,11 @@ pub record RefusesWalk {S T : Type 0} {g : Ghosts S} (IsReadable : World → Typ
 module _ (S : RattleType) (g : Ghosts S.Denot) {L : Type 0} (IsReadable : World → Type 0) where
   abbrev pub RestsIfRefused : MutBor (Project S.Denot g) → Result (LineWalk S.Denot L g) Fault → Fml
   RestsIfRefused old result = RestsIfErr (project.the_row S g) old (λ walk. walk.project.ghost_name) result (RefusesWalk IsReadable old.now result)
+
+-- it is refused before anything is read after the end of a session, and over an older version
+pub record RefusesFirst {S T : Type 0} {g : Ghosts S} (old : Project S g) (result : Result T Fault) : Type 0 where
+  pub ended : IsSessionEnded old → result ≡ Err Ended
+  pub older : IsSessionOpen old → IfSome (older_version old) (λ version. result ≡ Err (OldSchema version))
 
 -- it has left these lines of each world that the tables stand for
 abbrev pub WalksOver : {S T A : Type 0} {g : Ghosts S} → (World → List T) → Project S g → LineWalk S (IntoIter T A) g → Type 0

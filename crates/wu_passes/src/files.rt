@@ -3,7 +3,7 @@
 ghost use Rattle.std.specs.Prelude.{◌≡◌, ◌≤◌, All, IfOk, IfErr};
 ghost use Rattle.wu_core.specs.declared.fault.Fault.TheVariants.{Memory};
 ghost use Rattle.wu_core.specs.declared.import.ImportKind.TheVariants as kind;
-ghost use Rattle.wu_passes.specs.Planning.{given_of, IsNewFile, LeavesRows, NeverEnded, PlansFor, PlansRows};
+ghost use Rattle.wu_passes.specs.Planning.{given_of, IsNewFile, LeavesRows, NeverEnded, PlansNow, PlansRows};
 ghost use Rattle.wu_machine.specs.Sound.{IsProject};
 ghost use Rattle.wu_machine.specs.Requests.{AskReported, AskSent};
 ghost use Rattle.wu_passes.specs.Touched.{LeavesRow, TouchesNamed};
@@ -131,7 +131,7 @@ pub fn plan_sent<'a, S: Alter>(
     ensures never { NeverEnded result }
     ensures unrefused { NotRefusedIn S.Store conn.old conn.new result IsProject }
     ensures plan { ForEachWorld S.Store conn.old conn.new
-        (PlansFor (AskSent file.now.name file.now.file) result) }
+        (PlansNow (AskSent file.now.name file.now.file) result) }
 {
     let source = file_source(ImportKind::Sent, file);
     match import_of(conn, alloc, ImportKind::Sent, &file.name)? {
@@ -156,7 +156,7 @@ pub fn plan_reported<'a, S: Alter>(
     ensures never { NeverEnded result }
     ensures unrefused { NotRefusedIn S.Store conn.old conn.new result IsProject }
     ensures plan { ForEachWorld S.Store conn.old conn.new
-        (PlansFor (AskReported file.now.name file.now.file) result) }
+        (PlansNow (AskReported file.now.name file.now.file) result) }
 {
     let source = file_source(ImportKind::Reported, file);
     match import_of(conn, alloc, ImportKind::Reported, &file.name)? {

@@ -11,6 +11,7 @@ mod plan;
 mod project;
 mod touched;
 mod upgrade;
+mod version;
 
 pub use project::{ArchiveWalk, HostWalk, LineWalk, Project, ResultWalk, Walk, WorkunitWalk};
 pub use wu_machine::{Answer, Batch, Command, RowsFile};

@@ -3,14 +3,12 @@
 
 ghost use Rattle.std.specs.Prelude.{◌≡◌, ◌+◌, ◌≤◌, ◌^◌, ◌++◌, [], true, length, None, IfErr, IfOk};
 ghost use Rattle.wu_core.specs.declared.fault.Fault.TheVariants.{Memory};
-ghost use Rattle.wu_core.specs.Limits.{longest_age};
 ghost use Rattle.wu_machine.specs.Machine.{is_limit_right};
 ghost use Rattle.wu_passes.specs.PassPlans.{asked, AddsArchivedRows, AddsGrants, AddsGiven, HandlesAll, HandlesAlso, IsImageOf, PlansTaken};
-ghost use Rattle.wu_passes.specs.Planning.{NeverEnded, NeverRefused, PlansFor};
-ghost use Rattle.wu_machine.specs.Sound.{IsProject};
+ghost use Rattle.wu_passes.specs.Planning.{ForEachProject, IsPresentProject, NeverEnded, NeverRefused, NotRefusedOver, PlansNow};
 ghost use Rattle.wu_machine.specs.Requests.{AskPass};
 ghost use Rattle.wu_store.specs.Changing.{archived_from, granted_from};
-ghost use Rattle.wu_store.specs.Loading.{Asks, IsStoreFault, NotRefusedIn, ForEachWorld, ServesUnlessFailed};
+ghost use Rattle.wu_store.specs.Loading.{Asks, IsStoreFault, ForEachWorld, ServesUnlessFailed};
 ghost use Rattle.wu_rules.specs.declared.due.Pass.TheVariants as pass;
 
 use crate::plan::Plan;
@@ -334,20 +332,19 @@ fn plan_taken<'a, S: Alter>(
     })
 }
 
-/// What a pass answers and changes. It takes the first workunits that it changes, up to its limit: the first by number,
-/// where the tables stand for a world whose list is in that order.
+/// What a pass answers and changes, over tables of the present version. It takes the first workunits that it changes,
+/// up to its limit: the first by number, where the tables stand for a world whose list is in that order.
 pub fn plan_pass<'a, S: Alter>(
     conn: &mut Connection<S>,
     alloc: Global,
     ask: &Ask,
 ) -> Result<Plan<'a>, Fault>
-    requires right { is_limit_right ask.now.pass ask.now.limit ask.now.min_age ≡ true }
-    requires age { ask.now.min_age ≤ longest_age }
+    requires { is_limit_right ask.now.pass ask.now.limit ask.now.min_age ≡ true }
     ensures asks { Asks S.Store conn.old conn.new result }
     ensures opens { ServesUnlessFailed S.Store conn.new result }
     ensures never { NeverEnded result }
-    ensures unrefused { NotRefusedIn S.Store conn.old conn.new result IsProject }
-    ensures plan { ForEachWorld S.Store conn.old conn.new (PlansFor (asked ask.now) result) }
+    ensures unrefused { NotRefusedOver S.Store conn.old conn.new result IsPresentProject }
+    ensures plan { ForEachProject S.Store conn.old conn.new (PlansNow (asked ask.now) result) }
 {
     let taken = load_due(conn, alloc, ask.pass, ask.moment, ask.min_age, ask.limit)?;
     plan_taken(conn, alloc, ask, taken)

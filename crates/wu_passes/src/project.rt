@@ -1,6 +1,7 @@
 //! A project: a session over its database.
 
 ghost use Rattle.std.specs.Prelude.{◌≡◌, false};
+ghost use Rattle.wu_passes.specs.Older.{KnowsOlder};
 
 mod session;
 mod summary;
@@ -11,6 +12,10 @@ pub use walk::{ArchiveWalk, HostWalk, LineWalk, ResultWalk, Walk, WorkunitWalk};
 
 /// A session over the database of a project, from its adoption to its release.
 ///
+/// Over an older version than the present one only an upgrade is done: each other command answers `OldSchema`, and so
+/// does each walk, and the summary. Want of memory in an upgrade may leave the version unknown. From then on a command
+/// asks it anew, and answers `OldSchema` behind a wrong limit; a walk and the summary read what is there.
+///
 /// It ends at `Broken` (the disk failed, or something is too big for the store), and at want of memory within a
 /// transaction: from then on each call answers `Ended` and changes nothing, since what the database holds is known
 /// again only once it is opened anew.
@@ -18,5 +23,8 @@ pub use walk::{ArchiveWalk, HostWalk, LineWalk, ResultWalk, Walk, WorkunitWalk};
 pub struct Project<S: Alter> {
     conn: Connection<S>,
     has_ended: bool,
+    /// The older version than the present one that its tables have, where it is known.
+    older: Option<u64>,
     ghost idle: { conn.in_transaction ≡ false },
+    ghost knows: { KnowsOlder S.Store conn has_ended older },
 }

@@ -1,40 +1,40 @@
-//! What bringing a project's schema to the present version answers.
+//! What bringing a project's schema to the present version answers and changes, before anything is changed.
 
-ghost use Rattle.wu_passes.specs.Planning.{NeverEnded, PlansFor};
+ghost use Rattle.wu_passes.specs.Planning.{NeverEnded, PlansUpgrade};
 ghost use Rattle.wu_machine.specs.Sound.{IsProject};
-ghost use Rattle.wu_machine.specs.Requests.{AskUpgrade};
-ghost use Rattle.wu_store.specs.Loading.{Asks, NotRefusedIn, ForEachWorld, ServesUnlessFailed};
+ghost use Rattle.wu_store.specs.Loading.{Asks, NotRefusedIn, ForEachWorld, StaysUnlessFailed};
 
 use crate::plan::Plan;
 use sqlite::{Alter, Connection};
 use std::alloc::Global;
 use wu_core::Fault;
 use wu_machine::Answer;
-use wu_schema::{PRESENT_VERSION, check_version, version_of};
+use wu_schema::PRESENT_VERSION;
+use wu_store::{Change, load_marks};
 
-/// What an upgrade answers: the version that was found, and the present one. The first version is the present one, so
-/// no change is planned.
+/// What an upgrade of tables of this version answers and changes. It answers that version and the present one.
 ///
-/// A later version is `NewSchema`. `NotAProject` where no project is there any more.
+/// At the present version no change is planned. An older one gets what it lacks, with the marks of all workunits, which
+/// are read here.
 pub fn plan_upgrade<'a, S: Alter>(
     conn: &mut Connection<S>,
     alloc: Global,
+    version: u64,
 ) -> Result<Plan<'a>, Fault>
     ensures asks { Asks S.Store conn.old conn.new result }
-    ensures opens { ServesUnlessFailed S.Store conn.new result }
+    ensures opens { StaysUnlessFailed S.Store conn.old conn.new result }
     ensures never { NeverEnded result }
     ensures unrefused { NotRefusedIn S.Store conn.old conn.new result IsProject }
-    ensures plan { ForEachWorld S.Store conn.old conn.new (PlansFor AskUpgrade result) }
+    ensures plan { ForEachWorld S.Store conn.old conn.new (PlansUpgrade version result) }
 {
-    let Some(version) = version_of(conn)? else {
-        return Err(Fault::NotAProject);
+    let answer = Answer::Upgraded {
+        from: version,
+        to: PRESENT_VERSION,
     };
-    check_version(version)?;
-    Ok(Plan {
-        answer: Answer::Upgraded {
-            from: version,
-            to: PRESENT_VERSION,
-        },
-        changes: Vec::new(alloc),
-    })
+    let mut changes = Vec::new(alloc);
+    if version < PRESENT_VERSION {
+        let rows = load_marks(conn, alloc)?;
+        changes.push(Change::Upgrade(rows))?;
+    }
+    Ok(Plan { answer, changes })
 }

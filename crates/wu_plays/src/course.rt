@@ -131,22 +131,45 @@ fn line_at(text: &str, number: u64) -> &str {
     ""
 }
 
-/// The acts of a script, the adoption first.
-pub fn course(rt: &HostRuntime, text: &str, between: Between) -> Result<Vec<Act>> {
-    let alloc = rt.alloc();
+/// The adoption of blank files, and the stage that it leads to.
+fn adoption(alloc: Global, between: Between) -> Result<(Act, Stage)> {
     let blank = Stage {
         files: Saved::empty(alloc),
         views: Vec::new(alloc),
     };
-    let (adoption, mut stage) = act_from(
-        alloc,
-        blank,
-        "(an adoption of empty files)",
-        None,
-        between,
-    )?;
+    act_from(alloc, blank, "(an adoption of empty files)", None, between)
+}
+
+/// The first stage: that of these files, or that of an adoption, which is then the first act.
+fn first_stage(
+    alloc: Global,
+    start: Option<Saved>,
+    between: Between,
+    acts: &mut Vec<Act>,
+) -> Result<Stage> {
+    match start {
+        Some(files) => {
+            let views = views_of(alloc, &files)?;
+            Ok(Stage { files, views })
+        }
+        None => {
+            let (act, stage) = adoption(alloc, between)?;
+            acts.push(act)?;
+            Ok(stage)
+        }
+    }
+}
+
+/// The acts of a script, from these files or from blank ones, whose adoption comes first then.
+pub fn course(
+    rt: &HostRuntime,
+    text: &str,
+    between: Between,
+    start: Option<Saved>,
+) -> Result<Vec<Act>> {
+    let alloc = rt.alloc();
     let mut acts = Vec::new(alloc);
-    acts.push(adoption)?;
+    let mut stage = first_stage(alloc, start, between, &mut acts)?;
     for step in steps(rt, text)?.into_vec() {
         let title = line_at(text, step.number);
         let (act, next) = act_from(alloc, stage, title, Some(step.action), between)?;

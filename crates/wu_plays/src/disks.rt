@@ -51,6 +51,14 @@ impl Saved {
         }
     }
 
+    /// A database of these bytes, with an empty log.
+    pub fn database(alloc: Global, db: Vec<u8>) -> Saved {
+        Saved {
+            log: Vec::new(alloc),
+            db,
+        }
+    }
+
     pub fn of(alloc: Global, files: &PlayFiles) -> io::Result<Saved> {
         Ok(Saved {
             log: Vec::from_slice(alloc, files.log.inner().bytes())?,

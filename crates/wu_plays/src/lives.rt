@@ -124,7 +124,7 @@ pub fn play(
     numbers: &[usize],
     transcript: &mut Vec<u8>,
 ) -> Result<()> {
-    let acts = course(rt, text, Between::Closed)?;
+    let acts = course(rt, text, Between::Closed, None)?;
     for wanted in [Found::Before, Found::After] {
         live(rt.alloc(), acts.as_slice(), numbers, wanted, transcript)?;
     }

@@ -3,6 +3,7 @@
 use anyhow::{Result, bail};
 use sqlite::{Alter, Connection};
 use std::alloc::Global;
+use std::io::Write;
 use wu_cli::{Action, perform};
 use wu_core::Fault;
 use wu_drive::{Project, View, show};
@@ -12,6 +13,23 @@ pub fn adopt<S: Alter + Drop>(conn: Connection<S>) -> Result<Project<S>> {
     match Project::adopt(conn) {
         Ok(project) => Ok(project),
         Err((_, fault)) => bail!("the adoption: {fault}"),
+    }
+}
+
+/// Writes a view; of a project of an older version what is told in its place.
+fn write_view<S: Alter>(
+    alloc: Global,
+    project: &mut Project<S>,
+    view: View,
+    out: &mut Vec<u8>,
+) -> Result<()> {
+    match show(alloc, project, view, out) {
+        Ok(()) => Ok(()),
+        Err(fault @ Fault::OldSchema(_)) => {
+            writeln!(out, "{fault}")?;
+            Ok(())
+        }
+        Err(fault) => bail!("a view: {fault}"),
     }
 }
 
@@ -25,7 +43,7 @@ pub fn views<S: Alter>(alloc: Global, project: &mut Project<S>) -> Result<Vec<u8
         View::Archive,
         View::Summary,
     ] {
-        show(alloc, project, view, &mut out)?;
+        write_view(alloc, project, view, &mut out)?;
     }
     Ok(out)
 }

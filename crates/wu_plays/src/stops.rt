@@ -10,6 +10,7 @@ use crate::tally::{Find, Finds, Tally};
 use anyhow::{Context, Result, bail, ensure};
 use sqlite::{Alter, Connection};
 use std::alloc::Global;
+use std::fs;
 use std::io::Write;
 use wu_core::Fault;
 use wu_drive::Project;
@@ -163,15 +164,25 @@ fn stop_each(alloc: Global, case: Case<'_>) -> Result<Tally> {
     bail!("the calls on the {} go on", case.side)
 }
 
-/// Plays a script.
+/// The files that a play begins with: those of the database in this file, if one is named.
+fn start(rt: &HostRuntime, path: Option<&str>) -> Result<Option<Saved>> {
+    let Some(path) = path else {
+        return Ok(None);
+    };
+    let bytes = fs::read(rt, path).context(path)?;
+    Ok(Some(Saved::database(rt.alloc(), bytes)))
+}
+
+/// Plays a script, from the database in a file where one is named.
 pub fn play(
     rt: &HostRuntime,
     text: &str,
+    path: Option<&str>,
     between: Between,
     pages: Pages,
     transcript: &mut Vec<u8>,
 ) -> Result<()> {
-    let acts = course(rt, text, between)?;
+    let acts = course(rt, text, between, start(rt, path)?)?;
     for at in 0..acts.len() {
         let Some([act, rest @ ..]) = acts.as_slice().get(at..) else {
             break;

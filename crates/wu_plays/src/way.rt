@@ -11,8 +11,9 @@ use std::alloc::Global;
 pub enum Way {
     /// Over a database in memory, each line a command of its own.
     Memory,
-    /// Over two files that stop at each call, left so between the acts, with so many pages in memory.
-    Stops(Between, Pages),
+    /// Over two files that stop at each call, left so between the acts, with so many pages in memory; from the database
+    /// in a file where one is named.
+    Stops(Between, Pages, Option<String>),
     /// Over two files that stop at the commands of these numbers, from 1.
     Lives(Vec<usize>),
     /// Into writers that fail after each byte.
@@ -28,14 +29,22 @@ fn numbers<'a>(alloc: Global, words: &[&'a str]) -> Result<Vec<usize>> {
     Ok(numbers)
 }
 
+/// The file that a word names, if there is one.
+fn file<'a>(alloc: Global, words: &[&'a str]) -> Result<Option<String>> {
+    match words {
+        [path, ..] => Ok(Some(String::from_str(alloc, path)?)),
+        [] => Ok(None),
+    }
+}
+
 impl Way {
     /// The way of this name, with the words that stand behind the script.
     pub fn read<'a>(alloc: Global, name: &str, rest: &[&'a str]) -> Result<Way> {
         let way = match name {
             "memory" => Way::Memory,
-            "stops" => Way::Stops(Between::Closed, Pages::All),
-            "few_pages" => Way::Stops(Between::Closed, Pages::Few),
-            "unclosed" => Way::Stops(Between::Unclosed, Pages::All),
+            "stops" => Way::Stops(Between::Closed, Pages::All, file(alloc, rest)?),
+            "few_pages" => Way::Stops(Between::Closed, Pages::Few, None),
+            "unclosed" => Way::Stops(Between::Unclosed, Pages::All, None),
             "lives" => Way::Lives(numbers(alloc, rest)?),
             "outputs" => Way::Outputs,
             _ => bail!("no way to play"),
@@ -47,7 +56,14 @@ impl Way {
     pub fn play(&self, rt: &HostRuntime, text: &str, transcript: &mut Vec<u8>) -> Result<()> {
         match self {
             Way::Memory => memory::play(rt, text, transcript),
-            Way::Stops(between, pages) => stops::play(rt, text, *between, *pages, transcript),
+            Way::Stops(between, pages, path) => stops::play(
+                rt,
+                text,
+                path.as_deref(),
+                *between,
+                *pages,
+                transcript,
+            ),
             Way::Lives(numbers) => lives::play(rt, text, numbers.as_slice(), transcript),
             Way::Outputs => outputs::play(rt, text, transcript),
         }

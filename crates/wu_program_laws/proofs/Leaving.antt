@@ -38,15 +38,16 @@ use Rattle.wu_drive.specs.Driving.{Drives, world_after}
 use Rattle.wu_machine.specs.Commands.{request_of}
 use Rattle.wu_machine.specs.Machine.{fold_steps, step}
 use Rattle.wu_machine.specs.declared.command.Command.{Command}
-use Rattle.wu_machine.specs.Sound.{IsProject}
+use Rattle.wu_passes.specs.Planning.{IsPresentProject}
 use Rattle.wu_machine.specs.declared.command.Answer.{Answer}
 use Rattle.wu_passes.specs.Adopting.{IsVacant}
 use Rattle.wu_passes.specs.Committing.{FoundAs}
 use Rattle.wu_passes.specs.Projects.{has_ended, state_of}
 use Rattle.wu_passes.specs.Standing.{GoesOn, FaultsOnlyGrow}
 use Rattle.wu_passes.specs.declared.project.Project.{Project}
-use Rattle.wu_schema.specs.Refines.{IsFree, Refines}
-use Rattle.wu_schema.proofs.StandsLemmas.{stands_again}
+use Rattle.wu_schema.specs.Refines.{IsFree}
+use Rattle.wu_store.specs.StandsFor.{StandsFor}
+use Rattle.wu_stops.proofs.StoppingLemmas.{stands_still}
 use Rattle.wu_schema.proofs.VersionLemmas.{free_lacks}
 use Rattle.wu_words.specs.Statuses.{fault_status, refusal_status, usage_status}
 use Rattle.wu_words.specs.declared.action.Action.{Action}
@@ -166,10 +167,10 @@ was_clean contents conn again old new asked done (inr none) clean = omega (arith
 -- ---- what was told of the work
 
 module _ {D W : Type 0} {g : Ghosts D} (contents : W → Option (List ℕ)) (conn again : Held (FileStore D g)) (old new : W) (done : Result (Unit {0}) Trouble) where
-  adopted_goes : (asked : Work) (does : DoesAdopted over_files contents conn again old new asked done) → HasCleanDisk (state_of does.old) → (world : World) → IsProject world
+  adopted_goes : (asked : Work) (does : DoesAdopted over_files contents conn again old new asked done) → HasCleanDisk (state_of does.old) → (world : World) → IsPresentProject world
       → BeginsFrom (file_state conn) world → GoesOn (state_of does.old) world
   adopted_goes asked does clean world project (inl goes) =
-      let first : 1 ≤ world.version = omega (arith, project.present) in
+      let first : 1 ≤ world.version = project.1.first in
       (does.adopts.goes clean world first goes).0
   adopted_goes asked does clean world project (inr (vacant, is)) = subst (λ w. GoesOn (state_of does.old) w) (sym is) (does.adopts.fresh clean vacant).goes
 
@@ -181,7 +182,7 @@ module _ {D W : Type 0} {g : Ghosts D} (contents : W → Option (List ℕ)) (con
   line_whole (Some f) A of_none = tt
 
   -- a line of commands was done over an adopted project
-  line_told : (commands : List Command) (does : DoesAdopted over_files contents conn again old new (work.Line (Commands commands)) done) → HasCleanDisk (file_state again) → (world : World) → IsProject world
+  line_told : (commands : List Command) (does : DoesAdopted over_files contents conn again old new (work.Line (Commands commands)) done) → HasCleanDisk (file_state again) → (world : World) → IsPresentProject world
       → BeginsFrom (file_state conn) world → ToldWork world (work.Line (Commands commands))
   line_told commands does clean world project begun =
       let (end, (run, runs, is), told) = does.does in
@@ -217,7 +218,7 @@ module _ {D W : Type 0} {g : Ghosts D} (contents : W → Option (List ℕ)) (con
     stands = (none.refused.given clean).goes world;
   }
 
-  work_told : (asked : Work) → DoesOver over_files contents conn again old new asked done → DrivesOver over_files conn again asked done → HasCleanDisk (file_state again) → (world : World) → IsProject world
+  work_told : (asked : Work) → DoesOver over_files contents conn again old new asked done → DrivesOver over_files conn again asked done → HasCleanDisk (file_state again) → (world : World) → IsPresentProject world
       → BeginsFrom (file_state conn) world → ToldWork world asked ⊎ RefusesWork (file_state conn) (file_state again) world done
   work_told (work.Line (Commands commands)) (inl does) drives clean world project begun = inl (line_told commands does clean world project begun)
   work_told (work.Line (Commands commands)) (inr none) drives clean world project begun = inr (nothing_told _ none clean world)
@@ -254,8 +255,8 @@ module _ {D : Type 0} {g : Ghosts D} (stays : SeenMayStay g) (conn : Held (FileS
   goes_from world held =
       let same : (file_state conn).now ≡ (file_state conn).committed = opened.0.clean in
       let it : FoundAs (file_state conn).committed.trees world = subst (λ (db : Trees). FoundAs db world) (sym (found.holds held.trees held.holds)) held.found in
-      let stands : Refines (file_state conn).now world =
-      stands_again it.database (file_state conn).now world it.stands (opened.1 opened.0.is_open).0 (ap (λ (d : Database). d.trees) same ∙ sym it.same) in
+      let stands : StandsFor (file_state conn).now world =
+      stands_still it.database (file_state conn).now world it.stands (opened.1 opened.0.is_open).0 (ap (λ (d : Database). d.trees) same ∙ sym it.same) in
       record {
         stands = λ is_open. (stands, sym same);
         left = λ db may. subst (λ (t : Trees). FoundAs t world) (sym (settled_at conn.store stays db opened.0.is_open may)) it;
@@ -323,7 +324,7 @@ module _ {D : Type 0} {g : Ghosts D} (again : Held (FileStore D g)) (files : Fil
                   at_most_one_more = omega arith;
                   after = record {
                     held = record { trees = db; holds = holds; found = subst (λ w. FoundAs db w) (sym next) after };
-                    project = subst (λ w. IsProject w) (sym next) (drives.cut_project refl cut there);
+                    project = subst (λ w. IsPresentProject w) (sym next) (drives.cut_project refl cut there);
                   };
                 }
           ]
@@ -380,7 +381,7 @@ module _ {S W E : Type 0} {c : calls.Ghosts Host} {s : start.Ghosts S} {g : Ghos
       → IsOpenedAt path (image_at s) conn → DoesOver over_files contents conn again old new asked done → DrivesOver over_files conn again asked done → TellsTrouble told_of err_old err_new done status is_told
       → HasCleanDisk (file_state again) → OfEachImage g files (λ image. (db : Trees) × (file_state again).may_leave db × HoldsDatabase image db)
       → ((world : World) (it : DrivesWork world asked done (file_state again)) → OfEachImage g files (says world (commands_of_work asked) it.count))
-      → (world : World) → IsProject world → ImageRefines (image_at s) world → LeavesDone g files says (contents old) (contents new) world asked status ⊎ LeavesAsItWas g files (image_at s) world status
+      → (world : World) → IsPresentProject world → ImageRefines (image_at s) world → LeavesDone g files says (contents old) (contents new) world asked status ⊎ LeavesAsItWas g files (image_at s) world status
   opened_leaves says conn again path asked old new err_old err_new done status is_told files at does drives tells clean each hold world project start =
       let early : HasCleanDisk (file_state conn) = was_clean contents conn again old new asked done does clean in
       let opened : IsOpened conn = at.opens early in

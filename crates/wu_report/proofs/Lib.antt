@@ -4,3 +4,4 @@ mod LineLemmas
 mod MomentLemmas
 mod ViewLemmas
 pub mod WritingLemmas
+mod WalkedLemmas

@@ -52,6 +52,9 @@ Appends-nought a b bytes n is h = subst (λ m. Appends a b (take m bytes)) is h
 pub AppendsFront-kept : (a b : Option (List ℕ)) (xs : List ℕ) → Keeps a b → AppendsFront a b xs
 AppendsFront-kept a b xs h = (zero, Appends-none a b h)
 
+pub AppendsFront-nothing : (a : Option (List ℕ)) (xs : List ℕ) → AppendsFront a a xs
+AppendsFront-nothing a xs = (zero, Appends-nil a)
+
 -- a call that failed after a front
 pub Writes-failed : {T E : Type 0} (a b : Option (List ℕ)) (bytes : List ℕ) (r : Result T E) → IsErr r → AppendsFront a b bytes → WritesBytes a b bytes r
 Writes-failed a b bytes (Ok x) failed h = cc

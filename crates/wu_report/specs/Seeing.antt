@@ -1,5 +1,5 @@
 -- All that is known of a view that is shown.
-use Rattle.std.specs.Prelude.{◌≡◌, ◌≤◌, ℕ, List, Option, Result, Err, IfErr}
+use Rattle.std.specs.Prelude.{◌≡◌, ◌≤◌, ℕ, List, Option, Result, Err}
 use Rattle.sqlite_trees.specs.declared.store.Store.{Ghosts}
 use Rattle.wu_core.specs.declared.fault.Fault.{Fault}
 use Rattle.wu_core.specs.declared.fault.Fault.TheVariants.{Broken}
@@ -9,7 +9,7 @@ use Rattle.wu_passes.specs.declared.project.Project.{Project}
 use Rattle.wu_passes.specs.Projects.{BreaksOn, IsSessionOpen, IsSessionEnded, KeepsLimit, ServesOn, state_of}
 use Rattle.wu_passes.specs.Standing.{FaultsOnlyGrow}
 use Rattle.wu_report.specs.Projects.{EndsAsBroken, StillGoesOn}
-use Rattle.wu_report.specs.Views.{IsViewFault, RefusesEnded, Shows, ShowsUnrefused}
+use Rattle.wu_report.specs.Views.{RefusesView, Shows, ShowsOrFails, ShowsUnrefused}
 
 -- The lines of the view are written, up to the first fault.
 pub record Sees {S W T : Type 0} {store : Ghosts S} (contents : W → Option (List ℕ)) (old new : Project S store) (out_old out_new : W) (view : View) (result : Result T Fault) : Type 0 where
@@ -20,11 +20,12 @@ pub record Sees {S W T : Type 0} {store : Ghosts S} (contents : W → Option (Li
   pub clean : FaultsOnlyGrow (state_of old) (state_of new)
   pub counts : (state_of old).faults ≤ (state_of new).faults
   pub limit : KeepsLimit old new
-  pub ended : RefusesEnded contents old new out_old out_new result
+  -- after the end of a session, and over an older version, nothing is shown
+  pub refused : RefusesView contents old new out_old out_new result
   -- the session ends with `Broken` alone
   pub ends : EndsAsBroken old new result
   pub broken : result ≡ Err Broken → IsSessionEnded new
-  pub fault : IsSessionOpen old → IfErr result IsViewFault
+  pub fault : ShowsOrFails old result
   pub unrefused : ShowsUnrefused old new view result
   pub broke : BreaksOn old new result
   pub opens : IsSessionOpen old → ServesOn new result

@@ -1,10 +1,10 @@
 -- What is shown of a project.
-use Rattle.std.specs.Prelude.{◌≡◌, ◌≢◌, ◌⊎◌, ℕ, List, flat_map, Option, Result, Err, IfErr, IsOkUnless}
+use Rattle.std.specs.Prelude.{◌≡◌, ◌≢◌, ◌⊎◌, ℕ, List, flat_map, Option, Result, Err, IfErr, IfSome, IsOkUnless}
 use Rattle.std.specs.declared.vec.IntoIter.{IntoIter}
 use Rattle.sqlite.specs.State.{HasCleanDisk}
 use Rattle.sqlite_trees.specs.declared.store.Store.{Ghosts}
 use Rattle.wu_core.specs.declared.fault.Fault.{Fault}
-use Rattle.wu_core.specs.declared.fault.Fault.TheVariants.{Ended, NotAProject, Output}
+use Rattle.wu_core.specs.declared.fault.Fault.TheVariants.{Ended, NotAProject, OldSchema, Output}
 use Rattle.wu_core.specs.World.{World}
 use Rattle.wu_store.specs.Lines.{AreHostsNamed}
 use Rattle.wu_store.specs.Loading.{IsStoreFault}
@@ -13,7 +13,7 @@ use Rattle.wu_store.specs.Summaries.{IsCountable}
 use Rattle.wu_passes.specs.Standing.{GoesOn}
 use Rattle.wu_passes.specs.declared.project.Project.{Project}
 use Rattle.wu_passes.specs.declared.project.walk.LineWalk.{LineWalk}
-use Rattle.wu_passes.specs.Projects.{IsSessionOpen, IsSessionEnded, IsUnlimited, state_of}
+use Rattle.wu_passes.specs.Projects.{IsPresentSession, IsSessionOpen, IsSessionEnded, IsUnlimited, older_version, state_of}
 use Rattle.wu_passes.specs.Walks.{HasLeft, walked}
 use Rattle.wu_machine.specs.declared.view.View.{View}
 use Rattle.wu_machine.specs.declared.view.View.TheVariants as view
@@ -58,7 +58,17 @@ ShowsUnrefused old new view result =
     IsSessionOpen old → HasCleanDisk (state_of new) → IsUnlimited old → (world : World) → CanBeShown world view → GoesOn (state_of old) world
     → IfErr result (λ fault. fault ≢ NotAProject)
 
--- where a session had ended, that is the answer, and neither the project nor the writer is touched
-abbrev pub RefusesEnded : {S W T : Type 0} {store : Ghosts S} → (W → Option (List ℕ)) → Project S store → Project S store → W → W → Result T Fault → Type 0
-RefusesEnded contents old new out_old out_new result =
-    IsSessionEnded old → (result ≡ Err Ended) × (new ≡ old) × (contents out_new ≡ contents out_old)
+-- over the present version only these faults come
+abbrev pub ShowsOrFails : {S T : Type 0} {store : Ghosts S} → Project S store → Result T Fault → Type 0
+ShowsOrFails old result = IsSessionOpen old → IsPresentSession old → IfErr result IsViewFault
+
+-- it is refused with a fault, and neither the project nor the writer is touched
+abbrev pub RefusesWith : {S W T : Type 0} {store : Ghosts S} → (W → Option (List ℕ)) → Project S store → Project S store → W → W → Result T Fault → Fault → Type 0
+RefusesWith contents old new out_old out_new result fault = (result ≡ Err fault) × (new ≡ old) × (contents out_new ≡ contents out_old)
+
+-- So it is before anything is written.
+pub record RefusesView {S W T : Type 0} {store : Ghosts S} (contents : W → Option (List ℕ)) (old new : Project S store) (out_old out_new : W) (result : Result T Fault) : Type 0 where
+  -- after the end of a session,
+  pub ended : IsSessionEnded old → RefusesWith contents old new out_old out_new result Ended
+  -- and over an older version of a project
+  pub older : IsSessionOpen old → IfSome (older_version old) (λ version. RefusesWith contents old new out_old out_new result (OldSchema version))

@@ -56,11 +56,11 @@ pub fn prints_the_archive()
 /// The summary of a world in which nothing is, and of one after a batch of one job and a transition.
 pub fn prints_summaries()
     ensures empty { view_text empty_world Summary
-        ≡ codes "version 1\nnext 1\n"
+        ≡ codes "version 2\nnext 1\n"
         ++ codes "workunits 0\nresults 0\nunsent 0\nin_progress 0\nover 0\n"
         ++ codes "archived 0\ngrants 0\ncredit 0\nimports 0\n" }
     ensures batch { view_text after_a_batch Summary
-        ≡ codes "version 1\nnext 2\n"
+        ≡ codes "version 2\nnext 2\n"
         ++ codes "workunits 1\nresults 2\nunsent 2\nin_progress 0\nover 0\n"
         ++ codes "archived 0\ngrants 0\ncredit 0\nimports 1\n" }
 {}

@@ -3,7 +3,7 @@
 ghost use Rattle.std.specs.Prelude.{◌≡◌, IfErr};
 ghost use Rattle.wu_report.specs.Projects.{ReadsSession};
 ghost use Rattle.wu_report.specs.Seeing.{Sees};
-ghost use Rattle.wu_report.specs.Views.{FailsToWrite, IsViewFault, RefusesEnded, Shows, ShowsUnrefused, WritesLeft};
+ghost use Rattle.wu_report.specs.Views.{FailsToWrite, IsViewFault, RefusesView, Shows, ShowsOrFails, ShowsUnrefused, WritesLeft};
 ghost use Rattle.wu_passes.specs.Projects.{BreaksOn, IsSessionOpen, ServesOn};
 ghost use Rattle.wu_passes.specs.Walks.{OnlyReads, StaysServing, walked};
 
@@ -40,11 +40,11 @@ fn write_workunits<S: Alter, W: Write>(
     project: &mut Project<S>,
     out: &mut W,
 ) -> Result<(), Fault>
-    ensures ended { RefusesEnded W.contents project.old project.new out.old out.new result }
+    ensures early { RefusesView W.contents project.old project.new out.old out.new result }
     ensures reads { OnlyReads project.old project.new }
     ensures opens { IsSessionOpen project.old → ServesOn project.new result }
     ensures text { Shows W.contents project.old project.new out.old out.new View.Workunits result }
-    ensures fault { IsSessionOpen project.old → IfErr result IsViewFault }
+    ensures fault { ShowsOrFails project.old result }
     ensures unrefused { ShowsUnrefused project.old project.new View.Workunits result }
     ensures broke { BreaksOn project.old project.new result }
 {
@@ -58,11 +58,11 @@ fn write_results<S: Alter, W: Write>(
     project: &mut Project<S>,
     out: &mut W,
 ) -> Result<(), Fault>
-    ensures ended { RefusesEnded W.contents project.old project.new out.old out.new result }
+    ensures early { RefusesView W.contents project.old project.new out.old out.new result }
     ensures reads { OnlyReads project.old project.new }
     ensures opens { IsSessionOpen project.old → ServesOn project.new result }
     ensures text { Shows W.contents project.old project.new out.old out.new View.Results result }
-    ensures fault { IsSessionOpen project.old → IfErr result IsViewFault }
+    ensures fault { ShowsOrFails project.old result }
     ensures unrefused { ShowsUnrefused project.old project.new View.Results result }
     ensures broke { BreaksOn project.old project.new result }
 {
@@ -76,11 +76,11 @@ fn write_hosts<S: Alter, W: Write>(
     project: &mut Project<S>,
     out: &mut W,
 ) -> Result<(), Fault>
-    ensures ended { RefusesEnded W.contents project.old project.new out.old out.new result }
+    ensures early { RefusesView W.contents project.old project.new out.old out.new result }
     ensures reads { OnlyReads project.old project.new }
     ensures opens { IsSessionOpen project.old → ServesOn project.new result }
     ensures text { Shows W.contents project.old project.new out.old out.new View.Hosts result }
-    ensures fault { IsSessionOpen project.old → IfErr result IsViewFault }
+    ensures fault { ShowsOrFails project.old result }
     ensures unrefused { ShowsUnrefused project.old project.new View.Hosts result }
     ensures broke { BreaksOn project.old project.new result }
 {
@@ -94,11 +94,11 @@ fn write_archive<S: Alter, W: Write>(
     project: &mut Project<S>,
     out: &mut W,
 ) -> Result<(), Fault>
-    ensures ended { RefusesEnded W.contents project.old project.new out.old out.new result }
+    ensures early { RefusesView W.contents project.old project.new out.old out.new result }
     ensures reads { OnlyReads project.old project.new }
     ensures opens { IsSessionOpen project.old → ServesOn project.new result }
     ensures text { Shows W.contents project.old project.new out.old out.new View.Archive result }
-    ensures fault { IsSessionOpen project.old → IfErr result IsViewFault }
+    ensures fault { ShowsOrFails project.old result }
     ensures unrefused { ShowsUnrefused project.old project.new View.Archive result }
     ensures broke { BreaksOn project.old project.new result }
 {
@@ -108,11 +108,11 @@ fn write_archive<S: Alter, W: Write>(
 
 /// Writes the lines of the summary. Only `Broken` ends the session.
 fn write_counts<S: Alter, W: Write>(project: &mut Project<S>, out: &mut W) -> Result<(), Fault>
-    ensures ended { RefusesEnded W.contents project.old project.new out.old out.new result }
+    ensures early { RefusesView W.contents project.old project.new out.old out.new result }
     ensures reads { ReadsSession project.old project.new result }
     ensures opens { IsSessionOpen project.old → ServesOn project.new result }
     ensures text { Shows W.contents project.old project.new out.old out.new View.Summary result }
-    ensures fault { IsSessionOpen project.old → IfErr result IsViewFault }
+    ensures fault { ShowsOrFails project.old result }
     ensures unrefused { ShowsUnrefused project.old project.new View.Summary result }
     ensures broke { BreaksOn project.old project.new result }
 {
@@ -127,11 +127,11 @@ fn write_view<S: Alter, W: Write>(
     view: View,
     out: &mut W,
 ) -> Result<(), Fault>
-    ensures ended { RefusesEnded W.contents project.old project.new out.old out.new result }
+    ensures early { RefusesView W.contents project.old project.new out.old out.new result }
     ensures reads { ReadsSession project.old project.new result }
     ensures opens { IsSessionOpen project.old → ServesOn project.new result }
     ensures text { Shows W.contents project.old project.new out.old out.new view result }
-    ensures fault { IsSessionOpen project.old → IfErr result IsViewFault }
+    ensures fault { ShowsOrFails project.old result }
     ensures unrefused { ShowsUnrefused project.old project.new view result }
     ensures broke { BreaksOn project.old project.new result }
 {

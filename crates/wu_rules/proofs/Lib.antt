@@ -1,5 +1,6 @@
 pub mod InPlace
 pub mod Lists
+pub mod Marked
 pub mod Placing
 pub mod Outputs
 pub mod Timing

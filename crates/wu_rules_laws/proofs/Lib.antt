@@ -13,7 +13,6 @@ mod Hosted
 pub mod Judged
 mod Kept
 pub mod Making
-mod Marked
 mod Naming
 mod Planned
 mod Progress

@@ -1,5 +1,5 @@
 -- From question to question.
-use Rattle.wu_schema.proofs.Words.{IsTrue, Command, CommitsShowing, CompileError, Database, FailsToShow, Option, Program, Shown, Vec, Err, Error, FailsToQuery, Fault, Ghosts, HasCleanDisk, Held, IfErr, IsBack, IsNotRun, IsUnchanged, List, Ok, Refines, OnOk, Result, Row, State, StoreError, Survives, World, ap, arith, cases_Bool, false, fault_of, inl, inr, refl, state, store_error, subst, sym, true, ℕ, ◌∙◌, ◌≡◌, ◌≢◌, ◌≤◌, ◌⊎◌}
+use Rattle.wu_schema.proofs.Words.{IsTrue, Command, CommitsShowing, CompileError, Database, FailsToShow, Option, Program, Shown, Vec, Err, Error, FailsToQuery, Fault, Ghosts, HasCleanDisk, Held, IfErr, IsBack, IsNotRun, IsUnchanged, List, Ok, Refines, OnOk, Result, Row, State, StoreError, Survives, World, ap, arith, false, fault_of, inl, inr, refl, state, store_error, subst, sym, ℕ, ◌∙◌, ◌≡◌, ◌≢◌, ◌≤◌, ◌⊎◌}
 use Rattle.wu_core.specs.declared.fault.Fault.TheVariants.{Broken, NotAProject}
 use Rattle.sqlite.proofs.StateLemmas.{survives_then}
 use Rattle.sqlite.specs.Command.TheVariants as command

@@ -108,6 +108,10 @@ pub ok_on : {T E : Type 0} (r : Result T E) (P Q : Type 0) → (P → Q) → OnO
 ok_on (Ok x) P Q f h = f h
 ok_on (Err e) P Q f h = tt
 
+pub ok_both : {T E : Type 0} (r : Result T E) (P Q R : Type 0) → (P → Q → R) → OnOk r P → OnOk r Q → OnOk r R
+ok_both (Ok x) P Q R f h k = f h k
+ok_both (Err e) P Q R f h k = tt
+
 pub never_ok : {T E : Type 0} (r : Result T E) (P : Type 0) (Q : E → Type 0) → IsErrAnd r Q → OnOk r P
 never_ok (Ok x) P Q is = absurd is
 never_ok (Err e) P Q is = tt

@@ -1,7 +1,7 @@
 -- The seven tables, one after another, and the row of a fresh project.
 use Rattle.wu_schema.proofs.Words.{Database, Has, HasMade, HasNamed, HasTable, HasTables, HoldsAll, Index, IsDatabase, IsPermutation-refl, List, ListsAll, ProjectTrees, PutsOne, Row, Schema, Table, [], all_has, and_parts, ap, archived_at, arith, cases_Bool, codes, eqb-true, false, first_key, host_at, import_at, inl, inr, length, next_tree, project_at, put_row, refl, stored_project, subst, sym, ℕ, ◌++◌, ◌+◌, ◌==◌, ◌∙◌, ◌∷◌, ◌≡◌, ◌⊎◌}
 use Rattle.wu_core.specs.World.{empty_world}
-use Rattle.wu_schema.specs.Made.{MakesAll, Named, MakesProject, IsSequence, keys_of, work_tables, record_tables}
+use Rattle.wu_schema.specs.Made.{MakesAll, Named, MakesEmpty, IsSequence, keys_of, work_tables, record_tables}
 use Rattle.wu_schema.proofs.StandsLemmas.{but_one, is_there}
 use Rattle.wu_schema.proofs.Parts.{Part, Project, Workunits, Instances, Grants, Hosts, Archive, Imports, HasParts, Holds, IsIn, is_part, keeps_but, name_of, placed, rows_stand, same_part, table_of, tree_in}
 use Rattle.wu_schema.proofs.StandsOver.{Grows, ByBytes, grows_same, grows_both, still_named, still_compares, tables_are}
@@ -141,7 +141,7 @@ module _ (old end new : Database) (h : MakesAll old end (work_tables ++ record_t
       by Archive all = all.1.1.1.1.1.0
       by Imports all = all.1.1.1.1.1.1.0
 
-  there : HasParts 1 end.schema trees
+  there : HasParts empty_world.version end.schema trees
   there p is_in = (made p).has
 
   compares : ByBytes end.schema trees.host
@@ -149,20 +149,20 @@ module _ (old end new : Database) (h : MakesAll old end (work_tables ++ record_t
       let hosts = h.2.2.2.2 in
       still_compares hosts.0 end (all_grow hosts.0 end ((codes "archived", archived_at) ∷ (codes "import", import_at) ∷ []) hosts.2) trees.host (is_there hosts.0.schema _ _ (length h.2.2.2.0.schema.tables, hosts.1.has, hosts.1.owns)) (host_compares h.2.2.2.0 hosts.0 h.2.2.2.1.sound hosts.1)
 
-  held : (p : Part) → IsIn p 1 → Holds p (new.trees (tree_in trees p)) empty_world
+  held : (p : Part) → IsIn p empty_world.version → Holds p (new.trees (tree_in trees p)) empty_world
   held p is_in = elim (cases_Bool (is_part Project p)) [
     | inl same ↦ subst (λ q. Holds q (new.trees (tree_in trees q)) empty_world) (same_part Project p same) (put.rows ∙ ap (put_row first_row) (made Project).empty)
     | inr other ↦
         let empty : end.trees (tree_in trees p) ≡ [] = subst (λ n. end.trees n ≡ []) (placed trees p) (made p).empty in
-        none_held p other _ (keeps_but 1 end trees there new Project tt (but_one end new trees.project first_row put) p is_in other ∙ empty)
+        none_held p other _ (keeps_but empty_world.version end trees there new Project tt (but_one end new trees.project first_row put) p is_in other ∙ empty)
   ]
 
-  makes_project : MakesProject old new
-  makes_project =
+  makes_empty : MakesEmpty old new
+  makes_empty =
       let grows = all_grow old end (work_tables ++ record_tables) h in
       let adds = all_add old end (work_tables ++ record_tables) h in
       record {
-        stands = record { trees = trees; tables = subst (λ (s : Schema). HasTables s trees) (sym put.schema) (tables_are 1 end.schema trees there compares); rows = rows_stand new trees empty_world held; sound = put.sound };
+        stands = record { trees = trees; tables = subst (λ (s : Schema). HasTables s trees) (sym put.schema) (tables_are empty_world.version end.schema trees there compares); rows = rows_stand new trees empty_world held; sound = put.sound };
         keeps = record {
           tables = λ t has.
               let still = grows.keeps.tables t has in
@@ -177,8 +177,8 @@ module _ (old end new : Database) (h : MakesAll old end (work_tables ++ record_t
         sound = put.sound;
       }
 
-pub all_made : (old mid end new : Database) → MakesAll old mid work_tables → MakesAll mid end record_tables → ((at tree : ℕ) → HasTable end.schema (codes "project") at (project_at tree) → PutsOne end new tree first_row) → MakesProject old new
+pub all_made : (old mid end new : Database) → MakesAll old mid work_tables → MakesAll mid end record_tables → ((at tree : ℕ) → HasTable end.schema (codes "project") at (project_at tree) → PutsOne end new tree first_row) → MakesEmpty old new
 all_made old mid end new work records puts =
     let h = all_then old mid end work_tables record_tables work records in
     let project = (all_in old end (work_tables ++ record_tables) h).0.has in
-    makes_project old end new h (puts project.0 (next_tree old.schema) project.1)
+    makes_empty old end new h (puts project.0 (next_tree old.schema) project.1)

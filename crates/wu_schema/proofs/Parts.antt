@@ -60,6 +60,11 @@ abbrev pub IsIn : Part → ℕ → Type 0
 IsIn Project version = ⊤
 IsIn _ version = ⊤
 
+-- each part is in every version
+pub in_all : (version : ℕ) (p : Part) → IsIn p version
+in_all version Project = tt
+in_all version _ = tt
+
 -- ---- they are what stands for a world
 
 -- the tables of the parts that the version has

@@ -1,14 +1,17 @@
 -- The queue: made beside what was there, and what a change of something else leaves of it.
-use Rattle.wu_schema.proofs.Words.{AllByRecursion, Database, Enforced, Has, HasMade, HasNamed, IsCalm, List, ListsAll, ProjectTrees, PutsOne, Refines, Row, Schema, Table, World, [], ap, bytes_eq, codes, false, inl, inr, length, map, next_tree, refl, subst, sym, true, ℕ, ◌∙◌, ◌≡◌, ◌≢◌}
+use Rattle.wu_schema.proofs.Words.{AllByRecursion, Database, Enforced, Has, HasMade, HasNamed, IsCalm, List, ListsAll, ProjectTrees, PutsOne, Refines, Row, Schema, Table, World, ap, bytes_eq, codes, false, inl, inr, length, map, next_tree, refl, subst, sym, true, ℕ, ◌∙◌, ◌≡◌, ◌≢◌}
 use Rattle.wu_core.specs.declared.marks.Marks.{Marks}
+use Rattle.wu_core.specs.World.{empty_world}
+use Rattle.wu_schema.specs.Fresh.{MakesProject}
 use Rattle.wu_schema.specs.Indexes.{IsIndexed, mark_indexes, moment_indexes, queue_indexes}
+use Rattle.wu_schema.specs.Made.{MakesEmpty}
 use Rattle.wu_schema.specs.Queue.{AddsIndexes, HasQueue, MakesIndexes, MakesQueue, queue_table}
 use Rattle.wu_schema.specs.Stored.{stored_marks}
 use Rattle.wu_schema.specs.Tables.{queue_at}
 use Rattle.wu_schema.proofs.CalmLemmas.{calm_child}
 use Rattle.wu_schema.proofs.RowLemmas.{childless}
 use Rattle.wu_schema.proofs.StandsLemmas.{IsChild, but_one, is_there, lists_still, only_work}
-use Rattle.wu_schema.proofs.Parts.{Part, Project, Workunits, HasParts, IsIn, Keeps, apart, frame, is_part, kept, parts_there, stands_in, table_of, tree_in, placed}
+use Rattle.wu_schema.proofs.Parts.{Part, Project, Workunits, IsIn, Keeps, apart, frame, is_part, kept, parts_there, stands_in, table_of, tree_in, placed}
 use Rattle.wu_schema.proofs.MadeLemmas.{made_grows, no_list, still_made}
 use Rattle.wu_schema.proofs.StandsOver.{Grows, grows_both, stands_over}
 use Rattle.wu_schema.proofs.IndexEffect.{added_then, all_added_grow, all_added_sound, all_indexed, only_indexed}
@@ -42,6 +45,33 @@ queue_is_made old first next new made marks moments =
       };
       sound = sound;
     }
+
+-- made behind the tables of an empty world, it makes a fresh project
+pub fresh_is_made : (old mid new : Database) → MakesEmpty old mid → MakesQueue mid new → MakesProject old new
+fresh_is_made old mid new first second = record {
+  stands = second.stands empty_world first.stands;
+  queue = second.queue;
+  keeps = record {
+    tables = λ t has. let one = first.keeps.tables t has in let two = second.keeps.tables t one.0 in (two.0, two.1 ∙ one.1);
+    indexes = λ i has. second.keeps.indexes i (first.keeps.indexes i has);
+    views = second.keeps.views ∙ first.keeps.views;
+  };
+  adds = record {
+    tables = λ t has. elim (second.adds.tables t has) [
+      | inl before ↦ elim (first.adds.tables t before) [
+        | inl was ↦ inl was
+        | inr (inl ours) ↦ inr (inl ours)
+        | inr (inr counts) ↦ inr (inr (inr counts))
+      ]
+      | inr more ↦ inr (inr more)
+    ];
+    indexes = λ i has. elim (second.adds.indexes i has) [
+      | inl before ↦ elim (first.adds.indexes i before) [ inl was ↦ inl was | inr own ↦ inr (inl own) ]
+      | inr own ↦ inr (inr own)
+    ];
+  };
+  sound = second.sound;
+}
 
 -- ---- what stays of it
 

@@ -1,5 +1,5 @@
 -- What a SELECT does to a connection, whatever the schema.
-use Rattle.wu_schema.proofs.Words.{Bool, Checked, Command, CommitsShowing, CompileError, Compiled, Err, Error, FailsToQuery, FailsToShow, Ghosts, HasCleanDisk, Held, IfErr, IfOk, IsBack, IsSome, IsUnchanged, List, Name, NoSuchTable, None, Ok, OnOk, Parsed, QueriesRow, Reads, Result, Row, Schema, Select, Shown, State, Survives, Vec, [], and_then, ap, cases_Bool, compiled, false, first, if_select, if◌then◌else◌, inl, inr, is_select, meaning, planned, reads_listing, returning, state, subst, sym, true, understood, with_command, ℕ, ◌≡◌}
+use Rattle.wu_schema.proofs.Words.{Bool, Checked, Command, CommitsShowing, CompileError, Compiled, Err, Error, FailsToQuery, FailsToShow, Ghosts, HasCleanDisk, Held, IfErr, IfOk, IsBack, IsSome, IsUnchanged, List, Name, NoSuchTable, None, Ok, OnOk, Parsed, QueriesRow, Reads, Result, Row, Schema, Shown, State, Survives, Vec, [], and_then, ap, cases_Bool, compiled, false, if_select, if◌then◌else◌, inl, inr, is_select, meaning, planned, reads_listing, returning, state, subst, sym, true, understood, with_command, ℕ, ◌≡◌}
 pub use Rattle.wu_schema.specs.Asking.{IsSelect}
 use Rattle.sqlite.specs.Clock.{timed}
 use Rattle.sqlite.specs.State.{ShowsRows}

@@ -1,5 +1,5 @@
 -- What a call does to a connection, and what a crash may then leave.
-use Rattle.std.specs.Prelude.{◌≡◌, ◌⊎◌, ℕ, false, List, Vec, None, Ok, Result, OnOk, OnErr, IfOk, IfErr, IsTrue}
+use Rattle.std.specs.Prelude.{◌≡◌, ◌⊎◌, ℕ, false, List, Vec, Ok, Result, OnOk, OnErr, IfOk, IfErr, IsTrue}
 use Rattle.sqlite_disk.specs.Disk.{MoreFaults}
 use Rattle.sqlite.specs.Order.{Row}
 use Rattle.sqlite.specs.Tree.{Trees}
@@ -12,7 +12,7 @@ use Rattle.sqlite.specs.declared.transaction.Transaction.{Transaction}
 use Rattle.wu_core.specs.declared.fault.Fault.{Fault}
 use Rattle.wu_core.specs.declared.fault.Fault.TheVariants.{Broken, NotAProject}
 use Rattle.wu_core.specs.World.{World}
-use Rattle.wu_schema.specs.Faults.{fault_of, IsFailure}
+use Rattle.wu_schema.specs.Faults.{fault_of}
 use Rattle.wu_schema.specs.Refines.{Refines}
 
 -- a crash leaves these tables and no others

@@ -11,3 +11,4 @@ pub mod Versions
 pub mod Indexes
 pub mod Restoring
 pub mod Queue
+pub mod Fresh

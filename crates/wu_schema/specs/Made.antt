@@ -101,8 +101,8 @@ pub record AddsOurs (old new : Database) : Type 0 where
   pub tables : (t : Table) → Has new.schema.tables t → Has old.schema.tables t ⊎ (IsOurTable t ⊎ IsSequence t)
   pub indexes : (i : Index) → Has new.schema.indexes i → Has old.schema.indexes i ⊎ IsOurKey i
 
--- a fresh project stands beside what was there
-pub record MakesProject (old new : Database) : Type 0 where
+-- the seven tables stand for the empty world beside what was there
+pub record MakesEmpty (old new : Database) : Type 0 where
   pub stands : Refines new empty_world
   pub keeps : KeepsOthers old new
   pub adds : AddsOurs old new

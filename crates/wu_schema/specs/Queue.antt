@@ -49,10 +49,14 @@ MakesIndexes table named old new = (at tree : ℕ) → HasTable old.schema table
 abbrev pub IsQueueIndex : Index → Type 0
 IsQueueIndex i = (named : NamedIndex) × (table tree : ℕ) × Has queue_indexes named × (i ≡ index_at named table tree)
 
+-- the queue, wherever it is
+abbrev pub IsQueueTable : Table → Type 0
+IsQueueTable t = (tree : ℕ) × (t ≡ queue_at tree)
+
 -- what is there now was there, or is the queue's own
 pub record AddsQueue (old new : Database) : Type 0 where
   pub tables : (t : Table) → Has new.schema.tables t
-      → Has old.schema.tables t ⊎ (((tree : ℕ) × (t ≡ queue_at tree)) ⊎ IsSequence t)
+      → Has old.schema.tables t ⊎ (IsQueueTable t ⊎ IsSequence t)
   pub indexes : (i : Index) → Has new.schema.indexes i → Has old.schema.indexes i ⊎ IsQueueIndex i
 
 -- the queue is made, with no row, beside the world that the tables stand for

@@ -2,10 +2,12 @@
 
 ghost use Rattle.std.specs.Prelude.{◌≡◌, false, codes, IfErr};
 ghost use Rattle.wu_schema.specs.Tables.{project_at, workunit_at, result_at, grant_at, host_at, archived_at, import_at};
-ghost use Rattle.wu_schema.specs.Made.{MakesTable, MakesTables, MakesProject, PutsProject, work_tables, record_tables};
+ghost use Rattle.wu_schema.specs.Fresh.{MakesProject};
+ghost use Rattle.wu_schema.specs.Made.{MakesEmpty, MakesTable, MakesTables, PutsProject, work_tables, record_tables};
 ghost use Rattle.wu_schema.specs.Calls.{StatementFrame, Does, Commits, CrashAllows, Refuses, Undoes};
 ghost use Rattle.wu_schema.specs.Faults.{IsStoreFault};
 
+use crate::queue::make_queue;
 use crate::texts::{
     CREATE_ARCHIVED, CREATE_CREDIT_GRANT, CREATE_HOST, CREATE_IMPORT, CREATE_PROJECT,
     CREATE_RESULT, CREATE_WORKUNIT, INSERT_PROJECT,
@@ -93,14 +95,23 @@ fn create_records<S: Alter>(tx: &mut Transaction<'_, S>) -> Result<(), Error>
     create_import(tx)
 }
 
-/// All tables of version 1, with the row of a fresh project.
-fn create_all<S: Alter>(tx: &mut Transaction<'_, S>) -> Result<(), Error>
+/// The tables that every version has, with the row of a fresh project of the present one.
+fn create_empty<S: Alter>(tx: &mut Transaction<'_, S>) -> Result<(), Error>
     ensures writes { StatementFrame S.Store tx.old tx.new result }
-    ensures makes { Does S.Store tx.old tx.new result MakesProject }
+    ensures makes { Does S.Store tx.old tx.new result MakesEmpty }
 {
     create_work(tx)?;
     create_records(tx)?;
     insert_project(tx, PRESENT_VERSION as i64)
+}
+
+/// All tables of the present version, with the row of a fresh project.
+fn create_all<S: Alter>(tx: &mut Transaction<'_, S>) -> Result<(), Error>
+    ensures writes { StatementFrame S.Store tx.old tx.new result }
+    ensures makes { Does S.Store tx.old tx.new result MakesProject }
+{
+    create_empty(tx)?;
+    make_queue(tx)
 }
 
 /// The creation of a project, as the work of one transaction.

@@ -13,16 +13,16 @@ use Rattle.sqlite_trees.proofs.Doubt.{no_doubt}
 use Rattle.sqlite_store.specs.declared.store.FileStore.{FileStore}
 use Rattle.sqlite_store.specs.FileStore.{state, view, faults, recovers, is_shielded, files}
 use Rattle.sqlite_store.specs.Laws.{settled_at, stays_at}
-use Rattle.sqlite.specs.Effect.{Database}
+use Rattle.sqlite.specs.Effect.{Database, IsDatabase}
 use Rattle.sqlite.specs.State.{State, HasCleanDisk}
 use Rattle.sqlite.specs.Held.{Held, AreDatabases}
 use Rattle.sqlite.specs.Files.{Finds, IsOpened, file_state}
 use Rattle.sqlite.proofs.Theorems.{next_run}
 use Rattle.wu_core.specs.World.{World, empty_world}
 use Rattle.wu_schema.specs.Calls.{LeavesOnly}
-use Rattle.wu_schema.specs.Refines.{Refines}
-use Rattle.wu_schema.proofs.StandsLemmas.{stands_again}
-use Rattle.wu_machine.specs.Sound.{IsProject}
+use Rattle.wu_store.specs.StandsFor.{StandsFor}
+use Rattle.wu_schema.proofs.StandsLemmas.{same_database}
+use Rattle.wu_passes.specs.Planning.{IsPresentProject}
 use Rattle.wu_machine_laws.proofs.SoundLemmas.{empty_sound, is_project}
 use Rattle.wu_passes.specs.Committing.{FoundAs}
 use Rattle.wu_passes.specs.Standing.{GoesOn}
@@ -81,11 +81,14 @@ module _ {D : Type 0} {g : Ghosts D} (old again : Held (FileStore D g)) (store :
       }
 
 -- tables that stood for a world stand for it again
+pub stands_still : (old new : Database) (world : World) → StandsFor old world → IsDatabase new → new.trees ≡ old.trees → StandsFor new world
+stands_still old new world stands sound same = subst (λ (d : Database). StandsFor d world) (sym (same_database old new stands.refines.sound sound same)) stands
+
 pub goes_again : (new : State) (world : World) → IsCommitted new → FoundAs new.now.trees world → GoesOn new world
 goes_again new world again found =
-    let stands : Refines new.now world = stands_again found.database new.now world found.stands again.sound (sym found.same) in
+    let stands : StandsFor new.now world = stands_still found.database new.now world found.stands again.sound (sym found.same) in
     record { stands = λ is_open. (stands, again.committed); left = λ db may. record { database = new.now; same = sym (again.left.only db may); stands = stands } }
 
 -- and a fresh project is one that commands run over
-pub empty_project : IsProject empty_world
-empty_project = is_project empty_world empty_sound refl
+pub empty_project : IsPresentProject empty_world
+empty_project = (refl, is_project empty_world empty_sound (omega arith) (omega arith))

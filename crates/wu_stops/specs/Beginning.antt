@@ -11,7 +11,7 @@ use Rattle.wu_core.specs.World.{World, empty_world}
 use Rattle.wu_passes.specs.Committing.{FoundAs}
 use Rattle.wu_passes.specs.declared.project.Project.{Project}
 use Rattle.wu_machine.specs.Machine.{present_version}
-use Rattle.wu_machine.specs.Sound.{IsProject}
+use Rattle.wu_passes.specs.Planning.{IsPresentProject}
 use Rattle.wu_passes.specs.Projects.{state_of}
 use Rattle.wu_passes.specs.Adopting.{IsVacant, LeavesFresh}
 use Rattle.wu_passes.specs.Standing.{FaultsOnlyGrow, GoesOn}
@@ -31,13 +31,13 @@ module _ {D : Type 0} (g : Ghosts D) (files : Files D) where
 
   -- over blank files a session begins from the empty world, and further commands go on from there
   abbrev pub BeginsEmpty : Project (FileStore D g) over_files → Type 0
-  BeginsEmpty new = IsBlank → HasCleanDisk (state_of new) → GoesOn (state_of new) empty_world × IsProject empty_world
+  BeginsEmpty new = IsBlank → HasCleanDisk (state_of new) → GoesOn (state_of new) empty_world × IsPresentProject empty_world
 
   -- over the tables of a world it goes on from that world, which is of the present version
   abbrev pub GoesFromTables : Project (FileStore D g) over_files → Type 0
   GoesFromTables new =
       (world : World) → ∥ HoldWorld world ∥₁ → HasCleanDisk (state_of new)
-      → ∥ GoesOn (state_of new) world × (world.version ≡ present_version) ∥₁
+      → ∥ GoesOn (state_of new) world × (world.version ≤ present_version) ∥₁
 
 -- A database is given back after an adoption, whether that was refused or not: a stop leaves what it left before, or a
 -- fresh project, and the session of a world goes on.
@@ -54,10 +54,10 @@ pub record AwaitsProject (s : State) : Type 0 where
 module _ {D : Type 0} {g : Ghosts D} (old : Held (FileStore D g)) (new : Project (FileStore D g) over_files) where
   -- a stop within the adoption of a free database leaves it free, or a fresh project
   abbrev pub BeginsAgain : Type 0
-  BeginsAgain = AwaitsProject (file_state old) → HasCleanDisk (state_of new) → ∥ GoesOn (state_of new) empty_world ∥₁ × IsProject empty_world
+  BeginsAgain = AwaitsProject (file_state old) → HasCleanDisk (state_of new) → ∥ GoesOn (state_of new) empty_world ∥₁ × IsPresentProject empty_world
 
   -- and within that of a project it leaves the world as it was
   abbrev pub GoesAgain : Type 0
   GoesAgain =
       (world : World) → 1 ≤ world.version → GoesOn (file_state old) world → HasCleanDisk (state_of new)
-      → ∥ GoesOn (state_of new) world × (world.version ≡ present_version) ∥₁
+      → ∥ GoesOn (state_of new) world × (world.version ≤ present_version) ∥₁

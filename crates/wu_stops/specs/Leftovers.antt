@@ -18,7 +18,7 @@ use Rattle.wu_core.specs.World.{World, empty_world}
 use Rattle.wu_passes.specs.Committing.{FoundAs}
 use Rattle.wu_passes.specs.declared.project.Project.{Project}
 use Rattle.wu_machine.specs.Machine.{present_version}
-use Rattle.wu_machine.specs.Sound.{IsProject}
+use Rattle.wu_passes.specs.Planning.{IsPresentProject}
 use Rattle.wu_passes.specs.Projects.{state_of}
 use Rattle.wu_passes.specs.Standing.{GoesOn}
 
@@ -54,13 +54,13 @@ module _ {D : Type 0} {g : Ghosts D} where
 
   -- over files that stay blank a session begins from the empty world
   abbrev pub BeginsFromBlank : Files D → Project (FileStore D g) over_files → Type 0
-  BeginsFromBlank files new = StayBlank g files → HasCleanDisk (state_of new) → ∥ GoesOn (state_of new) empty_world ∥₁ × IsProject empty_world
+  BeginsFromBlank files new = StayBlank g files → HasCleanDisk (state_of new) → ∥ GoesOn (state_of new) empty_world ∥₁ × IsPresentProject empty_world
 
   -- over files that hold a world whatever a stop leaves, it goes on from that world, which is of the present version
   abbrev pub GoesFromWorld : Files D → Project (FileStore D g) over_files → Type 0
   GoesFromWorld files new =
       (world : World) → 1 ≤ world.version → StayWorld g files world → HasCleanDisk (state_of new)
-      → ∥ GoesOn (state_of new) world × (world.version ≡ present_version) ∥₁
+      → ∥ GoesOn (state_of new) world × (world.version ≤ present_version) ∥₁
 
   -- of whatever files it is the leftover, so it does again
   abbrev pub BeginsAfter : Leftover D g → Project (FileStore D g) over_files → Type 0

@@ -1,5 +1,5 @@
 -- A SELECT of ours, whole: what it does to the connection, what it answers, and that it is not refused.
-use Rattle.wu_schema.proofs.Words.{Bool, Err, Error, FailsToQuery, Fault, Ghosts, HasCleanDisk, Held, IfErr, IfOk, IsErrAnd, IsFailure, IsSome, IsTrue, List, None, NotAProject, Ok, Option, Result, Row, Shown, Some, Refines, State, Vec, World, [], arith, false, fault_of, inl, inr, length, not, option_to_list, refl, state, subst, sym, ℕ, ⊤, ◌++◌, ◌<◌, ◌==◌, ◌∙◌, ◌∷◌, ◌≡◌, ◌≢◌, ◌⊎◌}
+use Rattle.wu_schema.proofs.Words.{Bool, Err, Error, FailsToQuery, Fault, Ghosts, HasCleanDisk, Held, IfErr, IsErrAnd, IsFailure, IsSome, IsTrue, List, None, NotAProject, Ok, Option, Result, Row, Shown, Some, Refines, State, Vec, World, [], arith, fault_of, inl, inr, length, not, option_to_list, refl, state, subst, sym, ℕ, ⊤, ◌++◌, ◌<◌, ◌==◌, ◌∙◌, ◌∷◌, ◌≡◌, ◌≢◌, ◌⊎◌}
 use Rattle.wu_schema.specs.Asking.{Asks, FailsAll, IsSelect, ServesUnlessFailed, ShowsAll, TellsQuery}
 use Rattle.wu_schema.specs.Calls.{Tells}
 use Rattle.wu_schema.proofs.ReadLemmas.{if_ok, if_err}
@@ -8,7 +8,7 @@ use Rattle.wu_schema.proofs.ToldLemmas.{asked_told}
 use Rattle.wu_schema.proofs.Parts.{Part, IsIn, table_in, name_of, parts_there}
 use Rattle.wu_core.specs.declared.fault.Fault.TheVariants.{Broken, Memory}
 pub use Rattle.wu_schema.proofs.AskingLemmas.{asks_fault, asks_made, asks_none, asks_stands, asks_then}
-use Rattle.wu_store.specs.Loading.{IsStoreFault, NotRefusedIn}
+use Rattle.wu_store.specs.Loading.{IsStoreFault, NotRefusedIn, StaysUnlessFailed}
 
 -- a failure is no refusal
 pub never_refused : (fault : Fault) → IsFailure fault → fault ≢ NotAProject
@@ -135,6 +135,15 @@ handed_unbroken (Err other) fault same (inr refused) is = absurd (let no : NotAP
 -- an open connection is open after an answer
 pub still_open : {S T : Type 0} (g : Ghosts S) (old new : Held S) (x : T) → Asks g old new (Ok x) → HasCleanDisk (state g new) → IsTrue (state g old).is_open → IsTrue (state g new).is_open
 still_open g old new x it clean was = elim (it.answered clean) [ inl same ↦ subst (λ h. IsTrue (state g h).is_open) (sym same) was | inr same ↦ same.0.is_open ]
+
+-- so it is after each fault but want of memory or of the disk
+pub stays_asked : {S T : Type 0} (g : Ghosts S) (old new : Held S) (r : Result T Fault) → Asks g old new r → StaysUnlessFailed g old new r
+stays_asked g old new (Ok x) it was clean = still_open g old new x it clean was
+stays_asked g old new (Err fault) it was clean = elim (it.refused clean) [
+  | inl failed ↦ inl failed
+  | inr (inl same) ↦ inr (subst (λ h. IsTrue (state g h).is_open) (sym same) was)
+  | inr (inr same) ↦ inr same.0.is_open
+]
 
 never_err : {T : Type 0} (x : T) → ◌≢◌ {A = Result T Fault} (Ok x) (Err Broken)
 never_err x is = absurd cc

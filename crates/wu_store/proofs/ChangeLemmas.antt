@@ -1,16 +1,16 @@
 -- What the statements that change a project do to the world that it stands for.
 use Rattle.wu_schema.proofs.Words.{Archived, ap, Executes, Grant, Import, Instance, Int, Integer, List, None, Null, Ok, Option, Some, Refines, PutsOne, State, Text, Workunit, World, [], archived_at, archived_cells, arith, bound_value, cast, cast_row, codes, grant_at, grant_cells, import_at, import_cells, instance_cells, map, next_rowid, number, number_or_null, of_z, option_map, pos, refl, result_at, stored_archived, stored_grant, stored_workunit, text_or_null, to_z, to_z-of_z, Value, value_rows, w64, workunit_at, workunit_row, ℕ, ℤ, ◌<◌, ◌^◌, ◌∙◌, ◌∷◌, ◌≡◌}
-use Rattle.wu_store.specs.Changes.{HasInstances, IsNextPlace, LacksNumber, PutsGrant, with_archived, with_import, with_instance, with_next, with_placed}
+use Rattle.wu_store.specs.Changes.{HasInstances, IsNextPlace, LacksNumber, PutsGrant, with_archived, with_import, with_instance, with_next, with_placed, with_version}
 use Rattle.wu_core.specs.Storable.{bare}
 use Rattle.std.proofs.lemmas.Int.{fits_signed_from_abs}
 use Rattle.sqlite.specs.Values as values
 use Rattle.sqlite.specs.Kind.TheVariants.{Text as KindText}
 use Rattle.wu_store.proofs.InsertTexts.{workunit_put, workunit_fits, instance_put, instance_fits, grant_put, grant_fits, archived_put, archived_fits, import_put, import_fits}
 use Rattle.wu_schema.proofs.InsertEffect.{cast_null, cast_int, puts_one}
-use Rattle.wu_store.proofs.UpdateLemmas.{update_text}
-use Rattle.wu_store.proofs.UpdateEffect.{updates_project, sets_next}
+use Rattle.wu_store.proofs.UpdateLemmas.{next_made, next_set, next_text, version_made, version_set, version_set_text}
+use Rattle.wu_store.proofs.UpdateEffect.{updates_project, sets_next, sets_version}
 use Rattle.wu_schema.proofs.StandsLemmas.{is_there}
-use Rattle.wu_store.proofs.StandsWith.{stands_with_import, stands_with_next}
+use Rattle.wu_store.proofs.StandsWith.{stands_with_import, stands_with_next, stands_with_version}
 use Rattle.wu_store.proofs.PlacedLemmas.{was_free, stands_with_placed, stands_with_instance}
 use Rattle.wu_store.proofs.ListedLemmas.{stands_with_archived}
 
@@ -93,10 +93,18 @@ module _ (old new : State) (world : World) (s : Refines old.now world) where
   pub puts_import : (import : Import) (count : ℕ) → Executes import_put.text (import_cells import) old new (Ok count) → Refines new.now (with_import import world)
   puts_import import count h = stands_with_import old.now new.now world s import (put_import import count h)
 
-  pub sets_number : (n count : ℕ) → Executes update_text (number n ∷ []) old new (Ok count) → Refines new.now (with_next n world)
+  pub sets_number : (n count : ℕ) → Executes next_text (number n ∷ []) old new (Ok count) → Refines new.now (with_next n world)
   sets_number n count h =
       let tree = s.trees.project in
       let has = s.tables.project in
       let there = is_there old.now.schema _ _ has in
-      let sets = updates_project old new has.0 tree has.1 has.2 there (pos n) count h in
-      stands_with_next old.now new.now world s n sets.schema (sets_next old new has.0 tree has.1 has.2 there (pos n) (pos world.version) (pos world.next_number) s.rows.project count h) sets.others sets.sound
+      let sets = updates_project next_text (codes "next_number") next_made next_set old new has.0 tree has.1 has.2 there (pos n) count h in
+      stands_with_next old.now new.now world s n sets.schema (sets_next old new has.0 tree has.1 has.2 there (pos n) (pos world.version) (pos world.next_number) count h s.rows.project) sets.others sets.sound
+
+  pub sets_version_to : (n count : ℕ) → Executes version_set_text (number n ∷ []) old new (Ok count) → Refines new.now (with_version n world)
+  sets_version_to n count h =
+      let tree = s.trees.project in
+      let has = s.tables.project in
+      let there = is_there old.now.schema _ _ has in
+      let sets = updates_project version_set_text (codes "version") version_made version_set old new has.0 tree has.1 has.2 there (pos n) count h in
+      stands_with_version old.now new.now world s n sets.schema (sets_version old new has.0 tree has.1 has.2 there (pos n) (pos world.version) (pos world.next_number) count h s.rows.project) sets.others sets.sound

@@ -1,17 +1,11 @@
 -- The workunits that a pass takes, found one after another.
-use Rattle.wu_schema.proofs.Words.{Bool, Database, List, None, Option, Some, Refines, Workunit, World, [], all_has, ap, arith, cases_Bool, filter, find, if◌then◌else◌, inl, inr, length, nat_lt, nat_tests, refl, slice_get, subst, sym, take, true, ℕ, ◌++◌, ◌+◌, ◌<◌, ◌==◌, ◌∙◌, ◌∷◌, ◌≡◌, ◌≤◌}
+use Rattle.wu_schema.proofs.Words.{Bool, Database, List, None, Some, Refines, Workunit, World, [], all_has, arith, cases_Bool, find, if◌then◌else◌, inl, inr, nat_lt, nat_tests, refl, slice_get, subst, sym, true, ℕ, ◌<◌, ◌==◌, ◌∷◌, ◌≡◌}
 use Rattle.std.specs.Prelude.{All, IfSome, ◌^◌}
-use Rattle.std.proofs.Common.{append_assoc, length-append}
-use Rattle.std.proofs.Math.Seq.{take-append_seam}
-use Rattle.std.proofs.lemmas.List.{append-nil, take_all}
-use Rattle.std.proofs.lemmas.List.Elements.{All-head, All-tail, filter-append}
+use Rattle.std.proofs.lemmas.List.Elements.{All-head, All-tail}
 use Rattle.sqlite_rules.proofs.ListLemmas.{has_found}
 use Rattle.wu_store.specs.Answers.{first_above, numbered}
-use Rattle.wu_rules.specs.Due.{changes, chosen}
-use Rattle.wu_rules.specs.declared.due.Pass.{Pass}
 use Rattle.wu_store.specs.Loading.{LoadsAbove, LoadsNumbered}
 use Rattle.wu_core.specs.Storable.{AreStorable, IsStorable}
-use Rattle.wu_store.proofs.AboveLemmas.{above_next}
 use Rattle.wu_store.proofs.PlacedLemmas.{Rises, world_rises}
 
 -- ---- what is found can be read
@@ -62,15 +56,7 @@ zero_first db world stands w found = zero_is_first world.workunits w (world_rise
 pub above_first : (world : World) → None ≡ numbered 0 world → first_above 0 world ≡ slice_get world.workunits 0
 above_first world none = above_is_first world.workunits (sym none)
 
--- ---- what was taken
-
--- of those that were seen the ones that the pass changes are taken, and the next one is the first of the rest
-pub record IsSoFar (pass : Pass) (now min_age : ℕ) (world : World) (taken : List Workunit) (next : Option Workunit) : Type 0 where
-  pub seen : List Workunit
-  pub rest : List Workunit
-  pub all : world.workunits ≡ seen ++ rest
-  pub next_is : next ≡ slice_get rest 0
-  pub taken_is : taken ≡ filter (changes pass now min_age) seen
+-- ---- the front of a list
 
 pub headed : (ws : List Workunit) (w : Workunit) → Some w ≡ slice_get ws 0 → (more : List Workunit) × (ws ≡ w ∷ more)
 headed [] w is = absurd cc
@@ -79,63 +65,3 @@ headed (v ∷ vs) w is = (vs, cc)
 pub empty : (ws : List Workunit) → None ≡ slice_get ws 0 → ws ≡ []
 empty [] is = refl
 empty (v ∷ vs) is = absurd cc
-
-first_taken : {X : Type 0} (all taken more : List X) (limit : ℕ) → all ≡ taken ++ more → length taken ≡ limit → taken ≡ take limit all
-first_taken all taken more limit is full = sym (ap (λ xs. take limit xs) is ∙ ap (λ n. take n (taken ++ more)) (sym full) ∙ take-append_seam taken more)
-
-module _ (pass : Pass) (now min_age : ℕ) (world : World) where
-  pub none_taken : (next : Option Workunit) → next ≡ slice_get world.workunits 0 → IsSoFar pass now min_age world [] next
-  none_taken next is = record { seen = []; rest = world.workunits; all = refl; next_is = is; taken_is = refl }
-
-  module _ (taken : List Workunit) (w : Workunit) (so_far : IsSoFar pass now min_age world taken (Some w)) where
-    abbrev after : List Workunit
-    after = (headed so_far.rest w so_far.next_is).0
-
-    parts : world.workunits ≡ so_far.seen ++ w ∷ after
-    parts = so_far.all ∙ ap (λ ws. so_far.seen ++ ws) (headed so_far.rest w so_far.next_is).1
-
-    parts_on : world.workunits ≡ (so_far.seen ++ w ∷ []) ++ after
-    parts_on = parts ∙ sym (append_assoc so_far.seen (w ∷ []) after)
-
-    taken_on : taken ++ filter (changes pass now min_age) (w ∷ []) ≡ filter (changes pass now min_age) (so_far.seen ++ w ∷ [])
-    taken_on = ap (λ ws. ws ++ filter (changes pass now min_age) (w ∷ [])) so_far.taken_is ∙ sym (filter-append (changes pass now min_age) so_far.seen (w ∷ []))
-
-    -- the next one is in the list, so that it can be read
-    pub next_storable : AreStorable world → IsStorable w
-    next_storable storable = among so_far.seen (subst (λ ws. All IsStorable ws) parts storable)
-      where
-        among : (before : List Workunit) → All IsStorable (before ++ w ∷ after) → IsStorable w
-        among [] all = All-head IsStorable w after all
-        among (v ∷ vs) all = among vs (All-tail IsStorable v (vs ++ w ∷ after) all)
-
-    -- the walk goes on behind it,
-    pub one_more : (db : Database) → Refines db world → (grown : List Workunit) → grown ≡ taken ++ filter (changes pass now min_age) (w ∷ [])
-        → (next : Option Workunit) → next ≡ first_above w.number world → IsSoFar pass now min_age world grown next
-    one_more db stands grown grows next is = record {
-      seen = so_far.seen ++ w ∷ [];
-      rest = after;
-      all = parts_on;
-      next_is = is ∙ above_next db world stands so_far.seen after w parts;
-      taken_is = grows ∙ taken_on;
-    }
-
-    -- or it ends at the limit
-    pub all_taken : (limit : ℕ) (grown : List Workunit) → grown ≡ taken ++ filter (changes pass now min_age) (w ∷ []) → length grown ≡ limit → grown ≡ chosen pass now min_age limit world
-    all_taken limit grown grows full =
-        first_taken (filter (changes pass now min_age) world.workunits) grown (filter (changes pass now min_age) after) limit
-        (ap (λ ws. filter (changes pass now min_age) ws) parts_on ∙ filter-append (changes pass now min_age) (so_far.seen ++ w ∷ []) after ∙ ap (λ ws. ws ++ filter (changes pass now min_age) after) (sym (grows ∙ taken_on)))
-        full
-
-  -- or where no more are there
-  pub none_left : (limit : ℕ) (taken : List Workunit) → IsSoFar pass now min_age world taken None → length taken < limit → taken ≡ chosen pass now min_age limit world
-  none_left limit taken so_far few =
-      let whole : world.workunits ≡ so_far.seen = so_far.all ∙ ap (λ ws. so_far.seen ++ ws) (empty so_far.rest so_far.next_is) ∙ append-nil so_far.seen in
-      let are : filter (changes pass now min_age) world.workunits ≡ taken = ap (λ ws. filter (changes pass now min_age) ws) whole ∙ sym so_far.taken_is in
-      sym (ap (λ ws. take limit ws) are ∙ take_all limit taken (omega (arith, few)))
-
--- at most one more is taken
-pub one_at_most : (p : Workunit → Bool) (taken : List Workunit) (w : Workunit) (grown : List Workunit) → grown ≡ taken ++ filter p (w ∷ []) → length grown ≤ length taken + 1
-one_at_most p taken w grown grows = omega (arith, ap (λ ws. length ws) grows ∙ length-append taken (filter p (w ∷ [])), one)
-  where
-    one : length (filter p (w ∷ [])) ≤ 1
-    one = elim (cases_Bool (p w)) [ inl on ↦ rw on (omega arith) | inr off ↦ rw off (omega arith) ]

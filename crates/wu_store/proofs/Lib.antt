@@ -34,6 +34,8 @@ pub mod InPlaceLemmas
 pub mod HostEffect
 pub mod LoadLemmas
 pub mod AboveLemmas
+pub mod MarkedLemmas
+pub mod QueuedLemmas
 pub mod ChangingLemmas
 pub mod DueLemmas
 mod VerdictLemmas

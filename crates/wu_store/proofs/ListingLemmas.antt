@@ -1,5 +1,5 @@
 -- Rows are read as the values that are stored so, and lines are listed one workunit after another.
-use Rattle.std.proofs.Common.{◌≡◌, ◌≢◌, ◌∙◌, ℕ, ◌+◌, ◌<◌, List, [], ◌∷◌, ◌++◌, length, map, take, Option, Some, None, Result, Ok, Err, IfErr, IfOk, Vec, ap, append-nil, append_assoc, arith, inl, inr, refl, subst, sym, flat_map}
+use Rattle.std.proofs.Common.{◌≡◌, ◌≢◌, ◌∙◌, ℕ, ◌+◌, ◌<◌, List, [], ◌∷◌, ◌++◌, length, map, take, Option, Some, None, Result, Ok, Err, IfErr, IfOk, Vec, ap, append-nil, append_assoc, arith, refl, subst, sym, flat_map}
 use Rattle.std.proofs.lemmas.List.{get_or-map, length-map, map-append, take_more}
 use Rattle.std.proofs.lemmas.List.Concat.{flat_map-append}
 use Rattle.std.proofs.lemmas.List.Elements.{All-cons, All-head, All-nil, All-tail}
@@ -21,7 +21,7 @@ use Rattle.wu_schema.specs.Restoring.{Restores}
 use Rattle.wu_schema.specs.Refines.{Refines}
 use Rattle.wu_schema.specs.Stored.{archived_cells}
 use Rattle.wu_store.specs.Answers.{all_hosts, first_above}
-use Rattle.wu_store.specs.Lines.{AreHostsNamed, host_line_of, host_lines, ReadsAll, result_line_of, result_lines, result_lines_of}
+use Rattle.wu_store.specs.Lines.{AreHostsNamed, host_line_of, host_lines, ReadsAll, result_line_of}
 use Rattle.wu_store.specs.Reading.{host_row, IsStoredHost}
 use Rattle.wu_core.specs.Storable.{IsName, AreStorable, IsStorable}
 use Rattle.wu_store.specs.declared.lines.HostLine.{HostLine}
@@ -71,20 +71,20 @@ module _ {T : Type 0} (stored_as : T → Row) where
       pub all_read : (r : Result (Vec T Global) Fault) → ReadsAll stored_as IsValue rows r → All IsValue values → IfErr r (λ fault. fault ≢ NotAProject)
       all_read r reads can = reads.found values can are
 
--- ---- the lines of results
+-- ---- workunit after workunit
 
--- the lines are those of the workunits that were seen, and the next one is the first of the rest
-pub record AreListed (world : World) (lines : List ResultLine) (next : Option Workunit) : Type 0 where
+-- what is listed is that of the workunits that were seen, and the next one is the first of the rest
+pub record AreListed {X : Type 0} (lines_of : Workunit → List X) (world : World) (lines : List X) (next : Option Workunit) : Type 0 where
   pub seen : List Workunit
   pub rest : List Workunit
   pub all : world.workunits ≡ seen ++ rest
   pub next_is : next ≡ slice_get rest 0
-  pub lines_are : lines ≡ flat_map result_lines_of seen
+  pub lines_are : lines ≡ flat_map lines_of seen
 
-pub none_listed : (world : World) (next : Option Workunit) → next ≡ slice_get world.workunits 0 → AreListed world [] next
-none_listed world next is = record { seen = []; rest = world.workunits; all = refl; next_is = is; lines_are = refl }
+pub none_listed : {X : Type 0} (lines_of : Workunit → List X) (world : World) (next : Option Workunit) → next ≡ slice_get world.workunits 0 → AreListed lines_of world [] next
+none_listed lines_of world next is = record { seen = []; rest = world.workunits; all = refl; next_is = is; lines_are = refl }
 
-module _ (world : World) (lines : List ResultLine) (w : Workunit) (so_far : AreListed world lines (Some w)) where
+module _ {X : Type 0} (lines_of : Workunit → List X) (world : World) (lines : List X) (w : Workunit) (so_far : AreListed lines_of world lines (Some w)) where
   abbrev after : List Workunit
   after = (headed so_far.rest w so_far.next_is).0
 
@@ -100,18 +100,18 @@ module _ (world : World) (lines : List ResultLine) (w : Workunit) (so_far : AreL
       among (v ∷ vs) all = among vs (All-tail IsStorable v (vs ++ w ∷ after) all)
 
   -- with its lines the walk goes on behind it
-  pub one_listed : (db : Database) → Refines db world → (grown : List ResultLine) → grown ≡ lines ++ result_lines_of w → (next : Option Workunit) → next ≡ first_above w.number world → AreListed world grown next
+  pub one_listed : (db : Database) → Refines db world → (grown : List X) → grown ≡ lines ++ lines_of w → (next : Option Workunit) → next ≡ first_above w.number world → AreListed lines_of world grown next
   one_listed db stands grown grows next is = record {
     seen = so_far.seen ++ w ∷ [];
     rest = after;
     all = parts ∙ sym (append_assoc so_far.seen (w ∷ []) after);
     next_is = is ∙ above_next db world stands so_far.seen after w parts;
-    lines_are = grows ∙ ap (λ ls. ls ++ result_lines_of w) so_far.lines_are ∙ ap (λ ls. flat_map result_lines_of so_far.seen ++ ls) (sym (append-nil (result_lines_of w))) ∙ sym (flat_map-append result_lines_of so_far.seen (w ∷ []));
+    lines_are = grows ∙ ap (λ ls. ls ++ lines_of w) so_far.lines_are ∙ ap (λ ls. flat_map lines_of so_far.seen ++ ls) (sym (append-nil (lines_of w))) ∙ sym (flat_map-append lines_of so_far.seen (w ∷ []));
   }
 
 -- where no more are there, all are listed
-pub all_listed : (world : World) (lines : List ResultLine) → AreListed world lines None → lines ≡ result_lines world
-all_listed world lines so_far = so_far.lines_are ∙ ap (flat_map result_lines_of) (sym (so_far.all ∙ ap (λ ws. so_far.seen ++ ws) (empty so_far.rest so_far.next_is) ∙ append-nil so_far.seen))
+pub all_listed : {X : Type 0} (lines_of : Workunit → List X) (world : World) (lines : List X) → AreListed lines_of world lines None → lines ≡ flat_map lines_of world.workunits
+all_listed lines_of world lines so_far = so_far.lines_are ∙ ap (flat_map lines_of) (sym (so_far.all ∙ ap (λ ws. so_far.seen ++ ws) (empty so_far.rest so_far.next_is) ∙ append-nil so_far.seen))
 
 -- one more instance is one more line
 pub lines_more : (name : List ℕ) (before lines grown : List ResultLine) (is : List Instance) (i : Instance) (n : ℕ) → n ≡ length is → lines ≡ before ++ map (result_line_of name) (enumerate_from 0 is)

@@ -1,6 +1,6 @@
 -- What is loaded of a project is what the world has, step by step.
-use Rattle.wu_schema.proofs.Words.{Bool, Database, Err, Error, Fault, Ghosts, IsOrWantsMemory, HasCleanDisk, Held, IfErr, Import, ImportKind, Instance, IsFailure, List, None, NotAProject, Ok, Option, Reads, Result, Row, Some, Refines, State, Workunit, World, [], ap, arith, cases_Bool, filter, find, if◌then◌else◌, inl, inr, instance_row, is_import, length, length-map, map, map-append, number, option_map, refl, slice_get, state, subst, sym, take, verdict_digits, workunit_row, ℕ, ◌++◌, ◌+◌, ◌-◌, ◌<◌, ◌==◌, ◌∙◌, ◌∷◌, ◌≡◌, ◌≢◌, ◌≤◌}
-use Rattle.std.specs.Prelude.{All, IfSome, MatchResult, get_or}
+use Rattle.wu_schema.proofs.Words.{Bool, Err, Fault, Ghosts, IsOrWantsMemory, HasCleanDisk, Held, IfErr, Import, ImportKind, Instance, List, None, NotAProject, Ok, Option, Result, Row, Some, Refines, State, Workunit, World, [], ap, arith, cases_Bool, filter, find, if◌then◌else◌, inl, inr, instance_row, is_import, length, length-map, map, map-append, number, option_map, refl, slice_get, state, subst, sym, take, verdict_digits, workunit_row, ℕ, ◌++◌, ◌+◌, ◌-◌, ◌<◌, ◌==◌, ◌∙◌, ◌∷◌, ◌≡◌, ◌≢◌, ◌≤◌}
+use Rattle.std.specs.Prelude.{All, MatchResult, get_or}
 use Rattle.std.specs.Option.{option_map_or}
 use Rattle.sqlite_rules.proofs.ListLemmas.{has_found}
 use Rattle.wu_schema.proofs.QuietLemmas.{same_some}

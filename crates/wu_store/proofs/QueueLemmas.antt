@@ -1,5 +1,5 @@
 -- What the statements that change a project do to the queue.
-use Rattle.wu_schema.proofs.Words.{Enforced, Has, HasTables, IsCalm, Schema, archived_cells, import_cells, instance_cells, subst, workunit_row, Archived, Binary, Bool, Database, Equal, Executes, Greater, Grant, Import, Instance, Int, IsShaped-put_row, Less, List, ListsAll, Null, Ok, Ordering, PutsOne, Refines, Row, State, Workunit, World, [], ap, cast_row, codes, column, equal, false, if◌then◌else◌, map, number, pos, put_row, refl, sym, true, value_rows, ℕ, ◌==◌, ◌∙◌, ◌∷◌, ◌≡◌}
+use Rattle.wu_schema.proofs.Words.{Enforced, Has, HasTables, IsCalm, Schema, archived_cells, import_cells, instance_cells, subst, workunit_row, Archived, Binary, Bool, Database, Equal, Executes, Greater, Grant, Import, Instance, Int, IsShaped-put_row, Less, List, ListsAll, Null, Ok, Ordering, PutsOne, Refines, Row, State, Term, Workunit, World, [], ap, cast_row, codes, column, equal, false, if◌then◌else◌, map, number, pos, put_row, refl, sym, true, value_rows, ℕ, ◌==◌, ◌∙◌, ◌∷◌, ◌≡◌}
 use Rattle.std.specs.Ordering.{nat_cmp, match_ordering}
 use Rattle.wu_core.specs.declared.marks.Marks.{Marks}
 use Rattle.wu_schema.specs.Queue.{HasQueue}
@@ -18,7 +18,7 @@ use Rattle.wu_store.proofs.EqualLemmas.{number_equal}
 use Rattle.wu_store.proofs.InsertTexts.{archived_put, import_put, instance_put, queue_put, queue_fits, workunit_put}
 use Rattle.wu_store.proofs.PlacedLemmas.{keeps_put, numbers_compare}
 use Rattle.wu_store.proofs.UpdateEffect.{updates_project}
-use Rattle.wu_store.proofs.UpdateLemmas.{update_text}
+use Rattle.wu_store.proofs.UpdateLemmas.{SetsColumn}
 
 -- ---- a row at its place in order of its key
 
@@ -75,11 +75,12 @@ module _ (old new : State) (world : World) (s : Refines old.now world) (marked :
   pub import_leaves : (import : Import) (count : ℕ) → Executes import_put.text (import_cells import) old new (Ok count) → HasQueue new.now marked
   import_leaves import count ran = queue_beside old.now world s marked q new.now Imports tt _ (put_import old new world s import count ran)
 
-  pub next_leaves : (n count : ℕ) → Executes update_text (number n ∷ []) old new (Ok count) → HasQueue new.now marked
-  next_leaves n count ran =
-      let has = s.tables.project in
-      let sets = updates_project old new has.0 s.trees.project has.1 has.2 (is_there old.now.schema _ _ has) (pos n) count ran in
-      queue_still old.now new.now marked q sets.schema (sets.others (queue_at q.tree) (queue_listed old.now world s marked q) (λ same. queue_apart old.now world s marked q Project tt (sym same)) (queue_calm old.now world s marked q Project tt refl))
+  module _ (text column : List ℕ) (made : List Term) (sets : SetsColumn text column made) where
+    pub project_leaves : (n count : ℕ) → Executes text (number n ∷ []) old new (Ok count) → HasQueue new.now marked
+    project_leaves n count ran =
+        let has = s.tables.project in
+        let set = updates_project text column made sets old new has.0 s.trees.project has.1 has.2 (is_there old.now.schema _ _ has) (pos n) count ran in
+        queue_still old.now new.now marked q set.schema (set.others (queue_at q.tree) (queue_listed old.now world s marked q) (λ same. queue_apart old.now world s marked q Project tt (sym same)) (queue_calm old.now world s marked q Project tt refl))
 
   -- the marks of a workunit go with it
   pub deletes_marks : (n count : ℕ) → Executes delete_text (number n ∷ []) old new (Ok count) → HasQueue new.now (without_marks n marked)

@@ -1,8 +1,8 @@
 -- What the SELECTs without an order answer of the world that the tables stand for.
-use Rattle.wu_schema.proofs.Words.{Answers, Archived, Binary, Bool, Import, ImportKind, IsAscending, IsPermutation, IsPermutation-filter, IsPermutation-map, IsPermutation-trans, List, None, Ok, Option, QueriesRow, Row, Shown, Some, Refines, State, Table, Text, Workunit, World, [], and_from, and_parts, ap, arith, bytes_eq, cases_Bool, codes, column, cond, drop, enumerate_from, eq-eqb, eqb-true, equal, eval_all, false, false_from_ne_true, filter, filter-map, find, holds, import_cells, import_kind_code, inl, inr, is_import, length, length-map, length_permutation, list_all, list_any, map, map-map, not, number, one_permutation, option_map, option_to_list, project_at, refl, stored_archived, stored_workunit, subst, suc, sym, true, workunit_row, ℕ, ◌&&◌, ◌+◌, ◌==◌, ◌||◌, ◌∙◌, ◌∷◌, ◌≡◌, ◌≤◌}
+use Rattle.wu_schema.proofs.Words.{Answers, Archived, Binary, Bool, Import, ImportKind, IsAscending, IsPermutation, IsPermutation-filter, IsPermutation-map, IsPermutation-trans, List, None, Option, Row, Shown, Some, Refines, State, Table, Text, Workunit, World, [], and_from, and_parts, ap, arith, bytes_eq, cases_Bool, codes, column, cond, drop, enumerate_from, eq-eqb, eqb-true, equal, eval_all, false, false_from_ne_true, filter, filter-map, find, holds, import_cells, import_kind_code, inl, inr, is_import, length, length-map, length_permutation, list_all, list_any, map, map-map, not, number, one_permutation, option_map, option_to_list, project_at, refl, stored_archived, stored_workunit, subst, suc, sym, true, workunit_row, ℕ, ◌&&◌, ◌+◌, ◌==◌, ◌||◌, ◌∙◌, ◌∷◌, ◌≡◌, ◌≤◌}
 use Rattle.wu_store.specs.Answers.{has_name, kept_of, next_row, row_named, row_numbered, was_archived}
 use Rattle.wu_schema.specs.Stored.{kept_cells}
-use Rattle.wu_schema.proofs.AnswerLemmas.{answers_are, meeting, row_answers, showing, shown_answers}
+use Rattle.wu_schema.proofs.AnswerLemmas.{answers_are, meeting, showing, shown_answers}
 use Rattle.wu_store.proofs.EqualLemmas.{text_equal, number_equal}
 use Rattle.wu_store.proofs.OnceLemmas.{one_passes}
 use Rattle.wu_store.proofs.WorldOnce.{bytes_same, once_named, once_number}

@@ -1,6 +1,6 @@
 -- What each change keeps of the world that a database stands for.
-use Rattle.wu_schema.proofs.Words.{Binary, Database, Enforced, Has, HoldsAll, Import, Int, IsCalm, IsDatabase, IsTrue, List, ListsAll, OwnsTree, PutsOne, Row, Schema, Some, Refines, Table, World, [], all_has, and_from, and_parts, ap, column, drop, eq-eqb, eqb-true, equal, false, false_from_ne_true, first_key, has_mapped, import_at, import_cells, import_kind_code, inr, is_eq, is_import, is_int, map, map-append, mapped_has, next_rowid, put_row, refl, rowid, stored_project, stored_workunit, subst, sym, true, value_cmp, ℕ, ◌++◌, ◌==◌, ◌∙◌, ◌∷◌, ◌≡◌, ◌≢◌}
-use Rattle.wu_store.specs.Changes.{with_import, with_next, without_workunit}
+use Rattle.wu_schema.proofs.Words.{Binary, Database, Enforced, Has, HasTables, HoldsAll, cases_Bool, inl, ℕ, Import, Int, IsCalm, IsDatabase, IsTrue, List, ListsAll, OwnsTree, PutsOne, Row, Schema, Some, Refines, Table, World, [], all_has, and_from, and_parts, ap, column, drop, eq-eqb, eqb-true, equal, false, false_from_ne_true, first_key, has_mapped, import_at, import_cells, import_kind_code, inr, is_eq, is_import, is_int, map, map-append, mapped_has, next_rowid, put_row, refl, rowid, stored_project, stored_workunit, subst, sym, true, value_cmp, ℕ, ◌++◌, ◌==◌, ◌∙◌, ◌∷◌, ◌≡◌, ◌≢◌}
+use Rattle.wu_store.specs.Changes.{with_import, with_next, with_version, without_workunit}
 use Rattle.sqlite_rules.proofs.TableLemmas.{has_put}
 use Rattle.sqlite_catalog.proofs.ListFacts.{ascending_push}
 use Rattle.wu_schema.proofs.RowLemmas.{int_value}
@@ -9,7 +9,7 @@ use Rattle.wu_store.proofs.OnceLemmas.{has_permuted, kind_in, key_once}
 use Rattle.wu_schema.proofs.PutLemmas.{put_beside}
 use Rattle.wu_schema.proofs.StandsLemmas.{ChildrenAre, is_there, bytes_back, none_has}
 use Rattle.wu_store.proofs.PlacedLemmas.{holds_put, keeps_put}
-use Rattle.wu_schema.proofs.Parts.{Part, Project, Workunits, Instances, Imports, tree_in, Holds, is_part, IsIn, child_column, child_shaped, falls_with_work, parts_there, parts_hold, keeps_calm, keeps_bare, child_left, frame_in, frame_one}
+use Rattle.wu_schema.proofs.Parts.{Part, Project, Workunits, Instances, Imports, tree_in, Holds, is_part, IsIn, child_column, child_shaped, falls_with_work, Keeps, in_all, parts_there, parts_hold, keeps_calm, keeps_bare, child_left, frame_in, frame_one, rows_stand, same_part}
 
 module _ (old new : Database) (world : World) (s : Refines old world) where
   -- no import that was there has the new one's kind and name
@@ -54,6 +54,25 @@ module _ (old new : Database) (world : World) (s : Refines old world) where
       carry : (q : Part) → is_part Project q ≡ false → (rows : List Row) → Holds q rows world → Holds q rows (with_next n world)
       carry Project off rows h = absurd (cc)
       carry _ off rows h = h
+
+  -- it has another version: each table that every version has is as it was
+  pub stands_with_version : (n : ℕ) → new.schema ≡ old.schema → new.trees s.trees.project ≡ stored_project (with_version n world) ∷ []
+      → ((t : Table) → Has old.schema.tables t → t.tree ≢ s.trees.project → IsCalm old.schema Enforced t s.trees.project → new.trees t.tree ≡ old.trees t.tree) → IsDatabase new → Refines new (with_version n world)
+  stands_with_version n same is others sound =
+      record { trees = s.trees; tables = subst (λ (x : Schema). HasTables x s.trees) (sym same) s.tables; rows = rows_stand new s.trees (with_version n world) held; sound = sound }
+    where
+      keeps : Keeps world.version s.trees old new (is_part Project)
+      keeps = keeps_calm world.version old s.trees (parts_there old world s) new Project tt refl others
+
+      of_others : (q : Part) → is_part Project q ≡ false → (rows : List Row) → Holds q rows world → Holds q rows (with_version n world)
+      of_others Project off rows h = absurd (cc)
+      of_others _ off rows h = h
+
+      held : (q : Part) → IsIn q n → Holds q (new.trees (tree_in s.trees q)) (with_version n world)
+      held q in_q = elim (cases_Bool (is_part Project q)) [
+        | inl on ↦ subst (λ p. Holds p (new.trees (tree_in s.trees p)) (with_version n world)) (same_part Project q on) is
+        | inr off ↦ of_others q off _ (subst (λ rows. Holds q rows world) (sym (keeps q (in_all world.version q) off)) (parts_hold old world s q (in_all world.version q)))
+      ]
 
   -- the row of a workunit is gone, something of its children is left, and our other tables stay
   pub stands_without_workunit : (n : ℕ) (left : ℕ → List Row → List Row) → new.schema ≡ old.schema → ListsAll (new.trees s.trees.workunit) (map stored_workunit (without_workunit n world).workunits)

@@ -6,7 +6,7 @@ use Rattle.wu_schema.proofs.EffectLemmas.{went, same_value}
 use Rattle.wu_schema.proofs.QueryLemmas.{plain_query, alone}
 use Rattle.wu_schema.proofs.AnswerLemmas.{answers_are, meeting, showing}
 use Rattle.wu_schema.proofs.CalmLemmas.{calm_bare, stepped}
-use Rattle.wu_store.proofs.UpdateLemmas.{update_text, update_compiles, new_row}
+use Rattle.wu_store.proofs.UpdateLemmas.{SetsColumn, next_made, next_set, next_text, update_compiles, version_made, version_set, version_set_text}
 use Rattle.wu_schema.proofs.InsertEffect.{cast_null, cast_int, also, no_more}
 
 -- the rows that an UPDATE finds, each its old rowid and then the new row, and the write that it makes of them
@@ -66,24 +66,39 @@ module _ (old new : Database) (limit : Option ℕ) (mode : Mode) (keys : mode.ke
 put_one : (id : ℤ) (x new : Row) → rowid x ≡ Int id → put_all (without_all (x ∷ []) (id ∷ [])) (new ∷ []) ≡ new ∷ []
 put_one id x new is = rw (is, tied_itself value_cmp_total (Int id)) refl
 
--- ---- UPDATE project SET next_number = ?1
+-- ---- an UPDATE of one column of the project
 
 abbrev pub project_row : ℤ → ℤ → Row
 project_row version next = Int (pos 1) ∷ Null ∷ Int version ∷ Int next ∷ []
 
-module _ (old new : State) (at tree : ℕ) (has : HasTable old.now.schema (codes "project") at (project_at tree)) (owns : OwnsTree old.now.schema (project_at tree))
-    (stands : Has old.now.schema.tables (project_at tree)) (n : ℤ) where
-  pub updates_project : (count : ℕ) → Executes update_text (Int n ∷ []) old new (Ok count) → Sets old.now new.now (project_at tree) [] new_row (Int n ∷ [])
-  updates_project count h =
+module _ (text column : List ℕ) (made : List Term) (sets : SetsColumn text column made) (old new : State) (at tree : ℕ) (has : HasTable old.now.schema (codes "project") at (project_at tree))
+    (owns : OwnsTree old.now.schema (project_at tree)) (stands : Has old.now.schema.tables (project_at tree)) (n : ℤ) (count : ℕ) (ran : Executes text (Int n ∷ []) old new (Ok count)) where
+  pub updates_project : Sets old.now new.now (project_at tree) [] made (Int n ∷ [])
+  updates_project =
       let schema = old.now.schema in
-      let ran = runs_as update_text (Int n ∷ []) old new schema refl (Update at (alone (plain_query tree [] new_row))) (update_compiles schema at tree has).is (update_compiles schema at tree has).plain count h in
-      update_sets old.now new.now old.step_limit (mode_of old) refl ran.sound (Int n ∷ []) (statement_of update_text (understood schema update_text)) (codes "project") at (project_at tree) has stands [] new_row ran.tally ran.changed
+      let compiles = update_compiles text column made sets schema at tree has in
+      let done = runs_as text (Int n ∷ []) old new schema refl (Update at (alone (plain_query tree [] made))) compiles.is compiles.plain count ran in
+      update_sets old.now new.now old.step_limit (mode_of old) refl done.sound (Int n ∷ []) (statement_of text (understood schema text)) (codes "project") at (project_at tree) has stands [] made done.tally done.changed
 
-  -- the one row has the new number
-  pub sets_next : (version next : ℤ) → old.now.trees tree ≡ project_row version next ∷ [] → (count : ℕ) → Executes update_text (Int n ∷ []) old new (Ok count) → new.now.trees tree ≡ project_row version n ∷ []
-  sets_next version next is count h =
-      let it = updates_project count h in
-      let one : it.found ≡ (Int (pos 1) ∷ Int (pos 1) ∷ Null ∷ Int version ∷ Int n ∷ []) ∷ [] = one_permutation _ it.found (subst (λ rows. IsPermutation (showing new_row (Int n ∷ []) (meeting [] (Int n ∷ []) rows)) it.found) is it.shown) in
-      it.rows (calm_bare old.now.schema (project_at tree) tree owns refl) ∙ ap (λ rows. resets (project_at tree) rows it.found) is ∙ ap (resets (project_at tree) (project_row version next ∷ [])) one
-      ∙ ap (λ r. put_all (without_all (project_row version next ∷ []) (pos 1 ∷ [])) (r ∷ [])) (also (cast_int (pos 1)) (also cast_null (also (cast_int version) (also (cast_int n) no_more))))
-      ∙ put_one (pos 1) (project_row version next) (project_row version n) refl
+  -- the one row is as it was set
+  pub sets_row : (before found after : Row) → showing made (Int n ∷ []) (meeting [] (Int n ∷ []) (before ∷ [])) ≡ (Int (pos 1) ∷ found) ∷ [] → cast_row (project_at tree) found ≡ after → rowid before ≡ Int (pos 1)
+      → old.now.trees tree ≡ before ∷ [] → new.now.trees tree ≡ after ∷ []
+  sets_row before found after shows kept key is =
+      let it = updates_project in
+      let one : it.found ≡ (Int (pos 1) ∷ found) ∷ [] = one_permutation _ it.found (subst (λ rows. IsPermutation rows it.found) shows (subst (λ rows. IsPermutation (showing made (Int n ∷ []) (meeting [] (Int n ∷ []) rows)) it.found) is it.shown)) in
+      it.rows (calm_bare old.now.schema (project_at tree) tree owns refl) ∙ ap (λ rows. resets (project_at tree) rows it.found) is ∙ ap (resets (project_at tree) (before ∷ [])) one
+      ∙ ap (λ r. put_all (without_all (before ∷ []) (pos 1 ∷ [])) (r ∷ [])) kept ∙ put_one (pos 1) before after key
+
+-- it has the new number,
+pub sets_next : (old new : State) (at tree : ℕ) (has : HasTable old.now.schema (codes "project") at (project_at tree)) (owns : OwnsTree old.now.schema (project_at tree)) (stands : Has old.now.schema.tables (project_at tree))
+    (n version next : ℤ) (count : ℕ) → Executes next_text (Int n ∷ []) old new (Ok count) → old.now.trees tree ≡ project_row version next ∷ [] → new.now.trees tree ≡ project_row version n ∷ []
+sets_next old new at tree has owns stands n version next count ran =
+    sets_row next_text (codes "next_number") next_made next_set old new at tree has owns stands n count ran (project_row version next) (Int (pos 1) ∷ Null ∷ Int version ∷ Int n ∷ []) (project_row version n) refl
+    (also (cast_int (pos 1)) (also cast_null (also (cast_int version) (also (cast_int n) no_more)))) refl
+
+-- or the new version
+pub sets_version : (old new : State) (at tree : ℕ) (has : HasTable old.now.schema (codes "project") at (project_at tree)) (owns : OwnsTree old.now.schema (project_at tree)) (stands : Has old.now.schema.tables (project_at tree))
+    (n version next : ℤ) (count : ℕ) → Executes version_set_text (Int n ∷ []) old new (Ok count) → old.now.trees tree ≡ project_row version next ∷ [] → new.now.trees tree ≡ project_row n next ∷ []
+sets_version old new at tree has owns stands n version next count ran =
+    sets_row version_set_text (codes "version") version_made version_set old new at tree has owns stands n count ran (project_row version next) (Int (pos 1) ∷ Null ∷ Int n ∷ Int next ∷ []) (project_row n next) refl
+    (also (cast_int (pos 1)) (also cast_null (also (cast_int n) (also (cast_int next) no_more)))) refl

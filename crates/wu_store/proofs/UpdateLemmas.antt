@@ -1,4 +1,4 @@
--- What the UPDATE of the next number compiles to, over any schema.
+-- What an UPDATE of one column of the project compiles to, over any schema.
 use Rattle.wu_schema.proofs.Words.{HasTable, Inner, List, None, Null, Ok, Parsed, Schema, Term, Update, [], codes, col, everything, false, first, length, lit, nothing, pipeline, planned, project_at, refl, simple, true, ℕ, ◌∷◌, ◌≡◌}
 use Rattle.sqlite_ast.specs.declared.Statement.TheVariants as written
 use Rattle.sqlite_resolve.specs.Write.{updated}
@@ -6,27 +6,62 @@ use Rattle.wu_schema.proofs.SelectLemmas.{CompilesTo, compiles_to}
 use Rattle.wu_schema.proofs.ExprLemmas.{parameter, parameter_lowers}
 use Rattle.wu_schema.proofs.QueryLemmas.{plain_query, alone}
 
-abbrev pub update_text : List ℕ
-update_text = codes "UPDATE project SET next_number = ?1"
+-- the text, read
+abbrev pub set_parsed : (text column : List ℕ) → Parsed
+set_parsed text column = record { statement = written.Update (codes "project") ((column, parameter 1) ∷ []) None []; names = codes "?1" ∷ []; formats = []; start = 0; end = length text; tail = length text }
 
-abbrev p : Parsed
-p = record { statement = written.Update (codes "project") ((codes "next_number", parameter 1) ∷ []) None []; names = codes "?1" ∷ []; formats = []; start = 0; end = length update_text; tail = length update_text }
+-- the text sets this column, and makes this row of the one that is there
+pub record SetsColumn (text column : List ℕ) (made : List Term) : Type 0 where
+  pub read : first text ≡ Ok (set_parsed text column)
+  pub planned_as : (schema : Schema) (at tree : ℕ) → HasTable schema (codes "project") at (project_at tree)
+      → planned schema (set_parsed text column) ≡ Ok ([], (Update at (alone (plain_query tree [] made)), None))
 
-update_first : first update_text ≡ Ok p
+pub update_compiles : (text column : List ℕ) (made : List Term) → SetsColumn text column made → (schema : Schema) (at tree : ℕ) → HasTable schema (codes "project") at (project_at tree)
+    → CompilesTo schema text (set_parsed text column) (Update at (alone (plain_query tree [] made)))
+update_compiles text column made sets schema at tree has = compiles_to schema text (set_parsed text column) _ sets.read (sets.planned_as schema at tree has)
+
+-- ---- the next number
+
+abbrev pub next_text : List ℕ
+next_text = codes "UPDATE project SET next_number = ?1"
+
+abbrev pub next_made : List Term
+next_made = col 1 0 ∷ col 1 0 ∷ lit Null ∷ col 1 2 ∷ col 0 0 ∷ []
+
+next_read : first next_text ≡ Ok (set_parsed next_text (codes "next_number"))
 unfolding everything
-update_first = refl
+next_read = refl
 
-abbrev pub new_row : List Term
-new_row = col 1 0 ∷ col 1 0 ∷ lit Null ∷ col 1 2 ∷ col 0 0 ∷ []
+next_drafted : (schema : Schema) (at tree : ℕ) → HasTable schema (codes "project") at (project_at tree) → updated schema at (project_at tree) ((codes "next_number", parameter 1) ∷ []) None ≡ Ok (simple (Inner tree ∷ []) [] next_made)
+unfolding pipeline
+next_drafted schema at tree has = rw (parameter_lowers 699 schema (codes "project") at (project_at tree) [] false true 2 100000 nothing has refl 1)
 
-module _ (schema : Schema) (at tree : ℕ) (has : HasTable schema (codes "project") at (project_at tree)) where
-  update_drafted : updated schema at (project_at tree) ((codes "next_number", parameter 1) ∷ []) None ≡ Ok (simple (Inner tree ∷ []) [] new_row)
-  unfolding pipeline
-  update_drafted = rw (parameter_lowers 699 schema (codes "project") at (project_at tree) [] false true 2 100000 nothing has refl 1)
+next_planned : (schema : Schema) (at tree : ℕ) → HasTable schema (codes "project") at (project_at tree) → planned schema (set_parsed next_text (codes "next_number")) ≡ Ok ([], (Update at (alone (plain_query tree [] next_made)), None))
+unfolding Rattle.sqlite_resolve.specs.Compile.planned Rattle.sqlite_resolve.specs.Compile.meaning Rattle.sqlite_resolve.specs.Compile.returning Rattle.sqlite_resolve.specs.Compile.command Rattle.sqlite_resolve.specs.Compile.update Rattle.sqlite_resolve.specs.Compile.timed Rattle.sqlite_resolve.specs.Compile.shows pipeline
+next_planned schema at tree has = rw (has.named, has.there, next_drafted schema at tree has, has.low, has.stands)
 
-  update_planned : planned schema p ≡ Ok ([], (Update at (alone (plain_query tree [] new_row)), None))
-  unfolding Rattle.sqlite_resolve.specs.Compile.planned Rattle.sqlite_resolve.specs.Compile.meaning Rattle.sqlite_resolve.specs.Compile.returning Rattle.sqlite_resolve.specs.Compile.command Rattle.sqlite_resolve.specs.Compile.update Rattle.sqlite_resolve.specs.Compile.timed Rattle.sqlite_resolve.specs.Compile.shows pipeline
-  update_planned = rw (has.named, has.there, update_drafted, has.low, has.stands)
+pub next_set : SetsColumn next_text (codes "next_number") next_made
+next_set = record { read = next_read; planned_as = next_planned }
 
-  pub update_compiles : CompilesTo schema update_text p (Update at (alone (plain_query tree [] new_row)))
-  update_compiles = compiles_to schema update_text p _ update_first update_planned
+-- ---- the version
+
+abbrev pub version_set_text : List ℕ
+version_set_text = codes "UPDATE project SET version = ?1"
+
+abbrev pub version_made : List Term
+version_made = col 1 0 ∷ col 1 0 ∷ lit Null ∷ col 0 0 ∷ col 1 3 ∷ []
+
+version_read : first version_set_text ≡ Ok (set_parsed version_set_text (codes "version"))
+unfolding everything
+version_read = refl
+
+version_drafted : (schema : Schema) (at tree : ℕ) → HasTable schema (codes "project") at (project_at tree) → updated schema at (project_at tree) ((codes "version", parameter 1) ∷ []) None ≡ Ok (simple (Inner tree ∷ []) [] version_made)
+unfolding pipeline
+version_drafted schema at tree has = rw (parameter_lowers 699 schema (codes "project") at (project_at tree) [] false true 2 100000 nothing has refl 1)
+
+version_planned : (schema : Schema) (at tree : ℕ) → HasTable schema (codes "project") at (project_at tree) → planned schema (set_parsed version_set_text (codes "version")) ≡ Ok ([], (Update at (alone (plain_query tree [] version_made)), None))
+unfolding Rattle.sqlite_resolve.specs.Compile.planned Rattle.sqlite_resolve.specs.Compile.meaning Rattle.sqlite_resolve.specs.Compile.returning Rattle.sqlite_resolve.specs.Compile.command Rattle.sqlite_resolve.specs.Compile.update Rattle.sqlite_resolve.specs.Compile.timed Rattle.sqlite_resolve.specs.Compile.shows pipeline
+version_planned schema at tree has = rw (has.named, has.there, version_drafted schema at tree has, has.low, has.stands)
+
+pub version_set : SetsColumn version_set_text (codes "version") version_made
+version_set = record { read = version_read; planned_as = version_planned }

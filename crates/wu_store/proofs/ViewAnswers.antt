@@ -1,5 +1,5 @@
 -- What the SELECTs of the views and of the summary answer of the world that the tables stand for.
-use Rattle.wu_schema.proofs.Words.{AllByRecursion, Archived, Binary, Bool, Grant, Instance, Int, IsAscending, IsPermutation, IsPermutation-filter, IsPermutation-map, Less, List, None, Output, Row, Shown, Some, Refines, State, Term, Text, Workunit, World, [], ap, codes, col, column, drop, cond, enumerate_from, equal, eval_all, everything, false, filter, filter-map, flat_map, holds, instance_cells, instances_of, length, length-map, length_permutation, list_all, lit, map, map-map, negsuc, number, refl, stored_archived, stored_grant, subst, suc, sym, true, value_cmp, ℕ, ◌++◌, ◌+◌, ◌==◌, ◌∙◌, ◌∷◌, ◌≡◌, archived_at, arith, grant_at, result_at, workunit_at, host_at, import_at}
+use Rattle.wu_schema.proofs.Words.{AllByRecursion, Archived, Binary, Bool, Grant, Instance, Int, IsAscending, IsPermutation, IsPermutation-filter, IsPermutation-map, Less, List, None, Output, Row, Shown, Some, Refines, State, Term, Workunit, World, [], ap, codes, col, column, drop, cond, enumerate_from, equal, eval_all, everything, false, filter, filter-map, flat_map, holds, instance_cells, instances_of, length, length-map, length_permutation, list_all, lit, map, map-map, negsuc, number, refl, stored_archived, stored_grant, subst, suc, sym, true, ℕ, ◌+◌, ◌==◌, ◌∙◌, ◌∷◌, ◌≡◌, archived_at, arith, grant_at, result_at, workunit_at, host_at, import_at}
 use Rattle.sqlite_value.proofs.OrderLemmas.{value_cmp-Text}
 use Rattle.std.proofs.Common.{length-append}
 use Rattle.std.proofs.lemmas.List.Elements.{filter-append}
@@ -12,10 +12,9 @@ use Rattle.wu_core.specs.Hosts.{hosts_of}
 use Rattle.wu_schema.specs.Refines.{host_of}
 use Rattle.wu_schema.specs.Stored.{archived_cells}
 use Rattle.wu_schema.proofs.AnswerLemmas.{meeting, showing}
-use Rattle.wu_schema.proofs.Parts.{Part, Archive, Grants, Hosts, Imports, Instances, IsIn, Workunits, name_of, table_in, table_of, tree_in}
+use Rattle.wu_schema.proofs.Parts.{Archive, Grants, Hosts, Imports, Instances, Workunits}
 use Rattle.wu_schema.proofs.RowLemmas.{filter_same, no_test, one_test}
-use Rattle.wu_schema.proofs.SelectLemmas.{Asked, Fits, query_of, terms_of, tests_of}
-use Rattle.wu_schema.proofs.QueryLemmas.{plain_query}
+use Rattle.wu_schema.proofs.SelectLemmas.{Asked, Fits}
 use Rattle.wu_store.specs.Answers.{all_archived, all_credit, all_hosts, all_instances, count_in, import_count, result_count, workunit_count}
 use Rattle.wu_store.proofs.EqualLemmas.{number_equal}
 use Rattle.wu_schema.proofs.ExprLemmas.{same}

@@ -1,4 +1,4 @@
--- What each change of version 1 makes of a world.
+-- What each change makes of a world.
 use Rattle.std.specs.Prelude.{◌≡◌, ◌≢◌, ℕ, ◌+◌, ◌==◌, true, false, not, List, [], ◌∷◌, ◌++◌, length, map, filter, find, Some, option_map, if◌then◌else◌}
 use Rattle.std.specs.List.{list_any}
 use Rattle.std.specs.Ordering.{nat_cmp, match_ordering}
@@ -16,9 +16,16 @@ use Rattle.wu_core.specs.World.{World, Import}
 use Rattle.wu_schema.specs.Stored.{stored_grant}
 use Rattle.wu_schema.specs.Tables.{ProjectTrees, HasTables}
 use Rattle.wu_schema.specs.Refines.{Refines, HoldsAll, host_of}
+use Rattle.wu_schema.specs.Queue.{HasQueue}
+use Rattle.wu_store.specs.StandsFor.{IsQueued, StandsFor, marked as marks_in}
+use Rattle.wu_core.specs.declared.marks.Marks.{Marks}
 use Rattle.wu_schema.specs.Made.{PutsOne}
 use Rattle.wu_schema.specs.Calm.{IsCalm}
 use Rattle.wu_core.specs.Storable.{bare}
+
+-- of this version of the schema
+abbrev pub with_version : ℕ → World → World
+with_version version world = record world { version = version }
 
 -- with a workunit more
 abbrev pub with_workunit : Workunit → World → World
@@ -48,9 +55,14 @@ WasFree number old new = (world : World) → Refines old world → LacksNumber n
 abbrev pub with_replaced : Workunit → World → World
 with_replaced w world = record world { workunits = map (λ v. if v.number == w.number then w else v) world.workunits }
 
+-- the workunit is at its place
+abbrev pub Places : Workunit → Database → Database → Type 0
+Places w old new = (world : World) → IsQueued world → StandsFor old world → StandsFor new (with_placed w world)
+
 -- the workunit takes the place of the present one of its number
 abbrev pub Replaces : Workunit → Database → Database → Type 0
-Replaces w old new = (world : World) → Refines old world → HasNumber w.number world.workunits → Refines new (with_replaced w world)
+Replaces w old new =
+    (world : World) → IsQueued world → StandsFor old world → HasNumber w.number world.workunits → StandsFor new (with_replaced w world)
 
 -- without the workunit of this number, and so without its instances
 abbrev pub without_workunit : ℕ → World → World
@@ -76,6 +88,12 @@ AddsInstance number n i old new = (world : World) → Refines old world → HasI
 abbrev pub AddsInstances : Workunit → Database → Database → Type 0
 AddsInstances w old new = (world : World) → LacksNumber w.number world.workunits → Refines old (with_placed (bare w) world) → Refines new (with_placed w world)
 
+-- a queue beside it is as it was
+abbrev pub LeavesQueue : Workunit → Database → Database → Type 0
+LeavesQueue w old new =
+    (world : World) (marked : List (ℕ × Marks)) → LacksNumber w.number world.workunits → Refines old (with_placed (bare w) world)
+    → HasQueue old marked → HasQueue new marked
+
 -- with a grant more
 abbrev pub with_grant : Grant → World → World
 with_grant g world = record world { grants = world.grants ++ g ∷ [] }
@@ -87,6 +105,14 @@ with_archived a world = record world { archived = world.archived ++ a ∷ [] }
 -- the place behind all of a list, whose places are counted from 1
 abbrev pub IsNextPlace : {X : Type 0} → ℕ → List X → Type 0
 IsNextPlace place xs = place ≡ length xs + 1
+
+-- these rows are put into a queue that has none, for a world of which they are the marks
+abbrev pub FillsQueue : List (ℕ × Marks) → Database → Database → Type 0
+FillsQueue rows old new = (world : World) → Refines old world → rows ≡ marks_in world → HasQueue old [] → Refines new world × HasQueue new rows
+
+-- a world of an older version gets the queue, with these rows, and is of the version that has it
+abbrev pub Upgrades : List (ℕ × Marks) → Database → Database → Type 0
+Upgrades rows old new = (world : World) → Refines old world → rows ≡ marks_in world → StandsFor new (with_version 2 world)
 
 -- the grant is added, where its place is the next one of the world's grants
 abbrev pub AddsGrant : ℕ → Grant → Database → Database → Type 0

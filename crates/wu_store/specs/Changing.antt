@@ -1,15 +1,15 @@
 -- What the changes of a command make of a world, and of the tables that stand for it.
-use Rattle.std.specs.Prelude.{ℕ, List, [], ◌∷◌, map, ⊤}
+use Rattle.std.specs.Prelude.{◌≡◌, ℕ, List, [], ◌∷◌, map, ⊤}
 use Rattle.std.specs.List.{enumerate_from}
 use Rattle.sqlite.specs.Effect.{Database}
 use Rattle.wu_core.specs.declared.workunit.Archived.{Archived}
 use Rattle.wu_core.specs.declared.workunit.Grant.{Grant}
 use Rattle.wu_core.specs.World.{World, Import}
-use Rattle.wu_store.specs.Changes.{with_workunit, with_replaced, without_workunit, with_grant, with_archived, with_import, with_next, HasNumber, IsNextPlace}
+use Rattle.wu_store.specs.Changes.{with_workunit, with_replaced, without_workunit, with_grant, with_archived, with_import, with_next, with_version, HasNumber, IsNextPlace}
 use Rattle.wu_core.specs.Storable.{IsAbove}
-use Rattle.wu_schema.specs.Refines.{Refines}
+use Rattle.wu_store.specs.StandsFor.{IsQueued, StandsFor, marked}
 use Rattle.wu_store.specs.declared.changes.Change.{Change}
-use Rattle.wu_store.specs.declared.changes.Change.TheVariants.{Add, Replace, Remove, Granted, Archive, Next, Keep}
+use Rattle.wu_store.specs.declared.changes.Change.TheVariants.{Add, Replace, Remove, Granted, Archive, Next, Keep, Upgrade}
 use Rattle.wu_store.specs.declared.changes.Import.{Import as Kept}
 
 -- an import as it is kept
@@ -32,22 +32,24 @@ made (Granted _ g) world = with_grant g world
 made (Archive _ a) world = with_archived a world
 made (Next number) world = with_next number world
 made (Keep kept) world = with_import (import_of_change kept) world
+made (Upgrade rows) world = with_version 2 world
 
 -- the world with one change after another
 abbrev pub made_all : List Change → World → World
 made_all [] world = world
 made_all (change ∷ more) world = made_all more (made change world)
 
--- a workunit that is added has a number above all, one that takes a place has that of a present one, and a grant and an
--- archived row have the next place of their list
+-- a workunit that is added has a number above all, one that takes a place has that of a present one, each in a world with
+-- a queue; a grant and an archived row have the next place of their list; an upgrade has the marks of all workunits
 abbrev pub IsRight : Change → World → Type 0
-IsRight (Add w) world = IsAbove w.number world.workunits
-IsRight (Replace w) world = HasNumber w.number world.workunits
+IsRight (Add w) world = IsQueued world × IsAbove w.number world.workunits
+IsRight (Replace w) world = IsQueued world × HasNumber w.number world.workunits
 IsRight (Remove number) world = ⊤
 IsRight (Granted place g) world = IsNextPlace place world.grants
 IsRight (Archive place a) world = IsNextPlace place world.archived
 IsRight (Next number) world = ⊤
 IsRight (Keep kept) world = ⊤
+IsRight (Upgrade rows) world = rows.items ≡ marked world
 
 abbrev pub AreRight : List Change → World → Type 0
 AreRight [] world = ⊤
@@ -63,4 +65,4 @@ archived_from place rows = map (λ (p : ℕ × Archived). Archive p.0 p.1) (enum
 
 -- whatever world the tables stood for, they stand for it with the changes
 abbrev pub MakesWorlds : List Change → Database → Database → Type 0
-MakesWorlds changes old new = (world : World) → Refines old world → AreRight changes world → Refines new (made_all changes world)
+MakesWorlds changes old new = (world : World) → StandsFor old world → AreRight changes world → StandsFor new (made_all changes world)

@@ -1,21 +1,56 @@
 -- The workunits that a pass is to change, as they are found.
-use Rattle.std.specs.Prelude.{◌≡◌, ℕ, ◌-◌, ◌^◌, slice_get, Option, Result, MatchResult, Vec}
+use Rattle.std.specs.Prelude.{◌≡◌, ℕ, ◌-◌, ◌^◌, slice_get, All, List, map, [], ◌∷◌, Some, Option, Result, MatchResult, Vec}
 use Rattle.std.specs.Option.{option_map_or}
 use Rattle.wu_core.specs.declared.fault.Fault.{Fault}
 use Rattle.wu_core.specs.declared.workunit.Workunit.{Workunit}
 use Rattle.wu_core.specs.World.{World}
-use Rattle.wu_rules.specs.Validation as validation
 use Rattle.wu_rules.specs.declared.due.Pass.{Pass}
 use Rattle.wu_rules.specs.Due.{chosen}
 use Rattle.wu_store.specs.Loading.{Finds, IsStoreFault}
+use Rattle.wu_core.specs.Storable.{IsStorable}
+use Rattle.wu_schema.specs.Stored.{number}
+use Rattle.wu_store.specs.Answers.{numbered}
+use Rattle.wu_store.specs.StandsFor.{marked}
+use Rattle.sqlite.specs.Order.{Row}
+use Rattle.wu_core.specs.declared.marks.Marks.{Marks}
 
 -- these are found
 abbrev pub FindsDue : {A : Type 0} → Pass → ℕ → ℕ → ℕ → Result (Vec Workunit A) Fault → World → Type 0
 FindsDue pass now min_age limit result world = MatchResult result (λ due. due.items ≡ chosen pass now min_age limit world) IsStoreFault
 
+-- the marks of all workunits are found, each with its number
+abbrev pub FindsMarks : {A : Type 0} → Result (Vec (ℕ × Marks) A) Fault → World → Type 0
+FindsMarks result world = MatchResult result (λ rows. rows.items ≡ marked world) IsStoreFault
+
 -- the workunit of the least number is found, or none where there is none
 abbrev pub FindsFirst : Result (Option Workunit) Fault → World → Type 0
 FindsFirst result world = Finds (slice_get world.workunits 0) result
+
+-- the row has the number of this workunit alone, which is present
+pub record IsNumberOf (row : Row) (w : Workunit) (world : World) : Type 0 where
+  pub present : numbered w.number world ≡ Some w
+  pub row_is : row ≡ number w.number ∷ []
+
+-- the workunit of a row's number is found
+abbrev pub FindsPresent : Row → Result Workunit Fault → World → Type 0
+FindsPresent row result world = (w : Workunit) → IsNumberOf row w world → MatchResult result (λ loaded. loaded ≡ w) IsStoreFault
+
+-- the row has the number of a workunit that can be read
+abbrev pub IsRowOfStorable : Row → World → Type 0
+IsRowOfStorable row world = (w : Workunit) × IsNumberOf row w world × IsStorable w
+
+-- the rows have the numbers of these workunits alone, in their order, and each is present
+pub record AreNumbersOf (rows : List Row) (ws : List Workunit) (world : World) : Type 0 where
+  pub present : All (λ (w : Workunit). numbered w.number world ≡ Some w) ws
+  pub rows_are : rows ≡ map (λ (w : Workunit). number w.number ∷ []) ws
+
+-- the workunits of the rows' numbers are found
+abbrev pub FindsAllPresent : {A : Type 0} → List Row → Result (Vec Workunit A) Fault → World → Type 0
+FindsAllPresent rows result world = (ws : List Workunit) → AreNumbersOf rows ws world → MatchResult result (λ found. found.items ≡ ws) IsStoreFault
+
+-- the rows have the numbers of workunits that can be read
+abbrev pub AreRowsOfStorable : List Row → World → Type 0
+AreRowsOfStorable rows world = (ws : List Workunit) × AreNumbersOf rows ws world × All IsStorable ws
 
 -- how many numbers of 64 bits there are from that of this workunit on; none where there is no workunit
 abbrev pub numbers_left : Option Workunit → ℕ

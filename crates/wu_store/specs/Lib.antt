@@ -4,6 +4,7 @@ pub mod Answers
 pub mod Changes
 pub mod Worlds
 pub mod Loading
+pub mod StandsFor
 pub mod Changing
 pub mod Due
 pub mod Lines

@@ -11,7 +11,6 @@ use Rattle.wu_core.specs.declared.states.FileDelete.{FileDelete}
 use Rattle.wu_core.specs.declared.states.Outcome.{Outcome}
 use Rattle.wu_core.specs.declared.states.ServerState.{ServerState}
 use Rattle.wu_core.specs.declared.states.ValidateState.{ValidateState}
-use Rattle.wu_core.specs.declared.states.Assimilate.TheVariants as assimilate
 use Rattle.wu_core.specs.Codes.{assimilate_code, file_delete_code, outcome_code, server_state_code, validate_state_code}
 use Rattle.wu_core.specs.Mask.{error_mask_code}
 use Rattle.wu_schema.specs.Stored.{host_cells, number, number_or_null, verdict_digits}

@@ -1,18 +1,20 @@
 //! Changes of a project's tables, and lists of them inside a transaction.
 
 ghost use Rattle.std.specs.Prelude.{[], ◌∷◌};
-ghost use Rattle.wu_schema.specs.Calls.{StatementFrame, TransactionFrame, Does, Changes};
-ghost use Rattle.wu_store.specs.Changes.{with_placed, AddsInstances, Replaces};
+ghost use Rattle.wu_schema.specs.Calls.{StatementFrame, TransactionFrame, Does};
+ghost use Rattle.wu_store.specs.Changes.{AddsInstances, FillsQueue, LeavesQueue, Places, Replaces, Upgrades};
 ghost use Rattle.wu_store.specs.Changing.{MakesWorlds};
 
 use crate::statements::{
-    delete_workunit, insert_archived, insert_grant, insert_import, insert_instance,
-    insert_workunit, set_next_number,
+    delete_workunit, insert_archived, insert_grant, insert_import, insert_instance, insert_marks,
+    insert_workunit, set_next_number, set_version,
 };
 use crate::verdicts::Verdicts;
 use sqlite::{Alter, Error, Transaction};
 use std::alloc::Global;
-use wu_core::{Archived, Grant, ImportKind, Name, Workunit};
+use wu_core::{Archived, Grant, ImportKind, Marks, Name, Workunit};
+use wu_rules::marks_of;
+use wu_schema::make_queue;
 
 /// What is kept for good of an import: its content, which is lent, and its first answer.
 #[derive(Drop)]
@@ -42,7 +44,12 @@ pub enum Change<'a> {
     Next(u64),
     /// An import is kept.
     Keep(Import<'a>),
+    /// The schema of version 1 gets the queue of version 2, with these marks, each of the workunit of this number.
+    Upgrade(Vec<(u64, Marks)>),
 }
+
+/// The version of the schema that has the queue.
+const QUEUE_VERSION: u64 = 2;
 
 // It is written out, so that a caller does not prove again how each part is dropped.
 impl Drop for Change<'_> {
@@ -53,6 +60,7 @@ impl Drop for Change<'_> {
             Change::Archive(_seq, _archived) => {}
             Change::Remove(_number) | Change::Next(_number) => {}
             Change::Keep(_import) => {}
+            Change::Upgrade(_rows) => {}
         }
     }
 }
@@ -61,6 +69,7 @@ impl Drop for Change<'_> {
 fn insert_instances<S: Alter>(tx: &mut Transaction<'_, S>, workunit: &Workunit) -> Result<(), Error>
     ensures works { TransactionFrame S.Store tx.old tx.new result }
     ensures adds { Does S.Store tx.old tx.new result (AddsInstances workunit.now) }
+    ensures queue { Does S.Store tx.old tx.new result (LeavesQueue workunit.now) }
 {
     let instances = workunit.instances.as_slice();
     let mut n = 0;
@@ -71,22 +80,44 @@ fn insert_instances<S: Alter>(tx: &mut Transaction<'_, S>, workunit: &Workunit) 
     Ok(())
 }
 
-/// Adds a workunit at its place in order of number, with its instances.
+/// Adds a workunit at its place in order of number, with its instances, and its marks in the queue.
 fn add<S: Alter>(tx: &mut Transaction<'_, S>, workunit: &Workunit) -> Result<(), Error>
     ensures writes { StatementFrame S.Store tx.old tx.new result }
-    ensures adds { Changes S.Store tx.old tx.new result (with_placed workunit.now) }
+    ensures adds { Does S.Store tx.old tx.new result (Places workunit.now) }
 {
     insert_workunit(tx, workunit)?;
-    insert_instances(tx, workunit)
+    insert_instances(tx, workunit)?;
+    insert_marks(tx, workunit.number, &marks_of(workunit))
 }
 
-/// Puts a workunit in the place of the present one of its number, with its instances in place of those.
+/// Puts a workunit in the place of the present one of its number, with its instances and marks in place of those.
 fn replace<S: Alter>(tx: &mut Transaction<'_, S>, workunit: &Workunit) -> Result<(), Error>
     ensures writes { StatementFrame S.Store tx.old tx.new result }
     ensures replaces { Does S.Store tx.old tx.new result (Replaces workunit.now) }
 {
     delete_workunit(tx, workunit.number)?;
     add(tx, workunit)
+}
+
+/// Puts these rows into a queue that has none, in their order.
+fn fill_queue<S: Alter>(tx: &mut Transaction<'_, S>, rows: &[(u64, Marks)]) -> Result<(), Error>
+    ensures works { TransactionFrame S.Store tx.old tx.new result }
+    ensures fills { Does S.Store tx.old tx.new result (FillsQueue rows.now) }
+{
+    for row in rows {
+        insert_marks(tx, row.0, &row.1)?;
+    }
+    Ok(())
+}
+
+/// Makes the queue with these rows, and sets the version that has it.
+fn upgrade<S: Alter>(tx: &mut Transaction<'_, S>, rows: &[(u64, Marks)]) -> Result<(), Error>
+    ensures writes { StatementFrame S.Store tx.old tx.new result }
+    ensures upgrades { Does S.Store tx.old tx.new result (Upgrades rows.now) }
+{
+    make_queue(tx)?;
+    fill_queue(tx, rows)?;
+    set_version(tx, QUEUE_VERSION)
 }
 
 fn make<S: Alter>(tx: &mut Transaction<'_, S>, change: &Change<'_>) -> Result<(), Error>
@@ -101,6 +132,7 @@ fn make<S: Alter>(tx: &mut Transaction<'_, S>, change: &Change<'_>) -> Result<()
         Change::Archive(seq, archived) => insert_archived(tx, *seq, archived),
         Change::Next(number) => set_next_number(tx, *number),
         Change::Keep(import) => insert_import(tx, import),
+        Change::Upgrade(rows) => upgrade(tx, rows.as_slice()),
     }
 }
 

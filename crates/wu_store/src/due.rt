@@ -1,18 +1,21 @@
-//! The workunits that a pass is to change, one after another.
+//! The workunits that a pass is to change, found by the queue; and the marks by which it finds them, of all workunits.
 
-ghost use Rattle.std.specs.Prelude.{◌≡◌, ◌≤◌, ◌<◌, ◌++◌, ◌-◌, ◌^◌, ◌∷◌, [], filter, length, IfErr, IfOk};
+ghost use Rattle.std.specs.Prelude.{◌≡◌, ◌≤◌, ◌<◌, ◌+◌, ◌++◌, ◌-◌, ◌^◌, ◌∷◌, [], None, length, IfErr, IfOk, IfSome};
 ghost use Rattle.wu_core.specs.declared.fault.Fault.TheVariants.{Memory};
-ghost use Rattle.wu_core.specs.Limits.{longest_age};
-ghost use Rattle.wu_store.specs.Due.{numbers_left, FindsDue, FindsFirst};
-ghost use Rattle.wu_rules.specs.Due.{changes};
-ghost use Rattle.wu_store.specs.Loading.{Asks, FindsAbove, IsStoreFault, LoadsAbove, NotRefusedIn, ForEachWorld, ServesUnlessFailed};
+ghost use Rattle.wu_rules.specs.Marks.{marks, selects};
+ghost use Rattle.wu_store.specs.Due.{numbers_left, FindsDue, FindsFirst, AreRowsOfStorable, FindsAllPresent, FindsMarks, FindsPresent, IsRowOfStorable};
+ghost use Rattle.wu_store.specs.Queues.{AnswersQueue, first_marked, NotRefusedQueue};
+ghost use Rattle.wu_store.specs.StandsFor.{ForEachQueued, NotRefusedQueued};
+ghost use Rattle.wu_store.specs.Loading.{Asks, FindsAbove, IsStoreFault, LoadsAbove, NotRefusedIn, ForEachWorld, ServesUnlessFailed, StaysUnlessFailed};
 ghost use Rattle.wu_core.specs.Storable.{AreStorable};
 
 use crate::loading::{load, load_above};
-use sqlite::{Alter, Connection};
+use crate::statements::{assimilate_rows, delete_rows, purge_rows, validate_rows, wake_rows};
+use sqlite::{Alter, Connection, Row};
 use std::alloc::Global;
-use wu_core::{Fault, Moment, Workunit};
-use wu_rules::{Pass, changes};
+use wu_core::{Fault, Marks, Moment, Workunit};
+use wu_rules::{Pass, marks_of};
+use wu_schema::number_at;
 
 /// The present workunit of the least number, with its instances, or none: that of 0, or the first above it.
 pub(crate) fn first<S: Alter>(
@@ -54,28 +57,134 @@ pub(crate) fn next_after<S: Alter>(
     Ok(Some(next))
 }
 
-/// Adds the workunit, if the pass changes it.
-fn add_if_changed(
-    due: &mut Vec<Workunit>,
+/// Adds the marks of a workunit, with its number.
+fn add_marks(rows: &mut Vec<(u64, Marks)>, workunit: &Workunit) -> Result<(), Fault>
+    ensures added { IfOk result (λ _. rows.new.items
+        ≡ rows.old.items ++ (workunit.now.number, marks workunit.now) ∷ []) }
+    ensures fault { IfErr result (λ fault. fault ≡ Memory) }
+{
+    rows.push((workunit.number, marks_of(workunit)))?;
+    Ok(())
+}
+
+/// The marks of all workunits, each with its number, in order of number.
+///
+/// One workunit after another is loaded, and only its marks are kept.
+pub fn load_marks<S: Alter>(
+    conn: &mut Connection<S>,
+    alloc: Global,
+) -> Result<Vec<(u64, Marks)>, Fault>
+    ensures asks { Asks S.Store conn.old conn.new result }
+    ensures opens { ServesUnlessFailed S.Store conn.new result }
+    ensures fault { IfErr result IsStoreFault }
+    ensures marks { ForEachWorld S.Store conn.old conn.new (FindsMarks result) }
+    ensures unrefused { NotRefusedIn S.Store conn.old conn.new result AreStorable }
+{
+    let mut rows = Vec::new(alloc);
+    let mut next = first(conn, alloc)?;
+    while let Some(workunit) = next {
+        add_marks(&mut rows, &workunit)?;
+        next = next_after(conn, alloc, workunit.number)?;
+    }
+    Ok(rows)
+}
+
+/// The moment so many seconds before this one, if there is one.
+fn moment_before(now: Moment, seconds: u64) -> Option<Moment>
+    ensures since { IfSome result (λ since. since + seconds ≡ now) }
+    ensures none { result ≡ None → now < seconds }
+{
+    if seconds > now.seconds() {
+        return None;
+    }
+    Moment::new(now.seconds() - seconds)
+}
+
+/// The rows of the numbers of the workunits that wait for their purge for so long, in order, as far as the limit goes.
+fn waiting_rows<S: Alter>(
+    conn: &mut Connection<S>,
+    now: Moment,
+    min_age: u64,
+    limit: u64,
+) -> Result<Vec<Row>, Fault>
+    ensures asks { Asks S.Store conn.old conn.new result }
+    ensures opens { limit < 2 ^ 63 → ServesUnlessFailed S.Store conn.new result }
+    ensures answers { AnswersQueue S.Store conn.old conn.new result
+        (first_marked limit (selects Pass.Purge now min_age)) }
+    ensures fault { IfErr result IsStoreFault }
+    ensures unrefused { limit < 2 ^ 63 → NotRefusedQueue S.Store conn.old conn.new result }
+{
+    match moment_before(now, min_age) {
+        Some(since) => purge_rows(conn, since, limit),
+        // nothing can have waited for so long
+        None => purge_rows(conn, Moment::first(), 0),
+    }
+}
+
+/// The rows of the numbers of the workunits that the queue has for a pass, in order, as far as the limit goes.
+fn due_rows<S: Alter>(
+    conn: &mut Connection<S>,
     pass: Pass,
     now: Moment,
     min_age: u64,
-    workunit: Workunit,
-) -> Result<(), Fault>
-    requires { min_age ≤ longest_age }
-    ensures added { IfOk result (λ _.
-        due.new.items ≡ due.old.items ++ filter (changes pass now min_age) (workunit ∷ [])) }
-    ensures fault { IfErr result (λ fault. fault ≡ Memory) }
+    limit: u64,
+) -> Result<Vec<Row>, Fault>
+    ensures asks { Asks S.Store conn.old conn.new result }
+    ensures opens { limit < 2 ^ 63 → ServesUnlessFailed S.Store conn.new result }
+    ensures answers { AnswersQueue S.Store conn.old conn.new result
+        (first_marked limit (selects pass now min_age)) }
+    ensures fault { IfErr result IsStoreFault }
+    ensures unrefused { limit < 2 ^ 63 → NotRefusedQueue S.Store conn.old conn.new result }
 {
-    if changes(pass, now, min_age, &workunit) {
-        due.push(workunit)?;
+    match pass {
+        Pass::Transition => wake_rows(conn, now, limit),
+        Pass::Validate => validate_rows(conn, limit),
+        Pass::Assimilate => assimilate_rows(conn, limit),
+        Pass::Delete => delete_rows(conn, limit),
+        Pass::Purge => waiting_rows(conn, now, min_age, limit),
     }
-    Ok(())
+}
+
+/// The workunit of the number in a row of the queue. `NotAProject` where none is present.
+fn present<S: Alter>(conn: &mut Connection<S>, alloc: Global, row: &Row) -> Result<Workunit, Fault>
+    ensures asks { Asks S.Store conn.old conn.new result }
+    ensures fault { IfErr result IsStoreFault }
+    ensures found { ForEachWorld S.Store conn.old conn.new (FindsPresent row.now result) }
+    ensures unrefused { NotRefusedIn S.Store conn.old conn.new result (IsRowOfStorable row.now) }
+{
+    let number = number_at(row, 0)?;
+    match load(conn, alloc, number)? {
+        Some(workunit) => Ok(workunit),
+        None => Err(Fault::NotAProject),
+    }
+}
+
+/// The workunits of the numbers in these rows of the queue, in their order. `NotAProject` where one is not present.
+fn load_all<S: Alter>(
+    conn: &mut Connection<S>,
+    alloc: Global,
+    rows: &[Row],
+) -> Result<Vec<Workunit>, Fault>
+    ensures asks { Asks S.Store conn.old conn.new result }
+    ensures stays { StaysUnlessFailed S.Store conn.old conn.new result }
+    ensures fault { IfErr result IsStoreFault }
+    ensures found { ForEachWorld S.Store conn.old conn.new (FindsAllPresent rows.now result) }
+    ensures long { IfOk result (λ found. length found.items ≡ length rows.now) }
+    ensures unrefused { NotRefusedIn S.Store conn.old conn.new result
+        (AreRowsOfStorable rows.now) }
+{
+    let mut found = Vec::new(alloc);
+    for row in rows {
+        let workunit = present(conn, alloc, row)?;
+        found.push(workunit)?;
+    }
+    Ok(found)
 }
 
 /// The workunits that the pass changes, in order of number: the first ones, up to the limit.
 ///
-/// One workunit after another is loaded, and only those that the pass changes are kept.
+/// The queue tells their numbers, and those workunits alone are loaded. `NotAProject` where a row is no value, or the
+/// limit is not below 2^63.
 pub fn load_due<S: Alter>(
     conn: &mut Connection<S>,
     alloc: Global,
@@ -84,24 +193,18 @@ pub fn load_due<S: Alter>(
     min_age: u64,
     limit: u64,
 ) -> Result<Vec<Workunit>, Fault>
-    requires age { min_age ≤ longest_age }
-    requires some { 1 ≤ limit }
     ensures asks { Asks S.Store conn.old conn.new result }
-    ensures opens { ServesUnlessFailed S.Store conn.new result }
+    ensures opens { limit < 2 ^ 63 → ServesUnlessFailed S.Store conn.new result }
     ensures fault { IfErr result IsStoreFault }
-    ensures due { ForEachWorld S.Store conn.old conn.new (FindsDue pass now min_age limit result) }
+    ensures due { ForEachQueued S.Store conn.old conn.new
+        (FindsDue pass now min_age limit result) }
     ensures few { IfOk result (λ due. length due.items ≤ limit) }
-    ensures unrefused { NotRefusedIn S.Store conn.old conn.new result AreStorable }
+    ensures unrefused { limit < 2 ^ 63
+        → NotRefusedQueued S.Store conn.old conn.new result AreStorable }
 {
-    let mut due = Vec::new(alloc);
-    let mut next = first(conn, alloc)?;
-    while let Some(workunit) = next {
-        let number = workunit.number;
-        add_if_changed(&mut due, pass, now, min_age, workunit)?;
-        if due.len() as u64 == limit {
-            return Ok(due);
-        }
-        next = next_after(conn, alloc, number)?;
+    let rows = due_rows(conn, pass, now, min_age, limit)?;
+    if rows.len() as u64 > limit {
+        return Err(Fault::NotAProject);
     }
-    Ok(due)
+    load_all(conn, alloc, rows.as_slice())
 }

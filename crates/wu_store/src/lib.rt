@@ -14,7 +14,7 @@ mod verdicts;
 
 pub use changes::{Change, Import, apply};
 pub use counts::summary;
-pub use due::load_due;
+pub use due::{load_due, load_marks};
 pub use lines::{HostLine, ResultLine, Summary, WorkunitLine};
 pub use listing::{archived_lines, host_lines, result_lines, workunit_lines};
 pub use loading::{

@@ -2,7 +2,7 @@
 
 ghost use Rattle.std.specs.Prelude.{◌≡◌, ◌<◌, ◌≤◌, ◌^◌, ⊤, [], Some, pos, option_map, IfOk, IfErr, OnOk};
 ghost use Rattle.wu_store.specs.Changing.{import_of_change};
-ghost use Rattle.wu_store.specs.Changes.{with_placed, without_workunit, with_import, with_next, AddsArchived, AddsGrant, AddsInstance, Credits, PutsGrant, WasFree};
+ghost use Rattle.wu_store.specs.Changes.{with_placed, without_workunit, with_import, with_next, with_version, AddsArchived, AddsGrant, AddsInstance, Credits, PutsGrant, WasFree};
 ghost use Rattle.wu_core.specs.Storable.{bare};
 ghost use Rattle.wu_core.specs.declared.fault.Fault.TheVariants.{NotAProject};
 ghost use Rattle.wu_schema.specs.Asking.{Asks};
@@ -682,5 +682,18 @@ pub fn set_next_number<S: Alter>(tx: &mut Transaction<'_, S>, next_number: u64) 
         tx,
         "UPDATE project SET next_number = ?1",
         params![signed(next_number)?],
+    )
+}
+
+/// Sets the version of the project's schema.
+pub fn set_version<S: Alter>(tx: &mut Transaction<'_, S>, version: u64) -> Result<(), Error>
+    ensures writes { StatementFrame S.Store tx.old tx.new result }
+    ensures sets { Changes S.Store tx.old tx.new result (with_version version) }
+    ensures queue { Does S.Store tx.old tx.new result KeepsQueue }
+{
+    execute(
+        tx,
+        "UPDATE project SET version = ?1",
+        params![signed(version)?],
     )
 }

@@ -2,14 +2,14 @@
 
 ghost use Rattle.std.specs.Prelude.{◌≡◌, true, false, [], Ok, Err, IfErr, IfOk, IsTrue, OnOk};
 ghost use Rattle.sqlite.specs.Held.{state};
-ghost use Rattle.wu_machine.specs.Machine.{has_right_limits};
-ghost use Rattle.wu_passes.specs.Planning.{NeverEnded, PlansFor};
+ghost use Rattle.wu_machine.specs.Machine.{has_right_limits, is_upgrade};
+ghost use Rattle.wu_passes.specs.Planning.{ForEachProject, IsReadyFor, NeverEnded, NotRefusedOver, PlansAt, PlansFor};
 ghost use Rattle.wu_machine.specs.Commands.{request_of};
 ghost use Rattle.wu_machine.specs.Sound.{IsProject};
-ghost use Rattle.wu_store.specs.Loading.{Asks, NotRefusedIn, ForEachWorld, ServesUnlessFailed};
+ghost use Rattle.wu_store.specs.Loading.{Asks, ServesUnlessFailed, StaysUnlessFailed};
 ghost use Rattle.wu_passes.specs.Standing.{IsCutBy};
-ghost use Rattle.wu_passes.specs.Adopting.{Adopts, RefusesAdoption};
-ghost use Rattle.wu_passes.specs.Projects.{AnswersEnded, AsksOn, CarriesOut, CarriesOutFrom, connection_of, FailsAgain, GoesOnAgain, IsSessionOpen, has_ended, IsSessionEnded, KeepsSession, LeavesIdle, LeavesUntouched, PlansOn, ReadsUnrefused, RefusesLimit, RunsOver, ServesOn, ServesRight, state_of, TellsWhy};
+ghost use Rattle.wu_passes.specs.Adopting.{Adopts, KnowsVersion, older_than_present, RefusesAdoption, StartsOver};
+ghost use Rattle.wu_passes.specs.Projects.{AnswersEnded, AsksOn, CarriesOut, CarriesOutFrom, connection_of, FailsAgain, GoesOnAgain, IsSessionOpen, has_ended, IsSessionEnded, KeepsAsking, KeepsSession, LeavesIdle, LeavesUntouched, PlansOn, ReachesPresent, ReadsUnrefused, RefusesEarly, RunsOver, refused_for, ServesOn, ServesRight, older_version, state_of, TellsWhy};
 
 use crate::batch::plan_batch;
 use crate::cancel::plan_cancel;
@@ -19,33 +19,56 @@ use crate::passes::{Ask, plan_pass};
 use crate::plan::Plan;
 use crate::project::Project;
 use crate::upgrade::plan_upgrade;
+use crate::version::known_version;
 use sqlite::{Alter, Connection};
 use std::alloc::Global;
 use wu_core::Fault;
 use wu_machine::{Answer, Command};
-use wu_schema::{check_version, create, version_of};
+use wu_schema::{PRESENT_VERSION, check_version, create, version_of};
 use wu_store::Change;
 
-/// Finds the project of the database, or makes a fresh one where none of its tables is there; a limit on steps is taken
-/// off.
+/// Finds the project of the database, or makes a fresh one where none of its tables is there: the version of its
+/// schema. A limit on steps is taken off.
 ///
 /// A connection inside a transaction stays as it was.
-fn find_or_create<S: Alter>(conn: &mut Connection<S>) -> Result<(), Fault>
+fn find_or_create<S: Alter>(conn: &mut Connection<S>) -> Result<u64, Fault>
     ensures busy { conn.old.in_transaction ≡ true
         → (result ≡ Err Fault.NotAProject) × (conn.new ≡ conn.old) }
     ensures mode { OnOk result (conn.new.in_transaction ≡ false) }
     ensures adopted { OnOk result (Adopts (state S.Store conn.old) (state S.Store conn.new)) }
     ensures refused { IfErr result
         (RefusesAdoption (state S.Store conn.old) (state S.Store conn.new)) }
+    ensures version { IfOk result
+        (KnowsVersion (state S.Store conn.old) (state S.Store conn.new)) }
 {
     if !conn.is_autocommit() {
         return Err(Fault::NotAProject);
     }
     conn.set_step_limit(None);
-    match version_of(conn)? {
-        Some(version) => check_version(version),
-        None => create(conn),
+    let Some(version) = version_of(conn)? else {
+        create(conn)?;
+        return Ok(PRESENT_VERSION);
+    };
+    check_version(version)?;
+    Ok(version)
+}
+
+/// The version, where it is older than the present one.
+fn older_than_present(version: u64) -> Option<u64>
+    ensures { result ≡ older_than_present version }
+{
+    if version < PRESENT_VERSION {
+        Some(version)
+    } else {
+        None
     }
+}
+
+/// Whether the command is an upgrade.
+fn is_upgrade(command: &Command) -> bool
+    ensures { result ≡ is_upgrade (request_of command.now) }
+{
+    matches!(command, Command::Upgrade)
 }
 
 /// Whether the limit and the least age of a pass are in range. Any other command has none.
@@ -66,19 +89,21 @@ fn has_right_limits(command: &Command) -> bool
     }
 }
 
-/// What a command will answer and what it changes, or its first refusal.
-fn plan<'a, S: Alter>(
+/// What a command over tables of this version will answer and what it changes, or its first refusal.
+fn plan_at<'a, S: Alter>(
     conn: &mut Connection<S>,
     alloc: Global,
+    version: u64,
     command: &'a Command,
 ) -> Result<Plan<'a>, Fault>
     requires { has_right_limits (request_of command.now) ≡ true }
     ensures asks { Asks S.Store conn.old conn.new result }
-    ensures opens { ServesUnlessFailed S.Store conn.new result }
+    ensures opens { StaysUnlessFailed S.Store conn.old conn.new result }
     ensures never { NeverEnded result }
-    ensures unrefused { NotRefusedIn S.Store conn.old conn.new result IsProject }
-    ensures plan { ForEachWorld S.Store conn.old conn.new
-        (PlansFor (request_of command.now) result) }
+    ensures unrefused { NotRefusedOver S.Store conn.old conn.new result
+        (IsReadyFor (request_of command.now)) }
+    ensures plan { ForEachProject S.Store conn.old conn.new
+        (PlansAt version (request_of command.now) result) }
 {
     match command {
         Command::Batch(batch) => plan_batch(conn, alloc, batch),
@@ -102,28 +127,54 @@ fn plan<'a, S: Alter>(
             min_age,
         } => plan_pass(conn, alloc, &Ask::purge(*now, *limit, *min_age)),
         Command::Cancel { workunit } => plan_cancel(conn, alloc, workunit),
-        Command::Upgrade => plan_upgrade(conn, alloc),
+        Command::Upgrade => plan_upgrade(conn, alloc, version),
     }
+}
+
+/// What a command will answer and what it changes, or its first refusal. Over tables of an older version than the
+/// present one each but an upgrade is refused.
+fn plan<'a, S: Alter>(
+    conn: &mut Connection<S>,
+    alloc: Global,
+    command: &'a Command,
+) -> Result<Plan<'a>, Fault>
+    requires { has_right_limits (request_of command.now) ≡ true }
+    ensures asks { Asks S.Store conn.old conn.new result }
+    ensures opens { ServesUnlessFailed S.Store conn.new result }
+    ensures never { NeverEnded result }
+    ensures unrefused { NotRefusedOver S.Store conn.old conn.new result IsProject }
+    ensures plan { ForEachProject S.Store conn.old conn.new
+        (PlansFor (request_of command.now) result) }
+{
+    let version = known_version(conn)?;
+    if version < PRESENT_VERSION && !is_upgrade(command) {
+        return Err(Fault::OldSchema(version));
+    }
+    plan_at(conn, alloc, version, command)
 }
 
 impl<S: Alter> Project<S> {
     /// Begins a session over the project in a database, and takes a limit on steps off the connection.
     ///
-    /// A project that is found is not touched, whatever comes of it. A database with none of the project's tables gets
-    /// them, in one transaction; tables of other names are left alone. A later version is `NewSchema`, where it is
-    /// stored. `NotAProject` is a connection inside a transaction, a taken name, or a table `project` with other rows.
-    /// With each refusal the connection comes back, and is open but after `Memory` and `Broken`.
+    /// A project that is found is not touched, whatever comes of it, also one of an older version. A database with none
+    /// of the project's tables gets them, in one transaction; tables of other names are left alone. A later version is
+    /// `NewSchema`, where it is stored. `NotAProject` is a connection inside a transaction, a taken name, or a table
+    /// `project` with other rows. With each refusal the connection comes back, and is open but after `Memory` and
+    /// `Broken`.
     pub fn adopt(mut conn: Connection<S>) -> Result<Self, (Connection<S>, Fault)>
         ensures busy { conn.in_transaction ≡ true → result ≡ Err (conn, Fault.NotAProject) }
         ensures begins { IfOk result IsSessionOpen }
         ensures adopted { IfOk result (λ project. Adopts (state S.Store conn) (state_of project)) }
         ensures refused { IfErr result (λ refusal.
             RefusesAdoption (state S.Store conn) (state S.Store refusal.0) refusal.1) }
+        ensures version { IfOk result (λ project.
+            StartsOver (state S.Store conn) (state_of project) (older_version project)) }
     {
         match find_or_create(&mut conn) {
-            Ok(()) => Ok(Project {
+            Ok(version) => Ok(Project {
                 conn,
                 has_ended: false,
+                older: older_than_present(version),
             }),
             Err(fault) => Err((conn, fault)),
         }
@@ -141,7 +192,11 @@ impl<S: Alter> Project<S> {
         ensures same { result ≡ connection_of self }
         ensures idle { result.in_transaction ≡ false }
     {
-        let Project { conn, has_ended: _ } = self;
+        let Project {
+            conn,
+            has_ended: _,
+            older: _,
+        } = self;
         conn
     }
 
@@ -154,6 +209,8 @@ impl<S: Alter> Project<S> {
         ensures adopted { IfOk result (λ project. Adopts (state_of self) (state_of project)) }
         ensures refused { IfErr result (λ refusal.
             RefusesAdoption (state_of self) (state S.Store refusal.0) refusal.1) }
+        ensures version { IfOk result (λ project.
+            StartsOver (state_of self) (state_of project) (older_version project)) }
         ensures goes { IfOk result (GoesOnAgain self) }
         ensures fails { IfErr result (FailsAgain self) }
     {
@@ -162,18 +219,20 @@ impl<S: Alter> Project<S> {
 
     /// Runs a command: its changes in one transaction, then its answer.
     ///
-    /// A pass whose limit or least age is out of range is `BadLimit`, and nothing is touched. All is computed before
-    /// the transaction begins; a fault before it leaves the project as it was, and only `Broken` ends the session
-    /// there. A statement that is refused within it is `NotAProject`, and is rolled back; `Memory` and `Broken` from
-    /// within end the session. For a command with right limits the connection is open after Ok and after each fault but
-    /// `Memory` and `Broken`; after a `Memory` that leaves the session on it may be closed. A command that the machine
-    /// makes nothing of, such as an import that comes again, begins no transaction.
+    /// Over an older version that the session knows each command but an upgrade is `OldSchema`, whatever its limits.
+    /// Then a pass whose limit or least age is out of range is `BadLimit`. Nothing is touched for either. All else is
+    /// computed before the transaction begins; a fault before it leaves the project as it was, and only `Broken` ends
+    /// the session there. A statement that is refused within it is `NotAProject`, and is rolled back; `Memory` and
+    /// `Broken` from within end the session. For a command that neither refusal meets, the connection is open after Ok
+    /// and after each fault but `Memory` and `Broken`; after a `Memory` that leaves the session on it may be closed. A
+    /// command that the machine makes nothing of, such as an import that comes again, begins no transaction. What is
+    /// done leaves the session over the present version.
     pub fn run(&mut self, alloc: Global, command: &Command) -> Result<Answer, Fault>
         ensures ended { IsSessionEnded self.old → AnswersEnded self.old self.new result }
         ensures session { KeepsSession self.old self.new result }
-        ensures opens { IsSessionOpen self.old → ServesRight self.new command.now result }
+        ensures opens { IsSessionOpen self.old → ServesRight self.old self.new command.now result }
         ensures refused { IsSessionOpen self.old
-            → RefusesLimit self.old self.new command.now result }
+            → RefusesEarly self.old self.new command.now result }
         ensures runs { IsSessionOpen self.old → RunsOver self.old self.new command.now result }
         ensures why { IsSessionOpen self.old → TellsWhy self.old self.new command.now result }
         ensures untouched { LeavesUntouched self.old self.new result }
@@ -181,6 +240,9 @@ impl<S: Alter> Project<S> {
     {
         if self.has_ended {
             return Err(Fault::Ended);
+        }
+        if let Some(version) = self.older_for(command) {
+            return Err(Fault::OldSchema(version));
         }
         if !has_right_limits(command) {
             return Err(Fault::BadLimit);
@@ -191,23 +253,41 @@ impl<S: Alter> Project<S> {
         }
     }
 
+    /// The older version for which a command is refused, if there is one.
+    fn older_for(&self, command: &Command) -> Option<u64>
+        ensures { result ≡ refused_for (request_of command.now) (older_version self.now) }
+    {
+        if is_upgrade(command) {
+            None
+        } else {
+            self.older
+        }
+    }
+
     /// What a command will answer and what it changes: all of it that comes before its transaction.
     ///
     /// `Broken` ends the session here, and nothing else does: not want of memory, whatever the command.
     fn prepare<'a>(&mut self, alloc: Global, command: &'a Command) -> Result<Plan<'a>, Fault>
         requires still { IsSessionOpen self.old }
         requires right { has_right_limits (request_of command.now) ≡ true }
-        ensures ends { IsSessionEnded self.new → result ≡ Err Fault.Broken }
-        ensures broken { result ≡ Err Fault.Broken → IsSessionEnded self.new }
+        ensures session { KeepsAsking self.old self.new result }
         ensures asks { AsksOn self.old self.new result }
         ensures opens { ServesOn self.new result }
         ensures never { NeverEnded result }
         ensures unrefused { ReadsUnrefused self.old self.new result }
         ensures plan { PlansOn self.old self.new command.now result }
     {
+        // outside a transaction what is shown is what is committed
+        let is_idle = self.conn.is_autocommit();
+        prove!(is_idle);
         match plan(&mut self.conn, alloc, command) {
             Ok(plan) => Ok(plan),
             Err(fault) => {
+                if fault == Fault::Memory {
+                    // the connection may be closed: what is asked next asks the version anew
+                    self.older = None;
+                    return Err(fault);
+                }
                 if fault != Fault::Broken {
                     return Err(fault);
                 }
@@ -226,6 +306,7 @@ impl<S: Alter> Project<S> {
         ensures done { CarriesOut self.old self.new answer changes.now result }
         ensures from { CarriesOutFrom self.old self.new answer changes.now result }
         ensures untouched { LeavesUntouched self.old self.new result }
+        ensures version { ReachesPresent self.old self.new changes.now result }
         ensures none { changes.now ≡ [] → (result ≡ Ok answer) × (self.new ≡ self.old) }
     {
         if changes.is_empty() {
@@ -235,7 +316,11 @@ impl<S: Alter> Project<S> {
         let is_idle = self.conn.is_autocommit();
         prove!(is_idle);
         match change_all(&mut self.conn, changes) {
-            Ok(()) => Ok(answer),
+            Ok(()) => {
+                // no command but an upgrade changes tables of an older version
+                self.older = None;
+                Ok(answer)
+            }
             Err(Fault::NotAProject) => {
                 drop(answer);
                 Err(Fault::NotAProject)

@@ -1,6 +1,6 @@
 //! The summary of a project, within its session.
 
-ghost use Rattle.std.specs.Prelude.{◌≡◌, Err, IfErr};
+ghost use Rattle.std.specs.Prelude.{IfErr};
 ghost use Rattle.wu_store.specs.Loading.{IsStoreFault};
 
 use crate::project::Project;
@@ -9,24 +9,28 @@ use wu_core::Fault;
 use wu_store::{Summary, summary};
 
 impl<S: Alter> Project<S> {
-    ghost use Rattle.wu_passes.specs.Projects.{AnswersEnded, AsksOn, IsSessionOpen, IsSessionEnded, ServesOn, Summarizes, SummarizesUnrefused};
+    ghost use Rattle.wu_passes.specs.Projects.{AnswersFirst, AsksOn, IsPresentSession, IsSessionOpen, KeepsAsking, ServesOn, Summarizes, SummarizesUnrefused};
 
     /// How much the project holds. It changes no table; `Broken` ends the session.
     ///
-    /// `NotAProject` where a row is no value, or where the credit of all grants is not below 2^64.
+    /// `NotAProject` where a row is no value, or where the credit of all grants is not below 2^64. Over an older
+    /// version it is `OldSchema`, and nothing is read.
     pub fn summary(&mut self) -> Result<Summary, Fault>
-        ensures ended { IsSessionEnded self.old → AnswersEnded self.old self.new result }
+        ensures early { AnswersFirst self.old self.new result }
+        ensures session { KeepsAsking self.old self.new result }
         ensures asks { AsksOn self.old self.new result }
-        ensures opens { IsSessionOpen self.old → ServesOn self.new result }
-        ensures fault { IsSessionOpen self.old → IfErr result IsStoreFault }
-        ensures ends { IsSessionOpen self.old → IsSessionEnded self.new
-            → result ≡ Err Fault.Broken }
-        ensures broken { result ≡ Err Fault.Broken → IsSessionEnded self.new }
+        ensures opens { IsSessionOpen self.old → IsPresentSession self.old
+            → ServesOn self.new result }
+        ensures fault { IsSessionOpen self.old → IsPresentSession self.old
+            → IfErr result IsStoreFault }
         ensures unrefused { IsSessionOpen self.old → SummarizesUnrefused self.old self.new result }
         ensures summary { Summarizes self.old self.new result }
     {
         if self.has_ended {
             return Err(Fault::Ended);
+        }
+        if let Some(version) = self.older {
+            return Err(Fault::OldSchema(version));
         }
         match summary(&mut self.conn) {
             Ok(summary) => Ok(summary),

@@ -1,6 +1,6 @@
 //! Walks over a project: what a view shows, one line after another.
 
-ghost use Rattle.std.specs.Prelude.{◌≡◌, ◌<◌, Err, IfErr, IfOk, IfSome};
+ghost use Rattle.std.specs.Prelude.{◌≡◌, ◌<◌, IfErr, IfOk, IfSome};
 ghost use Rattle.std.specs.Vec.Iter.{into_iter_items};
 ghost use Rattle.wu_store.specs.Lines.{archived_lines, AreHostsNamed, host_lines, result_lines, workunit_lines};
 ghost use Rattle.wu_store.specs.Loading.{IsStoreFault};
@@ -81,25 +81,30 @@ impl<S: Alter, L: Drop> Drop for LineWalk<'_, S, L> {
 
 impl<S: Alter> Project<S> {
     ghost use Rattle.std.specs.Borrow.{sem};
-    ghost use Rattle.wu_passes.specs.Projects.{IsSessionOpen, IsOpen, IsSessionEnded, WasOpenBefore};
-    ghost use Rattle.wu_passes.specs.Walks.{OnlyReads, RestsIfRefused, walked, WalksOver};
+    ghost use Rattle.wu_passes.specs.Projects.{IsPresentSession, IsSessionOpen, IsOpen, WasOpenBefore};
+    ghost use Rattle.wu_passes.specs.Walks.{OnlyReads, RefusesFirst, RestsIfRefused, walked, WalksOver};
 
     /// Begins a walk over all workunits, in order of number.
     ///
-    /// Their lines are all read before the first is handed out: `NotAProject` where a row is no value.
+    /// Their lines are all read before the first is handed out: `NotAProject` where a row is no value. Over an older
+    /// version it is `OldSchema`, and nothing is read.
     pub fn walk_workunits(&mut self, alloc: Global) -> Result<WorkunitWalk<'_, S>, Fault>
         ensures* refused { sem 𝓛 (RestsIfRefused S.row S.Store AreStorable self.entry result) }
         ensures same_reference { IfOk result
             (λ walk. walk.project.ghost_name ≡ self.entry.ghost_name) }
-        ensures ended { IsSessionEnded self.old → result ≡ Err Fault.Ended }
+        ensures early { RefusesFirst self.old result }
         ensures reads { IfOk result (λ walk. OnlyReads self.old (walked walk)) }
         ensures open { IfOk result (λ walk. WasOpenBefore self.old (walked walk) result) }
         ensures opens { IfOk result (λ walk. IsOpen (walked walk)) }
-        ensures fault { IsSessionOpen self.old → IfErr result IsStoreFault }
+        ensures fault { IsSessionOpen self.old → IsPresentSession self.old
+            → IfErr result IsStoreFault }
         ensures lines { IfOk result (WalksOver workunit_lines self.old) }
     {
         if self.has_ended {
             return Err(Fault::Ended);
+        }
+        if let Some(version) = self.older {
+            return Err(Fault::OldSchema(version));
         }
         let lines = workunit_lines(&mut self.conn, alloc)?;
         Ok(Walk::new(self, lines))
@@ -107,20 +112,25 @@ impl<S: Alter> Project<S> {
 
     /// Begins a walk over all instances, in order of their workunits and then of their own numbers.
     ///
-    /// Their lines are all read before the first is handed out: `NotAProject` where a row is no value.
+    /// Their lines are all read before the first is handed out: `NotAProject` where a row is no value. Over an older
+    /// version it is `OldSchema`, and nothing is read.
     pub fn walk_results(&mut self, alloc: Global) -> Result<ResultWalk<'_, S>, Fault>
         ensures* refused { sem 𝓛 (RestsIfRefused S.row S.Store AreStorable self.entry result) }
         ensures same_reference { IfOk result
             (λ walk. walk.project.ghost_name ≡ self.entry.ghost_name) }
-        ensures ended { IsSessionEnded self.old → result ≡ Err Fault.Ended }
+        ensures early { RefusesFirst self.old result }
         ensures reads { IfOk result (λ walk. OnlyReads self.old (walked walk)) }
         ensures open { IfOk result (λ walk. WasOpenBefore self.old (walked walk) result) }
         ensures opens { IfOk result (λ walk. IsOpen (walked walk)) }
-        ensures fault { IsSessionOpen self.old → IfErr result IsStoreFault }
+        ensures fault { IsSessionOpen self.old → IsPresentSession self.old
+            → IfErr result IsStoreFault }
         ensures lines { IfOk result (WalksOver result_lines self.old) }
     {
         if self.has_ended {
             return Err(Fault::Ended);
+        }
+        if let Some(version) = self.older {
+            return Err(Fault::OldSchema(version));
         }
         let lines = result_lines(&mut self.conn, alloc)?;
         Ok(Walk::new(self, lines))
@@ -128,20 +138,25 @@ impl<S: Alter> Project<S> {
 
     /// Begins a walk over all hosts that have grants, in order of their names' bytes.
     ///
-    /// Their lines are all read before the first is handed out: `NotAProject` where a row is no value.
+    /// Their lines are all read before the first is handed out: `NotAProject` where a row is no value. Over an older
+    /// version it is `OldSchema`, and nothing is read.
     pub fn walk_hosts(&mut self, alloc: Global) -> Result<HostWalk<'_, S>, Fault>
         ensures* refused { sem 𝓛 (RestsIfRefused S.row S.Store AreHostsNamed self.entry result) }
         ensures same_reference { IfOk result
             (λ walk. walk.project.ghost_name ≡ self.entry.ghost_name) }
-        ensures ended { IsSessionEnded self.old → result ≡ Err Fault.Ended }
+        ensures early { RefusesFirst self.old result }
         ensures reads { IfOk result (λ walk. OnlyReads self.old (walked walk)) }
         ensures open { IfOk result (λ walk. WasOpenBefore self.old (walked walk) result) }
         ensures opens { IfOk result (λ walk. IsOpen (walked walk)) }
-        ensures fault { IsSessionOpen self.old → IfErr result IsStoreFault }
+        ensures fault { IsSessionOpen self.old → IsPresentSession self.old
+            → IfErr result IsStoreFault }
         ensures lines { IfOk result (WalksOver host_lines self.old) }
     {
         if self.has_ended {
             return Err(Fault::Ended);
+        }
+        if let Some(version) = self.older {
+            return Err(Fault::OldSchema(version));
         }
         let lines = host_lines(&mut self.conn, alloc)?;
         Ok(Walk::new(self, lines))
@@ -149,21 +164,26 @@ impl<S: Alter> Project<S> {
 
     /// Begins a walk over all archived workunits, in order of their archiving.
     ///
-    /// Their lines are all read before the first is handed out: `NotAProject` where a row is no value.
+    /// Their lines are all read before the first is handed out: `NotAProject` where a row is no value. Over an older
+    /// version it is `OldSchema`, and nothing is read.
     pub fn walk_archive(&mut self, alloc: Global) -> Result<ArchiveWalk<'_, S>, Fault>
         ensures* refused { sem 𝓛
             (RestsIfRefused S.row S.Store IsArchiveStorable self.entry result) }
         ensures same_reference { IfOk result
             (λ walk. walk.project.ghost_name ≡ self.entry.ghost_name) }
-        ensures ended { IsSessionEnded self.old → result ≡ Err Fault.Ended }
+        ensures early { RefusesFirst self.old result }
         ensures reads { IfOk result (λ walk. OnlyReads self.old (walked walk)) }
         ensures open { IfOk result (λ walk. WasOpenBefore self.old (walked walk) result) }
         ensures opens { IfOk result (λ walk. IsOpen (walked walk)) }
-        ensures fault { IsSessionOpen self.old → IfErr result IsStoreFault }
+        ensures fault { IsSessionOpen self.old → IsPresentSession self.old
+            → IfErr result IsStoreFault }
         ensures lines { IfOk result (WalksOver archived_lines self.old) }
     {
         if self.has_ended {
             return Err(Fault::Ended);
+        }
+        if let Some(version) = self.older {
+            return Err(Fault::OldSchema(version));
         }
         let lines = archived_lines(&mut self.conn, alloc)?;
         Ok(Walk::new(self, lines))

@@ -9,7 +9,7 @@ returns-in-Some-begin-clause-clean g c clean = c.in-Some.ensures.clean (omega (a
 pub returns-in-Some-begin-clause-found : goal.returns-in-Some-begin-clause-found
 returns-in-Some-begin-clause-found g c clean world project goes =
     ∥∥₁_map (c.in-Some.ensures.found (omega (arith, clean, c.in-Some-begin.ensures.adopted.clean)) world project goes) (λ holds.
-    let first : 1 ≤ (world_after world c.args.commands.now holds.count).version = omega (arith, holds.project.present) in
+    let first : 1 ≤ (world_after world c.args.commands.now holds.count).version = holds.project.1.first in
     record {
       count = holds.count;
       kept = holds.kept;

@@ -8,17 +8,17 @@ use Rattle.wu_passes.proofs.AskLemmas.{asks_stands, handed_is, handed_on}
 use Rattle.wu_passes.proofs.batch.plan_jobs.Goals as goal
 
 pub returns-in_err-check_names-clause-plan : goal.returns-in_err-check_names-clause-plan
-returns-in_err-check_names-clause-plan g c clean world stands project new template_is file_is =
+returns-in_err-check_names-clause-plan g c clean world stands is project new template_is file_is =
     rw (handed_is c.from_residual.result c.in_err-check_names.field-0.0 c.from_residual.ensures.1)
-    (names_refused world project c.args.batch.now.name c.args.batch.now.template c.args.batch.now.file c.args.params c.args.jobs c.in_err-check_names.field-0.0 new template_is file_is (rw c.as_slice.ensures at (c.in_err-check_names.ensures.free clean world stands)))
+    (names_refused world is project c.args.batch.now.name c.args.batch.now.template c.args.batch.now.file c.args.params c.args.jobs c.in_err-check_names.field-0.0 new template_is file_is (rw c.as_slice.ensures at (c.in_err-check_names.ensures.free clean world stands)))
 
 pub returns-clause-plan : goal.returns-clause-plan
-returns-clause-plan g c clean world stands project new template_is file_is =
+returns-clause-plan g c clean world stands is project new template_is file_is =
     let before : HasCleanDisk (state g.S.Store c.check_names.new.conn) = omega (arith, c.next_number.ensures.asks.crash.clean) in
     let still : Refines (state g.S.Store c.check_names.new.conn).now world = asks_stands g.S.Store _ _ c.in_ok-check_names.field-0 c.in_ok-check_names.ensures.asks before world stands in
     let free : first_taken world c.args.jobs ≡ None = rw c.as_slice.ensures at (c.in_ok-check_names.ensures.free before world stands) in
     let next_is = c.in_ok-next.ensures.next clean world still in
-    jobs_planned world project c.args.batch.now.name c.args.batch.now.template c.args.batch.now.file c.args.params c.args.jobs _ c.new_batch.result new template_is file_is free next_is (search rules) c.new_batch.ensures.plan c.new_batch.ensures.fault
+    jobs_planned world is project c.args.batch.now.name c.args.batch.now.template c.args.batch.now.file c.args.params c.args.jobs _ c.new_batch.result new template_is file_is free next_is (search rules) c.new_batch.ensures.plan c.new_batch.ensures.fault
 
 pub returns-in_err-check_names-clause-unrefused : goal.returns-in_err-check_names-clause-unrefused
 returns-in_err-check_names-clause-unrefused g c clean world stands project limit =

@@ -7,13 +7,13 @@ use Rattle.wu_passes.proofs.PlanLemmas.{named_loads}
 use Rattle.wu_passes.proofs.cancel.plan_cancel.Goals as goal
 
 pub returns-in-Some-clause-plan : goal.returns-in-Some-clause-plan
-returns-in-Some-clause-plan g c clean world stands project =
+returns-in-Some-clause-plan g c clean world stands is project =
     let present : workunit_named world c.args.name.now ≡ Some c.in-Some.workunit = sym (sym c.in-Some.is ∙ c.in_ok-workunit.ensures.found clean world stands) in
-    cancel_planned (state g.S.Store c.args.conn.now).now world stands project c.args.name.now c.in-Some.workunit present c.give_up.result c.give_up.ensures.plan c.give_up.ensures.fault
+    cancel_planned (state g.S.Store c.args.conn.now).now world stands is c.args.name.now c.in-Some.workunit present c.give_up.result c.give_up.ensures.plan c.give_up.ensures.fault
 
 pub returns-in-None-clause-plan : goal.returns-in-None-clause-plan
-returns-in-None-clause-plan g c clean world stands project =
-    inl (cancel_unknown (state g.S.Store c.args.conn.now).now world stands project c.args.name.now (sym (sym c.in-None.is ∙ c.in_ok-workunit.ensures.found clean world stands)))
+returns-in-None-clause-plan g c clean world stands is project =
+    inl (cancel_unknown (state g.S.Store c.args.conn.now).now world stands is c.args.name.now (sym (sym c.in-None.is ∙ c.in_ok-workunit.ensures.found clean world stands)))
 
 pub returns-in_err-workunit-clause-unrefused : goal.returns-in_err-workunit-clause-unrefused
 returns-in_err-workunit-clause-unrefused g c clean world stands project limit =

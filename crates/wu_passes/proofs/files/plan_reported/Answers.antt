@@ -10,9 +10,9 @@ use Rattle.wu_passes.proofs.ImportPlans.{asked_reported, repeated_planned}
 use Rattle.wu_passes.proofs.files.plan_reported.Goals as goal
 
 pub returns-in-Some-clause-plan : goal.returns-in-Some-clause-plan
-returns-in-Some-clause-plan g c clean world stands project =
+returns-in-Some-clause-plan g c clean world stands is project =
     let given = file_of kind.Reported c.args.file.now in
-    repeated_planned world (AskReported c.args.file.now.name c.args.file.now.file) given (asked_reported world project c.args.file.now.name c.args.file.now.file) c.in-Some.earlier c.repeated.result
+    repeated_planned world (AskReported c.args.file.now.name c.args.file.now.file) given (asked_reported world is c.args.file.now.name c.args.file.now.file) c.in-Some.earlier c.repeated.result
     (rw c.in-Some.is at (c.in_ok-earlier.ensures.found clean world stands)) (rw c.file_source-source.ensures at c.repeated.ensures.plan) (rw c.file_source-source.ensures at c.repeated.ensures.fault)
 
 pub returns-in_err-earlier-clause-unrefused : goal.returns-in_err-earlier-clause-unrefused

@@ -10,9 +10,9 @@ use Rattle.wu_passes.proofs.ImportPlans.{asked_sent, repeated_planned}
 use Rattle.wu_passes.proofs.files.plan_sent.Goals as goal
 
 pub returns-in-Some-clause-plan : goal.returns-in-Some-clause-plan
-returns-in-Some-clause-plan g c clean world stands project =
+returns-in-Some-clause-plan g c clean world stands is project =
     let given = file_of kind.Sent c.args.file.now in
-    repeated_planned world (AskSent c.args.file.now.name c.args.file.now.file) given (asked_sent world project c.args.file.now.name c.args.file.now.file) c.in-Some.earlier c.repeated.result
+    repeated_planned world (AskSent c.args.file.now.name c.args.file.now.file) given (asked_sent world is c.args.file.now.name c.args.file.now.file) c.in-Some.earlier c.repeated.result
     (rw c.in-Some.is at (c.in_ok-earlier.ensures.found clean world stands)) (rw c.file_source-source.ensures at c.repeated.ensures.plan) (rw c.file_source-source.ensures at c.repeated.ensures.fault)
 
 pub returns-in_err-earlier-clause-unrefused : goal.returns-in_err-earlier-clause-unrefused

@@ -5,9 +5,9 @@ use Rattle.wu_passes.proofs.PassPlanLemmas.{pass_planned}
 use Rattle.wu_passes.proofs.passes.plan_taken.Goals as goal
 
 pub returns-clause-plan : goal.returns-clause-plan
-returns-clause-plan g c clean world stands project are right =
+returns-clause-plan g c clean world stands is project are right =
     let counted : c.len-count.result ≡ length c.args.taken.items = search rules in
-    pass_planned (state g.S.Store c.args.conn.now).now world stands project c.args.ask.now right c.args.taken.items are c.in_ok-handled.handled c.in_ok-handled.ensures.all
+    pass_planned (state g.S.Store c.args.conn.now).now world stands is c.args.ask.now right c.args.taken.items are c.in_ok-handled.handled c.in_ok-handled.ensures.all
     c.in_ok-changes.changes.items (c.in_ok-changes.ensures.added clean world stands) c.len-count.result counted
 
 pub returns-in_err-changes-clause-unrefused : goal.returns-in_err-changes-clause-unrefused

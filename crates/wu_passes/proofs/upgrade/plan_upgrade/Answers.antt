@@ -1,14 +1,6 @@
-use Rattle.std.proofs.Common.{◌≡◌, ◌<◌, Some, arith, sym, ◌∙◌}
-use Rattle.wu_machine.specs.Machine.{present_version}
+use Rattle.wu_passes.proofs.AskLemmas.{handed_on}
 use Rattle.wu_passes.proofs.upgrade.plan_upgrade.Goals as goal
 
-pub returns-in_default-clause-unrefused : goal.returns-in_default-clause-unrefused
-returns-in_default-clause-unrefused g c clean world stands project limit =
-    absurd (let no = sym c.in_default.is ∙ (c.in_ok-version.ensures.answers clean).of_world world stands in cc)
-
-pub returns-in_err-check_version-clause-plan : goal.returns-in_err-check_version-clause-plan
-returns-in_err-check_version-clause-plan g c clean world stands project =
-    let same : Some c.in-Some.version ≡ Some world.version = sym c.in-Some.is ∙ (c.in_ok-version.ensures.answers clean).of_world world stands in
-    let version : c.in-Some.version ≡ world.version = cc in
-    let later : present_version < c.in-Some.version = c.in_err-check_version.ensures.later.1 in
-    absurd (omega (arith, version, project.present, later))
+pub returns-in_err-rows-clause-unrefused : goal.returns-in_err-rows-clause-unrefused
+returns-in_err-rows-clause-unrefused g c clean world stands project limit =
+    handed_on c.from_residual.result c.in_err-rows.field-0.0 c.from_residual.ensures.1 (c.in_err-rows.ensures.unrefused clean world stands project.storable limit)

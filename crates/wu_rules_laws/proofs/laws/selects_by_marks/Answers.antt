@@ -1,4 +1,4 @@
-use Rattle.wu_rules_laws.proofs.Marked.{selects-changes}
+use Rattle.wu_rules.proofs.Marked.{selects-changes}
 use Rattle.wu_rules_laws.proofs.laws.selects_by_marks.Goals as goal
 
 pub returns : goal.returns

@@ -1,8 +1,28 @@
-use Rattle.wu_schema.proofs.Words.{HasCleanDisk, arith, state}
-use Rattle.wu_schema.proofs.CallLemmas.{ok_on}
+use Rattle.wu_schema.proofs.Words.{HasCleanDisk, arith, state, subst}
+use Rattle.wu_core.specs.declared.marks.Marks.{Marks}
+use Rattle.wu_schema.proofs.CallLemmas.{ok_both}
+use Rattle.wu_schema.specs.Queue.{HasQueue}
+use Rattle.wu_store.specs.Changes.{with_placed}
+use Rattle.wu_store.specs.Queues.{with_marks}
+use Rattle.wu_store.specs.StandsFor.{marked}
+use Rattle.wu_store.proofs.MarkedLemmas.{marked_placed}
 use Rattle.wu_store.proofs.changes.add.Goals as goal
 
 pub returns-clause-adds : goal.returns-clause-adds
 returns-clause-adds g c clean =
-    let still : HasCleanDisk (state g.S.Store c.insert_workunit.new.tx.conn.now) = omega (arith, c.insert_instances.ensures.works.part.survives.clean) in
-    ok_on c.insert_instances.result _ _ (λ adds world s. adds world (c.in_ok-insert_workunit.ensures.free still world s) (c.in_ok-insert_workunit.ensures.puts still world s)) (c.insert_instances.ensures.adds clean)
+    let new = (state g.S.Store c.insert_marks.new.tx.conn.now).now in
+    let last : HasCleanDisk (state g.S.Store c.insert_instances.new.tx.conn.now) = omega (arith, clean, c.insert_marks.ensures.writes.part.survives.clean) in
+    let first : HasCleanDisk (state g.S.Store c.insert_workunit.new.tx.conn.now) = omega (arith, last, c.in_ok-insert_instances.ensures.works.part.survives.clean) in
+    let w = c.args.workunit.now in
+    ok_both c.insert_marks.result _ _ _ (λ puts stays world queued stands.
+    let q = stands.queue queued in
+    let free = c.in_ok-insert_workunit.ensures.free first world stands.refines in
+    let alone = c.in_ok-insert_workunit.ensures.puts first world stands.refines in
+    let beside = c.in_ok-insert_workunit.ensures.queue first world (marked world) stands.refines q in
+    let whole = c.in_ok-insert_instances.ensures.adds last world free alone in
+    let still = c.in_ok-insert_instances.ensures.queue last world (marked world) free alone beside in
+    record {
+      refines = stays (with_placed w world) (marked world) whole still;
+      queue = λ _. subst (HasQueue new) (marked_placed w world)
+          (subst (λ (m : Marks). HasQueue new (with_marks w.number m (marked world))) c.marks_of.ensures (puts (with_placed w world) (marked world) whole still));
+    }) (c.insert_marks.ensures.puts clean) (c.insert_marks.ensures.stays clean)

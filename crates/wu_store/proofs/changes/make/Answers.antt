@@ -1,9 +1,11 @@
-use Rattle.std.proofs.Common.{[], ◌∷◌, OnOk, sym, subst}
+use Rattle.std.proofs.Common.{[], ◌∷◌, ◌∙◌, OnOk, refl, sym, subst}
 use Rattle.sqlite.specs.Held.{state}
-use Rattle.wu_schema.specs.Refines.{Refines}
-use Rattle.wu_schema.proofs.CallLemmas.{ok_on}
+use Rattle.wu_schema.proofs.CallLemmas.{ok_both, ok_on}
+use Rattle.wu_store.proofs.MarkedLemmas.{stands_kept, stands_without}
 use Rattle.wu_store.proofs.PlacedLemmas.{placed_above}
-use Rattle.wu_store.specs.Changing.{MakesWorlds}
+use Rattle.wu_store.specs.Changes.{with_archived, with_grant, with_import, with_next}
+use Rattle.wu_store.specs.Changing.{MakesWorlds, import_of_change}
+use Rattle.wu_store.specs.StandsFor.{StandsFor}
 use Rattle.wu_store.proofs.changes.make.Goals as goal
 
 pub returns-in-Add-clause-makes : goal.returns-in-Add-clause-makes
@@ -11,11 +13,57 @@ returns-in-Add-clause-makes g c clean =
     let old = (state g.S.Store c.args.tx.now.conn.now).now in
     let new = (state g.S.Store c.add.new.tx.conn.now).now in
     subst (λ change. OnOk c.add.result (MakesWorlds (change ∷ []) old new)) (sym c.in-Add.is)
-    (ok_on c.add.result _ _ (λ adds world stands right. subst (Refines new) (placed_above c.in-Add.workunit world right.0) (adds world stands)) (c.add.ensures.adds clean))
+    (ok_on c.add.result _ _ (λ adds world stands right. subst (StandsFor new) (placed_above c.in-Add.workunit world right.0.1) (adds world right.0.0 stands)) (c.add.ensures.adds clean))
 
 pub returns-in-Replace-clause-makes : goal.returns-in-Replace-clause-makes
 returns-in-Replace-clause-makes g c clean =
     let old = (state g.S.Store c.args.tx.now.conn.now).now in
     let new = (state g.S.Store c.replace.new.tx.conn.now).now in
     subst (λ change. OnOk c.replace.result (MakesWorlds (change ∷ []) old new)) (sym c.in-Replace.is)
-    (ok_on c.replace.result _ _ (λ replaces world stands right. replaces world stands right.0) (c.replace.ensures.replaces clean))
+    (ok_on c.replace.result _ _ (λ replaces world stands right. replaces world right.0.0 stands right.0.1) (c.replace.ensures.replaces clean))
+
+pub returns-in-Remove-clause-makes : goal.returns-in-Remove-clause-makes
+returns-in-Remove-clause-makes g c clean =
+    let old = (state g.S.Store c.args.tx.now.conn.now).now in
+    let new = (state g.S.Store c.delete_workunit.new.tx.conn.now).now in
+    subst (λ change. OnOk c.delete_workunit.result (MakesWorlds (change ∷ []) old new)) (sym c.in-Remove.is)
+    (ok_both c.delete_workunit.result _ _ _ (λ deletes goes world stands right. stands_without old new world c.in-Remove.number stands deletes goes) (c.delete_workunit.ensures.deletes clean) (c.delete_workunit.ensures.queue clean))
+
+pub returns-in-Granted-clause-makes : goal.returns-in-Granted-clause-makes
+returns-in-Granted-clause-makes g c clean =
+    let old = (state g.S.Store c.args.tx.now.conn.now).now in
+    let new = (state g.S.Store c.insert_grant.new.tx.conn.now).now in
+    subst (λ change. OnOk c.insert_grant.result (MakesWorlds (change ∷ []) old new)) (sym c.in-Granted.is)
+    (ok_both c.insert_grant.result _ _ _ (λ grants keeps world stands right.
+    stands_kept old new world (with_grant c.in-Granted.grant world) stands (λ queued. queued) refl (grants world stands.refines right.0) keeps) (c.insert_grant.ensures.grants clean) (c.insert_grant.ensures.queue clean))
+
+pub returns-in-Archive-clause-makes : goal.returns-in-Archive-clause-makes
+returns-in-Archive-clause-makes g c clean =
+    let old = (state g.S.Store c.args.tx.now.conn.now).now in
+    let new = (state g.S.Store c.insert_archived.new.tx.conn.now).now in
+    subst (λ change. OnOk c.insert_archived.result (MakesWorlds (change ∷ []) old new)) (sym c.in-Archive.is)
+    (ok_both c.insert_archived.result _ _ _ (λ puts keeps world stands right.
+    stands_kept old new world (with_archived c.in-Archive.archived world) stands (λ queued. queued) refl (puts world stands.refines right.0) keeps) (c.insert_archived.ensures.puts clean) (c.insert_archived.ensures.queue clean))
+
+pub returns-in-Next-clause-makes : goal.returns-in-Next-clause-makes
+returns-in-Next-clause-makes g c clean =
+    let old = (state g.S.Store c.args.tx.now.conn.now).now in
+    let new = (state g.S.Store c.set_next_number.new.tx.conn.now).now in
+    subst (λ change. OnOk c.set_next_number.result (MakesWorlds (change ∷ []) old new)) (sym c.in-Next.is)
+    (ok_both c.set_next_number.result _ _ _ (λ sets keeps world stands right.
+    stands_kept old new world (with_next c.in-Next.number world) stands (λ queued. queued) refl (sets world stands.refines) keeps) (c.set_next_number.ensures.sets clean) (c.set_next_number.ensures.queue clean))
+
+pub returns-in-Keep-clause-makes : goal.returns-in-Keep-clause-makes
+returns-in-Keep-clause-makes g c clean =
+    let old = (state g.S.Store c.args.tx.now.conn.now).now in
+    let new = (state g.S.Store c.insert_import.new.tx.conn.now).now in
+    subst (λ change. OnOk c.insert_import.result (MakesWorlds (change ∷ []) old new)) (sym c.in-Keep.is)
+    (ok_both c.insert_import.result _ _ _ (λ puts keeps world stands right.
+    stands_kept old new world (with_import (import_of_change c.in-Keep.import) world) stands (λ queued. queued) refl (puts world stands.refines) keeps) (c.insert_import.ensures.puts clean) (c.insert_import.ensures.queue clean))
+
+pub returns-in-Upgrade-clause-makes : goal.returns-in-Upgrade-clause-makes
+returns-in-Upgrade-clause-makes g c clean =
+    let old = (state g.S.Store c.args.tx.now.conn.now).now in
+    let new = (state g.S.Store c.upgrade.new.tx.conn.now).now in
+    subst (λ change. OnOk c.upgrade.result (MakesWorlds (change ∷ []) old new)) (sym c.in-Upgrade.is)
+    (ok_on c.upgrade.result _ _ (λ upgrades world stands right. upgrades world stands.refines (c.as_slice.ensures.value ∙ right.0)) (c.upgrade.ensures.upgrades clean))

@@ -1,11 +1,16 @@
-use Rattle.wu_schema.proofs.Words.{HasCleanDisk, Refines, arith, state, subst}
+use Rattle.wu_schema.proofs.Words.{HasCleanDisk, arith, state}
 use Rattle.wu_schema.proofs.CallLemmas.{ok_on}
-use Rattle.wu_store.proofs.PlacedLemmas.{replaced_is}
+use Rattle.wu_store.specs.Changes.{without_workunit}
+use Rattle.wu_store.proofs.MarkedLemmas.{stands_replaced, stands_without}
 use Rattle.wu_store.proofs.changes.replace.Goals as goal
 
 pub returns-clause-replaces : goal.returns-clause-replaces
 returns-clause-replaces g c clean =
     let old = (state g.S.Store c.args.tx.now.conn.now).now in
+    let mid = (state g.S.Store c.delete_workunit.new.tx.conn.now).now in
     let new = (state g.S.Store c.add.new.tx.conn.now).now in
+    let w = c.args.workunit.now in
     let still : HasCleanDisk (state g.S.Store c.delete_workunit.new.tx.conn.now) = omega (arith, c.add.ensures.writes.part.survives.clean) in
-    ok_on c.add.result _ _ (λ adds world s there. subst (Refines new) (replaced_is old world s c.args.workunit.now there) (adds _ (c.in_ok-delete_workunit.ensures.deletes still world s))) (c.add.ensures.adds clean)
+    ok_on c.add.result _ _ (λ adds world queued stands there.
+    let gone = stands_without old mid world w.number stands (c.in_ok-delete_workunit.ensures.deletes still) (c.in_ok-delete_workunit.ensures.queue still) in
+    stands_replaced old new world w stands.refines there (adds (without_workunit w.number world) queued gone)) (c.add.ensures.adds clean)

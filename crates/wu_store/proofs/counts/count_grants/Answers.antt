@@ -1,4 +1,3 @@
-use Rattle.std.proofs.Common.{arith}
 use Rattle.wu_store.proofs.AskLemmas.{asks_made, handed_on, handed_unbroken}
 use Rattle.wu_store.proofs.counts.count_grants.Goals as goal
 

@@ -1,4 +1,4 @@
-use Rattle.wu_schema.proofs.Words.{HasCleanDisk, Refines, arith, state, ◌∙◌}
+use Rattle.wu_schema.proofs.Words.{HasCleanDisk, arith, state, ◌∙◌}
 use Rattle.wu_store.proofs.AskLemmas.{asks_handed, asks_made, asks_stands, asks_then, handed_on}
 use Rattle.wu_store.proofs.counts.count_others.Goals as goal
 

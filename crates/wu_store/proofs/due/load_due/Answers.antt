@@ -1,60 +1,24 @@
-use Rattle.std.proofs.Common.{rules, Ok, ◌≡◌, ◌-◌, ◌<◌, ◌∙◌, ◌^◌, None, Option, Some, length, sym, ap, subst, arith}
-use Rattle.sqlite.specs.Effect.{Database}
-use Rattle.sqlite.specs.State.{HasCleanDisk}
-use Rattle.sqlite.specs.Held.{state}
-use Rattle.wu_core.specs.declared.workunit.Workunit.{Workunit}
-use Rattle.wu_schema.specs.Refines.{Refines}
-use Rattle.wu_store.specs.Due.{numbers_left}
-use Rattle.wu_rules.specs.Due.{changes}
-use Rattle.wu_store.proofs.DueLemmas.{IsSoFar, above_loads, all_taken, next_storable, none_left, one_at_most, one_more}
-use Rattle.wu_store.proofs.AskLemmas.{asks_done, asks_handed, asks_stands, asks_then, handed_on, still_open}
+use Rattle.wu_schema.proofs.Words.{HasCleanDisk, Refines, arith, state, ◌∙◌}
+use Rattle.wu_rules.specs.Due.{chosen}
+use Rattle.wu_store.specs.StandsFor.{marked}
+use Rattle.wu_store.proofs.AskLemmas.{asks_stands, handed_on}
+use Rattle.wu_store.proofs.QueuedLemmas.{chosen_storable, rows_chosen}
 use Rattle.wu_store.proofs.due.load_due.Goals as goal
 
-pub returns-then-len-limit-clause-due : goal.returns-then-len-limit-clause-due
-returns-then-len-limit-clause-due g c clean world stands =
-    let so_far : IsSoFar c.args.pass c.args.now c.args.min_age world c.loop-next.due.items (Some c.in-Some.workunit) =
-    subst (λ (next : Option Workunit). IsSoFar c.args.pass c.args.now c.args.min_age world c.loop-next.due.items next) c.in-Some.is (c.loop-next.invariant.so_far clean world stands) in
-    let full : length c.add_if_changed.new.due.items ≡ c.args.limit = omega arith in
-    all_taken c.args.pass c.args.now c.args.min_age world c.loop-next.due.items c.in-Some.workunit so_far c.args.limit c.add_if_changed.new.due.items c.in_ok-add_if_changed.ensures.added full
-
-pub returns-in_err-next-2-clause-unrefused : goal.returns-in_err-next-2-clause-unrefused
-returns-in_err-next-2-clause-unrefused g c clean world stands storable limit =
-    let before : HasCleanDisk (state g.S.Store c.loop-next.conn) = omega (arith, c.next_after.ensures.asks.crash.clean) in
-    let still : Refines (state g.S.Store c.loop-next.conn).now world = asks_stands g.S.Store _ _ tt c.loop-next.invariant.asks before world stands in
-    let so_far : IsSoFar c.args.pass c.args.now c.args.min_age world c.loop-next.due.items (Some c.in-Some.workunit) =
-    subst (λ (next : Option Workunit). IsSoFar c.args.pass c.args.now c.args.min_age world c.loop-next.due.items next) c.in-Some.is (c.loop-next.invariant.so_far before world stands) in
-    let can = next_storable c.args.pass c.args.now c.args.min_age world c.loop-next.due.items c.in-Some.workunit so_far storable in
-    handed_on c.from_residual-in_err-next-2.result c.in_err-next-2.field-0.0 c.from_residual-in_err-next-2.ensures.1 (c.in_err-next-2.ensures.unrefused clean world still (above_loads c.in-Some.workunit.number world can.number storable) (c.loop-next.invariant.asks.crash.limit ∙ limit))
-
-pub loop-next-smaller : goal.loop-next-smaller
-loop-next-smaller g c =
-    let was : numbers_left c.loop-next.next ≡ 2 ^ 64 - c.in-Some.workunit.number = ap (λ (next : Option Workunit). numbers_left next) c.in-Some.is in
-    let less : numbers_left c.in_ok-next-2.next < 2 ^ 64 - c.in-Some.workunit.number = c.in_ok-next-2.ensures.shrinks in
-    subst (λ n. numbers_left c.in_ok-next-2.next < n) (sym was) less
-
-pub loop-next-preserved : goal.loop-next-preserved
-loop-next-preserved g c = record {
-  few = omega (arith, one_at_most (changes c.args.pass c.args.now c.args.min_age) c.loop-next.due.items c.in-Some.workunit c.add_if_changed.new.due.items c.in_ok-add_if_changed.ensures.added, c.loop-next.invariant.few);
-  asks = asks_then g.S.Store _ _ _ tt c.loop-next.invariant.asks _ (asks_done g.S.Store _ _ c.in_ok-next-2.next c.in_ok-next-2.ensures.asks);
-  opens = λ clean. still_open g.S.Store _ _ _ c.in_ok-next-2.ensures.asks clean (c.loop-next.invariant.opens (omega (arith, c.next_after.ensures.asks.crash.clean)));
-  so_far = λ clean world stands.
-      let before : HasCleanDisk (state g.S.Store c.loop-next.conn) = omega (arith, c.next_after.ensures.asks.crash.clean) in
-      let still : Refines (state g.S.Store c.loop-next.conn).now world = asks_stands g.S.Store _ _ tt c.loop-next.invariant.asks before world stands in
-      let so_far : IsSoFar c.args.pass c.args.now c.args.min_age world c.loop-next.due.items (Some c.in-Some.workunit) =
-      subst (λ (next : Option Workunit). IsSoFar c.args.pass c.args.now c.args.min_age world c.loop-next.due.items next) c.in-Some.is (c.loop-next.invariant.so_far before world stands) in
-      one_more c.args.pass c.args.now c.args.min_age world c.loop-next.due.items c.in-Some.workunit so_far (state g.S.Store c.args.conn.now).now stands c.add_if_changed.new.due.items c.in_ok-add_if_changed.ensures.added c.in_ok-next-2.next (c.in_ok-next-2.ensures.found clean world still);
-}
-
 pub returns-clause-due : goal.returns-clause-due
-returns-clause-due g c clean world stands =
-    let none : c.loop-next.next ≡ None = search rules in
-    let so_far : IsSoFar c.args.pass c.args.now c.args.min_age world c.loop-next.due.items None =
-    subst (λ (next : Option Workunit). IsSoFar c.args.pass c.args.now c.args.min_age world c.loop-next.due.items next) none (c.loop-next.invariant.so_far clean world stands) in
-    none_left c.args.pass c.args.now c.args.min_age world c.args.limit c.loop-next.due.items so_far c.loop-next.invariant.few
+returns-clause-due g c clean world queued stands =
+    let before : HasCleanDisk (state g.S.Store c.due_rows.new.conn) = omega (arith, clean, c.load_all.ensures.asks.crash.clean) in
+    let still : Refines (state g.S.Store c.due_rows.new.conn).now world = asks_stands g.S.Store _ _ _ c.in_ok-rows.ensures.asks before world stands.refines in
+    let are = rows_chosen _ world stands.refines c.args.pass c.args.now c.args.min_age c.args.limit c.as_slice.result.now (c.as_slice.ensures.value ∙ c.in_ok-rows.ensures.answers before (marked world) (stands.queue queued)) in
+    c.load_all.ensures.found clean world still (chosen c.args.pass c.args.now c.args.min_age c.args.limit world) are
 
-pub returns-in_err-next-2-clause-asks : goal.returns-in_err-next-2-clause-asks
-returns-in_err-next-2-clause-asks g c =
-    asks_then g.S.Store _ _ _ tt c.loop-next.invariant.asks _ (asks_handed g.S.Store _ _ c.from_residual-in_err-next-2.result c.in_err-next-2.field-0.0 c.from_residual-in_err-next-2.ensures.1 c.in_err-next-2.ensures.asks)
+pub returns-clause-unrefused : goal.returns-clause-unrefused
+returns-clause-unrefused g c low clean world queued stands storable limit =
+    let before : HasCleanDisk (state g.S.Store c.due_rows.new.conn) = omega (arith, clean, c.load_all.ensures.asks.crash.clean) in
+    let still : Refines (state g.S.Store c.due_rows.new.conn).now world = asks_stands g.S.Store _ _ _ c.in_ok-rows.ensures.asks before world stands.refines in
+    let are = rows_chosen _ world stands.refines c.args.pass c.args.now c.args.min_age c.args.limit c.as_slice.result.now (c.as_slice.ensures.value ∙ c.in_ok-rows.ensures.answers before (marked world) (stands.queue queued)) in
+    c.load_all.ensures.unrefused clean world still (chosen c.args.pass c.args.now c.args.min_age c.args.limit world, are, chosen_storable _ world stands.refines c.args.pass c.args.now c.args.min_age c.args.limit storable) (c.in_ok-rows.ensures.asks.crash.limit ∙ limit)
 
-pub returns-in_err-next-clause-unrefused : goal.returns-in_err-next-clause-unrefused
-returns-in_err-next-clause-unrefused g c clean world stands storable limit = handed_on c.from_residual.result c.in_err-next.field-0.0 c.from_residual.ensures.1 (c.in_err-next.ensures.unrefused clean world stands storable limit)
+pub returns-in_err-rows-clause-unrefused : goal.returns-in_err-rows-clause-unrefused
+returns-in_err-rows-clause-unrefused g c low clean world queued stands storable limit =
+    handed_on c.from_residual.result c.in_err-rows.field-0.0 c.from_residual.ensures.1 (c.in_err-rows.ensures.unrefused low clean (marked world) (stands.queue queued) limit)

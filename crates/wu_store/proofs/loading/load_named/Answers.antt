@@ -1,4 +1,4 @@
-use Rattle.wu_schema.proofs.Words.{Err, Ok, Workunit, bytes_eq, nat_lt, sym, ◌==◌, ◌∙◌}
+use Rattle.wu_schema.proofs.Words.{Err, Ok, Workunit, bytes_eq}
 use Rattle.wu_store.proofs.AskLemmas.{handed_on}
 use Rattle.wu_store.proofs.LoadLemmas.{load_found, load_unrefused}
 use Rattle.wu_store.proofs.loading.load_named.Goals as goal

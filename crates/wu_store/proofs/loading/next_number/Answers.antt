@@ -1,4 +1,4 @@
-use Rattle.std.proofs.Common.{◌≡◌, Some, sym, ◌∙◌}
+use Rattle.std.proofs.Common.{◌≡◌, sym, ◌∙◌}
 use Rattle.wu_store.proofs.AskLemmas.{handed_on}
 use Rattle.wu_store.specs.Answers.{next_row}
 use Rattle.wu_store.proofs.LoadLemmas.{never_unread, next_is}

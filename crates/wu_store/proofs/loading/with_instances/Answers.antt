@@ -1,6 +1,5 @@
-use Rattle.wu_schema.proofs.Words.{ap}
 use Rattle.wu_store.proofs.AskLemmas.{handed_on}
-use Rattle.wu_store.proofs.LoadLemmas.{instances_can, row_read, whole_found}
+use Rattle.wu_store.proofs.LoadLemmas.{row_read, whole_found}
 use Rattle.wu_store.proofs.loading.with_instances.Goals as goal
 
 pub returns-in_err-workunit-clause-unrefused : goal.returns-in_err-workunit-clause-unrefused

@@ -6,7 +6,6 @@ use Rattle.wu_store.proofs.AskLemmas.{question, asked_all}
 use Rattle.wu_schema.proofs.InsertEffect.{also, no_more}
 use Rattle.wu_store.proofs.ChangeLemmas.{sent_number}
 use Rattle.wu_store.proofs.InstanceAnswers.{instances_found}
-use Rattle.wu_schema.proofs.ReadLemmas.{if_err}
 use Rattle.wu_store.proofs.statements.instance_rows.Goals as goal
 
 pub returns : goal.returns

@@ -1,4 +1,4 @@
-use Rattle.wu_schema.proofs.Words.{Some, [], arith, refl, state, ◌∷◌}
+use Rattle.wu_schema.proofs.Words.{Some, [], arith, refl, state}
 use Rattle.wu_store.specs.Answers.{next_row}
 use Rattle.wu_schema.proofs.Parts.{Project}
 use Rattle.wu_store.proofs.SelectTexts.{next_asked, next_fits}

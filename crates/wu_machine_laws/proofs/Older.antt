@@ -1,0 +1,27 @@
+-- What a world of an older version answers, and what an upgrade makes of any.
+use Rattle.std.proofs.Common.{◌≡◌, ◌≢◌, ◌<◌, false, Err, refl, ap}
+use Rattle.wu_core.specs.declared.fault.Fault.TheVariants.{OldSchema}
+use Rattle.wu_core.specs.World.{World}
+use Rattle.wu_machine.specs.Machine.{is_upgrade, present_version, reply, reply_of, world_of}
+use Rattle.wu_machine.specs.Requests.{AskBatch, AskCancel, AskPass, AskReported, AskSent, AskUpgrade, Request}
+use Rattle.wu_machine.proofs.Versions.{done_older, done_upgrade}
+use Rattle.wu_machine_laws.specs.Leaving.{UpgradesFirst}
+
+no_upgrade : (request : Request) → request ≢ AskUpgrade → is_upgrade request ≡ false
+no_upgrade (AskBatch name template file) other = refl
+no_upgrade (AskSent name file) other = refl
+no_upgrade (AskReported name file) other = refl
+no_upgrade (AskPass pass now limit min_age) other = refl
+no_upgrade (AskCancel name) other = refl
+no_upgrade AskUpgrade other = absurd (other refl)
+
+-- all but an upgrade is refused
+refused : (world : World) (request : Request) → request ≢ AskUpgrade → world.version < present_version → reply world request ≡ Err (OldSchema world.version)
+refused world request other low = ap reply_of (done_older world request low (no_upgrade request other))
+
+pub upgrades_first : (world : World) → UpgradesFirst world
+upgrades_first world = record {
+  refused = refused world;
+  answered = ap reply_of (done_upgrade world);
+  alone = ap (λ result. record (world_of world result) { version = world.version }) (done_upgrade world);
+}

@@ -1,0 +1,128 @@
+-- The workunits that the queue has for a pass, and how they are found by their numbers.
+use Rattle.wu_schema.proofs.Words.{AllByRecursion, Bool, Database, Fault, IfErr, List, NotAProject, None, Ok, Option, Result, Row, Refines, Some, Workunit, World, [], ap, arith, column, cond, eq-eqb, false, filter, filter-map, find, get_or, length, length-map, map, map-map, nat_le, nat_tests, ne_eqb, number, refl, sym, take, ℕ, ⊤, ◌+◌, ◌<◌, ◌==◌, ◌∙◌, ◌∷◌, ◌≡◌, ◌≢◌, ◌≤◌}
+use Rattle.std.specs.Prelude.{All}
+use Rattle.std.specs.Option.{option_map_or}
+use Rattle.std.proofs.lemmas.List.{get_or-map, length-take, take-map}
+use Rattle.std.proofs.lemmas.List.Elements.{All-filter, All-from_recursion, All-take}
+use Rattle.wu_core.specs.Storable.{AreStorable, IsStorable}
+use Rattle.wu_core.specs.declared.marks.Marks.{Marks}
+use Rattle.wu_rules.specs.Due.{changes, chosen}
+use Rattle.wu_rules.specs.Marks.{marks, selects}
+use Rattle.wu_rules.specs.declared.due.Pass.{Pass}
+use Rattle.wu_rules.specs.declared.due.Pass.TheVariants.{Purge}
+use Rattle.wu_rules.proofs.Marked.{selects-changes}
+use Rattle.wu_schema.specs.Restoring.{Restores}
+use Rattle.wu_schema.proofs.RowLemmas.{filter_same}
+use Rattle.wu_store.specs.Answers.{numbered}
+use Rattle.wu_store.specs.Due.{AreNumbersOf, IsNumberOf, IsRowOfStorable}
+use Rattle.wu_store.specs.Queues.{first_marked, waits_since}
+use Rattle.wu_store.specs.StandsFor.{marked}
+use Rattle.wu_store.proofs.LoadLemmas.{never_unread}
+use Rattle.wu_store.proofs.MarkedLemmas.{tagged}
+use Rattle.wu_store.proofs.PlacedLemmas.{Rises, world_rises}
+
+-- the row of a number
+abbrev pub number_row : Workunit → Row
+number_row w = number w.number ∷ []
+
+-- ---- the rows that a pass selects
+
+-- marks that two tests pass alike
+pub first_same : (limit : ℕ) (p q : Marks → Bool) (rows : List (ℕ × Marks)) → ((m : Marks) → p m ≡ q m) → first_marked limit p rows ≡ first_marked limit q rows
+first_same limit p q rows same = ap (λ (ps : List (ℕ × Marks)). take limit (map (λ (x : ℕ × Marks). number x.0 ∷ []) ps)) (filter_same (λ (x : ℕ × Marks). p x.1) (λ (x : ℕ × Marks). q x.1) rows (λ x has. same x.1))
+
+none_pass : (p : Marks → Bool) (rows : List (ℕ × Marks)) → ((m : Marks) → p m ≡ false) → filter (λ (x : ℕ × Marks). p x.1) rows ≡ []
+none_pass p [] none = refl
+none_pass p (x ∷ rows) none = ap (λ b. cond b (x ∷ filter (λ (y : ℕ × Marks). p y.1) rows) (filter (λ (y : ℕ × Marks). p y.1) rows)) (none x.1) ∙ none_pass p rows none
+
+take_none : {X : Type 0} (limit : ℕ) → take {A = X} limit [] ≡ []
+take_none limit = search (arith, Rattle.std.proofs.Common.rules)
+
+pub first_none : (limit : ℕ) (p q : Marks → Bool) (rows : List (ℕ × Marks)) → ((m : Marks) → p m ≡ false) → first_marked 0 q rows ≡ first_marked limit p rows
+first_none limit p q rows none = sym (ap (λ (ps : List (ℕ × Marks)). take limit (map (λ (x : ℕ × Marks). number x.0 ∷ []) ps)) (none_pass p rows none) ∙ take_none limit)
+
+-- a purge selects those that wait since the moment so long before,
+pub waits_so_long : (since age now : ℕ) → since + age ≡ now → (m : Marks) → waits_since since m ≡ selects Purge now age m
+waits_so_long since age now is m = go m.purge_from
+  where
+    go : (o : Option ℕ) → option_map_or (λ from. nat_le from since) o false ≡ option_map_or (λ done_at. nat_le (done_at + age) now) o false
+    go None = refl
+    go (Some from) = grind (arith, nat_tests, is)
+
+-- and none where there is no such moment
+pub none_waits : (now age : ℕ) → now < age → (m : Marks) → selects Purge now age m ≡ false
+none_waits now age low m = go m.purge_from
+  where
+    go : (o : Option ℕ) → option_map_or (λ done_at. nat_le (done_at + age) now) o false ≡ false
+    go None = refl
+    go (Some from) = grind (arith, nat_tests, low)
+
+-- by the marks of a world's workunits they are the numbers of those that the pass takes
+pub numbers_chosen : (pass : Pass) (now age limit : ℕ) (world : World) → first_marked limit (selects pass now age) (marked world) ≡ map number_row (chosen pass now age limit world)
+numbers_chosen pass now age limit world =
+    let ws = world.workunits in
+    let selected = filter (λ (w : Workunit). selects pass now age (marks w)) ws in
+    ap (λ (ps : List (ℕ × Marks)). take limit (map (λ (x : ℕ × Marks). number x.0 ∷ []) ps)) (filter-map (λ (x : ℕ × Marks). selects pass now age x.1) tagged ws)
+    ∙ ap (take limit) (map-map (λ (x : ℕ × Marks). number x.0 ∷ []) tagged selected)
+    ∙ ap (λ vs. take limit (map number_row vs)) (filter_same (λ (w : Workunit). selects pass now age (marks w)) (changes pass now age) ws (λ w has. selects-changes pass now age w))
+    ∙ take-map number_row limit (filter (changes pass now age) ws)
+
+-- ---- each workunit is found by its number
+
+found_behind : (v : Workunit) (vs us : List Workunit) → AllByRecursion (λ (u : Workunit). v.number < u.number) us → AllByRecursion (λ (w : Workunit). find (λ (x : Workunit). x.number == w.number) vs ≡ Some w) us
+    → AllByRecursion (λ (w : Workunit). find (λ (x : Workunit). x.number == w.number) (v ∷ vs) ≡ Some w) us
+found_behind v vs [] up all = tt
+found_behind v vs (u ∷ us) up all = (rw (ne_eqb v.number u.number (λ e. omega (arith, e, up.0))) all.0, found_behind v vs us up.1 all.1)
+
+found_each : (ws : List Workunit) → Rises ws → AllByRecursion (λ (w : Workunit). find (λ (x : Workunit). x.number == w.number) ws ≡ Some w) ws
+found_each [] up = tt
+found_each (v ∷ vs) up = (rw (eq-eqb v.number v.number refl) refl, found_behind v vs vs up.0 (found_each vs up.1))
+
+module _ (db : Database) (world : World) (s : Refines db world) (pass : Pass) (now age limit : ℕ) where
+  pub chosen_present : All (λ (w : Workunit). numbered w.number world ≡ Some w) (chosen pass now age limit world)
+  chosen_present =
+      let P : Workunit → Type 0 = λ w. numbered w.number world ≡ Some w in
+      All-take P limit (filter (changes pass now age) world.workunits) (All-filter (changes pass now age) P world.workunits (All-from_recursion P world.workunits (found_each world.workunits (world_rises db world s))))
+
+  -- so the rows of a queue with the world's marks are those of present workunits
+  pub rows_chosen : (rows : List Row) → rows ≡ first_marked limit (selects pass now age) (marked world) → AreNumbersOf rows (chosen pass now age limit world) world
+  rows_chosen rows are = record { present = chosen_present; rows_are = are ∙ numbers_chosen pass now age limit world }
+
+  pub chosen_storable : AreStorable world → All IsStorable (chosen pass now age limit world)
+  chosen_storable storable = All-take IsStorable limit (filter (changes pass now age) world.workunits) (All-filter (changes pass now age) IsStorable world.workunits storable)
+
+  pub chosen_few : length (map number_row (chosen pass now age limit world)) ≤ limit
+  chosen_few = omega (arith, length-map (chosen pass now age limit world) number_row, length-take limit (filter (changes pass now age) world.workunits))
+
+-- ---- a row that was read
+
+module _ (row : Row) (w : Workunit) (world : World) (of : IsNumberOf row w world) where
+  pub number_told : (n : ℕ) → Restores number (λ _. ⊤) (column row 0) (Ok n) → n ≡ w.number
+  number_told n reads = let e : number n ≡ number w.number = sym reads.value.0 ∙ ap (λ (r : Row). column r 0) of.row_is in cc
+
+  pub number_read : (r : Result ℕ Fault) → Restores number (λ _. ⊤) (column row 0) r → IfErr r (λ fault. fault ≢ NotAProject)
+  number_read r reads = never_unread number (λ _. ⊤) (column row 0) r w.number reads tt (ap (λ (r : Row). column r 0) of.row_is)
+
+  -- what is found at the number
+  pub told_present : (n : ℕ) → n ≡ w.number → (found : Option Workunit) → found ≡ numbered n world → found ≡ Some w
+  told_present n same found is = is ∙ ap (λ m. numbered m world) same ∙ of.present
+
+-- ---- row by row
+
+module _ (rows : List Row) (ws : List Workunit) (world : World) (are : AreNumbersOf rows ws world) where
+  pub as_many : length rows ≡ length ws
+  as_many = ap (λ rs. length rs) are.rows_are ∙ length-map ws number_row
+
+  pub number_at : (i : ℕ) (row : Row) (d : Workunit) → i < length rows → get_or rows i row ≡ row → IsNumberOf row (get_or ws i d) world
+  number_at i row d low at =
+      let within : i < length ws = omega (arith, low, as_many) in
+      record { present = are.present i d within; row_is = sym at ∙ ap (λ rs. get_or rs i row) are.rows_are ∙ get_or-map number_row ws i d row within }
+
+  pub storable_at : All IsStorable ws → (i : ℕ) (row : Row) → i < length rows → get_or rows i row ≡ row → IsRowOfStorable row world
+  storable_at storable i row low at =
+      let it = some_at ws i (omega (arith, low, as_many)) in
+      (get_or ws i it, number_at i row it low at, storable i it (omega (arith, low, as_many)))
+    where
+      some_at : (xs : List Workunit) (i : ℕ) → i < length xs → Workunit
+      some_at [] i low = absurd (omega (arith, low))
+      some_at (x ∷ xs) i low = x

@@ -1,0 +1,20 @@
+use Rattle.wu_schema.proofs.Words.{[], codes, number, state, ◌∷◌, ◌≡◌, Executes, HasCleanDisk, Ok, OnOk, ℕ}
+use Rattle.wu_store.proofs.UpdateLemmas.{version_made, version_set, version_set_text}
+use Rattle.wu_schema.proofs.InsertEffect.{also, no_more}
+use Rattle.wu_schema.proofs.CallLemmas.{ok_on, ran_as}
+use Rattle.wu_store.proofs.ChangeLemmas.{sent_number, sets_version_to}
+use Rattle.wu_store.proofs.QueueLemmas.{project_leaves}
+use Rattle.wu_store.proofs.statements.set_version.Goals as goal
+
+pub returns : goal.returns
+returns g c =
+    let given : _ ≡ number c.args.version ∷ [] = also (sent_number c.args.version c.params-to_sql.ensures c.in_ok-signed.ensures.value c.in_ok-signed.ensures.within) no_more in
+    let old = state g.S.Store c.args.tx.now.conn.now in
+    let new = state g.S.Store c.execute.new.tx.conn.now in
+    let ran : HasCleanDisk new → OnOk c.execute.result ((count : ℕ) × Executes version_set_text (number c.args.version ∷ []) old new (Ok count)) =
+    λ clean. ran_as old new version_set_text _ _ given c.execute.result (c.execute.ensures.ran clean) (λ count ran. (count, ran)) in
+    record {
+      writes = c.execute.ensures.writes;
+      sets = λ clean. ok_on c.execute.result _ _ (λ it world s. sets_version_to old new world s c.args.version it.0 it.1) (ran clean);
+      queue = λ clean. ok_on c.execute.result _ _ (λ it world marked s q. project_leaves old new world s marked q version_set_text (codes "version") version_made version_set c.args.version it.0 it.1) (ran clean);
+    }
