@@ -5,6 +5,8 @@
 #[cfg(test)]
 mod lives;
 #[cfg(test)]
+mod queued;
+#[cfg(test)]
 mod setting;
 #[cfg(test)]
 mod stored;

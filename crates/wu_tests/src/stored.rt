@@ -31,7 +31,7 @@ fn validates<S: Alter>(rt: &(impl Abort + AllocGlobal), project: &mut Project<S>
 }
 
 /// Sees that a query answers these texts, a line each.
-fn holds<S: Alter>(
+pub fn holds<S: Alter>(
     rt: &(impl Abort + AllocGlobal),
     conn: &mut Connection<S>,
     sql: &str,
