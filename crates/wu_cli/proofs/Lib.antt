@@ -1,4 +1,4 @@
 mod TextLemmas
 mod ScriptLemmas
-mod WorkLemmas
+pub mod WorkLemmas
 mod PrintLemmas

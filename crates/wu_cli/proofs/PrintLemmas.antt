@@ -1,5 +1,5 @@
 -- What goes out for an action, for the steps of a script and for work over an open database.
-use Rattle.std.proofs.Common.{◌≡◌, ◌∙◌, ◌++◌, ◌∷◌, [], ℕ, List, Option, Some, None, Result, Ok, Err, refl, sym, ap, subst, arith, inl, inr, append_assoc, take, drop, take-append-drop}
+use Rattle.std.proofs.Common.{◌≡◌, ◌∙◌, ◌++◌, ◌∷◌, [], ℕ, List, Option, Some, None, Result, refl, sym, ap, subst, arith, inl, inr, append_assoc, take, drop, take-append-drop}
 use Rattle.std.proofs.KnownBytes.{Appends-nil, Appends-trans}
 use Rattle.std.proofs.Math.Seq.{take-length}
 use Rattle.std.specs.Io.KnownBytes.{Appends}
@@ -13,11 +13,10 @@ use Rattle.wu_machine.specs.declared.command.Answer.{Answer}
 use Rattle.wu_machine.specs.declared.command.Command.{Command}
 use Rattle.wu_machine.specs.Commands.{request_of}
 use Rattle.wu_machine.specs.Machine.{reply, step}
-use Rattle.wu_passes.specs.Planning.{IsPresentProject}
 use Rattle.wu_passes.specs.declared.project.Project.{Project}
-use Rattle.wu_passes.specs.Projects.{IsSessionOpen, state_of}
+use Rattle.wu_passes.specs.Projects.{IsKnownTo, IsSessionOpen, state_of}
 use Rattle.wu_passes.specs.Standing.{GoesOn}
-use Rattle.wu_report.specs.Writing.{AppendsFront, WritesBytes, WritesTo}
+use Rattle.wu_report.specs.Writing.{AppendsFront, WritesTo}
 use Rattle.wu_report.proofs.WritingLemmas.{AppendsFront-after, AppendsFront-longer}
 use Rattle.wu_drive.specs.Driving.{AnswerAll}
 use Rattle.wu_drive.specs.Writing.{answer_text, answers_text}
@@ -28,7 +27,7 @@ use Rattle.wu_words.specs.declared.step.Step.{Step}
 use Rattle.wu_cli.specs.Performing.{Performs}
 use Rattle.wu_cli.specs.Printing.{printed_action, printed_replies, printed_reply, printed_steps, printed_work, PrintsAction, PrintsOver, PrintsSteps, world_behind}
 use Rattle.wu_cli.specs.Scripting.{commands_of_action, commands_of_steps, PerformsEach, PerformsSteps}
-use Rattle.wu_cli.specs.Working.{BeginsFrom, DoesOver, line_outcome, PerformsWork, script_outcome}
+use Rattle.wu_cli.specs.Working.{DoesOver, PerformsWork}
 use Rattle.wu_cli.specs.declared.trouble.Trouble.{Trouble}
 use Rattle.wu_cli.specs.declared.work.Work.{Work}
 use Rattle.wu_cli.specs.declared.work.Work.TheVariants as work
@@ -67,17 +66,17 @@ steps_both world (x ∷ xs) ys =
 
 module _ {S W : Type 0} {store : Ghosts S} (contents : W → Option (List ℕ)) (old new : Project S store) (out_old out_new : W) where
   pub one_prints : (action : Action) (end : Option Fault) → Performs contents old new out_old out_new action end → PrintsAction contents old new out_old out_new action end
-  one_prints (Commands commands) None (run, runs, is) going clean world project goes =
+  one_prints (Commands commands) None (run, runs, is) going clean world known goes =
       let (answers, written, drives) = runs.answers in
-      let driven = drives going clean world project goes in
+      let driven = drives going clean world known goes in
       let all : take run.acknowledged commands ≡ commands = ap (λ k. take k commands) (runs.all is) ∙ take-length commands in
       let texts : answers_text answers ≡ printed_replies world commands =
       replies_are world (take run.acknowledged commands) answers driven.answered ∙ ap (λ cs. printed_replies world cs) all in
       subst (Appends (contents out_old) (contents out_new)) texts
       (written.whole (λ cut. absurd (let no : ◌≡◌ {A = Option Fault} None (Some Output) = sym is ∙ cut in cc)))
-  one_prints (Commands commands) (Some fault) (run, runs, is) going clean world project goes =
+  one_prints (Commands commands) (Some fault) (run, runs, is) going clean world known goes =
       let (answers, written, drives) = runs.answers in
-      let driven = drives going clean world project goes in
+      let driven = drives going clean world known goes in
       let done = take run.acknowledged commands in
       let left = drop run.acknowledged commands in
       let texts : answers_text answers ≡ printed_replies world done = replies_are world done answers driven.answered in
@@ -87,35 +86,35 @@ module _ {S W : Type 0} {store : Ghosts S} (contents : W → Option (List ℕ)) 
       subst (AppendsFront (contents out_old) (contents out_new)) (sym whole)
       (AppendsFront-longer (contents out_old) (contents out_new) (printed_replies world done) (printed_replies (world_of world done) left)
       (subst (AppendsFront (contents out_old) (contents out_new)) texts front))
-  one_prints (Look view) None sees going clean world project goes = sees.text going clean world goes
-  one_prints (Look view) (Some fault) sees going clean world project goes = sees.text going clean world goes
+  one_prints (Look view) None sees going clean world known goes = sees.text going clean world goes
+  one_prints (Look view) (Some fault) sees going clean world known goes = sees.text going clean world goes
 
 -- ---- all steps
 
 module _ {S W : Type 0} {store : Ghosts S} (contents : W → Option (List ℕ)) where
   each_prints : (old new : Project S store) (out_old out_new : W) (steps : List Step) → PerformsEach contents old new out_old out_new steps
-      → IsSessionOpen old → HasCleanDisk (state_of new) → (world : World) → IsPresentProject world → GoesOn (state_of old) world
+      → IsSessionOpen old → HasCleanDisk (state_of new) → (world : World) → IsKnownTo old world → GoesOn (state_of old) world
       → Appends (contents out_old) (contents out_new) (printed_steps world steps)
   unfolding PerformsEach
-  each_prints old new out_old out_new [] each going clean world project goes =
+  each_prints old new out_old out_new [] each going clean world known goes =
       subst (λ o. Appends (contents out_old) (contents o) []) (sym each.1) (Appends-nil (contents out_old))
-  each_prints old new out_old out_new (one ∷ steps) each going clean world project goes =
+  each_prints old new out_old out_new (one ∷ steps) each going clean world known goes =
       let rest_clean = each_clean contents each.0 new each.1 out_new steps each.3 in
       let before : HasCleanDisk (state_of each.0) = omega (arith, rest_clean, clean) in
-      let first = one_prints contents old each.0 out_old each.1 one.action None each.2 going before world project goes in
-      let done = one_done contents old each.0 out_old each.1 one.action each.2 going before world project goes in
+      let first = one_prints contents old each.0 out_old each.1 one.action None each.2 going before world known goes in
+      let done = one_done contents old each.0 out_old each.1 one.action each.2 going before world known goes in
       let still = one_goes contents old each.0 out_old each.1 one.action each.2 going in
       let rest = each_prints each.0 new each.1 out_new steps each.3 still clean (world_behind world one.action) done.3 done.2 in
       Appends-trans (contents out_old) (contents each.1) (contents out_new) (printed_action world one.action) (printed_steps (world_behind world one.action) steps) first rest
 
   pub steps_print : (old new : Project S store) (out_old out_new : W) (steps : List Step) (end : Option LineFault) → PerformsSteps contents old new out_old out_new steps end
       → PrintsSteps contents old new out_old out_new steps end
-  steps_print old new out_old out_new steps None each going clean world project goes = each_prints old new out_old out_new steps each going clean world project goes
-  steps_print old new out_old out_new steps (Some end) until going clean world project goes =
+  steps_print old new out_old out_new steps None each going clean world known goes = each_prints old new out_old out_new steps each going clean world known goes
+  steps_print old new out_old out_new steps (Some end) until going clean world known goes =
       let last_clean = one_clean contents until.mid new until.out_mid out_new until.last.action (Some end.fault) until.ends in
       let before : HasCleanDisk (state_of until.mid) = omega (arith, last_clean, clean) in
-      let firsts = each_prints old until.mid out_old until.out_mid until.before until.each going before world project goes in
-      let done = each_done contents old until.mid out_old until.out_mid until.before until.each going before world project goes in
+      let firsts = each_prints old until.mid out_old until.out_mid until.before until.each going before world known goes in
+      let done = each_done contents old until.mid out_old until.out_mid until.before until.each going before world known goes in
       let still = each_goes contents old until.mid out_old until.out_mid until.before until.each going in
       let mid = world_of world (commands_of_steps until.before) in
       let last = one_prints contents until.mid new until.out_mid out_new until.last.action (Some end.fault) until.ends still clean mid done.3 done.2 in
@@ -132,14 +131,14 @@ module _ {S W : Type 0} {store : Ghosts S} (contents : W → Option (List ℕ)) 
 
 module _ {S W : Type 0} {store : Ghosts S} (contents : W → Option (List ℕ)) (old new : Project S store) (out_old out_new : W) where
   work_prints : (asked : Work) (done : Result (Unit {0}) Trouble) → PerformsWork contents old new out_old out_new asked done
-      → IsSessionOpen old → HasCleanDisk (state_of new) → (world : World) → IsPresentProject world → GoesOn (state_of old) world
+      → IsSessionOpen old → HasCleanDisk (state_of new) → (world : World) → IsKnownTo old world → GoesOn (state_of old) world
       → WritesTo contents out_old out_new (printed_work world asked) done
-  work_prints (work.Line action) done (end, does, is) going clean world project goes =
+  work_prints (work.Line action) done (end, does, is) going clean world known goes =
       subst (λ d. WritesTo contents out_old out_new (printed_action world action) d) (sym is)
-      (one_prints contents old new out_old out_new action end does going clean world project goes)
-  work_prints (work.Script steps) done (end, does, is) going clean world project goes =
+      (one_prints contents old new out_old out_new action end does going clean world known goes)
+  work_prints (work.Script steps) done (end, does, is) going clean world known goes =
       subst (λ d. WritesTo contents out_old out_new (printed_steps world steps) d) (sym is)
-      (steps_print contents old new out_old out_new steps end does going clean world project goes)
+      (steps_print contents old new out_old out_new steps end does going clean world known goes)
 
 module _ {S W : Type 0} (g : Ghosts S) (contents : W → Option (List ℕ)) (conn again : Held S) (out_old out_new : W) (asked : Work) (done : Result (Unit {0}) Trouble) where
   pub prints_over : DoesOver g contents conn again out_old out_new asked done → PrintsOver g contents conn again out_old out_new asked done
@@ -147,8 +146,8 @@ module _ {S W : Type 0} (g : Ghosts S) (contents : W → Option (List ℕ)) (con
       let after : HasCleanDisk (state_of does.new) = subst (λ c. HasCleanDisk (state g c)) does.released clean in
       let kept = work_clean contents does.old does.new out_old out_new asked done does.does in
       let before : HasCleanDisk (state_of does.old) = omega (arith, kept, after) in
-      work_prints contents does.old does.new out_old out_new asked done does.does does.begins after world project
-      (begins g contents conn again out_old out_new asked done does before world project begun)
+      let (known, goes) = begins g contents conn again out_old out_new asked done does before world project begun in
+      work_prints contents does.old does.new out_old out_new asked done does.does does.begins after world known goes
   prints_over (inr none) clean world project begun =
       subst (λ d. WritesTo contents out_old out_new (printed_work world asked) d) (sym none.told)
       (0, subst (λ o. Appends (contents out_old) (contents o) []) (sym none.unwritten) (Appends-nil (contents out_old)))

@@ -1,5 +1,5 @@
 -- From step to step of a script.
-use Rattle.std.proofs.Common.{◌≡◌, inl, inr, ℕ, zero, suc, ◌+◌, ◌<◌, ◌≤◌, Bool, false, List, [], ◌∷◌, ◌++◌, length, drop, get_or, map, take, Option, Some, None, refl, sym, ap, subst, ◌∙◌, arith, length-append, take-append-drop}
+use Rattle.std.proofs.Common.{◌≡◌, inl, inr, ℕ, zero, suc, ◌+◌, ◌<◌, ◌≤◌, Bool, false, IfSome, IsSome, List, [], ◌∷◌, ◌++◌, length, drop, get_or, map, take, Option, Some, None, refl, sym, ap, subst, ◌∙◌, arith, length-append, take-append-drop}
 use Rattle.std.proofs.Math.Seq.{take-append-add, take-length}
 use Rattle.std.proofs.lemmas.List.{drop_more, map-append, take-append-le, take_more}
 use Rattle.std.proofs.lemmas.List.Concat.{flat_map-append}
@@ -9,20 +9,24 @@ use Rattle.sqlite.specs.State.{State, HasCleanDisk}
 use Rattle.sqlite_trees.specs.declared.store.Store.{Ghosts}
 use Rattle.wu_core.specs.World.{World}
 use Rattle.wu_core.specs.declared.fault.Fault.{Fault}
+use Rattle.wu_core.specs.declared.fault.Fault.TheVariants.{OldSchema}
 use Rattle.wu_drive.specs.declared.runs.Run.{Run}
 use Rattle.wu_drive.specs.Driving.{AnswerAll, Drives, world_after}
 use Rattle.wu_drive.proofs.LifeLemmas.{lengthens}
 use Rattle.wu_machine.specs.declared.command.Answer.{Answer}
 use Rattle.wu_machine.specs.declared.command.Command.{Command}
 use Rattle.wu_passes.specs.declared.project.Project.{Project}
-use Rattle.wu_machine.specs.Machine.{fold_steps, step}
+use Rattle.wu_machine.specs.Machine.{fold_steps, IsUpToDate, step}
+use Rattle.wu_machine.specs.declared.view.View.{View}
+use Rattle.wu_report.specs.Seeing.{Sees}
+use Rattle.wu_report.specs.Views.{RefusesWith}
 use Rattle.wu_machine.specs.Commands.{request_of}
-use Rattle.wu_passes.specs.Planning.{IsPresentProject}
-use Rattle.wu_passes.specs.Projects.{IsSessionOpen, has_ended, state_of}
+use Rattle.wu_machine.specs.Sound.{IsProject}
+use Rattle.wu_passes.specs.Projects.{IsKnownTo, IsSessionOpen, has_ended, KnowsItsVersion, older_version, state_of}
 use Rattle.wu_machine.specs.Requests.{Request}
 use Rattle.wu_machine.specs.Sessions.{world_of_life}
 use Rattle.wu_passes.specs.Standing.{GoesOn, HasEnded, FaultsOnlyGrow}
-use Rattle.wu_cli.specs.Performing.{Performs}
+use Rattle.wu_cli.specs.Performing.{as_result, Performs}
 use Rattle.wu_cli.specs.Scripting.{commands_of_action, commands_of_steps, DrivesSteps, LengthensBySteps, PerformsEach, PerformsSteps, PerformsUntil, so_far}
 use Rattle.wu_words.specs.declared.action.Action.{Action}
 use Rattle.wu_words.specs.declared.action.Action.TheVariants.{Commands, Look}
@@ -126,11 +130,11 @@ module _ (world : World) (before xs after : List Command) (done answers : List A
     ended = λ ended.
         let at = drives.ended ended in
         (at.0, get_within before xs after run.acknowledged at.0 at.1, subst (λ w. HasEnded new w (request_of at.0)) (sym next) at.2);
-    project = subst (λ w. IsPresentProject w) (sym next) drives.project;
+    project = subst (λ w. IsProject w) (sym next) drives.project;
     cut_project = λ ended cut there.
         let at = drives.ended ended in
         let same : at.0 ≡ cut = same_command at.0 cut (sym (get_within before xs after run.acknowledged at.0 at.1) ∙ there) in
-        subst (λ w. IsPresentProject (step w (request_of cut))) (sym next) (drives.cut_project ended cut (at.1 ∙ ap (λ c. Some c) same));
+        subst (λ w. IsProject (step w (request_of cut))) (sym next) (drives.cut_project ended cut (at.1 ∙ ap (λ c. Some c) same));
   }
 
 -- the commands of steps with one among them
@@ -159,11 +163,11 @@ module _ {S W : Type 0} {store : Ghosts S} (contents : W → Option (List ℕ)) 
 
   -- what a step does of its commands
   pub one_drives : (action : Action) (end : Option Fault) → Performs contents old new out_old out_new action end
-      → IsSessionOpen old → HasCleanDisk (state_of new) → (world : World) → IsPresentProject world → GoesOn (state_of old) world
+      → IsSessionOpen old → HasCleanDisk (state_of new) → (world : World) → IsKnownTo old world → GoesOn (state_of old) world
       → (answers : List Answer) × (run : Run) × (is_cut : Bool) × Drives world (commands_of_action action) answers run is_cut (state_of new)
-  one_drives (Commands commands) end (run, runs, is) going clean world project goes =
-      (runs.answers.0, run, has_ended new, runs.answers.2 going clean world project goes)
-  one_drives (Look view) end sees going clean world project goes = (
+  one_drives (Commands commands) end (run, runs, is) going clean world known goes =
+      (runs.answers.0, run, has_ended new, runs.answers.2 going clean world known goes)
+  one_drives (Look view) end sees going clean world known goes = (
     [],
     so_far 0,
     false,
@@ -173,25 +177,38 @@ module _ {S W : Type 0} {store : Ghosts S} (contents : W → Option (List ℕ)) 
       end = λ fault told. absurd (cc);
       goes = λ still. sees.goes clean world goes;
       ended = λ ended. absurd (cc);
-      project = project;
+      project = known.1;
       cut_project = λ ended cut there. absurd (cc);
     },
   )
 
+  never_refused : (older : Option ℕ) → IsSome older → IfSome older (λ version. RefusesWith contents old new out_old out_new (as_result None) (OldSchema version)) → ⊥
+  never_refused None some refused = absurd cc
+  never_refused (Some version) some refused = absurd (let no = refused.0 in cc)
+
+  -- a view is shown of a world of the present version alone
+  shown_present : (view : View) → Sees contents old new out_old out_new view (as_result None) → IsSessionOpen old → (world : World) → KnowsItsVersion old world → IsUpToDate world
+  shown_present view sees going world (inl is) = is
+  shown_present view sees going world (inr some) = absurd (never_refused (older_version old) some (sees.refused.older going))
+
   -- and all of them, where it ends without a fault
   pub one_done : (action : Action) → Performs contents old new out_old out_new action None
-      → IsSessionOpen old → HasCleanDisk (state_of new) → (world : World) → IsPresentProject world → GoesOn (state_of old) world
+      → IsSessionOpen old → HasCleanDisk (state_of new) → (world : World) → IsKnownTo old world → GoesOn (state_of old) world
       → (answers : List Answer) × AnswerAll world (commands_of_action action) answers
-      × GoesOn (state_of new) (world_of world (commands_of_action action)) × IsPresentProject (world_of world (commands_of_action action))
-  one_done (Commands commands) (run, runs, end) going clean world project goes =
+      × GoesOn (state_of new) (world_of world (commands_of_action action)) × IsKnownTo new (world_of world (commands_of_action action))
+  one_done (Commands commands) (run, runs, end) going clean world known goes =
       let all : take run.acknowledged commands ≡ commands = ap (λ k. take k commands) (runs.all end) ∙ take-length commands in
-      let drives = runs.answers.2 going clean world project goes in (
+      let drives = runs.answers.2 going clean world known goes in
+      let still : KnowsItsVersion new (world_after world commands run.acknowledged) = elim (runs.knows going clean world known goes) [
+        | inl wanted ↦ absurd (let no : ◌≡◌ {A = Option Fault} None (Some wanted.0) = sym end ∙ wanted.1 in cc)
+        | inr still ↦ still
+      ] in (
         runs.answers.0,
         subst (λ cs. AnswerAll world cs runs.answers.0) all drives.answered,
         subst (λ cs. GoesOn (state_of new) (world_of world cs)) all (drives.goes (one_goes (Commands commands) (run, runs, end) going)),
-        subst (λ cs. IsPresentProject (world_of world cs)) all drives.project,
+        subst (λ cs. IsKnownTo new (world_of world cs)) all (still, drives.project),
       )
-  one_done (Look view) sees going clean world project goes = ([], tt, sees.goes clean world goes, project)
+  one_done (Look view) sees going clean world known goes = ([], tt, sees.goes clean world goes, (inl (shown_present view sees going world known.0), known.1))
 
 -- ---- all steps
 
@@ -211,16 +228,16 @@ module _ {S W : Type 0} {store : Ghosts S} (contents : W → Option (List ℕ)) 
       each_goes each.0 new each.1 out_new steps each.3 (one_goes contents old each.0 out_old each.1 one.action each.2 going)
 
   pub each_done : (old new : Project S store) (out_old out_new : W) (steps : List Step) → PerformsEach contents old new out_old out_new steps
-      → IsSessionOpen old → HasCleanDisk (state_of new) → (world : World) → IsPresentProject world → GoesOn (state_of old) world
+      → IsSessionOpen old → HasCleanDisk (state_of new) → (world : World) → IsKnownTo old world → GoesOn (state_of old) world
       → (answers : List Answer) × AnswerAll world (commands_of_steps steps) answers
-      × GoesOn (state_of new) (world_of world (commands_of_steps steps)) × IsPresentProject (world_of world (commands_of_steps steps))
+      × GoesOn (state_of new) (world_of world (commands_of_steps steps)) × IsKnownTo new (world_of world (commands_of_steps steps))
   unfolding PerformsEach
-  each_done old new out_old out_new [] each going clean world project goes =
-      ([], tt, subst (λ p. GoesOn (state_of p) world) (sym each.0) goes, project)
-  each_done old new out_old out_new (one ∷ steps) each going clean world project goes =
+  each_done old new out_old out_new [] each going clean world known goes =
+      ([], tt, subst (λ p. GoesOn (state_of p) world) (sym each.0) goes, subst (λ p. IsKnownTo p world) (sym each.0) known)
+  each_done old new out_old out_new (one ∷ steps) each going clean world known goes =
       let rest_clean = each_clean each.0 new each.1 out_new steps each.3 in
       let before : HasCleanDisk (state_of each.0) = omega (arith, rest_clean, clean) in
-      let first = one_done contents old each.0 out_old each.1 one.action each.2 going before world project goes in
+      let first = one_done contents old each.0 out_old each.1 one.action each.2 going before world known goes in
       let still = one_goes contents old each.0 out_old each.1 one.action each.2 going in
       let mine = commands_of_action one.action in
       let rest = each_done each.0 new each.1 out_new steps each.3 still clean (world_of world mine) first.3 first.2 in
@@ -228,7 +245,7 @@ module _ {S W : Type 0} {store : Ghosts S} (contents : W → Option (List ℕ)) 
         first.0 ++ rest.0,
         answer_both world mine (commands_of_steps steps) first.0 rest.0 first.1 rest.1,
         subst (λ w. GoesOn (state_of new) w) both rest.2,
-        subst (λ w. IsPresentProject w) both rest.3,
+        subst (λ w. IsKnownTo new w) both rest.3,
       )
 
   pub steps_clean : (old new : Project S store) (out_old out_new : W) (steps : List Step) (end : Option LineFault) → PerformsSteps contents old new out_old out_new steps end → FaultsOnlyGrow (state_of old) (state_of new)
@@ -239,8 +256,8 @@ module _ {S W : Type 0} {store : Ghosts S} (contents : W → Option (List ℕ)) 
       omega (arith, first, last)
 
   pub drives_steps : (old new : Project S store) (out_old out_new : W) (steps : List Step) (end : Option LineFault) → PerformsSteps contents old new out_old out_new steps end → DrivesSteps old new steps end
-  drives_steps old new out_old out_new steps None each going clean world project goes =
-      let done = each_done old new out_old out_new steps each going clean world project goes in
+  drives_steps old new out_old out_new steps None each going clean world known goes =
+      let done = each_done old new out_old out_new steps each going clean world known goes in
       let commands = commands_of_steps steps in
       let whole : take (length commands) commands ≡ commands = take-length commands in
       record {
@@ -253,15 +270,15 @@ module _ {S W : Type 0} {store : Ghosts S} (contents : W → Option (List ℕ)) 
           end = λ fault told. absurd (cc);
           goes = λ still. subst (λ cs. GoesOn (state_of new) (world_of world cs)) (sym whole) done.2;
           ended = λ ended. absurd (cc);
-          project = subst (λ cs. IsPresentProject (world_of world cs)) (sym whole) done.3;
+          project = subst (λ cs. IsProject (world_of world cs)) (sym whole) done.3.1;
           cut_project = λ ended cut there. absurd (cc);
         };
         whole = λ none. refl;
       }
-  drives_steps old new out_old out_new steps (Some end) until going clean world project goes =
+  drives_steps old new out_old out_new steps (Some end) until going clean world known goes =
       let last_clean = one_clean contents until.mid new until.out_mid out_new until.last.action (Some end.fault) until.ends in
       let before : HasCleanDisk (state_of until.mid) = omega (arith, last_clean, clean) in
-      let done = each_done old until.mid out_old until.out_mid until.before until.each going before world project goes in
+      let done = each_done old until.mid out_old until.out_mid until.before until.each going before world known goes in
       let still = each_goes old until.mid out_old until.out_mid until.before until.each going in
       let firsts = commands_of_steps until.before in
       let last = one_drives contents until.mid new until.out_mid out_new until.last.action (Some end.fault) until.ends still clean (world_of world firsts) done.3 done.2 in
@@ -276,6 +293,6 @@ module _ {S W : Type 0} {store : Ghosts S} (contents : W → Option (List ℕ)) 
       }
 
   pub lengthens_steps : (old new : Project S store) (out_old out_new : W) (steps : List Step) (end : Option LineFault) → PerformsSteps contents old new out_old out_new steps end → LengthensBySteps old new steps
-  lengthens_steps old new out_old out_new steps end performs going clean start life project goes =
-      let driven = drives_steps old new out_old out_new steps end performs going clean (world_of_life start life) project goes in
+  lengthens_steps old new out_old out_new steps end performs going clean start life known goes =
+      let driven = drives_steps old new out_old out_new steps end performs going clean (world_of_life start life) known goes in
       (driven.count, driven.is_cut, lengthens start life (commands_of_steps steps) driven.answers (so_far driven.count) driven.is_cut (state_of new) driven.drives)

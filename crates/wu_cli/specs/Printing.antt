@@ -9,9 +9,9 @@ use Rattle.wu_machine.specs.declared.command.Command.{Command}
 use Rattle.wu_machine.specs.Commands.{request_of}
 use Rattle.wu_machine.specs.Machine.{fold_steps, reply, step}
 use Rattle.wu_machine.specs.Requests.{Reply}
-use Rattle.wu_passes.specs.Planning.{IsPresentProject}
+use Rattle.wu_machine.specs.Sound.{IsProject}
 use Rattle.wu_passes.specs.declared.project.Project.{Project}
-use Rattle.wu_passes.specs.Projects.{IsSessionOpen, state_of}
+use Rattle.wu_passes.specs.Projects.{IsKnownTo, IsSessionOpen, state_of}
 use Rattle.wu_passes.specs.Standing.{GoesOn}
 use Rattle.wu_report.specs.Texts.{view_text}
 use Rattle.wu_report.specs.Writing.{WritesTo}
@@ -63,17 +63,17 @@ printed_work world (work.Script steps) = printed_steps world steps
 -- of an action, over a world that the session goes on over, where the disk does not fail
 abbrev pub PrintsAction : {S W : Type 0} {store : Ghosts S} → (W → Option (List ℕ)) → Project S store → Project S store → W → W → Action → Option Fault → Type 0
 PrintsAction contents old new out_old out_new action end =
-    IsSessionOpen old → HasCleanDisk (state_of new) → (world : World) → IsPresentProject world → GoesOn (state_of old) world
+    IsSessionOpen old → HasCleanDisk (state_of new) → (world : World) → IsKnownTo old world → GoesOn (state_of old) world
     → WritesTo contents out_old out_new (printed_action world action) (line_outcome end)
 
 -- of the steps of a script
 abbrev pub PrintsSteps : {S W : Type 0} {store : Ghosts S} → (W → Option (List ℕ)) → Project S store → Project S store → W → W → List Step → Option LineFault → Type 0
 PrintsSteps contents old new out_old out_new steps end =
-    IsSessionOpen old → HasCleanDisk (state_of new) → (world : World) → IsPresentProject world → GoesOn (state_of old) world
+    IsSessionOpen old → HasCleanDisk (state_of new) → (world : World) → IsKnownTo old world → GoesOn (state_of old) world
     → WritesTo contents out_old out_new (printed_steps world steps) (script_outcome end)
 
 -- of work over an open database, whatever world a session over it may begin from
 abbrev pub PrintsOver : {S W : Type 0} (g : Ghosts S) → (W → Option (List ℕ)) → Held S → Held S → W → W → Work → Result (Unit {0}) Trouble → Type 0
 PrintsOver g contents conn again out_old out_new asked done =
-    HasCleanDisk (state g again) → (world : World) → IsPresentProject world → BeginsFrom (state g conn) world
+    HasCleanDisk (state g again) → (world : World) → IsProject world → BeginsFrom (state g conn) world
     → WritesTo contents out_old out_new (printed_work world asked) done

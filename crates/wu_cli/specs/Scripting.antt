@@ -8,8 +8,7 @@ use Rattle.wu_drive.specs.Driving.{Drives, Lengthens, session_of}
 use Rattle.wu_machine.specs.declared.command.Answer.{Answer}
 use Rattle.wu_machine.specs.declared.command.Command.{Command}
 use Rattle.wu_passes.specs.declared.project.Project.{Project}
-use Rattle.wu_passes.specs.Planning.{IsPresentProject}
-use Rattle.wu_passes.specs.Projects.{IsSessionOpen, state_of}
+use Rattle.wu_passes.specs.Projects.{IsKnownTo, IsSessionOpen, state_of}
 use Rattle.wu_machine.specs.Sessions.{Lived, world_of_life}
 use Rattle.wu_passes.specs.Standing.{GoesOn}
 use Rattle.wu_cli.specs.Performing.{Performs}
@@ -71,13 +70,13 @@ pub record DrivesCommands (world : World) (steps : List Step) (end : Option Line
 -- so a script drives a project of any world over which its session goes on, where the disk does not fail
 abbrev pub DrivesSteps : {S : Type 0} {store : Ghosts S} → Project S store → Project S store → List Step → Option LineFault → Type 0
 DrivesSteps old new steps end =
-    IsSessionOpen old → HasCleanDisk (state_of new) → (world : World) → IsPresentProject world → GoesOn (state_of old) world
+    IsSessionOpen old → HasCleanDisk (state_of new) → (world : World) → IsKnownTo old world → GoesOn (state_of old) world
     → DrivesCommands world steps end (state_of new)
 
 -- A script lengthens any life that led to that world, as its list of commands does: each world that a stop may leave is
 -- that of the life with one session more, which acknowledged so many of its commands and cut the next one or none.
 abbrev pub LengthensBySteps : {S : Type 0} {store : Ghosts S} → Project S store → Project S store → List Step → Type 0
 LengthensBySteps old new steps =
-    IsSessionOpen old → HasCleanDisk (state_of new) → (start : World) (life : List Lived) → IsPresentProject (world_of_life start life)
+    IsSessionOpen old → HasCleanDisk (state_of new) → (start : World) (life : List Lived) → IsKnownTo old (world_of_life start life)
     → GoesOn (state_of old) (world_of_life start life)
     → (count : ℕ) × (is_cut : Bool) × Lengthens start life (session_of (commands_of_steps steps) (so_far count) is_cut) (state_of new)

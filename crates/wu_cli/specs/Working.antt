@@ -9,10 +9,10 @@ use Rattle.wu_core.specs.Reads.{IsOrWantsMemory, TellsRefusal}
 use Rattle.wu_core.specs.World.{World, empty_world}
 use Rattle.wu_machine.specs.declared.command.Answer.{Answer}
 use Rattle.wu_machine.specs.declared.command.Command.{Command}
-use Rattle.wu_passes.specs.Planning.{IsPresentProject}
+use Rattle.wu_machine.specs.Sound.{IsProject}
 use Rattle.wu_passes.specs.declared.project.Project.{Project}
 use Rattle.wu_passes.specs.Adopting.{Adopts, IsAdoptionFault, IsVacant, RefusesAdoption}
-use Rattle.wu_passes.specs.Projects.{connection_of, IsSessionOpen, state_of}
+use Rattle.wu_passes.specs.Projects.{connection_of, IsSessionOpen, KnowsTables, state_of}
 use Rattle.wu_passes.specs.Standing.{GoesOn}
 use Rattle.wu_drive.specs.Driving.{Drives}
 use Rattle.wu_words.specs.Actions.{prepared}
@@ -91,6 +91,7 @@ module _ {S W : Type 0} (g : Ghosts S) (contents : W → Option (List ℕ)) (con
     pub idle : conn.in_transaction ≡ false
     pub begins : IsSessionOpen old
     pub adopts : Adopts (state g conn) (state_of old)
+    pub knows : KnowsTables old
     pub does : PerformsWork contents old new out_old out_new asked done
     pub released : again ≡ connection_of new
 
@@ -120,5 +121,5 @@ pub record RefusesWork (old new : State) (world : World) (done : Result (Unit {0
 -- over each world that a session may begin from a beginning of the commands is done, or nothing was adopted
 abbrev pub DrivesOver : {S : Type 0} (g : Ghosts S) → Held S → Held S → Work → Result (Unit {0}) Trouble → Type 0
 DrivesOver g conn again asked done =
-    HasCleanDisk (state g again) → (world : World) → IsPresentProject world → BeginsFrom (state g conn) world
+    HasCleanDisk (state g again) → (world : World) → IsProject world → BeginsFrom (state g conn) world
     → DrivesWork world asked done (state g again) ⊎ RefusesWork (state g conn) (state g again) world done

@@ -65,7 +65,7 @@ module _ {S W : Type 0} {store : Ghosts S} (contents : W → Option (List ℕ)) 
     (ends : IsSessionOpen fresh → IsSessionEnded mid → EndsBy run MayEnd)
     (answers : (answers : List Answer) × WritesAnswers (contents out_old) (contents out_mid) answers run × DrivesProject fresh mid (command ∷ []) answers run) where
   driven : Drives empty_world (command ∷ []) answers.0 run (has_ended mid) (state_of mid)
-  driven = answers.2 going mid_clean empty_world empty_project over_empty
+  driven = answers.2 going mid_clean empty_world (inl empty_project.0, empty_project.1) over_empty
 
   one : run.acknowledged ≡ 1
   one = all whole

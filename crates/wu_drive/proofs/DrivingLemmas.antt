@@ -5,31 +5,32 @@ use Rattle.std.proofs.lemmas.Option.{slice_get-get_or}
 use Rattle.std.specs.Prelude.{slice_get}
 use Rattle.std.specs.Prelude.{IsTrue, MatchResult, OnOk, Result}
 use Rattle.std.proofs.lemmas.Bool.{cases_Bool}
-use Rattle.sqlite.specs.State.{State, HasCleanDisk}
+use Rattle.sqlite.specs.State.{HasCleanDisk}
 use Rattle.sqlite.specs.Store.{Ghosts}
 use Rattle.wu_schema.specs.Faults.{IsFailure}
 use Rattle.wu_core.specs.declared.fault.Fault.{Fault}
-use Rattle.wu_core.specs.declared.fault.Fault.TheVariants.{BadLimit, Ended, OldSchema, Output}
+use Rattle.wu_core.specs.declared.fault.Fault.TheVariants.{BadLimit, Ended, Memory, OldSchema, Output}
 use Rattle.std.proofs.lemmas.List.Elements.{All-nil}
 use Rattle.wu_core.specs.World.{Import, World, empty_world}
 use Rattle.wu_core.specs.Storable.{AreVerdicts, IsStorable}
 use Rattle.wu_machine.specs.declared.command.Answer.{Answer}
 use Rattle.wu_machine.specs.declared.command.Command.{Command}
 use Rattle.wu_drive.specs.declared.runs.Run.{Run}
-use Rattle.wu_drive.specs.Driving.{AnswerAll, Drives, MakeNothing, NotDone, world_after}
-use Rattle.wu_machine.specs.Machine.{fold_steps, has_right_limits, is_upgrade, MakesNothing, present_version, reply, step}
+use Rattle.wu_drive.specs.Driving.{AnswerAll, Drives, EndsBy, MakeNothing, NotDone, world_after}
+use Rattle.wu_machine.specs.Machine.{fold_steps, has_right_limits, is_upgrade, IsUpToDate, MakesNothing, present_version, reply, reply_of, step, world_of}
 use Rattle.wu_machine.specs.Commands.{request_of, reply_of_answer}
 use Rattle.wu_passes.specs.Planning.{IsPresentProject}
 use Rattle.wu_store.specs.Loading.{IsStoreFault}
 use Rattle.wu_passes.specs.Adopting.{KeepsAll}
-use Rattle.wu_passes.specs.Projects.{AnswersEnded, Broke, IsOpen, IsPlanned, older_version, RefusesEarly, ServesRight, state_of}
+use Rattle.wu_passes.specs.Projects.{AnswersEnded, Broke, has_ended, IsKnownTo, IsOpen, IsPlanned, IsPresentSession, IsSessionOpen, KeepsVersion, KnowsItsVersion, older_version, RefusesEarly, ServesRight, state_of}
 use Rattle.wu_passes.proofs.SessionLemmas.{some_right}
 use Rattle.wu_machine.proofs.ImportLemmas.{stays_step}
-use Rattle.wu_machine.proofs.Versions.{up_to_date}
+use Rattle.wu_machine.proofs.Versions.{done_older, done_upgrade, up_to_date}
 use Rattle.std.proofs.lemmas.Bool.Decides.{nat_tests}
 use Rattle.wu_machine.specs.Laws.{KeepsProjects}
 use Rattle.wu_passes.specs.declared.project.Project.{Project}
-use Rattle.wu_machine.specs.Requests.{Request}
+use Rattle.wu_machine.specs.Requests.{AskBatch, AskCancel, AskPass, AskReported, AskSent, AskUpgrade, Reply, Request}
+use Rattle.wu_machine.specs.Sound.{IsProject}
 use Rattle.wu_passes.specs.Standing.{GoesOn, Runs, RefinesAfterFault, FailureCause}
 
 pub fold_more : (world : World) (requests : List Request) (one : Request) → fold_steps world (requests ++ one ∷ []) ≡ step (fold_steps world requests) one
@@ -64,12 +65,27 @@ empty_project = (
   },
 )
 
--- what a request makes of a project of the present version is one
-pub keeps_present : (request : Request) → KeepsProjects request → (world : World) → IsPresentProject world → IsPresentProject (step world request)
-keeps_present request keeps world (is, project) =
-    let younger : nat_lt world.version present_version ≡ false = grind (arith, nat_tests, is) in
-    let still = keeps world project in
-    (up_to_date (step world request) still ((stays_step world request).version younger), still)
+-- after an upgrade a world is of the present version
+upgraded : (world : World) (request : Request) → is_upgrade request ≡ true → IsUpToDate (step world request)
+upgraded world (AskBatch name template file) up = absurd cc
+upgraded world (AskSent name file) up = absurd cc
+upgraded world (AskReported name file) up = absurd cc
+upgraded world (AskPass pass now limit min_age) up = absurd cc
+upgraded world (AskCancel name) up = absurd cc
+upgraded world AskUpgrade up = ap (λ d. (world_of world d).version) (done_upgrade world)
+
+-- so it is after any request that was answered
+answered_present : (world : World) (request : Request) (answer : Reply) → IsProject (step world request) → reply world request ≡ Ok answer → IsUpToDate (step world request)
+answered_present world request answer still is = elim (cases_Bool (nat_lt world.version present_version)) [
+  | inr younger ↦ up_to_date (step world request) still ((stays_step world request).version younger)
+  | inl older ↦ elim (cases_Bool (is_upgrade request)) [
+    | inl up ↦ upgraded world request up
+    | inr other ↦
+        let low : world.version < present_version = grind (arith, nat_tests, older) in
+        let refused : reply world request ≡ Err (OldSchema world.version) = ap reply_of (done_older world request low other) in
+        absurd (let no = sym is ∙ refused in cc)
+  ]
+]
 
 pub one_fault : (a b : Fault) → ◌≡◌ {A = Option Fault} (Some a) (Some b) → a ≡ b
 one_fault a b same = cc
@@ -111,54 +127,66 @@ not_done Before After from world commands i command d low there run count fault 
     subst (λ k. NotDone After world commands (record run { acknowledged = k }) is other) (sym count) (command, there_is commands i command d low there, subst (λ f. FailureCause After is (world_after world commands i) (request_of command) f) same first)
 
 -- so it is on the way, after so many commands
-pub record IsDriving (world : World) (commands : List Command) (answers : List Answer) (count : ℕ) (has_ended : Bool) (new : State) : Type 0 where
-  pub going : has_ended ≡ false
+pub record IsDriving {S : Type 0} {g : Ghosts S} (world : World) (commands : List Command) (answers : List Answer) (count : ℕ) (new : Project S g) : Type 0 where
+  pub going : IsSessionOpen new
   pub answered : AnswerAll world (take count commands) answers
-  pub goes : GoesOn new (world_after world commands count)
-  pub project : IsPresentProject (world_after world commands count)
+  pub goes : GoesOn (state_of new) (world_after world commands count)
+  pub known : IsKnownTo new (world_after world commands count)
 
-pub driving_none : (world : World) (commands : List Command) (has_ended : Bool) (s : State) → has_ended ≡ false → IsPresentProject world → GoesOn s world → IsDriving world commands [] 0 has_ended s
-driving_none world commands has_ended s going project goes = record { going = going; answered = tt; goes = goes; project = project }
+pub driving_none : {S : Type 0} {g : Ghosts S} (world : World) (commands : List Command) (new : Project S g) → IsSessionOpen new → IsKnownTo new world → GoesOn (state_of new) world → IsDriving world commands [] 0 new
+driving_none world commands new going known goes = record { going = going; answered = tt; goes = goes; known = known }
 
-module _ (world : World) (commands : List Command) (answers : List Answer) (i : ℕ) (was : Bool) (old : State) (driving : IsDriving world commands answers i was old)
+module _ {S : Type 0} {g : Ghosts S} (world : World) (commands : List Command) (answers : List Answer) (i : ℕ) (old new : Project S g) (driving : IsDriving world commands answers i old)
     (command d : Command) (low : i < length commands) (there : get_or commands i d ≡ command) (keeps : KeepsProjects (request_of command)) where
-  pub driving_more : (answer : Answer) (is : Bool) (new : State) → Runs (world_after world commands i) (request_of command) is new (Ok answer) → IsDriving world commands (answers ++ answer ∷ []) (i + 1) is new
-  driving_more answer is new (answered, going, goes) =
+  still : IsProject (step (world_after world commands i) (request_of command))
+  still = keeps (world_after world commands i) driving.known.1
+
+  pub driving_more : (answer : Answer) → Runs (world_after world commands i) (request_of command) (has_ended new) (state_of new) (Ok answer) → IsDriving world commands (answers ++ answer ∷ []) (i + 1) new
+  driving_more answer (answered, going, goes) =
       let next = next_world world commands i command d low there in
       record {
         going = going;
         answered = subst (λ cs. AnswerAll world cs (answers ++ answer ∷ [])) (sym (take_more commands i d low ∙ ap (λ c. take i commands ++ c ∷ []) there))
             (answer_more world (take i commands) answers command answer driving.answered answered);
-        goes = subst (λ w. GoesOn new w) (sym next) goes;
-        project = subst (λ w. IsPresentProject w) (sym next) (keeps_present (request_of command) keeps (world_after world commands i) driving.project);
+        goes = subst (λ w. GoesOn (state_of new) w) (sym next) goes;
+        known = subst (λ w. IsKnownTo new w) (sym next) (inl (answered_present (world_after world commands i) (request_of command) (reply_of_answer answer) still answered), still);
       }
 
-  pub drives_cut : (fault : Fault) (is : Bool) (new : State) (run : Run) → run.acknowledged ≡ i → run.end ≡ Some fault → Runs (world_after world commands i) (request_of command) is new (Err fault)
-      → Drives world commands answers run is new
-  drives_cut fault is new run count end (told, stands) = subst (λ k. Drives world commands answers (record run { acknowledged = k }) is new) (sym count) (record {
+  pub drives_cut : (fault : Fault) (run : Run) → run.acknowledged ≡ i → run.end ≡ Some fault → Runs (world_after world commands i) (request_of command) (has_ended new) (state_of new) (Err fault)
+      → Drives world commands answers run (has_ended new) (state_of new)
+  drives_cut fault run count end (told, stands) = subst (λ k. Drives world commands answers (record run { acknowledged = k }) (has_ended new) (state_of new)) (sym count) (record {
     within = omega (arith, low);
     answered = driving.answered;
     end = λ other told_so.
         let same : fault ≡ other = one_fault fault other (sym end ∙ told_so) in
         inl (command, there_is commands i command d low there, subst (λ f. (reply (world_after world commands i) (request_of command) ≡ Err f) ⊎ IsStoreFault f) same told);
-    goes = λ going. subst (λ b. RefinesAfterFault b new (world_after world commands i) (request_of command)) going stands;
-    ended = λ ended. (command, there_is commands i command d low there, subst (λ b. RefinesAfterFault b new (world_after world commands i) (request_of command)) ended stands);
-    project = driving.project;
-    cut_project = λ ended cut cut_there. subst (λ c. IsPresentProject (step (world_after world commands i) (request_of c))) (same_command command cut (sym (there_is commands i command d low there) ∙ cut_there)) (keeps_present (request_of command) keeps (world_after world commands i) driving.project);
+    goes = λ going. subst (λ b. RefinesAfterFault b (state_of new) (world_after world commands i) (request_of command)) going stands;
+    ended = λ ended. (command, there_is commands i command d low there, subst (λ b. RefinesAfterFault b (state_of new) (world_after world commands i) (request_of command)) ended stands);
+    project = driving.known.1;
+    cut_project = λ ended cut cut_there. subst (λ c. IsProject (step (world_after world commands i) (request_of c))) (same_command command cut (sym (there_is commands i command d low there) ∙ cut_there)) still;
   })
 
+  -- the version is still known, but for want of memory
+  pub knows_cut : (fault : Fault) (run : Run) → run.acknowledged ≡ i → run.end ≡ Some fault → KeepsVersion old new ⊎ ((fault ≡ Memory) × IsPresentSession new)
+      → EndsBy run (λ f. f ≡ Memory) ⊎ KnowsItsVersion new (world_after world commands run.acknowledged)
+  knows_cut fault run count end (inr (wanted, none)) = inl (fault, end, wanted)
+  knows_cut fault run count end (inl kept) = inr (subst (λ k. KnowsItsVersion new (world_after world commands k)) (sym count) (elim driving.known.0 [ inl is ↦ inl is | inr some ↦ inr (ap is_some kept ∙ some) ]))
+
 -- between two commands: the list has ended, or a text was not written
-pub drives_so_far : (world : World) (commands : List Command) (answers : List Answer) (i : ℕ) (is : Bool) (s : State) (run : Run) → i ≤ length commands → run.acknowledged ≡ i
-    → ((fault : Fault) → run.end ≡ Some fault → (fault ≡ Output) × (1 ≤ i)) → IsDriving world commands answers i is s → Drives world commands answers run is s
-drives_so_far world commands answers i is s run within count end driving = subst (λ k. Drives world commands answers (record run { acknowledged = k }) is s) (sym count) (record {
-  within = within;
-  answered = driving.answered;
-  end = λ fault told. inr (end fault told);
-  goes = λ going. driving.goes;
-  ended = λ ended. absurd (let no : false ≡ true = sym driving.going ∙ ended in cc);
-  project = driving.project;
-  cut_project = λ ended. absurd (let no : false ≡ true = sym driving.going ∙ ended in cc);
-})
+module _ {S : Type 0} {g : Ghosts S} (world : World) (commands : List Command) (answers : List Answer) (i : ℕ) (new : Project S g) (run : Run) (count : run.acknowledged ≡ i) (driving : IsDriving world commands answers i new) where
+  pub drives_so_far : i ≤ length commands → ((fault : Fault) → run.end ≡ Some fault → (fault ≡ Output) × (1 ≤ i)) → Drives world commands answers run (has_ended new) (state_of new)
+  drives_so_far within end = subst (λ k. Drives world commands answers (record run { acknowledged = k }) (has_ended new) (state_of new)) (sym count) (record {
+    within = within;
+    answered = driving.answered;
+    end = λ fault told. inr (end fault told);
+    goes = λ going. driving.goes;
+    ended = λ ended. absurd (let no : false ≡ true = sym driving.going ∙ ended in cc);
+    project = driving.known.1;
+    cut_project = λ ended. absurd (let no : false ≡ true = sym driving.going ∙ ended in cc);
+  })
+
+  pub knows_so_far : KnowsItsVersion new (world_after world commands run.acknowledged)
+  knows_so_far = subst (λ k. KnowsItsVersion new (world_after world commands k)) (sym count) driving.known.0
 
 -- ---- whether the connection is open
 

@@ -8,7 +8,7 @@ use Rattle.wu_passes.specs.declared.project.Project.{Project}
 use Rattle.wu_passes.specs.Projects.{IsSessionOpen, IsSessionEnded, KeepsLimit, state_of}
 use Rattle.wu_passes.specs.Standing.{FaultsOnlyGrow, MayEnd}
 use Rattle.wu_drive.specs.declared.runs.Run.{Run}
-use Rattle.wu_drive.specs.Driving.{DrivesNothing, DrivesProject, DrivesWhy, EndsBy, LeavesAll, LeavesAllIdle, LengthensLife, ServesUnlessEnded}
+use Rattle.wu_drive.specs.Driving.{DrivesNothing, DrivesProject, DrivesWhy, EndsBy, LeavesAll, LeavesAllIdle, LengthensLife, ServesUnlessEnded, StillKnows}
 use Rattle.wu_drive.specs.Writing.{WritesAnswers}
 
 -- The commands are run in order, up to the first fault.
@@ -18,6 +18,7 @@ pub record RunsList {S W : Type 0} {store : Ghosts S} (contents : W → Option (
   pub why : DrivesWhy old new commands run
   pub opens : ServesUnlessEnded old new run
   pub lives : LengthensLife old new commands run
+  pub knows : StillKnows old new commands run
   pub ended : DrivesNothing old new out_old out_new run
   -- what was not changed
   pub untouched : LeavesAll old new run

@@ -31,7 +31,8 @@ pub struct Run {
 /// open. Over a session that had ended it answers `Ended` at once. Where the first command was not done, or the machine
 /// makes nothing by all that were, every table is as it was, but for want of memory or of the disk. Where a stop before
 /// it could leave one world alone, the worlds that a stop may leave after it are those of the acknowledged commands,
-/// with the cut one or without.
+/// with the cut one or without. Over a project of an older version the run ends with `OldSchema` at a first command that
+/// is no upgrade. The session still knows the version behind it, but where it ended with `Memory`.
 pub fn drive<S: Alter, W: Write>(
     alloc: Global,
     project: &mut Project<S>,

@@ -1,33 +1,20 @@
 -- What is found where the two files are opened again after a stop.
-use Rattle.std.proofs.Common.{◌≡◌, ◌⊎◌, ℕ, zero, suc, Option, ◌+◌, ◌<◌, ◌≤◌, IsTrue, ◌&&◌, true, false, Bool, List, [], ◌∷◌, ◌++◌, length, map, take, get_or, Vec, Global, Some, refl, sym, ap, subst, ◌∙◌, inl, inr, arith, length-append}
-use Rattle.std.proofs.Math.Logic.{∥∥₁_elim, ∥∥₁_map}
+use Rattle.std.proofs.Common.{◌≡◌, ◌⊎◌, ℕ, zero, suc, Option, ◌+◌, ◌<◌, ◌≤◌, true, false, Bool, List, [], ◌∷◌, ◌++◌, length, map, take, get_or, Vec, Global, Some, refl, sym, ap, subst, ◌∙◌, inl, inr, arith, length-append}
+use Rattle.std.proofs.Math.Logic.{∥∥₁_map}
 use Rattle.std.proofs.lemmas.List.{map-append, take_more}
 use Rattle.std.proofs.lemmas.Option.{get_or_from_slice_get, slice_get_within}
 use Rattle.std.specs.Prelude.{slice_get}
-use Rattle.sqlite_disk.specs.declared.Disk.{Ghosts}
-use Rattle.sqlite_wal.specs.Files.{outcomes, seen_image}
-use Rattle.sqlite_wal.specs.Reads.{AreClean}
-use Rattle.sqlite_wal.proofs.LogLemmas.{SeenMayStay}
-use Rattle.sqlite_pool.proofs.StateLemmas.{clean_is, may_leave_is}
-use Rattle.sqlite_trees.specs.View.{IsClean, IsQuiet}
-use Rattle.sqlite_trees.specs.Props.{Trees-set}
-use Rattle.sqlite_trees.proofs.Doubt.{no_doubt}
-use Rattle.sqlite_store.specs.declared.store.FileStore.{FileStore}
-use Rattle.sqlite_store.specs.FileStore.{state, view, faults, recovers, is_shielded, files}
-use Rattle.sqlite_store.specs.Laws.{settled_at, stays_at}
-use Rattle.sqlite.specs.Effect.{Database}
-use Rattle.sqlite.specs.State.{State, HasCleanDisk}
+use Rattle.sqlite.specs.State.{State}
 use Rattle.sqlite.specs.Tree.{Trees}
-use Rattle.sqlite.specs.Held.{Held, AreDatabases}
-use Rattle.sqlite.specs.Files.{Finds, IsOpened, file_state}
-use Rattle.sqlite.proofs.Theorems.{next_run}
 use Rattle.wu_core.specs.World.{World}
-use Rattle.wu_schema.specs.Calls.{LeavesOnly}
 use Rattle.wu_passes.specs.Committing.{FoundAs}
 use Rattle.wu_drive.specs.Driving.{AnswerAll, Drives, EndsBy, world_after}
 use Rattle.wu_machine.specs.Machine.{fold_steps, step}
 use Rattle.wu_machine.specs.Commands.{request_of}
-use Rattle.wu_passes.specs.Planning.{IsPresentProject}
+use Rattle.wu_machine.specs.Sound.{IsProject}
+use Rattle.wu_passes.specs.Projects.{IsKnownTo, KnowsItsVersion, state_of}
+use Rattle.wu_passes.specs.declared.project.Project.{Project}
+use Rattle.sqlite_trees.specs.declared.store.Store as Store
 use Rattle.wu_passes.specs.Standing.{GoesOn, MayEnd}
 use Rattle.wu_machine.specs.declared.command.Answer.{Answer}
 use Rattle.wu_machine.specs.declared.command.Command.{Command}
@@ -54,11 +41,11 @@ pub record IsBeginning (world : World) (commands : List Command) (run : Run) (db
   pub count : ℕ
   pub kept : IsKept commands run count
   pub found : FoundAs db (world_after world commands count)
-  pub project : IsPresentProject (world_after world commands count)
+  pub project : IsProject (world_after world commands count)
 
 -- after a run of commands
-module _ (world : World) (commands : List Command) (mid : State) (project : IsPresentProject world) (db : Trees) (may : mid.may_leave db) where
-  beginning_at : (run : Run) (count : ℕ) → run.acknowledged ≤ count → count ≤ run.acknowledged + 1 → (run.acknowledged < count → EndsBy run MayEnd) → count ≤ length commands → IsPresentProject (world_after world commands count)
+module _ (world : World) (commands : List Command) (mid : State) (project : IsProject world) (db : Trees) (may : mid.may_leave db) where
+  beginning_at : (run : Run) (count : ℕ) → run.acknowledged ≤ count → count ≤ run.acknowledged + 1 → (run.acknowledged < count → EndsBy run MayEnd) → count ≤ length commands → IsProject (world_after world commands count)
       → FoundAs db (world_after world commands count) → IsBeginning world commands run db
   beginning_at run count has most cut within still found = record {
     count = count;
@@ -77,7 +64,7 @@ module _ (world : World) (commands : List Command) (mid : State) (project : IsPr
         | inr after ↦
             let next = next_world world commands run.acknowledged cut there in
             beginning_at run (run.acknowledged + 1) (omega arith) (omega arith) (λ more. ends refl) (omega (arith, low))
-            (subst (λ w. IsPresentProject w) (sym next) (drives.cut_project refl cut there)) (subst (λ w. FoundAs db w) (sym next) after)
+            (subst (λ w. IsProject w) (sym next) (drives.cut_project refl cut there)) (subst (λ w. FoundAs db w) (sym next) after)
       ]
 
   -- over a session that had ended no command is done
@@ -88,7 +75,7 @@ pub holds_from : (world : World) (commands : List Command) (run : Run) (new : St
 holds_from world commands run new whole it = record { count = it.count; kept = it.kept; goes = goes_again new _ whole it.found; project = it.project }
 
 -- and what is found of it
-module _ (world : World) (commands : List Command) (mid new : State) (again : IsReopened mid new) (project : IsPresentProject world) where
+module _ (world : World) (commands : List Command) (mid new : State) (again : IsReopened mid new) (project : IsProject world) where
   pub holds_beginning : (answers : List Answer) (run : Run) (has_ended : Bool) → (has_ended ≡ true → EndsBy run MayEnd) → Drives world commands answers run has_ended mid → ∥ HoldsBeginning world commands run new ∥₁
   holds_beginning answers run has_ended ends drives = ∥∥₁_map again.found (λ may. holds_from world commands run new again.whole (beginning_of world commands mid project _ may answers run has_ended ends drives))
 
@@ -108,8 +95,8 @@ sessions_more world [] (l ∷ life) next lived all it = absurd all
 sessions_more world (t ∷ told) [] next lived all it = absurd all
 sessions_more world (t ∷ told) (l ∷ life) next lived (first, all) it = (first, sessions_more (world_lived world l) told life next lived all it)
 
-pub lived_none : (world : World) (s : State) → IsPresentProject world → GoesOn s world → HasLived world [] s
-lived_none world s project goes = record { life = []; sessions = tt; goes = goes; project = project }
+pub lived_none : {S : Type 0} {g : Store.Ghosts S} (world : World) (session : Project S g) → IsKnownTo session world → GoesOn (state_of session) world → HasLived world [] session
+lived_none world session known goes = record { life = []; sessions = tt; goes = goes; known = known }
 
 -- a beginning of its commands is found, so it is lived
 record IsFoundAs (world : World) (told : Transcript) (after : World) : Type 0 where
@@ -144,16 +131,17 @@ found_as world told count kept answered = elim (nat_cases count told.run.acknowl
     at_place (command ∷ more) zero low = (command, refl)
     at_place (command ∷ more) (suc i) low = at_place more i (omega (arith, low))
 
-pub lived_more : (world : World) (told : List Transcript) (next : Transcript) (old new : State) → (lived : HasLived world told old) → HoldsBeginning (world_of_life world lived.life) next.commands next.run new
+pub lived_more : {S T : Type 0} {g : Store.Ghosts S} {h : Store.Ghosts T} (world : World) (told : List Transcript) (next : Transcript) (old : Project S g) (new : Project T h) → (lived : HasLived world told old)
+    → (holds : HoldsBeginning (world_of_life world lived.life) next.commands next.run (state_of new)) → KnowsItsVersion new (world_after (world_of_life world lived.life) next.commands holds.count)
     → AnswerAll (world_of_life world lived.life) (take next.run.acknowledged next.commands) next.answers → HasLived world (told ++ next ∷ []) new
-lived_more world told next old new lived holds answered =
+lived_more world told next old new lived holds knows answered =
     let it = found_as (world_of_life world lived.life) next holds.count holds.kept answered in
     let left : world_of_life world (lived.life ++ it.lived ∷ []) ≡ world_after (world_of_life world lived.life) next.commands holds.count = life_more world lived.life it.lived ∙ it.left in
     record {
       life = lived.life ++ it.lived ∷ [];
       sessions = sessions_more world told lived.life next it.lived lived.sessions it.is;
-      goes = subst (λ w. GoesOn new w) (sym left) holds.goes;
-      project = subst IsPresentProject (sym left) holds.project;
+      goes = subst (λ w. GoesOn (state_of new) w) (sym left) holds.goes;
+      known = subst (λ w. IsKnownTo new w) (sym left) (knows, holds.project);
     }
 
 pub written_more : (old mid new : Option (List ℕ)) (told : List Transcript) (next : Transcript) → WritesTold old mid told → WritesAnswers mid new next.answers next.run → WritesTold old new (told ++ next ∷ [])

@@ -1,5 +1,5 @@
 -- What the first of two runs leaves of its files, and what the second finds there.
-use Rattle.std.proofs.Common.{◌≡◌, ◌≤◌, ℕ, IsTrue, List, [], Option, inl, inr, length, take, sym, subst, ◌∙◌, arith}
+use Rattle.std.proofs.Common.{◌≡◌, ◌≤◌, ℕ, IsTrue, List, [], IfSome, None, Option, Some, inl, inr, length, take, sym, subst, ◌∙◌, arith}
 use Rattle.std.proofs.lemmas.Bool.{cases_Bool}
 use Rattle.std.proofs.Math.Logic.{∥∥₁_map}
 use Rattle.sqlite_disk.specs.declared.Disk.{Ghosts}
@@ -18,24 +18,29 @@ use Rattle.sqlite_store.specs.Laws.{stays_at}
 use Rattle.sqlite.specs.Files.{IsOpened, file_state, over_files}
 use Rattle.sqlite.specs.Held.{Held, AreDatabases}
 use Rattle.sqlite.specs.Start.{FindsIn}
-use Rattle.sqlite.specs.State.{State, HasCleanDisk}
+use Rattle.sqlite.specs.State.{HasCleanDisk}
 use Rattle.sqlite.specs.Tree.{Trees}
 use Rattle.sqlite.proofs.Theorems.{opens_again}
 use Rattle.wu_core.specs.World.{World}
 use Rattle.wu_drive.specs.Driving.{AnswerAll, DrivesProject, EndsBy, world_after}
 use Rattle.wu_drive.specs.declared.runs.Run.{Run}
 use Rattle.wu_machine.specs.Sessions.{world_of_life}
-use Rattle.wu_passes.specs.Planning.{IsPresentProject}
+use Rattle.sqlite_trees.specs.declared.store.Store as Store
 use Rattle.wu_machine.specs.declared.command.Answer.{Answer}
 use Rattle.wu_machine.specs.declared.command.Command.{Command}
 use Rattle.wu_passes.specs.Adopting.{IsVacant}
 use Rattle.wu_passes.specs.Committing.{FoundAs}
-use Rattle.wu_passes.specs.Projects.{IsSessionOpen, IsSessionEnded, state_of}
+use Rattle.wu_passes.specs.Projects.{IsKnownTo, IsSessionOpen, IsSessionEnded, KnowsTables, state_of}
 use Rattle.wu_passes.specs.Standing.{GoesOn, MayEnd}
 use Rattle.wu_passes.specs.declared.project.Project.{Project}
 use Rattle.wu_lives.specs.Runs.{BeginsOver, HoldsBeginningIn, HoldsWorld, LeavesBeginnings, LivesOn, TellsFirst, told_by}
 use Rattle.wu_stops.proofs.BeginningLemmas.{empty_vacant, goes_from_trees, no_database}
 use Rattle.wu_lives.proofs.ReopeningLemmas.{IsBeginning, answers_none, beginning_none, beginning_of, lived_more}
+
+-- both facts hold of what there is
+pub some_both : {A : Type 0} (found : Option A) (P Q : A → Type 0) → IfSome found P → IfSome found Q → IfSome found (λ it. P it × Q it)
+some_both None P Q one other = tt
+some_both (Some it) P Q one other = (one, other)
 
 -- a connection was let go, and its two files
 module _ {D : Type 0} {g : Ghosts D} (old : Held (FileStore D g)) (store : FileStore D g) (files : Files D)
@@ -69,19 +74,19 @@ beginning_copied old files stays copied world commands run each image may =
 
 -- what a run left of its session stands for the world after a beginning of its list
 module _ {D : Type 0} {g : Ghosts D} (old mid : Project (FileStore D g) over_files) (commands : List Command) (answers : List Answer) (run : Run) (counted : length answers ≡ run.acknowledged)
-    (drives : DrivesProject old mid commands answers run) (ends : IsSessionOpen old → IsSessionEnded mid → EndsBy run MayEnd) (ended : IsSessionEnded old → (mid ≡ old) × (run.acknowledged ≡ 0)) (clean : HasCleanDisk (state_of mid)) (world : World) (project : IsPresentProject world) (goes : GoesOn (state_of old) world) where
+    (drives : DrivesProject old mid commands answers run) (ends : IsSessionOpen old → IsSessionEnded mid → EndsBy run MayEnd) (ended : IsSessionEnded old → (mid ≡ old) × (run.acknowledged ≡ 0)) (clean : HasCleanDisk (state_of mid)) (world : World) (known : IsKnownTo old world) (goes : GoesOn (state_of old) world) where
   pub begins_at : (db : Trees) → (state_of mid).may_leave db → IsBeginning world commands run db
   begins_at db may = elim (cases_Bool old.has_ended) [
     | inl was ↦
         let (same, none) = ended was in
-        beginning_none world commands (state_of mid) project db may run none (subst (λ (p : Project (FileStore D g) over_files). GoesOn (state_of p) world) (sym same) goes)
-    | inr going ↦ beginning_of world commands (state_of mid) project db may answers run mid.has_ended (ends going) (drives going clean world project goes)
+        beginning_none world commands (state_of mid) known.1 db may run none (subst (λ (p : Project (FileStore D g) over_files). GoesOn (state_of p) world) (sym same) goes)
+    | inr going ↦ beginning_of world commands (state_of mid) known.1 db may answers run mid.has_ended (ends going) (drives going clean world known goes)
   ]
 
   pub answered_at : AnswerAll world (take run.acknowledged commands) answers
   answered_at = elim (cases_Bool old.has_ended) [
     | inl was ↦ answers_none world commands answers run (ended was).1 counted
-    | inr going ↦ (drives going clean world project goes).answered
+    | inr going ↦ (drives going clean world known goes).answered
   ]
 
 -- the second run opened such an image
@@ -93,12 +98,12 @@ module _ {D : Type 0} {g : Ghosts D} (again : Held (FileStore D g)) (opened : Is
   vacant_in blank = empty_vacant again opened (no_database image _ blank found.reads)
 
 -- and the life goes on over both
-pub lives_on : {D : Type 0} {g : Ghosts D} (old : Project (FileStore D g) over_files) (commands : List Command) (run : Run) (before after : Option (List ℕ)) (answers : List Answer) (files : Files D) (image : Image) (new : State)
-    → TellsFirst old commands run before after answers files → LeavesBeginnings old commands run files → BeginsOver image new → LivesOn old commands run answers files image new
-lives_on old commands run before after answers files image new tells leaves begins honest may clean world told lived =
+pub lives_on : {D T : Type 0} {g : Ghosts D} {h : Store.Ghosts T} (old : Project (FileStore D g) over_files) (commands : List Command) (run : Run) (before after : Option (List ℕ)) (answers : List Answer) (files : Files D) (image : Image) (new : Project T h)
+    → TellsFirst old commands run before after answers files → LeavesBeginnings old commands run files → BeginsOver image (state_of new) → KnowsTables new → LivesOn old commands run answers files image new
+lives_on old commands run before after answers files image new tells leaves begins knows honest may clean world told lived =
     let start : World = world_of_life world lived.life in
-    ∥∥₁_map (leaves honest start lived.project lived.goes image may) (λ it.
-    let first : 1 ≤ (world_after start commands it.count).version = it.project.1.first in
-    let goes : GoesOn new (world_after start commands it.count) = (begins (world_after start commands it.count) first it.held clean).0 in
-    lived_more world told (told_by commands answers run) (state_of old) new lived (record { count = it.count; kept = it.kept; goes = goes; project = it.project })
-    (tells.1 honest start lived.project lived.goes))
+    ∥∥₁_map (leaves honest start lived.known lived.goes image may) (λ it.
+    let first : 1 ≤ (world_after start commands it.count).version = it.project.first in
+    let goes : GoesOn (state_of new) (world_after start commands it.count) = (begins (world_after start commands it.count) first it.held clean).0 in
+    lived_more world told (told_by commands answers run) old new lived (record { count = it.count; kept = it.kept; goes = goes; project = it.project })
+    (knows clean (world_after start commands it.count) goes) (tells.1 honest start lived.known lived.goes))

@@ -1,7 +1,6 @@
 -- Lives of a project, session by session: what each told, and the world that each left.
 use Rattle.std.specs.Prelude.{◌≡◌, ◌⊎◌, ℕ, ◌≤◌, Bool, true, List, [], ◌∷◌, length, map, take, Option, Vec, ⊤}
 use Rattle.std.specs.declared.alloc.Global.{Global}
-use Rattle.sqlite.specs.State.{State}
 use Rattle.sqlite_trees.specs.declared.store.Store as Store
 use Rattle.wu_core.specs.World.{World}
 use Rattle.wu_drive.specs.declared.runs.Run.{Run}
@@ -10,8 +9,7 @@ use Rattle.wu_drive.specs.Writing.{WritesAnswers}
 use Rattle.wu_machine.specs.declared.command.Answer.{Answer}
 use Rattle.wu_machine.specs.declared.command.Command.{Command}
 use Rattle.wu_passes.specs.declared.project.Project.{Project}
-use Rattle.wu_passes.specs.Planning.{IsPresentProject}
-use Rattle.wu_passes.specs.Projects.{IsSessionOpen}
+use Rattle.wu_passes.specs.Projects.{IsKnownTo, IsSessionOpen, state_of}
 use Rattle.wu_machine.specs.Sessions.{Lived, world_lived, world_of_life}
 use Rattle.wu_passes.specs.Standing.{GoesOn, MayEnd}
 use Rattle.wu_lives.specs.Reopening.{OfEachWorld}
@@ -38,12 +36,12 @@ AreSessionsOf world [] (lived ∷ life) = ⊥
 AreSessionsOf world (told ∷ more) [] = ⊥
 AreSessionsOf world (told ∷ more) (lived ∷ life) = IsSessionOf world told lived × AreSessionsOf (world_lived world lived) more life
 
--- the tables stand for the world after a life of these sessions, so that a further one goes on from there
-pub record HasLived (world : World) (told : List Transcript) (found : State) : Type 0 where
+-- the session goes on over the world after a life of these sessions, and knows its version
+pub record HasLived {S : Type 0} {g : Store.Ghosts S} (world : World) (told : List Transcript) (found : Project S g) : Type 0 where
   pub life : List Lived
   pub sessions : AreSessionsOf world told life
-  pub goes : GoesOn found (world_of_life world life)
-  pub project : IsPresentProject (world_of_life world life)
+  pub goes : GoesOn (state_of found) (world_of_life world life)
+  pub known : IsKnownTo found (world_of_life world life)
 
 -- the texts of the answers of each session, one after another
 abbrev pub WritesTold : Option (List ℕ) → Option (List ℕ) → List Transcript → Type 0
@@ -60,10 +58,10 @@ pub record AreOf (lives : List (List Command)) (runs : List Run) (told : List Tr
   pub their_runs : map (λ t. t.run) told ≡ runs
 
 -- what the lives told is written, and what they left is found
-abbrev pub TellsLives : Option (List ℕ) → Option (List ℕ) → State → List (Vec Command Global) → List Run → State → Type 0
+abbrev pub TellsLives : {S : Type 0} {g : Store.Ghosts S} → Option (List ℕ) → Option (List ℕ) → Project S g → List (Vec Command Global) → List Run → Project S g → Type 0
 TellsLives before after old lives runs new =
     (told : List Transcript) × AreOf (commands_of lives) runs told × WritesTold before after told
-    × OfEachWorld old new (λ world. ∥ HasLived world told new ∥₁)
+    × OfEachWorld old (state_of new) (λ world. ∥ HasLived world told new ∥₁)
 
 -- a run for each life
 abbrev pub RunsEach : List (Vec Command Global) → List Run → Type 0

@@ -10,9 +10,9 @@ use Rattle.wu_core.specs.World.{World}
 use Rattle.wu_core.specs.declared.fault.Fault.TheVariants.{Broken, Ended}
 use Rattle.wu_stops.specs.Stopping.{FindsAgain}
 use Rattle.wu_drive.specs.Driving.{AnswerAll, EndsBy, EndsEarly, LengthensLife, world_after}
-use Rattle.wu_passes.specs.Planning.{IsPresentProject}
+use Rattle.wu_machine.specs.Sound.{IsProject}
 use Rattle.wu_passes.specs.Adopting.{Adopts}
-use Rattle.wu_passes.specs.Projects.{connection_of, IsSessionOpen, IsSessionEnded, state_of}
+use Rattle.wu_passes.specs.Projects.{connection_of, IsKnownTo, IsSessionOpen, IsSessionEnded, state_of}
 use Rattle.wu_passes.specs.Standing.{GoesOn, MayEnd}
 use Rattle.wu_drive.specs.Running.{RunsList}
 use Rattle.wu_drive.specs.Writing.{WritesAnswers}
@@ -21,12 +21,13 @@ use Rattle.wu_machine.specs.declared.command.Command.{Command}
 use Rattle.wu_passes.specs.declared.project.Project.{Project}
 use Rattle.wu_drive.specs.declared.runs.Run.{Run}
 
--- This holds of each world of a project that the old tables stood for, over a disk that had no fault by the new state.
-abbrev pub OfEachWorld : State → State → (World → Type 0) → Type 0
-OfEachWorld old new holds = HasCleanDisk new → (world : World) → IsPresentProject world → GoesOn old world → holds world
+-- This holds of each world that the old session went on over and whose version it knew, over a disk that had no fault
+-- by the new state.
+abbrev pub OfEachWorld : {S : Type 0} {g : Store.Ghosts S} → Project S g → State → (World → Type 0) → Type 0
+OfEachWorld old new holds = HasCleanDisk new → (world : World) → IsKnownTo old world → GoesOn (state_of old) world → holds world
 
 -- What a life tells: the texts of its answers, which are the machine's replies to the commands that it acknowledged.
-abbrev pub TellsReplies : Option (List ℕ) → Option (List ℕ) → State → List Command → Run → State → Type 0
+abbrev pub TellsReplies : {S : Type 0} {g : Store.Ghosts S} → Option (List ℕ) → Option (List ℕ) → Project S g → List Command → Run → State → Type 0
 TellsReplies before after old commands run new =
     (answers : List Answer) × WritesAnswers before after answers run × OfEachWorld old new (λ world. AnswerAll world (take run.acknowledged commands) answers)
 
@@ -48,7 +49,7 @@ pub record DrivesAndReleases {S W : Type 0} {g : Store.Ghosts S} (contents : W �
 module _ {D : Type 0} {g : Ghosts D} where
   -- over a session that went on, why the run ended early
   abbrev pub TellsEnd : Project (FileStore D g) over_files → List Command → Run → State → Type 0
-  TellsEnd old commands run new = IsSessionOpen old → OfEachWorld (state_of old) new (λ world. EndsEarly world commands run)
+  TellsEnd old commands run new = IsSessionOpen old → OfEachWorld old new (λ world. EndsEarly world commands run)
 
   -- What a run left of a session: want of memory or the disk alone ended it, and the disk did wherever the run ended
   -- so.
@@ -85,8 +86,8 @@ pub record HoldsBeginning (world : World) (commands : List Command) (run : Run) 
   pub kept : IsKept commands run count
   pub goes : GoesOn found (world_after world commands count)
   -- so that further commands go on from there
-  pub project : IsPresentProject (world_after world commands count)
+  pub project : IsProject (world_after world commands count)
 
 -- a beginning of the list is found
-abbrev pub FindsBeginning : State → List Command → Run → State → Type 0
+abbrev pub FindsBeginning : {S : Type 0} {g : Store.Ghosts S} → Project S g → List Command → Run → State → Type 0
 FindsBeginning old commands run new = OfEachWorld old new (λ world. ∥ HoldsBeginning world commands run new ∥₁)

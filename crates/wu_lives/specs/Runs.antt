@@ -5,6 +5,7 @@ use Rattle.sqlite_disk.specs.declared.Files.{Files}
 use Rattle.sqlite_store.specs.FileStore.{view, faults, recovers, is_shielded, files as store_files}
 use Rattle.sqlite_store.specs.declared.store.FileStore.{FileStore}
 use Rattle.sqlite_trees.specs.View.{IsQuiet}
+use Rattle.sqlite_trees.specs.declared.store.Store as Store
 use Rattle.sqlite_wal.specs.Files.{outcomes}
 use Rattle.sqlite_wal.specs.Reads.{AreClean}
 use Rattle.sqlite_wal.specs.Recovery.{Image}
@@ -16,11 +17,12 @@ use Rattle.wu_drive.specs.Driving.{AnswerAll, EndsEarly, world_after}
 use Rattle.wu_drive.specs.Writing.{WritesAnswers}
 use Rattle.wu_drive.specs.declared.runs.Run.{Run}
 use Rattle.wu_machine.specs.Machine.{present_version}
+use Rattle.wu_machine.specs.Sound.{IsProject}
 use Rattle.wu_passes.specs.Planning.{IsPresentProject}
 use Rattle.wu_machine.specs.declared.command.Answer.{Answer}
 use Rattle.wu_machine.specs.declared.command.Command.{Command}
 use Rattle.wu_passes.specs.Committing.{FoundAs}
-use Rattle.wu_passes.specs.Projects.{connection_of, IsSessionOpen, state_of}
+use Rattle.wu_passes.specs.Projects.{connection_of, IsKnownTo, IsSessionOpen, KnowsTables, state_of}
 use Rattle.wu_passes.specs.Standing.{GoesOn}
 use Rattle.wu_passes.specs.declared.project.Project.{Project}
 use Rattle.wu_stops.specs.Closing.{IsNumbered}
@@ -40,13 +42,17 @@ pub record HoldsBeginningIn (world : World) (commands : List Command) (run : Run
   pub kept : IsKept commands run count
   pub held : HoldsWorld image (world_after world commands count)
   -- so that further commands go on from there
-  pub project : IsPresentProject (world_after world commands count)
+  pub project : IsProject (world_after world commands count)
+
+-- a session goes on, and knows the version of its tables
+abbrev pub IsBegun : {S : Type 0} {g : Store.Ghosts S} → Project S g → Type 0
+IsBegun project = IsSessionOpen project × KnowsTables project
 
 -- over files with no byte in the database a session begins from the empty world
 abbrev pub BeginsBlank : Image → State → Type 0
 BeginsBlank image new = image.db ≡ [] → HasCleanDisk new → GoesOn new empty_world × IsPresentProject empty_world
 
--- over the tables of a world it goes on from that world, which is of the present version
+-- over the tables of a world it goes on from that world, which is of a version that this program knows
 abbrev pub BeginsOver : Image → State → Type 0
 BeginsOver image new =
     (world : World) → 1 ≤ world.version → HoldsWorld image world → HasCleanDisk new → GoesOn new world × (world.version ≤ present_version)
@@ -64,9 +70,9 @@ module _ {D : Type 0} {g : Ghosts D} (old : Project (FileStore D g) over_files) 
     pub quiet : IsQuiet view faults recovers is_shielded (connection_of left).store store
     pub files_are : (files.log, files.db) ≡ store_files store
 
-  -- this holds of each world of a project that it began with, over a disk that had no fault by its end
+  -- this holds of each world that it began with and whose version it knew, over a disk that had no fault by its end
   abbrev pub OfFirst : Files D → (World → Type 0) → Type 0
-  OfFirst files holds = AreClean g files.log files.db → (world : World) → IsPresentProject world → GoesOn (state_of old) world → holds world
+  OfFirst files holds = AreClean g files.log files.db → (world : World) → IsKnownTo old world → GoesOn (state_of old) world → holds world
 
   -- the texts of these answers are written, which are the machine's replies to the commands that it acknowledged
   abbrev pub TellsFirst : Option (List ℕ) → Option (List ℕ) → List Answer → Files D → Type 0
@@ -89,9 +95,9 @@ module _ {D : Type 0} {g : Ghosts D} (old : Project (FileStore D g) over_files) 
   LeavesUnclosed store = IsNumbered store → (files : Files D) → (files.log, files.db) ≡ store_files store → LeavesBeginnings files
 
   -- where such an image began the second, that goes on from the world of the life over both
-  abbrev pub LivesOn : List Answer → Files D → Image → State → Type 0
+  abbrev pub LivesOn : {T : Type 0} {h : Store.Ghosts T} → List Answer → Files D → Image → Project T h → Type 0
   LivesOn answers files image new =
-      AreClean g files.log files.db → outcomes g files.log files.db image → HasCleanDisk new → (world : World) (told : List Transcript) → HasLived world told (state_of old)
+      AreClean g files.log files.db → outcomes g files.log files.db image → HasCleanDisk (state_of new) → (world : World) (told : List Transcript) → HasLived world told old
       → ∥ HasLived world (told ++ told_by commands answers run ∷ []) new ∥₁
 
   -- what the first run told
@@ -107,6 +113,6 @@ module _ {D : Type 0} {g : Ghosts D} (old : Project (FileStore D g) over_files) 
   LeavesFirst = (files : Files D) × AreLeft files × LeavesBeginnings files
 
   -- and the life over both runs
-  abbrev pub LivesOver : Option (List ℕ) → Option (List ℕ) → Image → State → Type 0
+  abbrev pub LivesOver : {T : Type 0} {h : Store.Ghosts T} → Option (List ℕ) → Option (List ℕ) → Image → Project T h → Type 0
   LivesOver before after image new =
       (files : Files D) × AreLeft files × ((answers : List Answer) × TellsFirst before after answers files × LivesOn answers files image new)

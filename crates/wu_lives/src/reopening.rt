@@ -4,7 +4,7 @@
 
 ghost use Rattle.std.specs.Prelude.{IfSome};
 ghost use Rattle.sqlite.specs.Files.{file_state};
-ghost use Rattle.wu_passes.specs.Projects.{IsSessionOpen, state_of};
+ghost use Rattle.wu_passes.specs.Projects.{IsSessionOpen, KnowsTables, state_of};
 ghost use Rattle.wu_lives.specs.Lives.{GoesOnAfter, RunsEach, TellsLives};
 ghost use Rattle.wu_lives.specs.Reopening.{AdoptsLeft, DoesAll, TellsEnded, FindsBeginning, FindsLeft, TellsEnd, TellsReplies};
 ghost use Rattle.wu_stops.specs.Stopping.{WasClean};
@@ -32,10 +32,10 @@ pub fn drive_stop_and_open<D: Crash + Drop, W: Write>(
 ) -> Option<(Run, Connection<FileStore<D>>)>
     ensures clean { IfSome result (λ r. WasClean (state_of project) (file_state r.1)) }
     ensures answers { IfSome result (λ r.
-        TellsReplies (W.contents out.old) (W.contents out.new) (state_of project)
+        TellsReplies (W.contents out.old) (W.contents out.new) project
         commands.now r.0 (file_state r.1)) }
     ensures found { IfSome result (λ r.
-        FindsBeginning (state_of project) commands.now r.0 (file_state r.1)) }
+        FindsBeginning project commands.now r.0 (file_state r.1)) }
     ensures all { IfSome result (λ r. DoesAll commands.now r.0) }
     ensures ended { IfSome result (λ r. TellsEnded project out.old out.new r.0) }
     ensures ends { IfSome result (λ r. TellsEnd project commands.now r.0 (file_state r.1)) }
@@ -63,11 +63,12 @@ pub fn live<D: Crash + Drop, W: Write>(
     ensures clean { IfSome result (λ r.
         WasClean (state_of project) (state_of r.1)) }
     ensures begins { IfSome result (λ r. IsSessionOpen r.1) }
+    ensures knows { IfSome result (λ r. KnowsTables r.1) }
     ensures answers { IfSome result (λ r.
-        TellsReplies (W.contents out.old) (W.contents out.new) (state_of project)
+        TellsReplies (W.contents out.old) (W.contents out.new) project
         commands.now r.0 (state_of r.1)) }
     ensures found { IfSome result (λ r.
-        FindsBeginning (state_of project) commands.now r.0 (state_of r.1)) }
+        FindsBeginning project commands.now r.0 (state_of r.1)) }
     ensures all { IfSome result (λ r. DoesAll commands.now r.0) }
     ensures ended { IfSome result (λ r. TellsEnded project out.old out.new r.0) }
     ensures ends { IfSome result (λ r.
@@ -100,8 +101,8 @@ pub fn live_all<D: Crash + Drop, W: Write>(
     ensures begins { IfSome result (λ r. GoesOnAfter project lives.now r.1) }
     ensures count { IfSome result (λ r. RunsEach lives.now r.0.items) }
     ensures found { IfSome result (λ r.
-        TellsLives (W.contents out.old) (W.contents out.new) (state_of project)
-        lives.now r.0.items (state_of r.1)) }
+        TellsLives (W.contents out.old) (W.contents out.new) project
+        lives.now r.0.items r.1) }
 {
     let mut runs = Vec::new(alloc);
     for commands in lives {

@@ -5,9 +5,9 @@
 
 ghost use Rattle.std.specs.Prelude.{IfErr, IfOk, IfSome};
 ghost use Rattle.sqlite_wal.specs.Files.{image_at};
-ghost use Rattle.wu_passes.specs.Projects.{IsSessionOpen, state_of};
+ghost use Rattle.wu_passes.specs.Projects.{state_of};
 ghost use Rattle.wu_lives.specs.Reopening.{DoesAll, TellsEnded};
-ghost use Rattle.wu_lives.specs.Runs.{AnswersFirst, AreLeft, BeginsBlank, BeginsOver, EndsFirst, LeavesFirst, LeavesBeginnings, LeavesUnclosed, LivesOver, TellsAnswers, WhyEnded};
+ghost use Rattle.wu_lives.specs.Runs.{AnswersFirst, AreLeft, BeginsBlank, BeginsOver, EndsFirst, IsBegun, LeavesFirst, LeavesBeginnings, LeavesUnclosed, LivesOver, TellsAnswers, WhyEnded};
 
 use crate::driving::drive_and_release;
 use sqlite::{Connection, FileFrom, FileStore, Files, Start};
@@ -75,7 +75,7 @@ pub fn begin_at<S: Start>(
     path: &str,
     start: S,
 ) -> Option<Project<FileStore<FileFrom<S>>>>
-    ensures begins { IfSome result IsSessionOpen }
+    ensures begins { IfSome result IsBegun }
     ensures blank { IfSome result (λ project. BeginsBlank (image_at S.Start) (state_of project)) }
     ensures found { IfSome result (λ project. BeginsOver (image_at S.Start) (state_of project)) }
 {
@@ -99,13 +99,13 @@ pub fn run_and_begin_again<D: Disk + Drop, S: Start, W: Write>(
     path: &str,
     start: S,
 ) -> Option<(Run, Project<FileStore<FileFrom<S>>>)>
-    ensures begins { IfSome result (λ r. IsSessionOpen r.1) }
+    ensures begins { IfSome result (λ r. IsBegun r.1) }
     ensures found { IfSome result (λ r. BeginsOver (image_at S.Start) (state_of r.1)) }
     ensures answers { IfSome result (λ r.
         AnswersFirst project commands.now r.0 (W.contents out.old) (W.contents out.new)) }
     ensures left { IfSome result (λ r. LeavesFirst project commands.now r.0) }
     ensures lives { IfSome result (λ r. LivesOver project commands.now r.0
-        (W.contents out.old) (W.contents out.new) (image_at S.Start) (state_of r.1)) }
+        (W.contents out.old) (W.contents out.new) (image_at S.Start) r.1) }
     ensures all { IfSome result (λ r. DoesAll commands.now r.0) }
     ensures ended { IfSome result (λ r. TellsEnded project out.old out.new r.0) }
     ensures ends { IfSome result (λ r. EndsFirst project commands.now r.0) }

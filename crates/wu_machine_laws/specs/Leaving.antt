@@ -21,9 +21,10 @@ use Rattle.wu_rules.specs.declared.due.Pass.TheVariants.{Purge}
 use Rattle.wu_rules.specs.Due.{chosen}
 use Rattle.wu_machine.specs.Batches.{is_one_of}
 use Rattle.wu_machine.specs.Imports.{batch_given, import_of}
-use Rattle.wu_machine.specs.Machine.{MakesNothing, present_version, reply, step}
+use Rattle.wu_machine.specs.Machine.{fold_steps, IsUpToDate, MakesNothing, present_version, reply, step}
 use Rattle.wu_machine.specs.Passes.{is_among, passed}
 use Rattle.wu_machine.specs.Requests.{Request, AskBatch, AskCancel, AskPass, AskReported, AskSent, AskUpgrade, Cancelled, Imported, Upgraded}
+use Rattle.wu_machine.specs.Sound.{IsProject}
 use Rattle.wu_machine.specs.Worlds.{workunit_named}
 use Rattle.wu_rules_laws.specs.Laws.{IsCancelled}
 use Rattle.wu_machine_laws.specs.Lasting.{Begins}
@@ -138,6 +139,12 @@ pub record UpgradesFirst (world : World) : Type 0 where
 
 abbrev pub OlderProjectsUpgradeFirst : Type 0
 OlderProjectsUpgradeFirst = (world : World) → UpgradesFirst world
+
+-- whatever is asked of a world of the present version, what that makes of it is of no other, where it is a project
+abbrev pub StaysPresent : Type 0
+StaysPresent =
+    (world : World) (requests : List Request) → IsUpToDate world → IsProject (fold_steps world requests)
+    → IsUpToDate (fold_steps world requests)
 
 -- ---- what is left as it was
 

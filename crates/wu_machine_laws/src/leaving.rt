@@ -1,6 +1,6 @@
 //! Laws of what a request leaves, takes out and adds: each function's contract is one, for every world.
 
-ghost use Rattle.wu_machine_laws.specs.Leaving.{CancelsAndUpgrades, GoesByPurgeAlone, LeavesWhatIsNotNamed, NumbersBatches, OlderProjectsUpgradeFirst, PurgedIsGone, StaysByNothing};
+ghost use Rattle.wu_machine_laws.specs.Leaving.{CancelsAndUpgrades, GoesByPurgeAlone, LeavesWhatIsNotNamed, NumbersBatches, OlderProjectsUpgradeFirst, PurgedIsGone, StaysByNothing, StaysPresent};
 
 /// Where workunits are in order of number, no request but a purge takes one out, and that only one that may be purged.
 pub fn goes_by_purge_alone()
@@ -33,6 +33,11 @@ pub fn cancels_and_upgrades()
 /// that it found and the present one, and changes nothing but the version.
 pub fn older_projects_upgrade_first()
     ensures { OlderProjectsUpgradeFirst }
+{}
+
+/// A project of the present version stays at it, whatever is asked of it.
+pub fn projects_stay_present()
+    ensures { StaysPresent }
 {}
 
 /// Where the machine makes nothing of a world, the world after a request is the one before it: an import that comes

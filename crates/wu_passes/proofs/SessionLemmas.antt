@@ -15,9 +15,9 @@ use Rattle.wu_machine.specs.Requests.{AskBatch, AskCancel, AskPass, AskReported,
 use Rattle.wu_machine.proofs.Versions.{done_older, done_up_to_date}
 use Rattle.wu_passes.specs.Older.{IsOfVersion}
 use Rattle.wu_passes.specs.declared.project.Project.{Project}
-use Rattle.wu_passes.specs.Projects.{AnswersOlder, has_ended, IsSessionOpen, older_version, refused_for, RunsOver, state_of}
-use Rattle.wu_passes.specs.Standing.{FailureCause, GoesOn}
-use Rattle.wu_passes.proofs.StandingLemmas.{from_unplanned, never_older, stands_read}
+use Rattle.wu_passes.specs.Projects.{AnswersOlder, has_ended, IsSessionOpen, KnowsItsVersion, older_version, refused_for, RunsOver, state_of}
+use Rattle.wu_passes.specs.Standing.{FailureCause, GoesOn, ShowsWorld}
+use Rattle.wu_passes.proofs.StandingLemmas.{from_unplanned, stands_read}
 
 -- only a pass has wrong limits
 wrong_limits : (world : World) (request : Request) → IsUpToDate world → has_right_limits request ≡ false → reply world request ≡ Err BadLimit
@@ -66,31 +66,37 @@ module _ {S : Type 0} {g : Ghosts S} (project : Project S g) (command : Command)
     knows : (version < present_version) × (HasCleanDisk (state_of project) → IsOfVersion (state_of project) version)
     knows = let known = project.knows version (refused_other (request_of command) (older_version project) version refused).1 in (known.0, known.1 going)
 
+    told : (world : World) → HasCleanDisk (state_of project) → ShowsWorld (state_of project) world → reply world (request_of command) ≡ Err (OldSchema version)
+    told world clean shows =
+        let of = knows.1 clean in
+        let same : world.version ≡ version = of.1 world (shows of.0).0.refines in
+        let low : world.version < present_version = omega (arith, same, knows.0) in
+        ap reply_of (done_older world (request_of command) low (refused_other (request_of command) (older_version project) version refused).0) ∙ ap (λ v. Err (OldSchema v)) same
+
     pub older_runs : RunsOver project project command (Err (OldSchema version))
     older_runs = record {
-      goes = λ clean world present goes. absurd (never_older (state_of project) world version (knows.1 clean) knows.0 present.0 goes.stands);
-      from = λ clean world present shows. absurd (never_older (state_of project) world version (knows.1 clean) knows.0 present.0 shows);
-      older = λ clean world is_project some goes.
-          let of = knows.1 clean in
-          let same : world.version ≡ version = of.1 world (goes.stands of.0).0.refines in
-          let low : world.version < present_version = omega (arith, same, knows.0) in
-          let told : reply world (request_of command) ≡ Err (OldSchema version) = ap reply_of (done_older world (request_of command) low (refused_other (request_of command) (older_version project) version refused).0) ∙ ap (λ v. Err (OldSchema v)) same in
-          (inl told, stands_read (has_ended project) (state_of project) world (request_of command) goes);
+      goes = λ clean world known goes. (inl (told world clean goes.stands), stands_read (has_ended project) (state_of project) world (request_of command) goes);
+      from = λ clean world known shows.
+          from_unplanned (state_of project) (state_of project) world (request_of command) (has_ended project) (OldSchema version) clean shows (back_none (state_of project)) (survives_none (state_of project)) (inl (told world clean shows));
     }
 
-    pub older_why : (Broke : Type 0) (world : World) → HasCleanDisk (state_of project) → IsUpToDate world → GoesOn (state_of project) world → FailureCause Broke (has_ended project) world (request_of command) (OldSchema version)
-    older_why Broke world clean is goes = absurd (never_older (state_of project) world version (knows.1 clean) knows.0 is goes.stands)
+    pub older_why : (Broke : Type 0) (ended : Bool) (world : World) → ended ≡ false → HasCleanDisk (state_of project) → GoesOn (state_of project) world → FailureCause Broke ended world (request_of command) (OldSchema version)
+    older_why Broke true world still clean goes = absurd cc
+    older_why Broke false world still clean goes = inl (told world clean goes.stands)
 
   -- in another, a pass whose limits are wrong
   module _ (unrefused : refused_for (request_of command) (older_version project) ≡ None) (wrong : has_right_limits (request_of command) ≡ false) where
+    present : (world : World) → KnowsItsVersion project world → IsUpToDate world
+    present world (inl is) = is
+    present world (inr some) = absurd (let right = some_right (request_of command) (older_version project) unrefused some in let no = sym right ∙ wrong in cc)
+
     pub limits_run : RunsOver project project command (Err BadLimit)
     limits_run = record {
-      goes = λ clean world present goes. (inl (wrong_limits world (request_of command) present.0 wrong), stands_read (has_ended project) (state_of project) world (request_of command) goes);
-      from = λ clean world present shows.
-          from_unplanned (state_of project) (state_of project) world (request_of command) (has_ended project) BadLimit clean shows (back_none (state_of project)) (survives_none (state_of project)) (inl (wrong_limits world (request_of command) present.0 wrong));
-      older = λ clean world is_project some goes. absurd (let right = some_right (request_of command) (older_version project) unrefused some in let no = sym right ∙ wrong in cc);
+      goes = λ clean world known goes. (inl (wrong_limits world (request_of command) (present world known.0) wrong), stands_read (has_ended project) (state_of project) world (request_of command) goes);
+      from = λ clean world known shows.
+          from_unplanned (state_of project) (state_of project) world (request_of command) (has_ended project) BadLimit clean shows (back_none (state_of project)) (survives_none (state_of project)) (inl (wrong_limits world (request_of command) (present world known.0) wrong));
     }
 
-    pub limits_why : (Broke : Type 0) (ended : Bool) (world : World) → ended ≡ false → IsUpToDate world → FailureCause Broke ended world (request_of command) BadLimit
-    limits_why Broke true world going is = absurd cc
-    limits_why Broke false world going is = inl (wrong_limits world (request_of command) is wrong)
+    pub limits_why : (Broke : Type 0) (ended : Bool) (world : World) → ended ≡ false → KnowsItsVersion project world → FailureCause Broke ended world (request_of command) BadLimit
+    limits_why Broke true world going known = absurd cc
+    limits_why Broke false world going known = inl (wrong_limits world (request_of command) (present world known) wrong)

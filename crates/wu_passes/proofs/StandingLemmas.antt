@@ -1,5 +1,5 @@
 -- What stands of a session after each exit of a command.
-use Rattle.std.proofs.Common.{refl, ◌≡◌, ◌≢◌, ◌⊎◌, ◌<◌, ℕ, arith, Bool, true, false, List, [], Result, Ok, Err, IfErr, IsTrue, OnOk, sym, ap, subst, ◌∙◌, inl, inr}
+use Rattle.std.proofs.Common.{refl, ◌≡◌, ◌≢◌, ◌⊎◌, ℕ, Bool, true, false, List, [], Result, Ok, Err, IfErr, IsTrue, OnOk, sym, ap, subst, ◌∙◌, inl, inr}
 use Rattle.sqlite.specs.Effect.{Database}
 use Rattle.sqlite.specs.State.{State, HasCleanDisk, Survives}
 use Rattle.wu_core.specs.declared.fault.Fault.{Fault}
@@ -13,7 +13,6 @@ use Rattle.wu_schema.specs.Calls.{LeavesOnly, IsBack, IsDone, IsMade, IsRefused,
 use Rattle.wu_passes.specs.Adopting.{KeepsAll, LeavesNoMore}
 use Rattle.wu_store.specs.Changing.{AreRight, made_all, MakesWorlds}
 use Rattle.wu_schema.specs.Refines.{Refines}
-use Rattle.wu_machine.specs.Machine.{IsUpToDate, present_version}
 use Rattle.wu_passes.specs.Older.{IsOfVersion}
 use Rattle.wu_passes.specs.Committing.{FoundAs}
 use Rattle.wu_machine.specs.Machine.{done, reply, reply_of, step, world_of}
@@ -247,10 +246,6 @@ older_back old new version of settled back is_open =
 -- after changes that were refused
 pub older_refused : (old new : State) (version : ℕ) → IsOfVersion old version → old.now ≡ old.committed → IsRefused old new → IsOfVersion new version
 older_refused old new version of settled refused = (refused.is_open, λ world stands. of.1 world (subst (λ (d : Database). Refines d world) (refused.now ∙ sym settled) stands))
-
--- no world of the present version
-pub never_older : (s : State) (world : World) (version : ℕ) → IsOfVersion s version → version < present_version → IsUpToDate world → ShowsWorld s world → ⊥
-never_older s world version of low is shows = let same = of.1 world (shows of.0).0.refines in absurd (omega (arith, same, low, is))
 
 -- a fault that is none of memory or of the disk leaves the connection open
 pub open_unless : (s : State) (fault : Fault) → IsFailure fault ⊎ IsTrue s.is_open → fault ≢ Memory → fault ≢ Broken → IsTrue s.is_open

@@ -1,6 +1,6 @@
 -- A project as its callers know it: what its connection shows, whether its session has ended, and over which older
 -- version it is.
-use Rattle.std.specs.Prelude.{◌≡◌, ◌≢◌, ◌⊎◌, ◌≤◌, ℕ, Bool, true, false, if◌then◌else◌, List, [], IfErr, IfSome, IsErrAnd, IsSome, IsTrue, MatchResult, None, OnOk, Option, Result, Err}
+use Rattle.std.specs.Prelude.{◌≡◌, ◌⊎◌, ◌≤◌, ℕ, Bool, true, false, if◌then◌else◌, List, IfErr, IfSome, IsErrAnd, IsSome, IsTrue, MatchResult, None, OnOk, Option, Result, Err}
 use Rattle.sqlite.specs.Held.{Held, state}
 use Rattle.sqlite.specs.State.{State, HasCleanDisk}
 use Rattle.sqlite.specs.Store.{Ghosts}
@@ -13,9 +13,9 @@ use Rattle.wu_store.specs.declared.changes.Change.{Change}
 use Rattle.wu_machine.specs.declared.command.Answer.{Answer}
 use Rattle.wu_machine.specs.declared.command.Command.{Command}
 use Rattle.wu_passes.specs.declared.project.Project.{Project}
-use Rattle.wu_machine.specs.Machine.{has_right_limits, is_upgrade, MakesNothing}
+use Rattle.wu_machine.specs.Machine.{has_right_limits, is_upgrade, IsUpToDate, MakesNothing}
 use Rattle.wu_passes.specs.declared.plan.Plan.{Plan}
-use Rattle.wu_passes.specs.Planning.{ForEachProject, IsPresentProject, NeverEnded, NotRefusedOver, Plans, PlansFor}
+use Rattle.wu_passes.specs.Planning.{ForEachProject, NeverEnded, NotRefusedOver, Plans, PlansFor}
 use Rattle.wu_machine.specs.Commands.{request_of}
 use Rattle.wu_machine.specs.Sound.{IsProject}
 use Rattle.wu_store.specs.Loading.{Asks, ForEachWorld, NotRefusedIn, ServesUnlessFailed}
@@ -90,6 +90,11 @@ KeepsLimit old new = (state_of new).step_limit ≡ (state_of old).step_limit
 abbrev pub KeepsVersion : {S : Type 0} {g : Ghosts S} → Project S g → Project S g → Type 0
 KeepsVersion old new = older_version new ≡ older_version old
 
+-- after an answer it is over no older version, and after a fault over the one that it was; want of memory may leave
+-- that unknown
+abbrev pub ReachesPresent : {S T : Type 0} {g : Ghosts S} → Project S g → Project S g → Result T Fault → Type 0
+ReachesPresent old new result = MatchResult result (λ _. IsPresentSession new) (λ fault. KeepsVersion old new ⊎ ((fault ≡ Memory) × IsPresentSession new))
+
 -- What a call keeps of a session, whatever it answers.
 pub record KeepsSession {S T : Type 0} {g : Ghosts S} (old new : Project S g) (result : Result T Fault) : Type 0 where
   -- it ends with `Broken`, and else only for want of memory
@@ -101,8 +106,7 @@ pub record KeepsSession {S T : Type 0} {g : Ghosts S} (old new : Project S g) (r
   pub clean : FaultsOnlyGrow (state_of old) (state_of new)
   pub counts : (state_of old).faults ≤ (state_of new).faults
   pub limit : KeepsLimit old new
-  -- it stays over its version; after an answer it is over no older one, and want of memory may leave it unknown
-  pub version : KeepsVersion old new ⊎ IsPresentSession new
+  pub version : ReachesPresent old new result
 
 -- the disk failed in this call, or the connection was not open
 abbrev pub Broke : {S : Type 0} {g : Ghosts S} → Project S g → Project S g → Type 0
@@ -120,21 +124,27 @@ AnswersEnded old new result = (result ≡ Err Ended) × (new ≡ old)
 abbrev pub AnswersOlder : {S T : Type 0} {g : Ghosts S} → Project S g → Project S g → Result T Fault → Type 0
 AnswersOlder old new result = IfSome (older_version old) (λ version. (result ≡ Err (OldSchema version)) × (new ≡ old))
 
--- whatever world of the present version the tables stood for, the command runs over it
+-- the world is of the present version, or the session knows that it is over an older one
+abbrev pub KnowsItsVersion : {S : Type 0} {g : Ghosts S} → Project S g → World → Type 0
+KnowsItsVersion project world = IsUpToDate world ⊎ IsSome (older_version project)
+
+-- a project whose version the session knows
+abbrev pub IsKnownTo : {S : Type 0} {g : Ghosts S} → Project S g → World → Type 0
+IsKnownTo project world = KnowsItsVersion project world × IsProject world
+
+-- of whatever world its tables stand for it knows the version
+abbrev pub KnowsTables : {S : Type 0} {g : Ghosts S} → Project S g → Type 0
+KnowsTables project = HasCleanDisk (state_of project) → (world : World) → GoesOn (state_of project) world → KnowsItsVersion project world
+
+-- whatever project the tables stood for, the command runs over it: over an older version all but an upgrade is refused
 abbrev pub RunsOn : {S : Type 0} {g : Ghosts S} → Project S g → Project S g → Command → Result Answer Fault → Type 0
 RunsOn old new command result =
-    HasCleanDisk (state_of new) → (world : World) → IsPresentProject world → GoesOn (state_of old) world → Runs world (request_of command) (has_ended new) (state_of new) result
-
--- so it does in a session that is over an older one: all but an upgrade is refused
-abbrev pub RunsOlder : {S : Type 0} {g : Ghosts S} → Project S g → Project S g → Command → Result Answer Fault → Type 0
-RunsOlder old new command result =
-    HasCleanDisk (state_of new) → (world : World) → IsProject world → IsSome (older_version old) → GoesOn (state_of old) world
-    → Runs world (request_of command) (has_ended new) (state_of new) result
+    HasCleanDisk (state_of new) → (world : World) → IsKnownTo old world → GoesOn (state_of old) world → Runs world (request_of command) (has_ended new) (state_of new) result
 
 -- so it does whatever a stop could leave before it
 abbrev pub RunsFromAny : {S : Type 0} {g : Ghosts S} → Project S g → Project S g → Command → Result Answer Fault → Type 0
 RunsFromAny old new command result =
-    HasCleanDisk (state_of new) → (world : World) → IsPresentProject world → ShowsWorld (state_of old) world
+    HasCleanDisk (state_of new) → (world : World) → IsKnownTo old world → ShowsWorld (state_of old) world
     → RunsFrom (state_of old) world (request_of command) (has_ended new) (state_of new) result
 
 -- What a command makes of the world that the tables stand for.
@@ -143,8 +153,6 @@ pub record RunsOver {S : Type 0} {g : Ghosts S} (old new : Project S g) (command
   pub goes : RunsOn old new command result
   -- and whatever it could leave
   pub from : RunsFromAny old new command result
-  -- over an older version
-  pub older : RunsOlder old new command result
 
 -- what its questions do to its connection
 abbrev pub AsksOn : {S T : Type 0} {g : Ghosts S} → Project S g → Project S g → Result T Fault → Type 0
@@ -181,10 +189,6 @@ CarriesOutFrom old new answer changes result =
 abbrev pub ServesOn : {S T : Type 0} {g : Ghosts S} → Project S g → Result T Fault → Type 0
 ServesOn {S} {T} {g} new result = ServesUnlessFailed g (connection_of new) result
 
--- where changes are made it is over no older version then; else over the same as before
-abbrev pub ReachesPresent : {S T : Type 0} {g : Ghosts S} → Project S g → Project S g → List Change → Result T Fault → Type 0
-ReachesPresent old new changes result = MatchResult result (λ _. changes ≢ [] → IsPresentSession new) (λ _. KeepsVersion old new)
-
 -- the command is planned, since the session is over the present version or it is an upgrade, and its limits are right
 pub record IsPlanned {S : Type 0} {g : Ghosts S} (old : Project S g) (command : Command) : Type 0 where
   pub present : IsSome (older_version old) → is_upgrade (request_of command) ≡ true
@@ -209,13 +213,13 @@ LeavesUntouched old new result = HasCleanDisk (state_of new) → IfErr result (�
 -- nothing
 abbrev pub LeavesIdle : {S T : Type 0} {g : Ghosts S} → Project S g → Project S g → Command → Result T Fault → Type 0
 LeavesIdle old new command result =
-    HasCleanDisk (state_of new) → (world : World) → IsPresentProject world → GoesOn (state_of old) world → MakesNothing world (request_of command)
+    HasCleanDisk (state_of new) → (world : World) → IsKnownTo old world → GoesOn (state_of old) world → MakesNothing world (request_of command)
     → OnOk result (KeepsAll (state_of old) (state_of new))
 
 -- over an adopted project it is told why a command was not done
 abbrev pub TellsWhy : {S T : Type 0} {g : Ghosts S} → Project S g → Project S g → Command → Result T Fault → Type 0
 TellsWhy old new command result =
-    HasCleanDisk (state_of new) → IsUnlimited old → (world : World) → IsPresentProject world → GoesOn (state_of old) world
+    HasCleanDisk (state_of new) → IsUnlimited old → (world : World) → IsKnownTo old world → GoesOn (state_of old) world
     → IfErr result (FailureCause (Broke old new) (has_ended new) world (request_of command))
 
 -- ---- a question

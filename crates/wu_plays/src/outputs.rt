@@ -1,5 +1,5 @@
 //! A play into writers that take so many bytes, for each number up to the length of all that the script prints, and
-//! into those that take so many flushes.
+//! into those that take so many flushes. None is called again once it failed.
 
 use crate::narrow::{Full, Narrow};
 use crate::scripts::steps;
@@ -28,6 +28,13 @@ fn run(alloc: Global, steps: &[Step], out: &mut Narrow) -> Result<(u8, Option<Fa
     run_over(alloc, Connection::open_in_memory(alloc)?, steps, out)
 }
 
+/// How writers take no more, and how many bytes they take a call.
+const WRITERS: [(Full, usize); 3] = [
+    (Full::Fails, usize::MAX),
+    (Full::TakesNone, usize::MAX),
+    (Full::Fails, 1),
+];
+
 /// Sees that the fault of the output ended a run.
 fn is_cut(status: u8, end: Option<Fault>) -> Result<()> {
     ensure!(end == Some(Fault::Output), "no fault of the output");
@@ -35,17 +42,17 @@ fn is_cut(status: u8, end: Option<Fault>) -> Result<()> {
     Ok(())
 }
 
-/// Sees that the beginning of the whole output with so many bytes went out.
+/// Sees that the beginning of the whole output with so many bytes went out, and that no call came behind one that
+/// failed.
 fn went_out(out: &Narrow, whole: &[u8], count: usize) -> Result<()> {
     let is_same = Some(out.taken.as_slice()) == whole.get(..count);
     ensure!(is_same, "other bytes");
+    ensure!(!out.is_called_again, "a call behind the fault");
     Ok(())
 }
 
-/// Sees what goes out into a writer with so much room: the beginning of the whole output, and a fault where that is
-/// cut.
-fn cut(alloc: Global, steps: &[Step], whole: &[u8], room: usize, full: Full) -> Result<()> {
-    let mut out = Narrow::new(alloc, room, full, usize::MAX);
+/// Sees what goes out into a writer: as many bytes of the whole output as it takes, and a fault where that is cut.
+fn cut(alloc: Global, steps: &[Step], whole: &[u8], room: usize, mut out: Narrow) -> Result<()> {
     let (status, end) = run(alloc, steps, &mut out)?;
     went_out(&out, whole, room)?;
     if room < whole.len() {
@@ -55,17 +62,18 @@ fn cut(alloc: Global, steps: &[Step], whole: &[u8], room: usize, full: Full) -> 
     Ok(())
 }
 
-/// Cuts the output after so many bytes, with either writer.
-fn cut_both(alloc: Global, steps: &[Step], whole: &[u8], room: usize) -> Result<()> {
-    for full in [Full::Fails, Full::TakesNone] {
-        cut(alloc, steps, whole, room, full).context(format_args!("after {room} bytes"))?;
+/// Cuts the output after so many bytes, with each writer.
+fn cut_each(alloc: Global, steps: &[Step], whole: &[u8], room: usize) -> Result<()> {
+    for (full, most) in WRITERS {
+        let out = Narrow::new(alloc, room, most, full, usize::MAX);
+        cut(alloc, steps, whole, room, out).context(format_args!("after {room} bytes"))?;
     }
     Ok(())
 }
 
 /// Runs the script into a writer that takes all of it, and is flushed each time.
 fn run_whole(alloc: Global, steps: &[Step]) -> Result<Narrow> {
-    let mut out = Narrow::new(alloc, usize::MAX, Full::Fails, usize::MAX);
+    let mut out = Narrow::wide(alloc);
     let (_, end) = run(alloc, steps, &mut out)?;
     ensure!(end.is_none(), "the script ends with a fault");
     Ok(out)
@@ -80,7 +88,7 @@ fn fail_flushes(
 ) -> Result<()> {
     write!(transcript, "flushed behind so many bytes:")?;
     for (number, count) in whole.flushed.iter().enumerate() {
-        let mut out = Narrow::new(alloc, usize::MAX, Full::Fails, number);
+        let mut out = Narrow::new(alloc, usize::MAX, usize::MAX, Full::Fails, number);
         let (status, end) = run(alloc, steps, &mut out)?;
         went_out(&out, whole.taken.as_slice(), *count)?;
         is_cut(status, end)?;
@@ -101,11 +109,11 @@ pub fn play(rt: &HostRuntime, text: &str, transcript: &mut Vec<u8>) -> Result<()
     let taken = whole.taken.as_slice();
     transcript.write_all(taken)?;
     for room in 0..=taken.len() {
-        cut_both(rt.alloc(), steps.as_slice(), taken, room)?;
+        cut_each(rt.alloc(), steps.as_slice(), taken, room)?;
     }
     writeln!(
         transcript,
-        "cut after each of {} bytes, by either writer: F17 Output, status 5, and the bytes before",
+        "cut after each of {} bytes, by each writer: F17 Output, status 5, and the bytes before",
         taken.len()
     )?;
     fail_flushes(rt.alloc(), steps.as_slice(), &whole, transcript)

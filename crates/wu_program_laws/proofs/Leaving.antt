@@ -1,5 +1,5 @@
 -- From what a run found to what it left.
-use Rattle.std.proofs.Common.{◌≤◌, ◌≡◌, ◌⊎◌, ℕ, ◌+◌, true, false, Bool, List, [], ◌∷◌, ◌++◌, length, filter, codes, map, take, Option, Some, None, Result, Ok, Err, inl, inr, refl, sym, ap, subst, ◌∙◌, arith, IsTrue}
+use Rattle.std.proofs.Common.{◌≡◌, ◌⊎◌, ℕ, ◌+◌, true, false, Bool, List, [], ◌∷◌, ◌++◌, length, filter, codes, map, take, Option, Some, Result, Ok, Err, inl, inr, refl, sym, ap, subst, ◌∙◌, arith, IsTrue}
 use Rattle.std.proofs.Math.Logic.{∥∥₁_map}
 use Rattle.std.specs.List.{AllZip}
 use Rattle.std.proofs.lemmas.List.{map-append, take_more}
@@ -28,7 +28,6 @@ use Rattle.sqlite.specs.Order.{Row}
 use Rattle.sqlite.specs.Schema.{Schema}
 use Rattle.sqlite.specs.Start.{FindsIn}
 use Rattle.sqlite.specs.State.{HasCleanDisk}
-use Rattle.sqlite.specs.Store as trees
 use Rattle.sqlite.specs.Tree.{Trees}
 use Rattle.wu_core.specs.World.{World}
 use Rattle.wu_core.specs.declared.fault.Fault.{Fault}
@@ -38,30 +37,26 @@ use Rattle.wu_drive.specs.Driving.{Drives, world_after}
 use Rattle.wu_machine.specs.Commands.{request_of}
 use Rattle.wu_machine.specs.Machine.{fold_steps, step}
 use Rattle.wu_machine.specs.declared.command.Command.{Command}
-use Rattle.wu_passes.specs.Planning.{IsPresentProject}
+use Rattle.wu_machine.specs.Sound.{IsProject}
 use Rattle.wu_machine.specs.declared.command.Answer.{Answer}
 use Rattle.wu_passes.specs.Adopting.{IsVacant}
 use Rattle.wu_passes.specs.Committing.{FoundAs}
 use Rattle.wu_passes.specs.Projects.{has_ended, state_of}
-use Rattle.wu_passes.specs.Standing.{GoesOn, FaultsOnlyGrow}
-use Rattle.wu_passes.specs.declared.project.Project.{Project}
+use Rattle.wu_passes.specs.Standing.{GoesOn}
 use Rattle.wu_schema.specs.Refines.{IsFree}
 use Rattle.wu_store.specs.StandsFor.{StandsFor}
 use Rattle.wu_stops.proofs.StoppingLemmas.{stands_still}
 use Rattle.wu_schema.proofs.VersionLemmas.{free_lacks}
 use Rattle.wu_words.specs.Statuses.{fault_status, refusal_status, usage_status}
-use Rattle.wu_words.specs.declared.action.Action.{Action}
 use Rattle.wu_words.specs.declared.action.Action.TheVariants.{Commands, Look}
 use Rattle.wu_words.specs.declared.entry.Refusal.{Refusal}
 use Rattle.wu_words.specs.declared.entry.Refusal.TheVariants as refusal
-use Rattle.wu_words.specs.declared.step.LineFault.{LineFault}
-use Rattle.wu_words.specs.declared.step.Step.{Step}
 use Rattle.wu_words.specs.declared.usage.Usage.{Usage}
 use Rattle.wu_words.specs.declared.usage.Usage.TheVariants as usage
-use Rattle.wu_cli.specs.Performing.{Performs}
-use Rattle.wu_cli.specs.Scripting.{PerformsEach, PerformsSteps, so_far}
+use Rattle.wu_cli.specs.Scripting.{so_far}
 use Rattle.wu_cli.specs.Troubles.{trouble_status}
-use Rattle.wu_cli.specs.Working.{BeginsFrom, commands_of_work, DoesAdopted, DoesNothing, DoesOver, DrivesOver, DrivesWork, line_outcome, PerformsWork, RefusesWork}
+use Rattle.wu_cli.specs.Working.{BeginsFrom, commands_of_work, DoesAdopted, DoesNothing, DoesOver, DrivesOver, DrivesWork, RefusesWork}
+use Rattle.wu_cli.proofs.WorkLemmas.{begins, line_whole, work_clean}
 use Rattle.wu_cli.specs.declared.trouble.Trouble.{Trouble}
 use Rattle.wu_cli.specs.declared.trouble.Trouble.TheVariants as trouble
 use Rattle.wu_cli.specs.declared.work.Work.{Work}
@@ -132,64 +127,30 @@ status_at contents old new done status is_told f tells told =
 
 -- ---- what is doubted of the disk stays doubted through a run
 
-module _ {S W : Type 0} {store : trees.Ghosts S} (contents : W → Option (List ℕ)) where
-  one_doubt : (old new : Project S store) (out_old out_new : W) (action : Action) (end : Option Fault) → Performs contents old new out_old out_new action end → FaultsOnlyGrow (state_of old) (state_of new)
-  one_doubt old new out_old out_new (Commands commands) end (run, runs, is) = runs.clean
-  one_doubt old new out_old out_new (Look view) end sees = sees.clean
-
-  each_doubt : (old new : Project S store) (out_old out_new : W) (steps : List Step) → PerformsEach contents old new out_old out_new steps → FaultsOnlyGrow (state_of old) (state_of new)
-  unfolding PerformsEach
-  each_doubt old new out_old out_new [] each = subst (λ p. FaultsOnlyGrow (state_of old) (state_of p)) (sym each.0) (omega arith)
-  each_doubt old new out_old out_new (one ∷ steps) each =
-      let first = one_doubt old each.0 out_old each.1 one.action None each.2 in
-      let rest = each_doubt each.0 new each.1 out_new steps each.3 in
-      omega (arith, first, rest)
-
-  steps_doubt : (old new : Project S store) (out_old out_new : W) (steps : List Step) (end : Option LineFault) → PerformsSteps contents old new out_old out_new steps end → FaultsOnlyGrow (state_of old) (state_of new)
-  steps_doubt old new out_old out_new steps None each = each_doubt old new out_old out_new steps each
-  steps_doubt old new out_old out_new steps (Some end) until =
-      let first = each_doubt old until.mid out_old until.out_mid until.before until.each in
-      let last = one_doubt until.mid new until.out_mid out_new until.last.action (Some end.fault) until.ends in
-      omega (arith, first, last)
-
-  work_doubt : (old new : Project S store) (out_old out_new : W) (asked : Work) (done : Result (Unit {0}) Trouble) → PerformsWork contents old new out_old out_new asked done → FaultsOnlyGrow (state_of old) (state_of new)
-  work_doubt old new out_old out_new (work.Line action) done (end, does, is) = one_doubt old new out_old out_new action end does
-  work_doubt old new out_old out_new (work.Script steps) done (end, does, is) = steps_doubt old new out_old out_new steps end does
-
 was_clean : {D W : Type 0} {g : Ghosts D} (contents : W → Option (List ℕ)) (conn again : Held (FileStore D g)) (old new : W) (asked : Work) (done : Result (Unit {0}) Trouble)
     → DoesOver over_files contents conn again old new asked done → HasCleanDisk (file_state again) → HasCleanDisk (file_state conn)
 was_clean contents conn again old new asked done (inl does) clean =
     let after : HasCleanDisk (state_of does.new) = subst (λ c. HasCleanDisk (file_state c)) does.released clean in
-    let kept = work_doubt contents does.old does.new old new asked done does.does in
+    let kept = work_clean contents does.old does.new old new asked done does.does in
     omega (arith, kept, after, does.adopts.clean)
 was_clean contents conn again old new asked done (inr none) clean = omega (arith, clean, none.refused.clean)
 
 -- ---- what was told of the work
 
 module _ {D W : Type 0} {g : Ghosts D} (contents : W → Option (List ℕ)) (conn again : Held (FileStore D g)) (old new : W) (done : Result (Unit {0}) Trouble) where
-  adopted_goes : (asked : Work) (does : DoesAdopted over_files contents conn again old new asked done) → HasCleanDisk (state_of does.old) → (world : World) → IsPresentProject world
-      → BeginsFrom (file_state conn) world → GoesOn (state_of does.old) world
-  adopted_goes asked does clean world project (inl goes) =
-      let first : 1 ≤ world.version = project.1.first in
-      (does.adopts.goes clean world first goes).0
-  adopted_goes asked does clean world project (inr (vacant, is)) = subst (λ w. GoesOn (state_of does.old) w) (sym is) (does.adopts.fresh clean vacant).goes
-
   abbrev ToldWork : World → Work → Type 0
   ToldWork world asked = (it : DrivesWork world asked done (file_state again)) × TellsDone (contents old) (contents new) asked it.answers it.count
 
-  line_whole : (end : Option Fault) (A : Type 0) → (end ≡ None → A) → OnOk (line_outcome end) A
-  line_whole None A of_none = of_none refl
-  line_whole (Some f) A of_none = tt
-
   -- a line of commands was done over an adopted project
-  line_told : (commands : List Command) (does : DoesAdopted over_files contents conn again old new (work.Line (Commands commands)) done) → HasCleanDisk (file_state again) → (world : World) → IsPresentProject world
+  line_told : (commands : List Command) (does : DoesAdopted over_files contents conn again old new (work.Line (Commands commands)) done) → HasCleanDisk (file_state again) → (world : World) → IsProject world
       → BeginsFrom (file_state conn) world → ToldWork world (work.Line (Commands commands))
   line_told commands does clean world project begun =
       let (end, (run, runs, is), told) = does.does in
       let (answers, written, driven) = runs.answers in
       let after : HasCleanDisk (state_of does.new) = subst (λ c. HasCleanDisk (file_state c)) does.released clean in
       let before : HasCleanDisk (state_of does.old) = let kept = runs.clean in omega (arith, kept, after) in
-      let drives = driven does.begins after world project (adopted_goes _ does before world project begun) in
+      let (known, goes) = begins over_files contents conn again old new _ done does before world project begun in
+      let drives = driven does.begins after world known goes in
       let it : Drives world commands answers (so_far run.acknowledged) (has_ended does.new) (state_of does.new) = record {
         within = drives.within;
         answered = drives.answered;
@@ -218,7 +179,7 @@ module _ {D W : Type 0} {g : Ghosts D} (contents : W → Option (List ℕ)) (con
     stands = (none.refused.given clean).goes world;
   }
 
-  work_told : (asked : Work) → DoesOver over_files contents conn again old new asked done → DrivesOver over_files conn again asked done → HasCleanDisk (file_state again) → (world : World) → IsPresentProject world
+  work_told : (asked : Work) → DoesOver over_files contents conn again old new asked done → DrivesOver over_files conn again asked done → HasCleanDisk (file_state again) → (world : World) → IsProject world
       → BeginsFrom (file_state conn) world → ToldWork world asked ⊎ RefusesWork (file_state conn) (file_state again) world done
   work_told (work.Line (Commands commands)) (inl does) drives clean world project begun = inl (line_told commands does clean world project begun)
   work_told (work.Line (Commands commands)) (inr none) drives clean world project begun = inr (nothing_told _ none clean world)
@@ -324,7 +285,7 @@ module _ {D : Type 0} {g : Ghosts D} (again : Held (FileStore D g)) (files : Fil
                   at_most_one_more = omega arith;
                   after = record {
                     held = record { trees = db; holds = holds; found = subst (λ w. FoundAs db w) (sym next) after };
-                    project = subst (λ w. IsPresentProject w) (sym next) (drives.cut_project refl cut there);
+                    project = subst (λ w. IsProject w) (sym next) (drives.cut_project refl cut there);
                   };
                 }
           ]
@@ -381,7 +342,7 @@ module _ {S W E : Type 0} {c : calls.Ghosts Host} {s : start.Ghosts S} {g : Ghos
       → IsOpenedAt path (image_at s) conn → DoesOver over_files contents conn again old new asked done → DrivesOver over_files conn again asked done → TellsTrouble told_of err_old err_new done status is_told
       → HasCleanDisk (file_state again) → OfEachImage g files (λ image. (db : Trees) × (file_state again).may_leave db × HoldsDatabase image db)
       → ((world : World) (it : DrivesWork world asked done (file_state again)) → OfEachImage g files (says world (commands_of_work asked) it.count))
-      → (world : World) → IsPresentProject world → ImageRefines (image_at s) world → LeavesDone g files says (contents old) (contents new) world asked status ⊎ LeavesAsItWas g files (image_at s) world status
+      → (world : World) → IsProject world → ImageRefines (image_at s) world → LeavesDone g files says (contents old) (contents new) world asked status ⊎ LeavesAsItWas g files (image_at s) world status
   opened_leaves says conn again path asked old new err_old err_new done status is_told files at does drives tells clean each hold world project start =
       let early : HasCleanDisk (file_state conn) = was_clean contents conn again old new asked done does clean in
       let opened : IsOpened conn = at.opens early in

@@ -16,7 +16,7 @@ use Rattle.wu_core.specs.World.{World, empty_world}
 use Rattle.wu_core.specs.declared.fault.Fault.{Fault}
 use Rattle.wu_drive.specs.Driving.{AnswerAll, world_after}
 use Rattle.wu_drive.specs.Writing.{WritesAnswers}
-use Rattle.wu_passes.specs.Planning.{IsPresentProject}
+use Rattle.wu_machine.specs.Sound.{IsProject}
 use Rattle.wu_machine.specs.declared.command.Answer.{Answer}
 use Rattle.wu_machine.specs.declared.command.Command.{Command}
 use Rattle.wu_passes.specs.Adopting.{IsAdoptionFault}
@@ -41,7 +41,7 @@ ImageRefines image world = HoldsWorld image world ⊎ ((image.db ≡ []) × (wor
 -- skipped, and none is there in part. Further commands go on from there.
 pub record HoldAfter (world : World) (commands : List Command) (count : ℕ) (image : Image) : Type 0 where
   pub held : HoldsWorld image (world_after world commands count)
-  pub project : IsPresentProject (world_after world commands count)
+  pub project : IsProject (world_after world commands count)
 
 -- they hold that after so many, or after one more
 pub record HoldAfterOneMore (world : World) (commands : List Command) (count : ℕ) (image : Image) : Type 0 where
@@ -88,7 +88,7 @@ module _ {D : Type 0} (g : Ghosts D) (files : Files D) (says : Holds) (before af
   -- over each world of a project that was there at first, where the disk had no fault by the end
   abbrev pub LeavesBeginning : Image → Work → ℕ → Type 0
   LeavesBeginning first asked status =
-      AreClean g files.log files.db → (world : World) → IsPresentProject world → ImageRefines first world
+      AreClean g files.log files.db → (world : World) → IsProject world → ImageRefines first world
       → LeavesDone world asked status ⊎ LeavesAsItWas g files first world status
 
   -- the words ask for work, and a beginning of that is left
@@ -173,7 +173,7 @@ module _ {S T W E : Type 0} {c d : calls.Ghosts Host} {s : start.Ghosts S} {t : 
         AreClean h two.files.log two.files.db → (world : World) (it : LeavesDone g one.files HoldAfter (contents one.old) (contents one.new) world left.work first.status)
         → ∥ DoesNext two next.work (world_after world (commands_of_work left.work) it.count) ∥₁
     pub kept :
-        AreClean h two.files.log two.files.db → (world : World) → IsPresentProject world → HoldsWorld (image_at s) world → LeavesAsItWas g one.files (image_at s) world first.status
+        AreClean h two.files.log two.files.db → (world : World) → IsProject world → HoldsWorld (image_at s) world → LeavesAsItWas g one.files (image_at s) world first.status
         → ∥ DoesNext two next.work world ∥₁
 
   -- so it did after one whose close failed, where the command that was cut may be in that world
@@ -184,7 +184,7 @@ module _ {S T W E : Type 0} {c d : calls.Ghosts Host} {s : start.Ghosts S} {t : 
         AreClean h two.files.log two.files.db → (world : World) (it : LeavesDone g one.files HoldAfterOneMore (contents one.old) (contents one.new) world left.work first.status)
         → ∥ DoesNextAfter two next.work world (commands_of_work left.work) it.count ∥₁
     pub kept :
-        AreClean h two.files.log two.files.db → (world : World) → IsPresentProject world → HoldsWorld (image_at s) world → LeavesAsItWas g one.files (image_at s) world first.status
+        AreClean h two.files.log two.files.db → (world : World) → IsProject world → HoldsWorld (image_at s) world → LeavesAsItWas g one.files (image_at s) world first.status
         → ∥ DoesNext two next.work world ∥₁
 
   -- whatever two runs did that ended so, where the second began with what a stop left of the first

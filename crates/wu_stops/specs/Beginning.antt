@@ -33,7 +33,7 @@ module _ {D : Type 0} (g : Ghosts D) (files : Files D) where
   abbrev pub BeginsEmpty : Project (FileStore D g) over_files → Type 0
   BeginsEmpty new = IsBlank → HasCleanDisk (state_of new) → GoesOn (state_of new) empty_world × IsPresentProject empty_world
 
-  -- over the tables of a world it goes on from that world, which is of the present version
+  -- over the tables of a world it goes on from that world, which is of a version that this program knows
   abbrev pub GoesFromTables : Project (FileStore D g) over_files → Type 0
   GoesFromTables new =
       (world : World) → ∥ HoldWorld world ∥₁ → HasCleanDisk (state_of new)

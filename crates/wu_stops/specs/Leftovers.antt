@@ -56,7 +56,8 @@ module _ {D : Type 0} {g : Ghosts D} where
   abbrev pub BeginsFromBlank : Files D → Project (FileStore D g) over_files → Type 0
   BeginsFromBlank files new = StayBlank g files → HasCleanDisk (state_of new) → ∥ GoesOn (state_of new) empty_world ∥₁ × IsPresentProject empty_world
 
-  -- over files that hold a world whatever a stop leaves, it goes on from that world, which is of the present version
+  -- over files that hold a world whatever a stop leaves, it goes on from that world, which is of a version that this
+  -- program knows
   abbrev pub GoesFromWorld : Files D → Project (FileStore D g) over_files → Type 0
   GoesFromWorld files new =
       (world : World) → 1 ≤ world.version → StayWorld g files world → HasCleanDisk (state_of new)

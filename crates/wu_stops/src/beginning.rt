@@ -4,7 +4,7 @@ ghost use Rattle.std.specs.Prelude.{false, IfSome, IsTrue};
 ghost use Rattle.sqlite.specs.Files.{file_state};
 ghost use Rattle.sqlite.specs.Held.{state};
 ghost use Rattle.wu_passes.specs.Adopting.{Adopts};
-ghost use Rattle.wu_passes.specs.Projects.{IsSessionOpen, IsOpen, IsUnlimited, state_of};
+ghost use Rattle.wu_passes.specs.Projects.{IsSessionOpen, IsOpen, IsUnlimited, KnowsTables, state_of};
 ghost use Rattle.wu_stops.specs.Beginning.{BeginsAgain, BeginsEmpty, GoesFromTables, GoesAgain, LeavesAdopted};
 ghost use Rattle.wu_stops.specs.Stopping.{WasClean};
 
@@ -14,12 +14,13 @@ use sqlite_disk::{Crash, Disk};
 use std::alloc::Global;
 use wu_passes::Project;
 
-/// Begins a session over the project in a database. `None` where the adoption fails.
+/// Begins a session over the project in a database, whose version it then knows. `None` where the adoption fails.
 ///
 /// It is one call over any store: over two files each such call costs its caller's proof as much again.
 pub fn begin<S: Alter + Drop>(conn: Connection<S>) -> Option<Project<S>>
     ensures begins { IfSome result IsSessionOpen }
     ensures adopted { IfSome result (λ project. Adopts (state S.Store conn) (state_of project)) }
+    ensures knows { IfSome result KnowsTables }
 {
     match Project::adopt(conn) {
         Ok(project) => Some(project),
@@ -53,6 +54,7 @@ pub fn open_and_adopt<D: Disk + Drop>(
     ensures begins { IfSome result IsSessionOpen }
     ensures unlimited { IfSome result IsUnlimited }
     ensures opens { IfSome result IsOpen }
+    ensures knows { IfSome result KnowsTables }
     ensures blank { IfSome result (BeginsEmpty D.Disk files) }
     ensures found { IfSome result (GoesFromTables D.Disk files) }
 {
@@ -75,6 +77,7 @@ pub fn adopt_stop_and_adopt<D: Crash + Drop>(
 ) -> Option<Project<FileStore<D>>>
     ensures begins { IfSome result IsSessionOpen }
     ensures clean { IfSome result (λ project. WasClean (file_state conn) (state_of project)) }
+    ensures knows { IfSome result KnowsTables }
     ensures free { IfSome result (BeginsAgain conn) }
     ensures found { IfSome result (GoesAgain conn) }
 {

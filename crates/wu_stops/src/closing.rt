@@ -5,7 +5,7 @@
 
 ghost use Rattle.std.specs.Prelude.{IfSome};
 ghost use Rattle.sqlite.specs.Files.{file_state};
-ghost use Rattle.wu_passes.specs.Projects.{IsSessionOpen, state_of};
+ghost use Rattle.wu_passes.specs.Projects.{IsSessionOpen, KnowsTables, state_of};
 ghost use Rattle.wu_stops.specs.Beginning.{BeginsAgain, GoesAgain};
 ghost use Rattle.wu_stops.specs.Closing.{AfterClose, BeginsUnclosed, FindsClosed, FindsStopped, FindsUnclosed, GoesUnclosed, KeepsClosed, KeepsUnclosed, KeepsWorlds, WasCleanClosed, WasCleanUnclosed};
 ghost use Rattle.wu_stops.specs.Stopping.{FindsAgain, WasClean};
@@ -97,6 +97,7 @@ pub fn stop_and_adopt_unclosed<D: Crash + Drop>(
 ) -> Option<Project<FileStore<D>>>
     ensures begins { IfSome result IsSessionOpen }
     ensures clean { IfSome result (λ project. WasCleanUnclosed left (state_of project)) }
+    ensures knows { IfSome result KnowsTables }
     ensures free { IfSome result (BeginsUnclosed left) }
     ensures found { IfSome result (GoesUnclosed left) }
 {
@@ -117,6 +118,7 @@ pub fn close_stop_and_adopt<D: Crash + Drop>(
 ) -> Option<(Result<(), Error>, Project<FileStore<D>>)>
     ensures begins { IfSome result (λ r. IsSessionOpen r.1) }
     ensures clean { IfSome result (λ r. WasClean (file_state conn) (state_of r.1)) }
+    ensures knows { IfSome result (λ r. KnowsTables r.1) }
     ensures free { IfSome result (λ r. AfterClose conn r.0 (BeginsAgain conn r.1)) }
     ensures found { IfSome result (λ r. AfterClose conn r.0 (GoesAgain conn r.1)) }
 {

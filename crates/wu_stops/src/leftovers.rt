@@ -3,7 +3,7 @@
 //! A disk may fail at any call and from then on, so a stop amid an opening is one of these stops.
 
 ghost use Rattle.std.specs.Prelude.{IfSome};
-ghost use Rattle.wu_passes.specs.Projects.{IsSessionOpen, IsOpen, IsUnlimited};
+ghost use Rattle.wu_passes.specs.Projects.{IsSessionOpen, IsOpen, IsUnlimited, KnowsTables};
 ghost use Rattle.wu_stops.specs.Leftovers.{BeginsAfter, GoesAfter};
 
 use crate::beginning::begin;
@@ -26,6 +26,7 @@ pub fn stop_and_open_left<D: Crash + Drop>(
     ensures begins { IfSome result IsSessionOpen }
     ensures unlimited { IfSome result IsUnlimited }
     ensures opens { IfSome result IsOpen }
+    ensures knows { IfSome result KnowsTables }
     ensures blank { IfSome result (BeginsAfter left) }
     ensures found { IfSome result (GoesAfter left) }
 {

@@ -9,7 +9,7 @@ ghost use Rattle.wu_machine.specs.Sound.{IsProject};
 ghost use Rattle.wu_store.specs.Loading.{Asks, ServesUnlessFailed, StaysUnlessFailed};
 ghost use Rattle.wu_passes.specs.Standing.{IsCutBy};
 ghost use Rattle.wu_passes.specs.Adopting.{Adopts, KnowsVersion, older_than_present, RefusesAdoption, StartsOver};
-ghost use Rattle.wu_passes.specs.Projects.{AnswersEnded, AsksOn, CarriesOut, CarriesOutFrom, connection_of, FailsAgain, GoesOnAgain, IsSessionOpen, has_ended, IsSessionEnded, KeepsAsking, KeepsSession, LeavesIdle, LeavesUntouched, PlansOn, ReachesPresent, ReadsUnrefused, RefusesEarly, RunsOver, refused_for, ServesOn, ServesRight, older_version, state_of, TellsWhy};
+ghost use Rattle.wu_passes.specs.Projects.{AnswersEnded, AsksOn, CarriesOut, CarriesOutFrom, connection_of, FailsAgain, GoesOnAgain, IsSessionOpen, has_ended, IsSessionEnded, KeepsAsking, KeepsSession, KnowsTables, LeavesIdle, LeavesUntouched, PlansOn, ReadsUnrefused, RefusesEarly, RunsOver, refused_for, ServesOn, ServesRight, older_version, state_of, TellsWhy};
 
 use crate::batch::plan_batch;
 use crate::cancel::plan_cancel;
@@ -169,6 +169,7 @@ impl<S: Alter> Project<S> {
             RefusesAdoption (state S.Store conn) (state S.Store refusal.0) refusal.1) }
         ensures version { IfOk result (λ project.
             StartsOver (state S.Store conn) (state_of project) (older_version project)) }
+        ensures knows { IfOk result KnowsTables }
     {
         match find_or_create(&mut conn) {
             Ok(version) => Ok(Project {
@@ -211,6 +212,7 @@ impl<S: Alter> Project<S> {
             RefusesAdoption (state_of self) (state S.Store refusal.0) refusal.1) }
         ensures version { IfOk result (λ project.
             StartsOver (state_of self) (state_of project) (older_version project)) }
+        ensures knows { IfOk result KnowsTables }
         ensures goes { IfOk result (GoesOnAgain self) }
         ensures fails { IfErr result (FailsAgain self) }
     {
@@ -226,7 +228,8 @@ impl<S: Alter> Project<S> {
     /// `Broken` from within end the session. For a command that neither refusal meets, the connection is open after Ok
     /// and after each fault but `Memory` and `Broken`; after a `Memory` that leaves the session on it may be closed. A
     /// command that the machine makes nothing of, such as an import that comes again, begins no transaction. What is
-    /// done leaves the session over the present version.
+    /// done leaves the session over no older version; a fault leaves it over the one that it was, which want of memory
+    /// in an upgrade may leave unknown.
     pub fn run(&mut self, alloc: Global, command: &Command) -> Result<Answer, Fault>
         ensures ended { IsSessionEnded self.old → AnswersEnded self.old self.new result }
         ensures session { KeepsSession self.old self.new result }
@@ -306,10 +309,12 @@ impl<S: Alter> Project<S> {
         ensures done { CarriesOut self.old self.new answer changes.now result }
         ensures from { CarriesOutFrom self.old self.new answer changes.now result }
         ensures untouched { LeavesUntouched self.old self.new result }
-        ensures version { ReachesPresent self.old self.new changes.now result }
-        ensures none { changes.now ≡ [] → (result ≡ Ok answer) × (self.new ≡ self.old) }
+        ensures none { changes.now ≡ []
+            → (result ≡ Ok answer) × (connection_of self.new ≡ connection_of self.old) }
     {
         if changes.is_empty() {
+            // an upgrade of an older version changes something
+            self.older = None;
             return Ok(answer);
         }
         // outside a transaction what is shown is what is committed

@@ -7,9 +7,9 @@ pub returns-in-Some-begin-clause-clean : goal.returns-in-Some-begin-clause-clean
 returns-in-Some-begin-clause-clean g c clean = c.in-Some.ensures.clean (omega (arith, clean, c.in-Some-begin.ensures.adopted.clean))
 
 pub returns-in-Some-begin-clause-found : goal.returns-in-Some-begin-clause-found
-returns-in-Some-begin-clause-found g c clean world project goes =
-    ∥∥₁_map (c.in-Some.ensures.found (omega (arith, clean, c.in-Some-begin.ensures.adopted.clean)) world project goes) (λ holds.
-    let first : 1 ≤ (world_after world c.args.commands.now holds.count).version = holds.project.1.first in
+returns-in-Some-begin-clause-found g c clean world known goes =
+    ∥∥₁_map (c.in-Some.ensures.found (omega (arith, clean, c.in-Some-begin.ensures.adopted.clean)) world known goes) (λ holds.
+    let first : 1 ≤ (world_after world c.args.commands.now holds.count).version = holds.project.first in
     record {
       count = holds.count;
       kept = holds.kept;
@@ -20,7 +20,7 @@ returns-in-Some-begin-clause-found g c clean world project goes =
 pub returns-in-Some-begin-clause-answers : goal.returns-in-Some-begin-clause-answers
 returns-in-Some-begin-clause-answers g c =
     let (answers, written, told) = c.in-Some.ensures.answers in
-    (answers, written, λ clean world project goes. told (omega (arith, clean, c.in-Some-begin.ensures.adopted.clean)) world project goes)
+    (answers, written, λ clean world known goes. told (omega (arith, clean, c.in-Some-begin.ensures.adopted.clean)) world known goes)
 
 pub returns-in-Some-begin-clause-ends : goal.returns-in-Some-begin-clause-ends
 returns-in-Some-begin-clause-ends g c going clean = c.in-Some.ensures.ends going (omega (arith, clean, c.in-Some-begin.ensures.adopted.clean))

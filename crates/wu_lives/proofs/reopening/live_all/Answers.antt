@@ -1,7 +1,6 @@
 use Rattle.std.proofs.Common.{List, Vec, Global, ◌≡◌, ◌⊎◌, ◌≤◌, ◌++◌, ◌∷◌, [], length, ap, sym, subst, take, inl, inr, arith, refl, ◌∙◌}
 use Rattle.std.proofs.Math.Logic.{∥∥₁_elim, ∥∥₁_map}
 use Rattle.std.proofs.Math.Seq.{take-length}
-use Rattle.sqlite.specs.Files.{file_state}
 use Rattle.wu_passes.specs.Projects.{IsSessionOpen}
 use Rattle.wu_machine.specs.declared.command.Command.{Command}
 use Rattle.wu_machine.specs.Sessions.{world_of_life}
@@ -11,7 +10,7 @@ use Rattle.wu_lives.proofs.reopening.live_all.Goals as goal
 
 pub loop-commands-init : goal.loop-commands-init
 loop-commands-init g c = (
-  ([], record { their_commands = refl; their_runs = sym c.new-runs.ensures.items }, refl, λ clean world project goes. ∣ lived_none world _ project goes ∣₁),
+  ([], record { their_commands = refl; their_runs = sym c.new-runs.ensures.items }, refl, λ clean world known goes. ∣ lived_none world _ known goes ∣₁),
   λ clean. clean,
   λ on. elim on [
     | inl going ↦ going
@@ -30,10 +29,10 @@ loop-commands-preserved g c =
         of_more c.args.lives.now c.loop-commands.commands-index c.commands-item.result c.commands-item.result c.loop-commands.runs.items _ told next c.loop-commands-test.true (sym c.commands-item.is) c.as_slice.ensures.value
             c.in-Ok.ensures.items are,
         written_more _ _ _ told next written texts,
-        λ clean world project goes.
-            ∥∥₁_elim (found (c.in-Some.ensures.clean clean) world project goes) squash₁ (λ lived.
-            ∥∥₁_map (c.in-Some.ensures.found clean (world_of_life world lived.life) lived.project lived.goes) (λ holds.
-            lived_more world told next _ _ lived holds (replied clean (world_of_life world lived.life) lived.project lived.goes))),
+        λ clean world known goes.
+            ∥∥₁_elim (found (c.in-Some.ensures.clean clean) world known goes) squash₁ (λ lived.
+            ∥∥₁_map (c.in-Some.ensures.found clean (world_of_life world lived.life) lived.known lived.goes) (λ holds.
+            lived_more world told next _ _ lived holds (c.in-Some.ensures.knows clean _ holds.goes) (replied clean (world_of_life world lived.life) lived.known lived.goes))),
       ),
       λ clean. was (c.in-Some.ensures.clean clean),
       λ on. c.in-Some.ensures.begins,
@@ -50,6 +49,6 @@ returns g c =
       begins = λ on. begins (subst (λ n. IsSessionOpen c.args.project ⊎ (1 ≤ n)) (sym whole) on);
       count = count ∙ whole;
       found =
-          let tells : List (Vec Command Global) → Type 0 = λ ls. TellsLives (g.W.Write.contents c.args.out.now) (g.W.Write.contents c.loop-commands.out) (file_state c.args.project.conn) ls c.loop-commands.runs.items (file_state c.loop-commands.project.conn) in
+          let tells : List (Vec Command Global) → Type 0 = λ ls. TellsLives (g.W.Write.contents c.args.out.now) (g.W.Write.contents c.loop-commands.out) c.args.project ls c.loop-commands.runs.items c.loop-commands.project in
           subst tells (take-length lives) (subst (λ k. tells (take k lives)) whole found);
     }

@@ -4,8 +4,11 @@ use Rattle.sqlite.specs.Files.{file_state}
 use Rattle.sqlite.specs.State.{HasCleanDisk}
 use Rattle.wu_drive.proofs.DrivingLemmas.{empty_project}
 use Rattle.wu_stops.proofs.StoppingLemmas.{some_then}
-use Rattle.wu_lives.proofs.RunsLemmas.{goes_in, vacant_in}
+use Rattle.wu_lives.proofs.RunsLemmas.{goes_in, some_both, vacant_in}
 use Rattle.wu_lives.proofs.runs.begin_at.Goals as goal
+
+pub returns-in-Ok-clause-begins : goal.returns-in-Ok-clause-begins
+returns-in-Ok-clause-begins g c = some_both c.begin.result _ _ c.begin.ensures.begins c.begin.ensures.knows
 
 pub returns-in-Ok-clause-blank : goal.returns-in-Ok-clause-blank
 returns-in-Ok-clause-blank g c = some_then c.begin.result (λ project adopts blank clean.

@@ -1,5 +1,4 @@
 use Rattle.sqlite_wal.specs.Files.{image_at}
-use Rattle.wu_passes.specs.Projects.{state_of}
 use Rattle.wu_lives.proofs.RunsLemmas.{lives_on}
 use Rattle.wu_lives.proofs.runs.run_and_begin_again.Goals as goal
 
@@ -11,5 +10,5 @@ returns-clause-lives g c =
     let (answers, tells) = first.answers in (
       files,
       first.files,
-      (answers, tells, lives_on c.args.project c.args.commands.now run (g.W.Write.contents c.args.out.now) (g.W.Write.contents c.run_and_leave-files.new.out) answers files (image_at g.S.Start) (state_of c.in_ok-again.again) tells first.left c.in_ok-again.ensures.found),
+      (answers, tells, lives_on c.args.project c.args.commands.now run (g.W.Write.contents c.args.out.now) (g.W.Write.contents c.run_and_leave-files.new.out) answers files (image_at g.S.Start) c.in_ok-again.again tells first.left c.in_ok-again.ensures.found c.in_ok-again.ensures.begins.1),
     )

@@ -31,14 +31,14 @@ returns g c =
         answers,
         (
           written,
-          λ honest world project goes.
-              answered_at old mid list answers run written.counted drives it.ends (λ was. ((it.ended was).0, (it.ended was).2)) (early honest) world project goes,
+          λ honest world known goes.
+              answered_at old mid list answers run written.counted drives it.ends (λ was. ((it.ended was).0, (it.ended was).2)) (early honest) world known goes,
         ),
       );
-      left = λ honest world project goes.
+      left = λ honest world known goes.
           beginning_in mid.conn store files c.into_store.ensures.numbered c.into_store.ensures.sound quiet c.close.ensures honest world list run
-          (begins_at old mid list answers run written.counted drives it.ends (λ was. ((it.ended was).0, (it.ended was).2)) (early honest) world project goes);
+          (begins_at old mid list answers run written.counted drives it.ends (λ was. ((it.ended was).0, (it.ended was).2)) (early honest) world known goes);
       all = (it.count, it.all);
       ended = λ was. let (same, unwritten, none, why) = it.ended was in (unwritten, none, why);
-      ends = λ going honest world project goes. (drives going (early honest) world project goes).end;
+      ends = λ going honest world known goes. (drives going (early honest) world known goes).end;
     }

@@ -1,4 +1,4 @@
-use Rattle.std.proofs.Common.{rules, IsTrue, arith, inr, refl, sym}
+use Rattle.std.proofs.Common.{rules, IsTrue, arith, inr, sym}
 use Rattle.sqlite.specs.Held.{state}
 use Rattle.sqlite.specs.State.{HasCleanDisk}
 use Rattle.wu_schema.proofs.CallLemmas.{leaves_only}
@@ -24,9 +24,6 @@ invariant_of-self-in-Err-NotAProject g c = record {
             older_refused (state g.S.Store c.args.self.now.conn) (state g.S.Store c.change_all.new.conn) version of (c.is_autocommit-is_idle.ensures.settled (search rules) of.0) (c.in-Err-NotAProject.ensures.refused clean c.in-Err-NotAProject.field-0-is),
       );
 }
-
-pub returns-in-Err-clause-version : goal.returns-in-Err-clause-version
-returns-in-Err-clause-version g c = refl
 
 pub returns-in-Err-clause-done : goal.returns-in-Err-clause-done
 returns-in-Err-clause-done g c clean world request stands goes plans = (
