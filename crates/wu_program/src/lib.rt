@@ -147,7 +147,7 @@ fn words(rt: &HostRuntime) -> io::Result<Vec<String>> {
 
 /// Does what the words of the command line ask for, as `run_with`, with the outputs of the process, over a database file of
 /// which nothing is supposed. Where standard error is a terminal, it shows there meanwhile how many answers have gone
-/// out. It answers the status to end with.
+/// out, and the last one. It answers the status to end with.
 pub fn run(rt: &HostRuntime) -> u8 {
     let is_terminal = rt.stderr().is_terminal();
     let mut err = Cleared::new(rt.stderr(), is_terminal);

@@ -1,16 +1,60 @@
-//! Signs of life on a terminal while work goes on: how many answers have gone out. No contract speaks of the terminal:
-//! what it shows is wiped before anything else is written.
+//! Signs of life on a terminal while work goes on: how many answers have gone out, and the last of them. No contract
+//! speaks of the terminal: what it shows is wiped before anything else is written.
 
 use std::io::{self, Write};
 
 /// Takes away what stands on the last line of a terminal.
 const WIPE: &[u8] = b"\r\x1b[K";
 
+/// How many bytes of a line are shown at most.
+const MOST_SHOWN: usize = 64;
+
+/// The first line of an answer.
+#[derive(Drop)]
+struct FirstLine {
+    bytes: [u8; MOST_SHOWN],
+    len: usize,
+    is_ended: bool,
+}
+
+impl FirstLine {
+    fn new() -> Self {
+        FirstLine {
+            bytes: [0; MOST_SHOWN],
+            len: 0,
+            is_ended: false,
+        }
+    }
+
+    /// Takes a byte of the answer.
+    fn take(&mut self, byte: u8) {
+        if self.is_ended {
+            return;
+        }
+        if byte == b'\n' {
+            self.is_ended = true;
+        } else if self.len < MOST_SHOWN {
+            self.bytes[self.len] = byte;
+            self.len += 1;
+        }
+    }
+
+    /// The line, where all of it can be shown.
+    fn shown(&self) -> Option<&[u8]> {
+        if self.is_ended && self.len < MOST_SHOWN {
+            self.bytes.get(..self.len)
+        } else {
+            None
+        }
+    }
+}
+
 /// What is told on a terminal; nothing where there is none.
 #[derive(Drop)]
 pub struct Signs<T: Drop> {
     terminal: Option<T>,
     answers: u64,
+    answer: FirstLine,
     is_shown: bool,
 }
 
@@ -19,16 +63,36 @@ impl<T: Write + Drop> Signs<T> {
         Signs {
             terminal,
             answers: 0,
+            answer: FirstLine::new(),
             is_shown: false,
         }
     }
 
-    /// Tells how many answers went out.
+    /// Tells how many answers went out, and the last one; before the first, that the database is opened.
     fn tell(&mut self) {
         let answers = self.answers;
-        if let Some(terminal) = &mut self.terminal {
-            let _ = write!(terminal, "lintelthyme: at work, {answers} done");
-            self.is_shown = true;
+        let Some(terminal) = &mut self.terminal else {
+            return;
+        };
+        self.is_shown = true;
+        if answers == 0 {
+            let _ = terminal.write_all(b"lintelthyme: opening");
+            return;
+        }
+        let _ = write!(terminal, "lintelthyme: {answers} done");
+        if let Some(line) = self.answer.shown() {
+            let _ = terminal.write_all(b", ");
+            let _ = terminal.write_all(line);
+        }
+    }
+
+    /// Takes what is written of an answer.
+    fn take(&mut self, bytes: &[u8]) {
+        if self.terminal.is_none() || self.answer.is_ended {
+            return;
+        }
+        for byte in bytes {
+            self.answer.take(*byte);
         }
     }
 
@@ -47,6 +111,7 @@ impl<T: Write + Drop> Signs<T> {
     fn count(&mut self) {
         self.answers = self.answers.saturating_add(1);
         self.tell();
+        self.answer = FirstLine::new();
     }
 }
 
@@ -78,7 +143,11 @@ impl<O: Write + Drop, T: Write + Drop> Write for Watched<O, T> {
 
     fn write(&mut self, bytes: &[u8]) -> io::Result<usize> {
         self.signs.wipe();
-        self.out.write(bytes)
+        let count = self.out.write(bytes)?;
+        if let Some(taken) = bytes.get(..count) {
+            self.signs.take(taken);
+        }
+        Ok(count)
     }
 
     fn flush(&mut self) -> io::Result<()> {
