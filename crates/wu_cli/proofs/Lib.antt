@@ -1,4 +1,5 @@
 mod TextLemmas
 mod ScriptLemmas
+mod RepeatLemmas
 pub mod WorkLemmas
 mod PrintLemmas

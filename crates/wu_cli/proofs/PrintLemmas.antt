@@ -25,9 +25,10 @@ use Rattle.wu_words.specs.declared.action.Action.TheVariants.{Commands, Look}
 use Rattle.wu_words.specs.declared.step.LineFault.{LineFault}
 use Rattle.wu_words.specs.declared.step.Step.{Step}
 use Rattle.wu_cli.specs.Performing.{Performs}
-use Rattle.wu_cli.specs.Printing.{printed_action, printed_replies, printed_reply, printed_steps, printed_work, PrintsAction, PrintsOver, PrintsSteps, world_behind}
-use Rattle.wu_cli.specs.Scripting.{commands_of_action, commands_of_steps, PerformsEach, PerformsSteps}
-use Rattle.wu_cli.specs.Working.{DoesOver, PerformsWork}
+use Rattle.wu_cli.specs.Printing.{printed_action, printed_replies, printed_reply, printed_steps, printed_work, PrintsAction, PrintsOver, PrintsSteps}
+use Rattle.wu_cli.specs.Repeating.{commands_of_action, commands_of_steps, unrolled, world_behind}
+use Rattle.wu_cli.specs.Scripting.{PerformsEach, PerformsScript, PerformsSteps}
+use Rattle.wu_cli.specs.Working.{DoesOver, PerformsWork, script_outcome}
 use Rattle.wu_cli.specs.declared.trouble.Trouble.{Trouble}
 use Rattle.wu_cli.specs.declared.work.Work.{Work}
 use Rattle.wu_cli.specs.declared.work.Work.TheVariants as work
@@ -107,8 +108,9 @@ module _ {S W : Type 0} {store : Ghosts S} (contents : W → Option (List ℕ)) 
       let rest = each_prints each.0 new each.1 out_new steps each.3 still clean (world_behind world one.action) done.3 done.2 in
       Appends-trans (contents out_old) (contents each.1) (contents out_new) (printed_action world one.action) (printed_steps (world_behind world one.action) steps) first rest
 
-  pub steps_print : (old new : Project S store) (out_old out_new : W) (steps : List Step) (end : Option LineFault) → PerformsSteps contents old new out_old out_new steps end
-      → PrintsSteps contents old new out_old out_new steps end
+  steps_print : (old new : Project S store) (out_old out_new : W) (steps : List Step) (end : Option LineFault) → PerformsSteps contents old new out_old out_new steps end
+      → IsSessionOpen old → HasCleanDisk (state_of new) → (world : World) → IsKnownTo old world → GoesOn (state_of old) world
+      → WritesTo contents out_old out_new (printed_steps world steps) (script_outcome end)
   steps_print old new out_old out_new steps None each going clean world known goes = each_prints old new out_old out_new steps each going clean world known goes
   steps_print old new out_old out_new steps (Some end) until going clean world known goes =
       let last_clean = one_clean contents until.mid new until.out_mid out_new until.last.action (Some end.fault) until.ends in
@@ -127,6 +129,11 @@ module _ {S W : Type 0} {store : Ghosts S} (contents : W → Option (List ℕ)) 
       (AppendsFront-longer (contents out_old) (contents out_new) (so_long ++ its) behind
       (AppendsFront-after (contents out_old) (contents until.out_mid) (contents out_new) so_long its firsts last))
 
+  pub script_prints : (old new : Project S store) (out_old out_new : W) (steps : List Step) (end : Option LineFault) → PerformsScript contents old new out_old out_new steps end
+      → PrintsSteps contents old new out_old out_new steps end
+  script_prints old new out_old out_new steps end it going clean world known goes =
+      steps_print old new out_old out_new (unrolled world steps) end (it.over going clean world known goes) going clean world known goes
+
 -- ---- over an open database
 
 module _ {S W : Type 0} {store : Ghosts S} (contents : W → Option (List ℕ)) (old new : Project S store) (out_old out_new : W) where
@@ -137,8 +144,8 @@ module _ {S W : Type 0} {store : Ghosts S} (contents : W → Option (List ℕ)) 
       subst (λ d. WritesTo contents out_old out_new (printed_action world action) d) (sym is)
       (one_prints contents old new out_old out_new action end does going clean world known goes)
   work_prints (work.Script steps) done (end, does, is) going clean world known goes =
-      subst (λ d. WritesTo contents out_old out_new (printed_steps world steps) d) (sym is)
-      (steps_print contents old new out_old out_new steps end does going clean world known goes)
+      subst (λ d. WritesTo contents out_old out_new (printed_steps world (unrolled world steps)) d) (sym is)
+      (script_prints contents old new out_old out_new steps end does going clean world known goes)
 
 module _ {S W : Type 0} (g : Ghosts S) (contents : W → Option (List ℕ)) (conn again : Held S) (out_old out_new : W) (asked : Work) (done : Result (Unit {0}) Trouble) where
   pub prints_over : DoesOver g contents conn again out_old out_new asked done → PrintsOver g contents conn again out_old out_new asked done

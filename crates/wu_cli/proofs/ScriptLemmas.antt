@@ -1,5 +1,5 @@
 -- From step to step of a script.
-use Rattle.std.proofs.Common.{◌≡◌, inl, inr, ℕ, zero, suc, ◌+◌, ◌<◌, ◌≤◌, Bool, false, IfSome, IsSome, List, [], ◌∷◌, ◌++◌, length, drop, get_or, map, take, Option, Some, None, refl, sym, ap, subst, ◌∙◌, arith, length-append, take-append-drop}
+use Rattle.std.proofs.Common.{◌≡◌, inl, inr, ℕ, zero, suc, ◌+◌, ◌<◌, ◌≤◌, Bool, false, IfSome, IsSome, List, [], ◌∷◌, ◌++◌, length, drop, get_or, map, take, Option, Some, None, refl, sym, ap, subst, ◌∙◌, arith, append_assoc, length-append, take-append-drop}
 use Rattle.std.proofs.Math.Seq.{take-append-add, take-length}
 use Rattle.std.proofs.lemmas.List.{drop_more, map-append, take-append-le, take_more}
 use Rattle.std.proofs.lemmas.List.Concat.{flat_map-append}
@@ -27,7 +27,8 @@ use Rattle.wu_machine.specs.Requests.{Request}
 use Rattle.wu_machine.specs.Sessions.{world_of_life}
 use Rattle.wu_passes.specs.Standing.{GoesOn, HasEnded, FaultsOnlyGrow}
 use Rattle.wu_cli.specs.Performing.{as_result, Performs}
-use Rattle.wu_cli.specs.Scripting.{commands_of_action, commands_of_steps, DrivesSteps, LengthensBySteps, PerformsEach, PerformsSteps, PerformsUntil, so_far}
+use Rattle.wu_cli.specs.Repeating.{commands_of_action, commands_of_steps, unrolled}
+use Rattle.wu_cli.specs.Scripting.{DrivesCommands, DrivesSteps, LengthensBySteps, PerformsEach, PerformsScript, PerformsSteps, PerformsUntil, so_far}
 use Rattle.wu_words.specs.declared.action.Action.{Action}
 use Rattle.wu_words.specs.declared.action.Action.TheVariants.{Commands, Look}
 use Rattle.wu_words.specs.declared.step.LineFault.{LineFault}
@@ -49,28 +50,28 @@ module _ {S W : Type 0} {store : Ghosts S} (contents : W → Option (List ℕ)) 
   each_more old mid new out_old out_mid out_new (first ∷ steps) one each does =
       (each.0, each.1, each.2, each_more each.0 mid new each.1 out_mid out_new steps one each.3 does)
 
-  -- each step up to a place, and the one there
-  pub each_next : (old mid new : Project S store) (out_old out_mid out_new : W) (steps : List Step) (i : ℕ) (one : Step) → i < length steps → one ≡ get_or steps i one
-      → PerformsEach contents old mid out_old out_mid (take i steps) → Performs contents mid new out_mid out_new one.action None
-      → PerformsEach contents old new out_old out_new (take (i + 1) steps)
-  each_next old mid new out_old out_mid out_new steps i one within is each does =
-      subst (λ l. PerformsEach contents old new out_old out_new l) (sym (take_more steps i one within ∙ ap (λ y. take i steps ++ y ∷ []) (sym is)))
-      (each_more old mid new out_old out_mid out_new (take i steps) one each does)
+  pub each_both : (old mid new : Project S store) (out_old out_mid out_new : W) (xs ys : List Step)
+      → PerformsEach contents old mid out_old out_mid xs → PerformsEach contents mid new out_mid out_new ys → PerformsEach contents old new out_old out_new (xs ++ ys)
+  unfolding PerformsEach
+  each_both old mid new out_old out_mid out_new [] ys one two =
+      subst (λ p. PerformsEach contents p new out_old out_new ys) one.0 (subst (λ o. PerformsEach contents mid new o out_new ys) one.1 two)
+  each_both old mid new out_old out_mid out_new (x ∷ xs) ys one two =
+      (one.0, one.1, one.2, each_both one.0 mid new one.1 out_mid out_new xs ys one.3 two)
 
-  -- that one ends with a fault
-  pub until_here : (old mid new : Project S store) (out_old out_mid out_new : W) (steps : List Step) (i : ℕ) (one : Step) (fault : Fault) → i < length steps → one ≡ get_or steps i one
-      → PerformsEach contents old mid out_old out_mid (take i steps) → Performs contents mid new out_mid out_new one.action (Some fault)
-      → PerformsUntil contents old new out_old out_new steps (record { number = one.number; fault = fault })
-  until_here old mid new out_old out_mid out_new steps i one fault within is each does = record {
-    before = take i steps;
-    last = one;
-    after = drop (i + 1) steps;
-    order = sym (take-append-drop i steps) ∙ ap (λ l. take i steps ++ l) (drop_more steps i one within ∙ ap (λ y. y ∷ drop (i + 1) steps) (sym is));
-    number = refl;
-    mid = mid;
-    out_mid = out_mid;
-    each = each;
-    ends = does;
+  -- steps were done, one behind them ended with a fault, and others were not begun
+  pub until_both : (old mid new : Project S store) (out_old out_mid out_new : W) (xs ys after : List Step) (end : LineFault)
+      → PerformsEach contents old mid out_old out_mid xs → PerformsUntil contents mid new out_mid out_new ys end
+      → PerformsUntil contents old new out_old out_new (xs ++ (ys ++ after)) end
+  until_both old mid new out_old out_mid out_new xs ys after end one two = record {
+    before = xs ++ two.before;
+    last = two.last;
+    after = two.after ++ after;
+    order = ap (λ l. xs ++ (l ++ after)) two.order ∙ ap (λ l. xs ++ l) (append_assoc two.before (two.last ∷ two.after) after) ∙ sym (append_assoc xs two.before (two.last ∷ (two.after ++ after)));
+    number = two.number;
+    mid = two.mid;
+    out_mid = two.out_mid;
+    each = each_both old mid two.mid out_old out_mid two.out_mid xs two.before one two.each;
+    ends = two.ends;
   }
 
 -- ---- the machine over two lists
@@ -255,7 +256,9 @@ module _ {S W : Type 0} {store : Ghosts S} (contents : W → Option (List ℕ)) 
       let last = one_clean contents until.mid new until.out_mid out_new until.last.action (Some end.fault) until.ends in
       omega (arith, first, last)
 
-  pub drives_steps : (old new : Project S store) (out_old out_new : W) (steps : List Step) (end : Option LineFault) → PerformsSteps contents old new out_old out_new steps end → DrivesSteps old new steps end
+  pub drives_steps : (old new : Project S store) (out_old out_new : W) (steps : List Step) (end : Option LineFault) → PerformsSteps contents old new out_old out_new steps end
+      → IsSessionOpen old → HasCleanDisk (state_of new) → (world : World) → IsKnownTo old world → GoesOn (state_of old) world
+      → DrivesCommands world steps end (state_of new)
   drives_steps old new out_old out_new steps None each going clean world known goes =
       let done = each_done old new out_old out_new steps each going clean world known goes in
       let commands = commands_of_steps steps in
@@ -292,7 +295,16 @@ module _ {S W : Type 0} {store : Ghosts S} (contents : W → Option (List ℕ)) 
         whole = λ none. absurd (cc);
       }
 
-  pub lengthens_steps : (old new : Project S store) (out_old out_new : W) (steps : List Step) (end : Option LineFault) → PerformsSteps contents old new out_old out_new steps end → LengthensBySteps old new steps
-  lengthens_steps old new out_old out_new steps end performs going clean start life known goes =
-      let driven = drives_steps old new out_old out_new steps end performs going clean (world_of_life start life) known goes in
-      (driven.count, driven.is_cut, lengthens start life (commands_of_steps steps) driven.answers (so_far driven.count) driven.is_cut (state_of new) driven.drives)
+  -- so is a script, over the steps that it comes to
+  pub script_clean : (old new : Project S store) (out_old out_new : W) (steps : List Step) (end : Option LineFault) → PerformsScript contents old new out_old out_new steps end → FaultsOnlyGrow (state_of old) (state_of new)
+  script_clean old new out_old out_new steps end it = steps_clean old new out_old out_new it.ran end it.does
+
+  pub drives_script : (old new : Project S store) (out_old out_new : W) (steps : List Step) (end : Option LineFault) → PerformsScript contents old new out_old out_new steps end → DrivesSteps old new steps end
+  drives_script old new out_old out_new steps end it going clean world known goes =
+      drives_steps old new out_old out_new (unrolled world steps) end (it.over going clean world known goes) going clean world known goes
+
+  pub lengthens_script : (old new : Project S store) (out_old out_new : W) (steps : List Step) (end : Option LineFault) → PerformsScript contents old new out_old out_new steps end → LengthensBySteps old new steps
+  lengthens_script old new out_old out_new steps end it going clean start life known goes =
+      let world = world_of_life start life in
+      let driven = drives_script old new out_old out_new steps end it going clean world known goes in
+      (driven.count, driven.is_cut, lengthens start life (commands_of_steps (unrolled world steps)) driven.answers (so_far driven.count) driven.is_cut (state_of new) driven.drives)

@@ -18,7 +18,7 @@ use Rattle.wu_cli.specs.Working.{BeginsFrom, DoesAdopted, DoesNothing, DoesOver,
 use Rattle.wu_cli.specs.declared.trouble.Trouble.{Trouble}
 use Rattle.wu_cli.specs.declared.work.Work.{Work}
 use Rattle.wu_cli.specs.declared.work.Work.TheVariants as work
-use Rattle.wu_cli.proofs.ScriptLemmas.{drives_steps, one_clean, steps_clean}
+use Rattle.wu_cli.proofs.ScriptLemmas.{drives_script, one_clean, script_clean}
 
 -- what is refused in one way is refused with the same
 pub same_refusal : {T A B : Type 0} (x y : A) (f g : B) → ◌≡◌ {A = Result T (A × B)} (Err (x, f)) (Err (y, g)) → (x ≡ y) × (f ≡ g)
@@ -76,7 +76,7 @@ module _ {S W : Type 0} {store : Ghosts S} (contents : W → Option (List ℕ)) 
 
   pub work_clean : (asked : Work) (done : Result (Unit {0}) Trouble) → PerformsWork contents old new out_old out_new asked done → FaultsOnlyGrow (state_of old) (state_of new)
   work_clean (work.Line action) done (end, does, is) = one_clean contents old new out_old out_new action end does
-  work_clean (work.Script steps) done (end, does, is) = steps_clean contents old new out_old out_new steps end does
+  work_clean (work.Script steps) done (end, does, is) = script_clean contents old new out_old out_new steps end does
 
   -- a beginning of its commands is done over each world that the session goes on over
   work_drives : (asked : Work) (done : Result (Unit {0}) Trouble) → PerformsWork contents old new out_old out_new asked done
@@ -85,7 +85,7 @@ module _ {S W : Type 0} {store : Ghosts S} (contents : W → Option (List ℕ)) 
   work_drives (work.Line action) done (end, does, is) going clean world known goes =
       subst (λ d. DrivesWork world (work.Line action) d (state_of new)) (sym is) (line_works action end does going clean world known goes)
   work_drives (work.Script steps) done (end, does, is) going clean world known goes =
-      let driven = drives_steps contents old new out_old out_new steps end does going clean world known goes in
+      let driven = drives_script contents old new out_old out_new steps end does going clean world known goes in
       subst (λ d. DrivesWork world (work.Script steps) d (state_of new)) (sym is) (record {
         count = driven.count;
         answers = driven.answers;

@@ -48,6 +48,7 @@ abbrev pub refusal_text : Refusal → List ℕ
 refusal_text (refusal.Text cause) = cause_text cause
 refusal_text (refusal.Words usage) = usage_text usage
 refusal_text refusal.Script = codes "a script cannot stand in a script" ++ line_end
+refusal_text refusal.Repeat = codes "only a pass can be repeated" ++ line_end
 refusal_text (refusal.Fault fault) = fault_line fault
 
 -- the first line that can't be run, and why

@@ -1,6 +1,7 @@
 pub mod Endings
 pub mod Explaining
 pub mod Performing
+pub mod Repeating
 pub mod Scripting
 pub mod Starting
 pub mod Troubles

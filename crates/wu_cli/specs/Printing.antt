@@ -1,5 +1,5 @@
 -- What is printed over a world: the texts of the machine's answers and of views, in the order of the actions.
-use Rattle.std.specs.Prelude.{ℕ, List, [], ◌∷◌, ◌++◌, map, Option, Result, Ok, Err}
+use Rattle.std.specs.Prelude.{ℕ, List, [], ◌∷◌, ◌++◌, Option, Result, Ok, Err}
 use Rattle.sqlite.specs.Held.{Held, state}
 use Rattle.sqlite.specs.State.{HasCleanDisk}
 use Rattle.sqlite.specs.Store.{Ghosts}
@@ -7,7 +7,7 @@ use Rattle.wu_core.specs.World.{World}
 use Rattle.wu_core.specs.declared.fault.Fault.{Fault}
 use Rattle.wu_machine.specs.declared.command.Command.{Command}
 use Rattle.wu_machine.specs.Commands.{request_of}
-use Rattle.wu_machine.specs.Machine.{fold_steps, reply, step}
+use Rattle.wu_machine.specs.Machine.{reply, step}
 use Rattle.wu_machine.specs.Requests.{Reply}
 use Rattle.wu_machine.specs.Sound.{IsProject}
 use Rattle.wu_passes.specs.declared.project.Project.{Project}
@@ -20,7 +20,7 @@ use Rattle.wu_words.specs.declared.action.Action.{Action}
 use Rattle.wu_words.specs.declared.action.Action.TheVariants.{Commands, Look}
 use Rattle.wu_words.specs.declared.step.LineFault.{LineFault}
 use Rattle.wu_words.specs.declared.step.Step.{Step}
-use Rattle.wu_cli.specs.Scripting.{commands_of_action}
+use Rattle.wu_cli.specs.Repeating.{unrolled, world_behind}
 use Rattle.wu_cli.specs.Working.{BeginsFrom, line_outcome, script_outcome}
 use Rattle.wu_cli.specs.declared.trouble.Trouble.{Trouble}
 use Rattle.wu_cli.specs.declared.work.Work.{Work}
@@ -44,11 +44,7 @@ abbrev pub printed_action : World → Action → List ℕ
 printed_action world (Commands commands) = printed_replies world commands
 printed_action world (Look view) = view_text world view
 
--- the world after it
-abbrev pub world_behind : World → Action → World
-world_behind world action = fold_steps world (map request_of (commands_of_action action))
-
--- what the steps of a script print, each over the world that those before it left
+-- what steps print, each over the world that those before it left
 abbrev pub printed_steps : World → List Step → List ℕ
 printed_steps world [] = []
 printed_steps world (step ∷ more) = printed_action world step.action ++ printed_steps (world_behind world step.action) more
@@ -56,7 +52,7 @@ printed_steps world (step ∷ more) = printed_action world step.action ++ printe
 -- what a line or a script prints
 abbrev pub printed_work : World → Work → List ℕ
 printed_work world (work.Line action) = printed_action world action
-printed_work world (work.Script steps) = printed_steps world steps
+printed_work world (work.Script steps) = printed_steps world (unrolled world steps)
 
 -- ---- what goes out: exactly this, and with a fault a beginning of it
 
@@ -66,11 +62,11 @@ PrintsAction contents old new out_old out_new action end =
     IsSessionOpen old → HasCleanDisk (state_of new) → (world : World) → IsKnownTo old world → GoesOn (state_of old) world
     → WritesTo contents out_old out_new (printed_action world action) (line_outcome end)
 
--- of the steps of a script
+-- of the steps of a script, each as often as it is done
 abbrev pub PrintsSteps : {S W : Type 0} {store : Ghosts S} → (W → Option (List ℕ)) → Project S store → Project S store → W → W → List Step → Option LineFault → Type 0
 PrintsSteps contents old new out_old out_new steps end =
     IsSessionOpen old → HasCleanDisk (state_of new) → (world : World) → IsKnownTo old world → GoesOn (state_of old) world
-    → WritesTo contents out_old out_new (printed_steps world steps) (script_outcome end)
+    → WritesTo contents out_old out_new (printed_steps world (unrolled world steps)) (script_outcome end)
 
 -- of work over an open database, whatever world a session over it may begin from
 abbrev pub PrintsOver : {S W : Type 0} (g : Ghosts S) → (W → Option (List ℕ)) → Held S → Held S → W → W → Work → Result (Unit {0}) Trouble → Type 0

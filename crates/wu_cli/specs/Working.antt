@@ -24,7 +24,8 @@ use Rattle.wu_words.specs.declared.step.FedEntry.{FedEntry}
 use Rattle.wu_words.specs.declared.step.LineFault.{LineFault}
 use Rattle.wu_words.specs.declared.step.Step.{Step}
 use Rattle.wu_cli.specs.Performing.{Performs}
-use Rattle.wu_cli.specs.Scripting.{commands_of_action, commands_of_steps, PerformsSteps, so_far}
+use Rattle.wu_cli.specs.Repeating.{commands_of_action, commands_of_steps, unrolled}
+use Rattle.wu_cli.specs.Scripting.{PerformsScript, so_far}
 use Rattle.wu_cli.specs.declared.trouble.Trouble.{Trouble}
 use Rattle.wu_cli.specs.declared.trouble.Trouble.TheVariants as trouble
 use Rattle.wu_cli.specs.declared.work.Work.{Work}
@@ -65,12 +66,12 @@ abbrev pub PerformsWork : {S W : Type 0} {store : Ghosts S} → (W → Option (L
 PerformsWork contents old new out_old out_new (work.Line action) done =
     (end : Option Fault) × Performs contents old new out_old out_new action end × (done ≡ line_outcome end)
 PerformsWork contents old new out_old out_new (work.Script steps) done =
-    (end : Option LineFault) × PerformsSteps contents old new out_old out_new steps end × (done ≡ script_outcome end)
+    (end : Option LineFault) × PerformsScript contents old new out_old out_new steps end × (done ≡ script_outcome end)
 
--- its commands in order: a view is none
-abbrev pub commands_of_work : Work → List Command
-commands_of_work (work.Line action) = commands_of_action action
-commands_of_work (work.Script steps) = commands_of_steps steps
+-- its commands over a world, in order: a view is none, and a repeated pass is as many as the times that it is done
+abbrev pub commands_of_work : World → Work → List Command
+commands_of_work world (work.Line action) = commands_of_action action
+commands_of_work world (work.Script steps) = commands_of_steps (unrolled world steps)
 
 -- So many commands were done, each with the machine's reply, and the tables stand for the world after them; where the
 -- session ended within the next one, a stop may also leave the world after that. Where all went well all were done.
@@ -78,8 +79,8 @@ pub record DrivesWork (world : World) (asked : Work) (done : Result (Unit {0}) T
   pub count : ℕ
   pub answers : List Answer
   pub is_cut : Bool
-  pub drives : Drives world (commands_of_work asked) answers (so_far count) is_cut new
-  pub whole : OnOk done (count ≡ length (commands_of_work asked))
+  pub drives : Drives world (commands_of_work world asked) answers (so_far count) is_cut new
+  pub whole : OnOk done (count ≡ length (commands_of_work world asked))
 
 -- ---- over an open database
 

@@ -3,6 +3,7 @@
 
 mod explaining;
 mod performing;
+mod repeating;
 mod start;
 mod texts;
 mod trouble;

@@ -3,14 +3,15 @@
 ghost use Rattle.std.specs.Prelude.{◌≡◌};
 ghost use Rattle.wu_cli.specs.Performing.{Performs};
 ghost use Rattle.wu_cli.specs.Printing.{PrintsAction, PrintsSteps};
-ghost use Rattle.wu_cli.specs.Scripting.{DrivesSteps, LengthensBySteps, PerformsSteps};
+ghost use Rattle.wu_cli.specs.Scripting.{DrivesSteps, LengthensBySteps, PerformsScript};
 ghost use Rattle.wu_words.specs.Statuses.{exit_status, status_of_line};
 
+use crate::repeating::{act, perform_step};
 use sqlite::Alter;
 use std::alloc::Global;
 use std::io::Write;
 use wu_core::Fault;
-use wu_drive::{Project, drive, show};
+use wu_drive::Project;
 use wu_words::{Action, LineFault, Step, exit_status};
 
 /// Runs the commands of an action, or shows its view. It answers the status of the program, and the fault that ended
@@ -28,26 +29,21 @@ pub fn perform<S: Alter, W: Write>(
     ensures prints { PrintsAction W.contents project.old project.new out.old out.new
         action.now result.1 }
 {
-    let end = match action {
-        Action::Commands(commands) => drive(alloc, project, commands.as_slice(), out).end,
-        Action::Look(view) => match show(alloc, project, *view, out) {
-            Ok(()) => None,
-            Err(fault) => Some(fault),
-        },
-    };
+    let (end, _) = act(alloc, project, action, out);
     (exit_status(end), end)
 }
 
 /// Does what the steps of a script ask for, in order, up to the first fault. It answers the status of the program, and
-/// the fault that ended it with its line. What is printed is what each step prints over the world that those before it
-/// left, one after another, and with a fault a beginning of that.
+/// the fault that ended it with its line. A repeated step is done until its pass handles less than its limit, so over a
+/// world a script is the list of commands that the machine's answers make of it. What is printed is what each step
+/// prints over the world that those before it left, one after another, and with a fault a beginning of that.
 pub fn perform_script<S: Alter, W: Write>(
     alloc: Global,
     project: &mut Project<S>,
     steps: &[Step],
     out: &mut W,
 ) -> (u8, Option<LineFault>)
-    ensures does { PerformsSteps W.contents project.old project.new out.old out.new
+    ensures does { PerformsScript W.contents project.old project.new out.old out.new
         steps.now result.1 }
     ensures status { result.0 ≡ status_of_line result.1 }
     ensures drives { DrivesSteps project.old project.new steps.now result.1 }
@@ -56,12 +52,9 @@ pub fn perform_script<S: Alter, W: Write>(
         steps.now result.1 }
 {
     for step in steps {
-        let (status, end) = perform(alloc, project, &step.action, out);
+        let (status, end) = perform_step(alloc, project, step, out);
         match end {
-            Some(fault) => {
-                let number = step.number;
-                return (status, Some(LineFault { number, fault }));
-            }
+            Some(end) => return (status, Some(end)),
             None => {}
         }
     }

@@ -176,6 +176,7 @@ fn text_of_refusal<W: Write>(out: &mut W, why: &Refusal) -> Result<(), Fault>
         Refusal::Text(cause) => text_of_cause(out, *cause),
         Refusal::Words(usage) => text_of_usage(out, usage),
         Refusal::Script => plain(out, "a script cannot stand in a script"),
+        Refusal::Repeat => plain(out, "only a pass can be repeated"),
         Refusal::Fault(fault) => line_of_fault(out, *fault),
     }
 }

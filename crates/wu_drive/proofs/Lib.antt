@@ -3,4 +3,5 @@ pub mod LifeLemmas
 mod LineLemmas
 mod VerdictLemmas
 pub mod DrivingLemmas
+mod CountingLemmas
 mod DemonstrationLemmas

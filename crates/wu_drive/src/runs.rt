@@ -1,9 +1,10 @@
 //! Lists of commands, and the demonstration.
 
-ghost use Rattle.std.specs.Prelude.{◌≡◌, IfNone, IfOk, OnOk};
+ghost use Rattle.std.specs.Prelude.{◌≡◌, IfNone, IfOk, Ok, OnOk};
+ghost use Rattle.wu_drive.specs.Counting.{CountsLast, handled_by};
 ghost use Rattle.wu_drive.specs.Demonstration.{demonstration, IsDemonstrated};
 ghost use Rattle.wu_drive.specs.Running.{RunsList};
-ghost use Rattle.wu_machine.specs.Commands.{request_of};
+ghost use Rattle.wu_machine.specs.Commands.{reply_of_answer, request_of};
 
 use crate::replies::write_answer;
 use sqlite::{Alter, Connection};
@@ -11,7 +12,7 @@ use std::alloc::Global;
 use std::io::Write;
 use wu_core::{Bytes, Fault, Name};
 use wu_machine::laws::commands_keep_projects;
-use wu_passes::{Batch, Command, Project};
+use wu_passes::{Answer, Batch, Command, Project};
 use wu_report::{View, show};
 
 /// How far a list of commands went.
@@ -21,6 +22,50 @@ pub struct Run {
     pub acknowledged: usize,
     /// The fault that ended the run, if the list did not end it.
     pub end: Option<Fault>,
+}
+
+/// How many workunits a pass handled, by its answer; nothing where the answer is of no pass.
+fn handled_by(answer: &Answer) -> Option<u32>
+    ensures { result ≡ handled_by (Ok (reply_of_answer answer.now)) }
+{
+    match answer {
+        Answer::Passed { handled, .. } => Some(*handled),
+        _ => None,
+    }
+}
+
+/// Runs the commands as `drive`, and tells how many workunits the last one that was done handled: nothing where it is no
+/// pass, or none was done.
+pub fn drive_and_count<S: Alter, W: Write>(
+    alloc: Global,
+    project: &mut Project<S>,
+    commands: &[Command],
+    out: &mut W,
+) -> (Run, Option<u32>)
+    ensures runs { RunsList W.contents project.old project.new out.old out.new
+        commands.now result.0 }
+    ensures counts { CountsLast project.old project.new commands.now result.0 result.1 }
+{
+    let mut acknowledged = 0;
+    let mut handled = None;
+    for command in commands {
+        commands_keep_projects(command);
+        let answer = match project.run(alloc, command) {
+            Ok(answer) => answer,
+            Err(fault) => {
+                let end = Some(fault);
+                return (Run { acknowledged, end }, handled);
+            }
+        };
+        acknowledged += 1;
+        handled = handled_by(&answer);
+        if let Err(fault) = write_answer(out, &answer) {
+            let end = Some(fault);
+            return (Run { acknowledged, end }, handled);
+        }
+    }
+    let end = None;
+    (Run { acknowledged, end }, handled)
 }
 
 /// Runs the commands in order and writes the text of each answer, up to the first fault.
@@ -41,30 +86,7 @@ pub fn drive<S: Alter, W: Write>(
 ) -> Run
     ensures { RunsList W.contents project.old project.new out.old out.new commands.now result }
 {
-    let mut acknowledged = 0;
-    for command in commands {
-        commands_keep_projects(command);
-        let answer = match project.run(alloc, command) {
-            Ok(answer) => answer,
-            Err(fault) => {
-                return Run {
-                    acknowledged,
-                    end: Some(fault),
-                };
-            }
-        };
-        acknowledged += 1;
-        if let Err(fault) = write_answer(out, &answer) {
-            return Run {
-                acknowledged,
-                end: Some(fault),
-            };
-        }
-    }
-    Run {
-        acknowledged,
-        end: None,
-    }
+    drive_and_count(alloc, project, commands, out).0
 }
 
 /// The batch of the demonstration: one job of two bytes.

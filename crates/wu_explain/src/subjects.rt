@@ -98,7 +98,7 @@ under its name: it acts once.
         ),
         "passes" => Some(
             "A pass takes the first workunits by number that it changes, up to its limit. Where
-it answers its limit, more may be left: run it again.
+it answers its limit, more may be left: run it again, or behind repeat in a script.
   transition    times out what is overdue, makes instances, closes what is given up
   validate      compares results, finds canonical ones and grants credit
   assimilate    closes what is ready, and keeps its canonical output for good
@@ -124,6 +124,9 @@ with # is a comment. At most 1,000 lines, in at most 1,048,576 bytes.
 All lines, and all files that they name, are read before the database is opened: a
 line that can't be run is told with its number, and nothing is done. Then the
 commands run in one opening up to the first fault; the lines before it are done.
+Behind the word repeat a pass is run until it answers less than its limit, each time
+as a command of its own, and at most a million times:
+  repeat transition --now 2026-03-01T12:00:00Z --limit 1000
 ",
         ),
         _ => None,

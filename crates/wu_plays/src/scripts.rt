@@ -30,8 +30,11 @@ fn contents(rt: &HostRuntime, entry: &Entry) -> Result<Vec<Option<Vec<u8>>>, All
     Ok(contents)
 }
 
-/// What a line of a script asks for, or why it can't be run.
+/// What a line of a script asks for, or why it can't be run. No line is repeated here.
 pub fn action(rt: &HostRuntime, entry: Entry) -> Result<Action, Refusal> {
+    if entry.repeats {
+        return Err(Refusal::Repeat);
+    }
     let contents = contents(rt, &entry)?;
     let line = entry.line?;
     prepare(rt.alloc(), &line, contents).map_err(Refusal::Fault)
@@ -56,7 +59,7 @@ pub fn write_refusal(why: Refusal, transcript: &mut Vec<u8>) -> u8 {
     let _ = match why {
         Refusal::Words(usage) => write_usage(&usage, transcript),
         Refusal::Fault(fault) => write_fault(&fault, transcript),
-        Refusal::Text(_) | Refusal::Script => {
+        Refusal::Text(_) | Refusal::Script | Refusal::Repeat => {
             write_bad_line(&BadLine { number: 1, why }, transcript)
         }
     };

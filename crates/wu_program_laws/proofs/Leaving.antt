@@ -105,6 +105,7 @@ refusal_told : (r : Refusal) → refusal_status r ≡ 0 → ⊥
 refusal_told (refusal.Text cause) none = absurd (omega (arith, none))
 refusal_told (refusal.Words u) none = usage_told u none
 refusal_told refusal.Script none = absurd (omega (arith, none))
+refusal_told refusal.Repeat none = absurd (omega (arith, none))
 refusal_told (refusal.Fault f) none = fault_told f none
 
 trouble_told : (t : Trouble) → trouble_status t ≡ 0 → ⊥
@@ -292,7 +293,7 @@ module _ {D : Type 0} {g : Ghosts D} (again : Held (FileStore D g)) (files : Fil
 
   module _ {E : Type 0} (told_of : E → Option (List ℕ)) (err_old err_new : E) (done : Result (Unit {0}) Trouble) (status : ℕ) (is_told : Bool) (tells : TellsTrouble told_of err_old err_new done status is_told) where
     leaves_done : (says : Holds) (before after : Option (List ℕ)) (world : World) (asked : Work) (it : DrivesWork world asked done (file_state again)) → TellsDone before after asked it.answers it.count
-        → OfEachImage g files (says world (commands_of_work asked) it.count) → LeavesDone g files says before after world asked status
+        → OfEachImage g files (says world (commands_of_work world asked) it.count) → LeavesDone g files says before after world asked status
     leaves_done says before after world asked it told held = record {
       count = it.count;
       within = it.drives.within;
@@ -341,7 +342,7 @@ module _ {S W E : Type 0} {c : calls.Ghosts Host} {s : start.Ghosts S} {g : Ghos
   opened_leaves : (says : Holds) (conn again : Held (FileStore (Modelled Host S c s) g)) (path : List ℕ) (asked : Work) (old new : W) (err_old err_new : E) (done : Result (Unit {0}) Trouble) (status : ℕ) (is_told : Bool) (files : Files (Modelled Host S c s))
       → IsOpenedAt path (image_at s) conn → DoesOver over_files contents conn again old new asked done → DrivesOver over_files conn again asked done → TellsTrouble told_of err_old err_new done status is_told
       → HasCleanDisk (file_state again) → OfEachImage g files (λ image. (db : Trees) × (file_state again).may_leave db × HoldsDatabase image db)
-      → ((world : World) (it : DrivesWork world asked done (file_state again)) → OfEachImage g files (says world (commands_of_work asked) it.count))
+      → ((world : World) (it : DrivesWork world asked done (file_state again)) → OfEachImage g files (says world (commands_of_work world asked) it.count))
       → (world : World) → IsProject world → ImageRefines (image_at s) world → LeavesDone g files says (contents old) (contents new) world asked status ⊎ LeavesAsItWas g files (image_at s) world status
   opened_leaves says conn again path asked old new err_old err_new done status is_told files at does drives tells clean each hold world project start =
       let early : HasCleanDisk (file_state conn) = was_clean contents conn again old new asked done does clean in
@@ -365,7 +366,7 @@ module _ {S W E : Type 0} {c : calls.Ghosts Host} {s : start.Ghosts S} {g : Ghos
             let copied : IsCopied it.again run.files = it.closed.copied honest in
             let each = copied_each it.again run.files stays copied in
             opened_leaves HoldAfter conn it.again _ runs.work run.old run.new run.err_old run.err_new run.obeys.done end.status end.is_told run.files runs.runs.opened it.does it.drives run.obeys.tells copied.was_clean each
-            (λ world works. hold_after it.again run.files each copied.was_open world (commands_of_work runs.work) works.answers works.count works.is_cut works.drives);
+            (λ world works. hold_after it.again run.files each copied.was_open world (commands_of_work world runs.work) works.answers works.count works.is_cut works.drives);
       }
 
   pub leaves_its_work_unclosed : (end : End (Modelled Host S c s) g) → LeavesItsWorkUnclosed contents told_of end
@@ -381,7 +382,7 @@ module _ {S W E : Type 0} {c : calls.Ghosts Host} {s : start.Ghosts S} {g : Ghos
             let each = unclosed_each it.again run.store it.closed.quiet run.numbered run.files run.files_are honest in
             opened_leaves HoldAfterOneMore conn it.again _ runs.work run.old run.new run.err_old run.err_new run.obeys.done end.status end.is_told run.files runs.runs.opened it.does it.drives run.obeys.tells
             (unclosed_clean it.again run.store it.closed.quiet run.numbered run.files run.files_are honest) each
-            (λ world works. hold_one_more it.again run.files each world (commands_of_work runs.work) works.answers works.count works.is_cut works.drives);
+            (λ world works. hold_one_more it.again run.files each world (commands_of_work world runs.work) works.answers works.count works.is_cut works.drives);
       }
 
 -- ---- one after another

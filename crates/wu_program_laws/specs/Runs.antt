@@ -78,12 +78,12 @@ module _ {D : Type 0} (g : Ghosts D) (files : Files D) (says : Holds) (before af
   -- said of so many commands holds of the files, whatever a stop leaves of them.
   pub record LeavesDone (world : World) (asked : Work) (status : ℕ) : Type 0 where
     pub count : ℕ
-    pub within : count ≤ length (commands_of_work asked)
+    pub within : count ≤ length (commands_of_work world asked)
     pub answers : List Answer
-    pub answered : AnswerAll world (take count (commands_of_work asked)) answers
+    pub answered : AnswerAll world (take count (commands_of_work world asked)) answers
     pub told : TellsDone before after asked answers count
-    pub whole : status ≡ 0 → count ≡ length (commands_of_work asked)
-    pub held : OfEachImage g files (says world (commands_of_work asked) count)
+    pub whole : status ≡ 0 → count ≡ length (commands_of_work world asked)
+    pub held : OfEachImage g files (says world (commands_of_work world asked) count)
 
   -- over each world of a project that was there at first, where the disk had no fault by the end
   abbrev pub LeavesBeginning : Image → Work → ℕ → Type 0
@@ -171,7 +171,7 @@ module _ {S T W E : Type 0} {c d : calls.Ghosts Host} {s : start.Ghosts S} {t : 
     pub next : LeavesItsDone contents told_of second two
     pub done :
         AreClean h two.files.log two.files.db → (world : World) (it : LeavesDone g one.files HoldAfter (contents one.old) (contents one.new) world left.work first.status)
-        → ∥ DoesNext two next.work (world_after world (commands_of_work left.work) it.count) ∥₁
+        → ∥ DoesNext two next.work (world_after world (commands_of_work world left.work) it.count) ∥₁
     pub kept :
         AreClean h two.files.log two.files.db → (world : World) → IsProject world → HoldsWorld (image_at s) world → LeavesAsItWas g one.files (image_at s) world first.status
         → ∥ DoesNext two next.work world ∥₁
@@ -182,7 +182,7 @@ module _ {S T W E : Type 0} {c d : calls.Ghosts Host} {s : start.Ghosts S} {t : 
     pub next : LeavesItsDone contents told_of second two
     pub done :
         AreClean h two.files.log two.files.db → (world : World) (it : LeavesDone g one.files HoldAfterOneMore (contents one.old) (contents one.new) world left.work first.status)
-        → ∥ DoesNextAfter two next.work world (commands_of_work left.work) it.count ∥₁
+        → ∥ DoesNextAfter two next.work world (commands_of_work world left.work) it.count ∥₁
     pub kept :
         AreClean h two.files.log two.files.db → (world : World) → IsProject world → HoldsWorld (image_at s) world → LeavesAsItWas g one.files (image_at s) world first.status
         → ∥ DoesNext two next.work world ∥₁

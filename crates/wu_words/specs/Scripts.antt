@@ -1,5 +1,6 @@
 -- Scripts: their lines as lines of the command line, and what these ask of a project.
-use Rattle.std.specs.Prelude.{◌≡◌, ◌⊎◌, ℕ, List, [], ◌∷◌, ◌++◌, codes, Option, Result, Ok, Err, IsOk, ⊤}
+use Rattle.std.specs.Prelude.{◌≡◌, ◌⊎◌, ℕ, Bool, true, false, List, [], ◌∷◌, ◌++◌, bytes_eq, codes, drop, slice_get, Option, Result, Ok, Err, IsOk, ⊤}
+use Rattle.std.specs.Option.{option_map_or}
 use Rattle.std.specs.declared.alloc.Global.{Global}
 use Rattle.std.specs.declared.vec.Vec.{Vec}
 use Rattle.wu_core.specs.declared.fault.Fault.{Fault}
@@ -14,6 +15,7 @@ use Rattle.wu_words.specs.declared.entry.Entry.{Entry}
 use Rattle.wu_words.specs.declared.entry.Refusal.{Refusal}
 use Rattle.wu_words.specs.declared.entry.Refusal.TheVariants as refusal
 use Rattle.wu_words.specs.declared.line.Line.{Line}
+use Rattle.wu_words.specs.declared.line.Line.TheVariants as line
 use Rattle.wu_words.specs.declared.order.ScriptFile.{ScriptFile}
 use Rattle.wu_words.specs.declared.step.BadLine.{BadLine}
 use Rattle.wu_words.specs.declared.step.FedEntry.{FedEntry}
@@ -31,16 +33,40 @@ ReadsWords words (Ok line) = IsLineOf words line
 ReadsWords words (Err (refusal.Text cause)) = ⊥
 ReadsWords words (Err (refusal.Words usage)) = Explains words usage
 ReadsWords words (Err refusal.Script) = (script : ScriptFile) × IsScriptOf words script
+ReadsWords words (Err refusal.Repeat) = ⊥
 ReadsWords words (Err (refusal.Fault fault)) = fault ≡ Memory
 
+-- a line of these is one pass, and can be repeated
+abbrev pub is_pass : Line → Bool
+is_pass (line.Transition db now limit) = true
+is_pass (line.Validate db limit) = true
+is_pass (line.Assimilate db now limit) = true
+is_pass (line.Delete db limit) = true
+is_pass (line.Purge db now limit min_age) = true
+is_pass _ = false
+
+-- so it is of words behind `repeat`, which ask for a pass; another line is refused
+abbrev pub ReadsRepeated : List (List ℕ) → Result Line Refusal → Type 0
+ReadsRepeated words (Ok line) = IsLineOf words line × (is_pass line ≡ true)
+ReadsRepeated words (Err refusal.Repeat) = (line : Line) × IsLineOf words line × (is_pass line ≡ false)
+ReadsRepeated words (Err why) = ReadsWords words (Err why)
+
+-- the first of the words is `repeat`
+abbrev pub asks_to_repeat : List (List ℕ) → Bool
+asks_to_repeat words = option_map_or (λ word. bytes_eq word (codes "repeat")) (slice_get words 0) false
+
+abbrev pub ReadsWordsOf : List ℕ → List (List ℕ) → Bool → Result Line Refusal → Type 0
+ReadsWordsOf db words true result = ReadsRepeated (command_words db (drop 1 words)) result
+ReadsWordsOf db words false result = ReadsWords (command_words db words) result
+
 -- so it is of a line of a script, and one that is not taken apart into words is told by its cause
-abbrev pub ReadsScriptLine : List ℕ → Result (List (List ℕ)) LineCause → Result Line Refusal → Type 0
-ReadsScriptLine db (Ok words) result = ReadsWords (command_words db words) result
-ReadsScriptLine db (Err cause) result = result ≡ Err (refusal.Text cause)
+abbrev pub ReadsScriptLine : List ℕ → Result (List (List ℕ)) LineCause → Bool → Result Line Refusal → Type 0
+ReadsScriptLine db (Ok words) repeats result = (repeats ≡ asks_to_repeat words) × ReadsWordsOf db words repeats result
+ReadsScriptLine db (Err cause) repeats result = (repeats ≡ false) × (result ≡ Err (refusal.Text cause))
 
 -- an entry for a line, under its number
 abbrev pub IsEntryOf : List ℕ → ScriptLine → Entry → Type 0
-IsEntryOf db line entry = (entry.number ≡ line.number) × ReadsScriptLine db line.words entry.line
+IsEntryOf db line entry = (entry.number ≡ line.number) × ReadsScriptLine db line.words entry.repeats entry.line
 
 -- an entry for each line, in order
 unfoldable pub AreEntriesOf : List ℕ → List ScriptLine → List Entry → Type 0
@@ -72,17 +98,17 @@ fed entry (Err fault) = Err (record { number = entry.number; why = refusal.Fault
 
 -- ---- what they ask of a project
 
-abbrev pub with_number : ℕ → Result Action Fault → Result Step BadLine
-with_number number (Ok action) = Ok (record { number = number; action = action })
-with_number number (Err fault) = Err (record { number = number; why = refusal.Fault fault })
+abbrev pub with_number : ℕ → Bool → Result Action Fault → Result Step BadLine
+with_number number repeats (Ok action) = Ok (record { number = number; repeats = repeats; action = action })
+with_number number repeats (Err fault) = Err (record { number = number; why = refusal.Fault fault })
 
 -- what a line asks of a project, with the contents of its files, or why it can't be run
-abbrev pub prepared_line : ℕ → Result Line Refusal → List (Option (List ℕ)) → Result Step BadLine
-prepared_line number (Ok line) contents = with_number number (prepared line contents)
-prepared_line number (Err why) contents = Err (record { number = number; why = why })
+abbrev pub prepared_line : ℕ → Bool → Result Line Refusal → List (Option (List ℕ)) → Result Step BadLine
+prepared_line number repeats (Ok line) contents = with_number number repeats (prepared line contents)
+prepared_line number repeats (Err why) contents = Err (record { number = number; why = why })
 
 abbrev pub prepared_entry : FedEntry → Result Step BadLine
-prepared_entry fed = prepared_line fed.entry.number fed.entry.line (bytes_of fed.contents.items)
+prepared_entry fed = prepared_line fed.entry.number fed.entry.repeats fed.entry.line (bytes_of fed.contents.items)
 
 abbrev pub with_step : Result Step BadLine → Result (List Step) BadLine → Result (List Step) BadLine
 with_step (Ok step) (Ok steps) = Ok (step ∷ steps)

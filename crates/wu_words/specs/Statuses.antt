@@ -33,6 +33,7 @@ abbrev pub refusal_status : Refusal → ℕ
 refusal_status (refusal.Text cause) = 2
 refusal_status (refusal.Words usage) = usage_status usage
 refusal_status refusal.Script = 2
+refusal_status refusal.Repeat = 2
 refusal_status (refusal.Fault fault) = fault_status fault
 
 abbrev pub status_of_line : Option LineFault → ℕ

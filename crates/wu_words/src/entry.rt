@@ -25,6 +25,8 @@ pub enum Refusal {
     Words(Usage),
     /// It asks for a script.
     Script,
+    /// What it repeats is no pass.
+    Repeat,
     /// A value or a file of it is refused.
     Fault(Fault),
 }
@@ -51,7 +53,7 @@ impl Refusal {
         ensures { result ≡ refusal_status self.now }
     {
         match self {
-            Refusal::Text(_) | Refusal::Script => 2,
+            Refusal::Text(_) | Refusal::Script | Refusal::Repeat => 2,
             Refusal::Words(usage) => usage.status(),
             Refusal::Fault(fault) => fault_status(*fault),
         }
@@ -63,6 +65,8 @@ impl Refusal {
 pub struct Entry {
     /// Its place among the lines of the script, from 1.
     pub number: u64,
+    /// Whether its first word is `repeat`: its pass is done until that handles less than its limit.
+    pub repeats: bool,
     pub line: Result<Line, Refusal>,
 }
 

@@ -1,7 +1,7 @@
 //! The lines of a script as lines of the command line.
 
-ghost use Rattle.std.specs.Prelude.{◌≡◌, ◌++◌, codes, IfErr, IfOk, map, string_bytes};
-ghost use Rattle.wu_words.specs.Scripts.{command_words, FailsToRead, ReadsScriptLine, ReadsScript, ReadsWords};
+ghost use Rattle.std.specs.Prelude.{◌≡◌, ◌++◌, ◌<◌, codes, drop, IfErr, IfOk, length, map, string_bytes};
+ghost use Rattle.wu_words.specs.Scripts.{asks_to_repeat, command_words, FailsToRead, is_pass, ReadsRepeated, ReadsScriptLine, ReadsScript, ReadsWords, ReadsWordsOf};
 
 use crate::entry::{Entries, Entry, Refusal};
 use crate::line::Line;
@@ -42,18 +42,84 @@ fn line_of_words(alloc: Global, db: &str, words: Words) -> Result<Line, Refusal>
     }
 }
 
-/// The line of a script's words, or why there is none.
-fn line_of(alloc: Global, db: &str, words: Result<Words, LineCause>) -> Result<Line, Refusal>
-    ensures { ReadsScriptLine db.now words result }
+/// Whether a line is one pass.
+fn is_pass(line: &Line) -> bool
+    ensures { result ≡ is_pass line.now }
+{
+    match line {
+        Line::Transition { .. }
+        | Line::Validate { .. }
+        | Line::Assimilate { .. }
+        | Line::Delete { .. }
+        | Line::Purge { .. } => true,
+        _ => false,
+    }
+}
+
+/// The pass that these words of a script ask for, which stand behind `repeat`.
+fn pass_of_words(alloc: Global, db: &str, words: Words) -> Result<Line, Refusal>
+    ensures { ReadsRepeated (command_words db.now words) result }
+{
+    let line = line_of_words(alloc, db, words)?;
+    if is_pass(&line) {
+        Ok(line)
+    } else {
+        Err(Refusal::Repeat)
+    }
+}
+
+/// Whether the first of these words is `repeat`.
+fn asks_to_repeat(words: &[String]) -> bool
+    ensures { result ≡ asks_to_repeat (map string_bytes words.now) }
+{
+    match words.first() {
+        Some(word) => word.as_str() == "repeat",
+        None => false,
+    }
+}
+
+/// The words but the first one, of which there is one.
+fn without_first(words: Words) -> Words
+    requires { 0 < length words }
+    ensures { result ≡ drop 1 words }
+{
+    let mut words = words.into_vec();
+    words.remove(0);
+    Words::from_vec(words)
+}
+
+/// The line that a script's words ask for, once or to be repeated.
+fn line_of_all(alloc: Global, db: &str, words: Words, repeats: bool) -> Result<Line, Refusal>
+    requires { repeats ≡ asks_to_repeat words }
+    ensures { ReadsWordsOf db.now words repeats result }
+{
+    if repeats {
+        pass_of_words(alloc, db, without_first(words))
+    } else {
+        line_of_words(alloc, db, words)
+    }
+}
+
+/// The line of a script's words, or why there is none, and whether it is to be repeated.
+fn line_of(
+    alloc: Global,
+    db: &str,
+    words: Result<Words, LineCause>,
+) -> (bool, Result<Line, Refusal>)
+    ensures { ReadsScriptLine db.now words result.0 result.1 }
 {
     match words {
-        Ok(words) => line_of_words(alloc, db, words),
-        Err(cause) => Err(Refusal::Text(cause)),
+        Ok(words) => {
+            let repeats = asks_to_repeat(words.as_slice());
+            (repeats, line_of_all(alloc, db, words, repeats))
+        }
+        Err(cause) => (false, Err(Refusal::Text(cause))),
     }
 }
 
 /// An entry for each line of a script that has words, in their order: the line of the command line that the words are
-/// with `--db` and this database behind them, or why they are none. The only faults are `Memory` and, for the length of
+/// with `--db` and this database behind them, or why they are none. Where the first word is `repeat` it is the line of
+/// the others, which has to be a pass. The only faults are `Memory` and, for the length of
 /// the text, `BadFile` with row 0 and `TooLong`.
 pub fn read_lines(alloc: Global, db: &str, text: &[u8]) -> Result<Entries, Fault>
     ensures entries { IfOk result (ReadsScript db.now text.now) }
@@ -62,8 +128,12 @@ pub fn read_lines(alloc: Global, db: &str, text: &[u8]) -> Result<Entries, Fault
     let lines = read_script(alloc, text)?;
     let mut entries = Vec::new(alloc);
     for ScriptLine { number, words } in lines.into_vec() {
-        let line = line_of(alloc, db, words);
-        entries.push(Entry { number, line })?;
+        let (repeats, line) = line_of(alloc, db, words);
+        entries.push(Entry {
+            number,
+            repeats,
+            line,
+        })?;
     }
     Ok(Entries::from_vec(entries))
 }

@@ -23,6 +23,8 @@ pub struct FedEntry {
 pub struct Step {
     /// Its place among the lines of the script, from 1.
     pub number: u64,
+    /// Whether its action, which is one pass, is done until that handles less than its limit.
+    pub repeats: bool,
     pub action: Action,
 }
 
@@ -117,13 +119,21 @@ fn prepare_entry(alloc: Global, fed: FedEntry) -> Result<Step, BadLine>
     ensures { GivesStep result fed }
 {
     let FedEntry { entry, contents } = fed;
-    let Entry { number, line } = entry;
+    let Entry {
+        number,
+        repeats,
+        line,
+    } = entry;
     let line = match line {
         Ok(line) => line,
         Err(why) => return Err(BadLine { number, why }),
     };
     match prepare(alloc, &line, contents) {
-        Ok(action) => Ok(Step { number, action }),
+        Ok(action) => Ok(Step {
+            number,
+            repeats,
+            action,
+        }),
         Err(fault) => Err(BadLine {
             number,
             why: Refusal::Fault(fault),

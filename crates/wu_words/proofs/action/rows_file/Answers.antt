@@ -1,5 +1,5 @@
-use Rattle.std.proofs.Common.{◌≡◌, ◌∙◌, ℕ, List, Option, Result, Ok, Err, ap, inl, rules, subst, sym}
-use Rattle.wu_core.specs.Reads.{IsOrWantsMemory, TellsRefusal}
+use Rattle.std.proofs.Common.{◌≡◌, ◌∙◌, ℕ, List, Ok, Err, ap, inl, rules, subst, sym}
+use Rattle.wu_core.specs.Reads.{TellsRefusal}
 use Rattle.wu_machine.specs.declared.command.RowsFile.{RowsFile}
 use Rattle.wu_words.specs.Actions.{both, bytes_of, content_of, rows_file}
 use Rattle.wu_words.proofs.BothLemmas.{file_follows, followed}

@@ -9,7 +9,7 @@ loop-number-init c = rw c.new-entries.ensures.items (entries_none c.args.db.now)
 
 pub loop-number-preserved : goal.loop-number-preserved
 loop-number-preserved c =
-    let entry : Entry = record { number = c.in-Some.number; line = c.line_of-line.result } in
+    let entry : Entry = record { number = c.in-Some.number; repeats = c.line_of-repeats.result.0; line = c.line_of-repeats.result.1 } in
     let grown : c.push.new.self.items ≡ c.loop-number.entries.items ++ entry ∷ [] = search rules in
     subst (λ l. AreEntriesOf c.args.db.now (c.loop-number.yielded ++ c.in-Some.field-0 ∷ []) l) (sym grown)
-    (entries_more c.args.db.now c.loop-number.yielded c.loop-number.entries.items c.in-Some.field-0 entry c.loop-number.invariant (sym c.in-Some.number-is, c.line_of-line.ensures))
+    (entries_more c.args.db.now c.loop-number.yielded c.loop-number.entries.items c.in-Some.field-0 entry c.loop-number.invariant (sym c.in-Some.number-is, c.line_of-repeats.ensures))

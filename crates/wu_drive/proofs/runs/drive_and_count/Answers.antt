@@ -7,7 +7,9 @@ use Rattle.wu_core.specs.declared.fault.Fault.{Fault}
 use Rattle.wu_core.specs.declared.fault.Fault.TheVariants.{Broken, Output}
 use Rattle.wu_drive.proofs.AnswerLemmas.{all_written, answers_text-more, last_cut}
 use Rattle.wu_drive.proofs.DrivingLemmas.{broke_after, driving_more, driving_none, drives_cut, drives_so_far, ended_first, IsDriving, knows_cut, knows_so_far, leaves_first, never_told, never_whole, not_done, nothing_next, ok_holds, one_fault, serves_done, serves_or_rests}
+use Rattle.wu_drive.proofs.CountingLemmas.{counts_next}
 use Rattle.wu_drive.proofs.LifeLemmas.{lengthens}
+use Rattle.wu_drive.specs.Counting.{last_handled}
 use Rattle.wu_drive.specs.Driving.{DrivesProject, MakeNothing}
 use Rattle.wu_machine.specs.Sessions.{world_of_life}
 use Rattle.wu_passes.proofs.StandingLemmas.{keeps_self, keeps_then}
@@ -15,7 +17,7 @@ use Rattle.wu_core.specs.World.{World}
 use Rattle.wu_passes.specs.Projects.{has_ended, IsKnownTo, IsSessionOpen, state_of}
 use Rattle.wu_passes.specs.Standing.{GoesOn}
 use Rattle.wu_drive.specs.Writing.{answers_text}
-use Rattle.wu_drive.proofs.runs.drive.Goals as goal
+use Rattle.wu_drive.proofs.runs.drive_and_count.Goals as goal
 
 pub loop-command-init : goal.loop-command-init
 loop-command-init g c = (
@@ -28,12 +30,13 @@ loop-command-init g c = (
   λ going was clean. was,
   λ first. refl,
   λ going clean world known goes none. keeps_self _,
+  λ going clean world known goes. refl,
   ([], refl, search rules, λ going clean world known goes. driving_none world c.args.commands.now _ going known goes),
 )
 
 pub loop-command-preserved : goal.loop-command-preserved
 loop-command-preserved g c =
-    let (index, was_ended, goes_still, limited, kept_clean, rises, opened, untried, idle, (answers, counted, whole, driving)) = c.loop-command.invariant in
+    let (index, was_ended, goes_still, limited, kept_clean, rises, opened, untried, idle, counts, (answers, counted, whole, driving)) = c.loop-command.invariant in
     let answer = c.in-Ok.answer in
     let longer : length (answers ++ answer ∷ []) ≡ c.loop-command.acknowledged + 1 = length-append answers (answer ∷ []) ∙ omega arith in
     let more = Appends-trans _ _ _ (answers_text answers) _ whole c.in_default.ensures.bytes in (
@@ -53,6 +56,11 @@ loop-command-preserved g c =
           let (firsts, here) = nothing_next world c.args.commands.now c.loop-command.command-index c.command-item.result c.command-item.result c.loop-command-test.true (sym c.command-item.is) none in
           keeps_then _ _ _ (idle going before world known goes firsts)
           (ok_holds c.run.result answer _ c.in-Ok.is (c.run.ensures.idle (goes_still going) clean _ so_far.known so_far.goes here)),
+      λ going clean world known goes.
+          let before : HasCleanDisk (state_of c.loop-command.project) = omega (arith, c.run.ensures.session.clean) in
+          let so_far = driving going before world known goes in
+          counts_next world c.args.commands.now c.loop-command.command-index c.command-item.result c.command-item.result c.loop-command-test.true (sym c.command-item.is) answer _ c.handled_by-handled.ensures
+          ((c.in-Ok.ensures.runs so_far.going).goes clean _ so_far.known so_far.goes).0,
       (
         answers ++ answer ∷ [],
         longer,
@@ -66,9 +74,9 @@ loop-command-preserved g c =
     )
 
 -- a command was not done
-pub returns-in-Err : goal.returns-in-Err
-returns-in-Err g c =
-    let (index, was_ended, goes_still, limited, kept_clean, rises, opened, untried, idle, (answers, counted, whole, driving)) = c.loop-command.invariant in
+pub returns-in-Err-clause-runs : goal.returns-in-Err-clause-runs
+returns-in-Err-clause-runs g c =
+    let (index, was_ended, goes_still, limited, kept_clean, rises, opened, untried, idle, counts, (answers, counted, whole, driving)) = c.loop-command.invariant in
     let before : HasCleanDisk (state_of c.run.new.self) → HasCleanDisk (state_of c.loop-command.project) = λ clean. omega (arith, c.run.ensures.session.clean, clean) in
     let drives : DrivesProject c.args.project.now c.run.new.self c.args.commands.now answers _ = λ going clean world known goes.
     let so_far = driving going (before clean) world known goes in
@@ -106,9 +114,9 @@ returns-in-Err g c =
     }
 
 -- the text of one that was done could not be written
-pub returns-in-Err-write_answer : goal.returns-in-Err-write_answer
-returns-in-Err-write_answer g c =
-    let (index, was_ended, goes_still, limited, kept_clean, rises, opened, untried, idle, (answers, counted, whole, driving)) = c.loop-command.invariant in
+pub returns-in-Err-write_answer-clause-runs : goal.returns-in-Err-write_answer-clause-runs
+returns-in-Err-write_answer-clause-runs g c =
+    let (index, was_ended, goes_still, limited, kept_clean, rises, opened, untried, idle, counts, (answers, counted, whole, driving)) = c.loop-command.invariant in
     let answer = c.in-Ok.answer in
     let before : HasCleanDisk (state_of c.run.new.self) → HasCleanDisk (state_of c.loop-command.project) = λ clean. omega (arith, c.run.ensures.session.clean, clean) in
     let longer : IsSessionOpen c.args.project.now → HasCleanDisk (state_of c.run.new.self) → (world : World) → IsKnownTo c.args.project.now world → GoesOn (state_of c.args.project.now) world
@@ -151,9 +159,9 @@ returns-in-Err-write_answer g c =
     }
 
 -- the list ended
-pub returns : goal.returns
-returns g c =
-    let (index, was_ended, goes_still, limited, kept_clean, rises, opened, untried, idle, (answers, counted, whole, driving)) = c.loop-command.invariant in
+pub returns-clause-runs : goal.returns-clause-runs
+returns-clause-runs g c =
+    let (index, was_ended, goes_still, limited, kept_clean, rises, opened, untried, idle, counts, (answers, counted, whole, driving)) = c.loop-command.invariant in
     let drives : DrivesProject c.args.project.now c.loop-command.project c.args.commands.now answers (record { acknowledged = c.loop-command.acknowledged; end = None }) = λ going clean world known goes.
     drives_so_far world c.args.commands.now answers c.loop-command.command-index _ _ index (driving going clean world known goes) c.loop-command.auto.command-index-end (λ fault told. never_told fault told) in
     record {
@@ -173,3 +181,25 @@ returns g c =
       count = omega (arith, index, c.loop-command.auto.command-index-end);
       all = λ none. omega (arith, index, c.loop-command.auto.command-index-end, c.loop-command-test.false);
     }
+
+-- ---- how many workunits the last one handled
+
+pub returns-in-Err-clause-counts : goal.returns-in-Err-clause-counts
+returns-in-Err-clause-counts g c going clean world known goes =
+    let (index, was_ended, goes_still, limited, kept_clean, rises, opened, untried, idle, counts, (answers, counted, whole, driving)) = c.loop-command.invariant in
+    let before : HasCleanDisk (state_of c.loop-command.project) = omega (arith, c.run.ensures.session.clean, clean) in
+    subst (λ k. c.loop-command.handled ≡ last_handled world (take k c.args.commands.now)) (sym index) (counts going before world known goes)
+
+pub returns-in-Err-write_answer-clause-counts : goal.returns-in-Err-write_answer-clause-counts
+returns-in-Err-write_answer-clause-counts g c going clean world known goes =
+    let (index, was_ended, goes_still, limited, kept_clean, rises, opened, untried, idle, counts, (answers, counted, whole, driving)) = c.loop-command.invariant in
+    let before : HasCleanDisk (state_of c.loop-command.project) = omega (arith, c.run.ensures.session.clean, clean) in
+    let so_far = driving going before world known goes in
+    subst (λ k. c.handled_by-handled.result ≡ last_handled world (take (k + 1) c.args.commands.now)) (sym index)
+    (counts_next world c.args.commands.now c.loop-command.command-index c.command-item.result c.command-item.result c.loop-command-test.true (sym c.command-item.is) c.in-Ok.answer _ c.handled_by-handled.ensures
+    ((c.in-Ok.ensures.runs so_far.going).goes clean _ so_far.known so_far.goes).0)
+
+pub returns-clause-counts : goal.returns-clause-counts
+returns-clause-counts g c going clean world known goes =
+    let (index, was_ended, goes_still, limited, kept_clean, rises, opened, untried, idle, counts, (answers, counted, whole, driving)) = c.loop-command.invariant in
+    subst (λ k. c.loop-command.handled ≡ last_handled world (take k c.args.commands.now)) (sym index) (counts going clean world known goes)

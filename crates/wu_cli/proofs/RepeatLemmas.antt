@@ -1,0 +1,259 @@
+-- From round to round of a repeated step, and from step to step of a script.
+use Rattle.std.proofs.Common.{◌≡◌, ◌∙◌, ℕ, zero, suc, ◌+◌, ◌-◌, ◌<◌, ◌≤◌, Bool, true, false, if◌then◌else◌, List, [], ◌∷◌, ◌++◌, take, replicate, Option, Some, None, refl, sym, ap, subst, arith, append_assoc, append-nil}
+use Rattle.std.proofs.lemmas.List.{replicate_more}
+use Rattle.std.proofs.lemmas.List.Concat.{flat_map-append}
+use Rattle.sqlite.specs.State.{HasCleanDisk}
+use Rattle.sqlite_trees.specs.declared.store.Store.{Ghosts}
+use Rattle.wu_core.specs.World.{World}
+use Rattle.wu_core.specs.declared.fault.Fault.{Fault}
+use Rattle.wu_drive.specs.Counting.{CountsLast, last_handled}
+use Rattle.wu_drive.specs.declared.runs.Run.{Run}
+use Rattle.wu_machine.specs.declared.command.Command.{Command}
+use Rattle.wu_passes.specs.declared.project.Project.{Project}
+use Rattle.wu_passes.specs.Projects.{IsKnownTo, IsSessionOpen, state_of}
+use Rattle.wu_passes.specs.Standing.{GoesOn}
+use Rattle.wu_words.specs.declared.action.Action.{Action}
+use Rattle.wu_words.specs.declared.action.Action.TheVariants.{Commands}
+use Rattle.wu_words.specs.declared.step.LineFault.{LineFault}
+use Rattle.wu_words.specs.declared.step.Step.{Step}
+use Rattle.wu_cli.specs.Performing.{Performs}
+use Rattle.wu_cli.specs.Repeating.{AreRepeated, commands_of_action, commands_of_steps, fill_limit, is_full, most_rounds, rounds, rounds_of, unrolled, world_behind, world_behind_steps}
+use Rattle.wu_cli.specs.Scripting.{PerformsEach, PerformsScript, PerformsStep, PerformsSteps, PerformsUntil, TellsFull}
+use Rattle.wu_cli.proofs.ScriptLemmas.{each_both, each_clean, each_done, each_goes, each_more, each_none, one_clean, until_both, world_both, world_of}
+
+-- ---- whether there may be more to do
+
+-- of commands that were all done
+pub tells_full : {S : Type 0} {store : Ghosts S} (old new : Project S store) (commands : List Command) (run : Run) (handled : Option ℕ)
+    → CountsLast old new commands run handled → (run.end ≡ None → take run.acknowledged commands ≡ commands)
+    → TellsFull old new (Commands commands) run.end (fill_limit commands handled)
+tells_full old new commands run handled counts all none going clean world known goes =
+    ap (fill_limit commands) (counts going clean world known goes ∙ ap (λ cs. last_handled world cs) (all none))
+
+-- ---- the steps that they come to
+
+steps_behind : (world : World) (xs ys : List Step) → world_behind_steps world (xs ++ ys) ≡ world_behind_steps (world_behind_steps world xs) ys
+steps_behind world xs ys =
+    ap (λ cs. world_of world cs) (flat_map-append (λ (s : Step). commands_of_action s.action) xs ys) ∙ world_both world (commands_of_steps xs) (commands_of_steps ys)
+
+unrolled_both : (world : World) (xs ys : List Step) → unrolled world (xs ++ ys) ≡ unrolled world xs ++ unrolled (world_behind_steps world (unrolled world xs)) ys
+unrolled_both world [] ys = refl
+unrolled_both world (x ∷ xs) ys =
+    let here = replicate (rounds world x) x in
+    let mid = world_behind_steps world here in
+    ap (λ l. here ++ l) (unrolled_both mid xs ys ∙ ap (λ w. unrolled mid xs ++ unrolled w ys) (sym (steps_behind world here (unrolled mid xs))))
+    ∙ sym (append_assoc here (unrolled mid xs) (unrolled (world_behind_steps world (here ++ unrolled mid xs)) ys))
+
+repeated_both : (xs ys first second : List Step) → AreRepeated xs first → AreRepeated ys second → AreRepeated (xs ++ ys) (first ++ second)
+repeated_both [] ys first second one two = subst (λ l. AreRepeated ys (l ++ second)) (sym one) two
+repeated_both (x ∷ xs) ys first second (times, more, order, once, rest) two =
+    (times, more ++ second, ap (λ l. l ++ second) order ∙ append_assoc (replicate times x) more second, once, repeated_both xs ys more second rest two)
+
+repeated_self : (steps : List Step) → AreRepeated steps steps
+repeated_self [] = refl
+repeated_self (step ∷ steps) = (1, steps, refl, λ _. refl, repeated_self steps)
+
+replicate_split : (i more : ℕ) (step : Step) → replicate (i + suc more) step ≡ replicate i step ++ step ∷ replicate more step
+replicate_split zero more step =
+    let same : zero + suc more ≡ suc more = omega arith in
+    ap (λ n. replicate n step) same
+replicate_split (suc i) more step =
+    let next : suc i + suc more ≡ suc (i + suc more) = omega arith in
+    ap (λ n. replicate n step) next ∙ ap (λ l. step ∷ l) (replicate_split i more step)
+
+-- ---- round by round
+
+-- how often a step is still to be done behind so many rounds
+abbrev pub AreLeft : World → Step → ℕ → Type 0
+AreLeft world step i =
+    rounds world step ≡ i + rounds_of (world_behind_steps world (replicate i step)) step.action (most_rounds step.repeats - i)
+
+-- how often behind one round more
+abbrev left_behind : World → Step → ℕ → ℕ
+left_behind world step i =
+    let here = world_behind_steps world (replicate i step) in
+    if is_full here step.action then rounds_of (world_behind here step.action) step.action (most_rounds step.repeats - (i + 1)) else zero
+
+all_left : (world : World) (step : Step) → AreLeft world step 0
+all_left world step =
+    let same : most_rounds step.repeats ≡ most_rounds step.repeats - 0 = omega arith in
+    let here : rounds world step ≡ rounds_of world step.action (most_rounds step.repeats - 0) = ap (λ m. rounds_of world step.action m) same in
+    omega (arith, here)
+
+one_more : (world : World) (step : Step) (i : ℕ) → i < most_rounds step.repeats → AreLeft world step i → rounds world step ≡ i + suc (left_behind world step i)
+one_more world step i within left =
+    let next : most_rounds step.repeats - i ≡ suc (most_rounds step.repeats - (i + 1)) = omega (arith, within) in
+    left ∙ ap (λ m. i + rounds_of (world_behind_steps world (replicate i step)) step.action m) next
+
+next_behind : (world : World) (step : Step) (i : ℕ) → world_behind_steps world (replicate (i + 1) step) ≡ world_behind (world_behind_steps world (replicate i step)) step.action
+next_behind world step i =
+    ap (λ ss. world_behind_steps world ss) (sym (replicate_more i step)) ∙ steps_behind world (replicate i step) (step ∷ [])
+    ∙ ap (λ cs. world_of (world_behind_steps world (replicate i step)) cs) (append-nil (commands_of_action step.action))
+
+left_next : (world : World) (step : Step) (i : ℕ) → i < most_rounds step.repeats → AreLeft world step i → is_full (world_behind_steps world (replicate i step)) step.action ≡ true
+    → AreLeft world step (i + 1)
+left_next world step i within left full =
+    let rest : World → ℕ = λ w. rounds_of w step.action (most_rounds step.repeats - (i + 1)) in
+    let here : rounds world step ≡ i + suc (rest (world_behind_steps world (replicate (i + 1) step))) =
+    one_more world step i within left
+    ∙ ap (λ b. i + suc (if b then rest (world_behind (world_behind_steps world (replicate i step)) step.action) else zero)) full
+    ∙ ap (λ w. i + suc (rest w)) (sym (next_behind world step i)) in
+    omega (arith, here)
+
+left_none : (world : World) (step : Step) (i : ℕ) → i < most_rounds step.repeats → AreLeft world step i → is_full (world_behind_steps world (replicate i step)) step.action ≡ false
+    → rounds world step ≡ i + 1
+left_none world step i within left full =
+    let here = world_behind_steps world (replicate i step) in
+    one_more world step i within left
+    ∙ ap (λ b. i + suc (if b then rounds_of (world_behind here step.action) step.action (most_rounds step.repeats - (i + 1)) else zero)) full
+
+left_out : (world : World) (step : Step) (i : ℕ) → most_rounds step.repeats ≤ i → i ≤ most_rounds step.repeats → AreLeft world step i → rounds world step ≡ i
+left_out world step i all within left =
+    let none : most_rounds step.repeats - i ≡ 0 = omega (arith, all) in
+    let here : rounds world step ≡ i + 0 = left ∙ ap (λ m. i + rounds_of (world_behind_steps world (replicate i step)) step.action m) none in
+    omega (arith, here)
+
+module _ {S W : Type 0} {store : Ghosts S} (contents : W → Option (List ℕ)) where
+  -- so many rounds of a step were done, and each was full
+  pub record HasRounds (old mid : Project S store) (out_old out_mid : W) (step : Step) (i : ℕ) : Type 0 where
+    pub each : PerformsEach contents old mid out_old out_mid (replicate i step)
+    pub left :
+        IsSessionOpen old → HasCleanDisk (state_of mid) → (world : World) → IsKnownTo old world → GoesOn (state_of old) world
+        → AreLeft world step i
+
+  pub rounds_none : (old : Project S store) (out_old : W) (step : Step) → HasRounds old old out_old out_old step 0
+  rounds_none old out_old step = record {
+    each = each_none contents old out_old;
+    left = λ going clean world known goes. all_left world step;
+  }
+
+  module _ (old mid new : Project S store) (out_old out_mid out_new : W) (step : Step) (i : ℕ) (within : i < most_rounds step.repeats) (has : HasRounds old mid out_old out_mid step i) where
+    -- the next round was done
+    module _ (does : Performs contents mid new out_mid out_new step.action None) (told : Bool) (tells : TellsFull mid new step.action None told) where
+      each_here : PerformsEach contents old new out_old out_new (replicate (i + 1) step)
+      each_here = subst (λ l. PerformsEach contents old new out_old out_new l) (replicate_more i step)
+          (each_more contents old mid new out_old out_mid out_new (replicate i step) step has.each does)
+
+      was_clean : HasCleanDisk (state_of new) → HasCleanDisk (state_of mid)
+      was_clean clean = let kept = one_clean contents mid new out_mid out_new step.action None does in omega (arith, kept, clean)
+
+      told_here : IsSessionOpen old → HasCleanDisk (state_of new) → (world : World) → IsKnownTo old world → GoesOn (state_of old) world
+          → told ≡ is_full (world_behind_steps world (replicate i step)) step.action
+      told_here going clean world known goes =
+          let done = each_done contents old mid out_old out_mid (replicate i step) has.each going (was_clean clean) world known goes in
+          tells refl (each_goes contents old mid out_old out_mid (replicate i step) has.each going) clean (world_behind_steps world (replicate i step)) done.3 done.2
+
+      pub rounds_more : told ≡ true → HasRounds old new out_old out_new step (i + 1)
+      rounds_more full = record {
+        each = each_here;
+        left = λ going clean world known goes.
+            left_next world step i within (has.left going (was_clean clean) world known goes) (sym (told_here going clean world known goes) ∙ full);
+      }
+
+      pub rounds_end : told ≡ false → PerformsStep contents old new out_old out_new step None
+      rounds_end full = record {
+        times = i + 1;
+        once = λ single. only_one single;
+        does = each_here;
+        over = λ going clean world known goes.
+            subst (λ n. PerformsEach contents old new out_old out_new (replicate n step))
+            (sym (left_none world step i within (has.left going (was_clean clean) world known goes) (sym (told_here going clean world known goes) ∙ full))) each_here;
+      }
+        where
+          only_one : step.repeats ≡ false → i + 1 ≡ 1
+          only_one single = let most = ap most_rounds single in omega (arith, within, most)
+
+    -- it ended with a fault
+    pub rounds_cut : (fault : Fault) → Performs contents mid new out_mid out_new step.action (Some fault) → PerformsStep contents old new out_old out_new step (Some (record { number = step.number; fault = fault }))
+    rounds_cut fault does = record {
+      times = i + 1;
+      once = λ single. let most = ap most_rounds single in omega (arith, within, most);
+      does = cut (replicate (i + 1) step) [] (sym (replicate_more i step));
+      over = λ going clean world known goes.
+          let kept = one_clean contents mid new out_mid out_new step.action (Some fault) does in
+          let before : HasCleanDisk (state_of mid) = omega (arith, kept, clean) in
+          let left = one_more world step i within (has.left going before world known goes) in
+          cut (replicate (rounds world step) step) (replicate (left_behind world step i) step)
+          (ap (λ n. replicate n step) left ∙ replicate_split i (left_behind world step i) step);
+    }
+      where
+        cut : (ran after : List Step) → ran ≡ replicate i step ++ step ∷ after → PerformsUntil contents old new out_old out_new ran (record { number = step.number; fault = fault })
+        cut ran after order = record {
+          before = replicate i step;
+          last = step;
+          after = after;
+          order = order;
+          number = refl;
+          mid = mid;
+          out_mid = out_mid;
+          each = has.each;
+          ends = does;
+        }
+
+  -- all rounds were done
+  pub rounds_all : (old new : Project S store) (out_old out_new : W) (step : Step) (i : ℕ) → most_rounds step.repeats ≤ i → i ≤ most_rounds step.repeats → HasRounds old new out_old out_new step i
+      → PerformsStep contents old new out_old out_new step None
+  rounds_all old new out_old out_new step i all within has = record {
+    times = i;
+    once = λ single. let most = ap most_rounds single in omega (arith, within, all, most);
+    does = has.each;
+    over = λ going clean world known goes.
+        subst (λ n. PerformsEach contents old new out_old out_new (replicate n step)) (sym (left_out world step i all within (has.left going clean world known goes))) has.each;
+  }
+
+  -- ---- step by step
+
+  pub script_none : (old : Project S store) (out_old : W) → PerformsScript contents old old out_old out_old [] None
+  script_none old out_old = record {
+    ran = [];
+    repeats = refl;
+    does = each_none contents old out_old;
+    over = λ going clean world known goes. each_none contents old out_old;
+  }
+
+  module _ (old mid new : Project S store) (out_old out_mid out_new : W) (front : List Step) (step : Step) (first : PerformsScript contents old mid out_old out_mid front None) where
+    -- over a world: the steps so far, and the next one over the world behind them
+    next_over : (end : Option LineFault) → PerformsStep contents mid new out_mid out_new step end → (HasCleanDisk (state_of new) → HasCleanDisk (state_of mid))
+        → IsSessionOpen old → HasCleanDisk (state_of new) → (world : World) → IsKnownTo old world → GoesOn (state_of old) world
+        → PerformsEach contents old mid out_old out_mid (unrolled world front)
+        × PerformsSteps contents mid new out_mid out_new (replicate (rounds (world_behind_steps world (unrolled world front)) step) step) end
+    next_over end next was_clean going clean world known goes =
+        let before = was_clean clean in
+        let one = first.over going before world known goes in
+        let done = each_done contents old mid out_old out_mid (unrolled world front) one going before world known goes in
+        (one, next.over (each_goes contents old mid out_old out_mid (unrolled world front) one going) clean (world_behind_steps world (unrolled world front)) done.3 done.2)
+
+    pub script_more : PerformsStep contents mid new out_mid out_new step None → PerformsScript contents old new out_old out_new (front ++ step ∷ []) None
+    script_more next = record {
+      ran = first.ran ++ replicate next.times step;
+      repeats = repeated_both front (step ∷ []) first.ran (replicate next.times step) first.repeats (next.times, [], sym (append-nil (replicate next.times step)), next.once, refl);
+      does = each_both contents old mid new out_old out_mid out_new first.ran (replicate next.times step) first.does next.does;
+      over = λ going clean world known goes.
+          let kept = each_clean contents mid new out_mid out_new (replicate next.times step) next.does in
+          let (one, two) = next_over None next (λ after. omega (arith, kept, after)) going clean world known goes in
+          let here = world_behind_steps world (unrolled world front) in
+          let mine = replicate (rounds here step) step in
+          let whole : unrolled world (front ++ step ∷ []) ≡ unrolled world front ++ mine =
+          unrolled_both world front (step ∷ []) ∙ ap (λ l. unrolled world front ++ l) (append-nil mine) in
+          subst (λ l. PerformsEach contents old new out_old out_new l) (sym whole)
+          (each_both contents old mid new out_old out_mid out_new (unrolled world front) mine one two);
+    }
+
+    pub script_cut : (after : List Step) (end : LineFault) → PerformsStep contents mid new out_mid out_new step (Some end) → PerformsScript contents old new out_old out_new (front ++ step ∷ after) (Some end)
+    script_cut after end next = record {
+      ran = first.ran ++ (replicate next.times step ++ after);
+      repeats = repeated_both front (step ∷ after) first.ran (replicate next.times step ++ after) first.repeats (next.times, after, refl, next.once, repeated_self after);
+      does = until_both contents old mid new out_old out_mid out_new first.ran (replicate next.times step) after end first.does next.does;
+      over = λ going clean world known goes.
+          let (one, two) = next_over (Some end) next was_clean going clean world known goes in
+          let here = world_behind_steps world (unrolled world front) in
+          let mine = replicate (rounds here step) step in
+          subst (λ l. PerformsUntil contents old new out_old out_new l end) (sym (unrolled_both world front (step ∷ after)))
+          (until_both contents old mid new out_old out_mid out_new (unrolled world front) mine (unrolled (world_behind_steps here mine) after) end one two);
+    }
+      where
+        was_clean : HasCleanDisk (state_of new) → HasCleanDisk (state_of mid)
+        was_clean clean =
+            let first_kept = each_clean contents mid next.does.mid out_mid next.does.out_mid next.does.before next.does.each in
+            let last_kept = one_clean contents next.does.mid new next.does.out_mid out_new next.does.last.action (Some end.fault) next.does.ends in
+            omega (arith, first_kept, last_kept, clean)
