@@ -52,7 +52,7 @@ possible_success : (host : List ℕ) → IsPossible (success host aa validate.Va
 possible_success host = record {
   active = λ e. cc;
   sendable = λ e. cc;
-  checked = λ e. cc;
+  refused = λ e. cc;
   deletable = λ e. cc;
   judged = λ e. cc;
 }

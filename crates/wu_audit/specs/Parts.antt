@@ -1,9 +1,12 @@
 -- Parts of what a sound world says of one workunit.
 use Rattle.std.specs.Prelude.{◌≡◌, ◌≢◌, ℕ, ◌<◌, ◌≤◌, ◌&&◌, true, false, length, All, IfSome, is_none, is_some, slice_get, Some}
 use Rattle.std.specs.List.{list_any}
+use Rattle.wu_core.specs.declared.workunit.Instance.{Instance}
 use Rattle.wu_core.specs.declared.workunit.Workunit.{Workunit}
 use Rattle.wu_core.specs.declared.states.Assimilate.TheVariants as assimilate
 use Rattle.wu_core.specs.declared.states.FileDelete.TheVariants as file_delete
+use Rattle.wu_core.specs.declared.states.Outcome.TheVariants as outcome
+use Rattle.wu_core.specs.declared.states.ServerState.TheVariants as server
 use Rattle.wu_core.specs.declared.states.ValidateState.TheVariants as validate
 use Rattle.wu_core.specs.Formed.{IsInstance}
 use Rattle.wu_rules.specs.Consistent.{IsPossible}
@@ -23,6 +26,11 @@ IsCanonicalPlace w = (n : ℕ) → w.canonical ≡ Some n → n < length w.insta
 pub record IsDoneWithMoment (w : Workunit) : Type 0 where
   pub done : w.assimilate ≡ assimilate.Done → is_some w.done_at ≡ true
   pub done_only : is_some w.done_at ≡ true → w.assimilate ≡ assimilate.Done
+
+-- only a success has a verdict, and what was refused as no result is INVALID
+pub record MayHaveVerdict (i : Instance) : Type 0 where
+  pub refused : i.outcome ≡ outcome.ValidateError → (i.server_state ≡ server.Over) × (i.validate_state ≡ validate.Invalid)
+  pub judged : is_success i ≡ false → i.outcome ≢ outcome.ValidateError → i.validate_state ≡ validate.Init
 
 -- no state stands that this project never sets
 pub record IsSettable (w : Workunit) : Type 0 where

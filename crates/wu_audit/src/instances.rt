@@ -3,6 +3,7 @@
 ghost use Rattle.std.specs.Prelude.{◌≡◌, ◌↔◌, IsTrue, All};
 ghost use Rattle.wu_core.specs.Formed.{IsInstance};
 ghost use Rattle.wu_core.specs.Storable.{MayBeInstance, IsStoredInstance, IsHost, AreMoments};
+ghost use Rattle.wu_audit.specs.Parts.{MayHaveVerdict};
 ghost use Rattle.wu_rules.specs.Consistent.{IsPossible};
 ghost use Rattle.wu_rules.specs.Instances.{is_success};
 
@@ -31,15 +32,28 @@ pub fn is_formed_instance(instance: &Instance) -> bool
         && !(is_success(instance) && !has_host)
 }
 
-/// Whether no state stands that this project never sets, and a verdict only where there is a success.
+/// Whether the verdict is one that the instance may have: any where there is a success, INVALID where it was refused as
+/// no result, and else none.
+fn may_have_verdict(instance: &Instance) -> bool
+    ensures { IsTrue result ↔ MayHaveVerdict instance.now }
+{
+    if instance.outcome == Outcome::ValidateError {
+        instance.server_state == ServerState::Over
+            && instance.validate_state == ValidateState::Invalid
+    } else {
+        is_success(instance) || instance.validate_state == ValidateState::Init
+    }
+}
+
+/// Whether no state stands that this project never sets, and no verdict but of a success, or of what was refused as no
+/// result.
 pub fn is_possible_instance(instance: &Instance) -> bool
     ensures { IsTrue result ↔ IsPossible instance.now }
 {
     instance.server_state != ServerState::Inactive
         && instance.outcome != Outcome::CouldntSend
-        && instance.outcome != Outcome::ValidateError
         && instance.file_delete != FileDelete::Error
-        && (is_success(instance) || instance.validate_state == ValidateState::Init)
+        && may_have_verdict(instance)
 }
 
 /// A host's name is one.

@@ -46,4 +46,4 @@ abbrev pub longest_input : ℕ
 longest_input = 4096
 
 abbrev pub longest_output : ℕ
-longest_output = 4096
+longest_output = 65536

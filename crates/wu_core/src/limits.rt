@@ -8,7 +8,7 @@ pub const LONGEST_NAME: usize = 64;
 pub const LONGEST_INPUT: usize = 4_096;
 
 /// The longest output of an instance, in bytes.
-pub const LONGEST_OUTPUT: usize = 4_096;
+pub const LONGEST_OUTPUT: usize = 65_536;
 
 /// The most instances that a workunit may have.
 pub const MOST_INSTANCES: u32 = 100;

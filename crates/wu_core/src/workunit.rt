@@ -30,7 +30,7 @@ pub struct Instance {
     pub deadline: Option<Deadline>,
     /// When its result was reported.
     pub received_at: Option<Moment>,
-    /// At most 4096 bytes.
+    /// At most 65,536 bytes.
     pub output: Bytes,
 }
 

@@ -36,7 +36,7 @@ and at most 1,000 rows, in at most 1,048,576 bytes
   moment        when: explain moments
   status        success, client_error (it failed there) or detached (the host gave
                 it up)
-  output        of a success in hex, 0 to 4,096 bytes; else empty
+  output        of a success in hex, 0 to 65,536 bytes; else empty
 Each row finds what the rows before it left; one that does not fit is skipped:
 explain skips. Why the file is refused: explain causes.
 ",

@@ -27,7 +27,8 @@ and its own
   name          its workunit's name, _ and its number
   where it is   UNSENT, IN_PROGRESS, OVER
   how it ended  INIT, SUCCESS, CLIENT_ERROR, NO_REPLY (its deadline passed),
-                DIDNT_NEED (it was closed unsent), CLIENT_DETACHED
+                DIDNT_NEED (it was closed unsent), VALIDATE_ERROR (a success with
+                an empty output), CLIENT_DETACHED
   its verdict   INIT, VALID, INVALID, NO_CHECK (its workunit was given up),
                 INCONCLUSIVE (more results are wanted), TOO_LATE
   its output    INIT, READY to be deleted, DONE

@@ -25,7 +25,7 @@ pub struct ReportRow {
     pub host: Name,
     pub moment: Moment,
     pub status: Status,
-    /// At most 4096 bytes; empty unless the instance succeeded.
+    /// At most 65,536 bytes; empty unless the instance succeeded.
     pub output: Bytes,
 }
 

@@ -10,7 +10,7 @@ use Rattle.wu_rules.specs.Assimilation.{assimilated, emptied}
 use Rattle.wu_rules.specs.Counts.{consensus}
 use Rattle.wu_rules.specs.Instances.{is_done_assimilate, is_ready_assimilate}
 use Rattle.wu_rules.specs.Transition.{ended, extended, readied, settled, timed, transitioned, with_files_readied}
-use Rattle.wu_rules.specs.Validation.{decided, is_to_validate, left_open, validated, validated_by}
+use Rattle.wu_rules.specs.Validation.{checked, concluded, decided, is_to_validate, left_open, validated, validated_by}
 use Rattle.wu_rules.specs.Due.{chosen}
 use Rattle.wu_rules.specs.declared.due.Pass.{Pass}
 use Rattle.wu_machine.specs.Machine.{done, is_limit_right, IsUpToDate, pass_done}
@@ -54,9 +54,16 @@ validated_by_of : (w : Workunit) (o : Option ℕ) → IsOf (validated_by w o) w
 validated_by_of w (Some n) = (refl, refl)
 validated_by_of w None = decided_of w (consensus w)
 
+checked_of : (w : Workunit) → IsOf (checked w) w
+checked_of w = of_either (is_to_validate w) _ w w (refl, refl) (refl, refl)
+
+concluded_of : (w : Workunit) → IsOf (concluded w) w
+unfolding concluded
+concluded_of w = of_either (is_to_validate w) (validated_by w w.canonical) w w (validated_by_of w w.canonical) (refl, refl)
+
 pub validated_of : (w : Workunit) → IsOf (validated w) w
 unfolding validated
-validated_of w = of_either (is_to_validate w) (validated_by w w.canonical) w w (validated_by_of w w.canonical) (refl, refl)
+validated_of w = of_then (concluded (checked w)) (checked w) w (concluded_of (checked w)) (checked_of w)
 
 pub assimilated_of : (now : ℕ) (w : Workunit) → IsOf (assimilated w now) w
 unfolding assimilated

@@ -38,6 +38,7 @@ stored_stays = record {
   filed = λ i f h. record { values = record { host = h.values.host; moments = h.values.moments; output = h.values.output }; formed = formed_stays.filed i f h.formed };
   deleted = λ i h. record { values = record { host = h.values.host; moments = h.values.moments; output = omega arith }; formed = formed_stays.deleted i h.formed };
   ended = λ i o other h. record { values = record { host = h.values.host; moments = h.values.moments; output = h.values.output }; formed = formed_stays.ended i o other h.formed };
+  refused = λ i h. record { values = record { host = h.values.host; moments = h.values.moments; output = h.values.output }; formed = formed_stays.refused i h.formed };
 }
 
 -- the number of a canonical result, where there is one, fits into 32 bits

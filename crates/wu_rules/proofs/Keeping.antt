@@ -1,5 +1,5 @@
 -- What each rule keeps of a workunit, whatever is asked of its instances one by one.
-use Rattle.std.proofs.Common.{◌≡◌, ◌⊎◌, ℕ, suc, ◌+◌, ◌-◌, ◌<◌, ◌≤◌, nat_lt, nat_le, min, Bool, true, false, cond, List, [], ◌∷◌, map, length, filter, replicate, Option, Some, None, refl, sym, subst, ◌∙◌, inl, inr, bytes_eq, leb-true, arith}
+use Rattle.std.proofs.Common.{◌≡◌, ◌⊎◌, ℕ, suc, ◌+◌, ◌-◌, ◌<◌, ◌≤◌, nat_lt, nat_le, min, Bool, true, false, cond, List, [], ◌∷◌, map, length, filter, replicate, Option, Some, None, is_none, refl, sym, subst, ◌∙◌, inl, inr, bytes_eq, leb-true, arith}
 use Rattle.std.proofs.lemmas.List.{length-map, length-append, length-replicate}
 use Rattle.std.proofs.lemmas.List.Elements.{All-append, All-from_recursion, All-map, All-replicate, All-weaker, recursion_from_All}
 use Rattle.std.specs.List.{All, AllByRecursion, enumerate_from, list_all, position_from}
@@ -24,17 +24,18 @@ use Rattle.wu_rules.specs.Cancelling.{cancelled}
 use Rattle.wu_rules.specs.Counts.{consensus, is_agreed, is_clear, viable}
 use Rattle.wu_rules.specs.Instances.{closed, given_up, is_done_assimilate, is_new, is_overdue, is_ready_file, is_unsent, is_viable, readied_assimilate, readied_file, timed_out}
 use Rattle.wu_rules.specs.Transition.{added, allowed, ended, extended, is_finished, is_open, may_output_go, needed, readied, settled, timed, transitioned, with_files_readied, with_output_readied}
-use Rattle.wu_rules.specs.Validation.{agreed_on, decided, doubted, doubted_or_closed, is_deleted_at, is_to_validate, judged_by, judged_late_by, late_verdict, left_open, output_at, raised_target, validated, validated_by, verdict}
+use Rattle.wu_rules.specs.Validation.{agreed_on, checked, concluded, decided, doubted, doubted_or_closed, is_deleted_at, is_no_result, is_to_validate, judged_by, judged_late_by, late_verdict, left_open, output_at, raised_target, refused, refused_where, validated, validated_by, verdict, with_refused}
 use Rattle.wu_rules.proofs.Lists.{length-map_placed, map_placed}
 
 -- What may be asked of each instance: new ones have it, and it stays with another verdict, with another state of the
--- output, with an output that is deleted, and with an end that is no success.
+-- output, with an output that is deleted, with an end that is no success, and with a refusal of what is no result.
 pub record StaysWithInstances (P : Instance → Type 0) : Type 0 where
   pub new : P fresh
   pub judged : (i : Instance) (v : ValidateState) → P i → P (record i { validate_state = v })
   pub filed : (i : Instance) (f : FileDelete) → P i → P (record i { file_delete = f })
   pub deleted : (i : Instance) → P i → P (record i { file_delete = file_delete.Done; output = [] })
   pub ended : (i : Instance) (o : Outcome) → (o ≡ outcome.Success → ⊥) → P i → P (record i { server_state = server.Over; outcome = o })
+  pub refused : (i : Instance) → P i → P (refused i)
 
 -- that it is well formed is such
 pub formed_stays : StaysWithInstances IsInstance
@@ -44,6 +45,7 @@ formed_stays = record {
   filed = λ i f h. record { sent_with_host = h.sent_with_host; due_with_host = h.due_with_host; unsent = h.unsent; in_progress = h.in_progress; success = h.success };
   deleted = λ i h. record { sent_with_host = h.sent_with_host; due_with_host = h.due_with_host; unsent = h.unsent; in_progress = h.in_progress; success = h.success };
   ended = λ i o other h. record { sent_with_host = h.sent_with_host; due_with_host = h.due_with_host; unsent = λ e. cc; in_progress = λ e. cc; success = λ e f. absurd (other f) };
+  refused = λ i h. record { sent_with_host = h.sent_with_host; due_with_host = h.due_with_host; unsent = h.unsent; in_progress = h.in_progress; success = λ e f. cc };
 }
 
 -- What a rule keeps, the assimilator's aside: identity, parameters in range, the most instances, what is asked of each
@@ -140,9 +142,9 @@ module _ (P : Instance → Type 0) where
   keeps_either true w v u h k = h
   keeps_either false w v u h k = k
 
-  -- one rule after another, where the second one leaves the canonical result
-  keeps_then : (w v u : Workunit) → Keeps P w v → Keeps P v u → u.canonical ≡ v.canonical → Keeps P w u
-  keeps_then w v u h k same = record {
+  -- one rule after another, where a canonical result is the old one or among the new instances
+  keeps_both : (w v u : Workunit) → Keeps P w v → Keeps P v u → ((n : ℕ) → u.canonical ≡ Some n → (w.canonical ≡ Some n) ⊎ (n < length u.instances)) → Keeps P w u
+  keeps_both w v u h k chosen = record {
     number = k.number ∙ h.number;
     name = k.name ∙ h.name;
     input = (let a = h.input in let b = k.input in omega arith);
@@ -151,7 +153,7 @@ module _ (P : Instance → Type 0) where
     each = λ all. k.each (h.each all);
     grows = (let a = h.grows in let b = k.grows in omega arith);
     room = λ most total few. k.room most (subst (λ t. t ≤ most) (sym h.total) total) (h.room most total few);
-    canonical = λ n e. by_before n (h.canonical n (sym same ∙ e));
+    canonical = chosen;
     done_at = k.done_at ∙ h.done_at;
     done = λ e. h.done (k.done e);
     stays_done = λ e. k.stays_done (h.stays_done e);
@@ -160,9 +162,21 @@ module _ (P : Instance → Type 0) where
       grown : length w.instances ≤ most_instances → IsParameters w.params → IsParameters u.params
       grown few p = k.parameters (h.room most_instances p.max_total_results.1 few) (h.parameters few p)
 
+  -- where the second one leaves the canonical result
+  keeps_then : (w v u : Workunit) → Keeps P w v → Keeps P v u → u.canonical ≡ v.canonical → Keeps P w u
+  keeps_then w v u h k same = keeps_both w v u h k (λ n e. by_before n (h.canonical n (sym same ∙ e)))
+    where
       by_before : (n : ℕ) → (w.canonical ≡ Some n) ⊎ (n < length v.instances) → (w.canonical ≡ Some n) ⊎ (n < length u.instances)
       by_before n (inl e) = inl e
       by_before n (inr lt) = inr (let a = k.grows in omega arith)
+
+  -- where the first one leaves the canonical result
+  keeps_after : (w v u : Workunit) → Keeps P w v → Keeps P v u → v.canonical ≡ w.canonical → Keeps P w u
+  keeps_after w v u h k same = keeps_both w v u h k (λ n e. by_before n (k.canonical n e))
+    where
+      by_before : (n : ℕ) → (v.canonical ≡ Some n) ⊎ (n < length u.instances) → (w.canonical ≡ Some n) ⊎ (n < length u.instances)
+      by_before n (inl e) = inl (sym same ∙ e)
+      by_before n (inr lt) = inr lt
 
   module _ (stays : StaysWithInstances P) where
     -- ---- instances
@@ -185,6 +199,9 @@ module _ (P : Instance → Type 0) where
 
     each_judged_late_by : (is_gone : Bool) (output : List ℕ) (i : Instance) → P i → P (judged_late_by is_gone output i)
     each_judged_late_by is_gone output i h = either (is_new i) _ i (stays.judged i (late_verdict is_gone (bytes_eq i.output output)) h) h
+
+    each_refused_where : (undecided : Bool) (i : Instance) → P i → P (refused_where undecided i)
+    each_refused_where undecided i h = either (is_no_result undecided i) (refused i) i (stays.refused i h) h
 
     each_doubted : (i : Instance) → P i → P (doubted i)
     each_doubted i h = either (is_viable i) _ i (stays.judged i validate.Inconclusive h) h
@@ -366,9 +383,25 @@ module _ (P : Instance → Type 0) where
     keeps_by w None = keeps_decided w (consensus w) refl
     keeps_by w (Some n) = changed (judged_late_by (is_deleted_at w.instances n) (output_at w.instances n)) (each_judged_late_by (is_deleted_at w.instances n) (output_at w.instances n)) w w.error_mask
 
+    pub keeps_concluded : (w : Workunit) → Keeps P w (concluded w)
+    unfolding concluded
+    keeps_concluded w = keeps_either (is_to_validate w) w (validated_by w w.canonical) w (keeps_by w w.canonical) (unchanged w)
+
+    pub keeps_checked : (w : Workunit) → Keeps P w (checked w)
+    keeps_checked w =
+        let undecided = is_none w.canonical in
+        keeps_either (is_to_validate w) w (with_refused undecided w) w (changed (refused_where undecided) (each_refused_where undecided) w w.error_mask) (unchanged w)
+
+    checked_canonical : (w : Workunit) → (checked w).canonical ≡ w.canonical
+    checked_canonical w = by (is_to_validate w)
+      where
+        by : (b : Bool) → (cond b (with_refused (is_none w.canonical) w) w).canonical ≡ w.canonical
+        by true = refl
+        by false = refl
+
     pub keeps_validated : (w : Workunit) → Keeps P w (validated w)
     unfolding validated
-    keeps_validated w = keeps_either (is_to_validate w) w (validated_by w w.canonical) w (keeps_by w w.canonical) (unchanged w)
+    keeps_validated w = keeps_after w (checked w) (concluded (checked w)) (keeps_checked w) (keeps_concluded (checked w)) (checked_canonical w)
 
     -- ---- the file deleter
 

@@ -17,13 +17,13 @@ use Rattle.wu_core.specs.Formed.{IsWorkunit}
 use Rattle.wu_rules.specs.Counts.{is_clear}
 use Rattle.wu_rules.specs.Instances.{is_done_assimilate, is_open_verdict, is_success, is_unsent}
 
--- no state stands that this project never sets, and only a success has a verdict
+-- no state stands that this project never sets; only a success has a verdict, and what was refused as no result
 pub record IsPossible (i : Instance) : Type 0 where
   pub active : i.server_state ≢ server.Inactive
   pub sendable : i.outcome ≢ outcome.CouldntSend
-  pub checked : i.outcome ≢ outcome.ValidateError
+  pub refused : i.outcome ≡ outcome.ValidateError → (i.server_state ≡ server.Over) × (i.validate_state ≡ validate.Invalid)
   pub deletable : i.file_delete ≢ file_delete.Error
-  pub judged : is_success i ≡ false → i.validate_state ≡ validate.Init
+  pub judged : is_success i ≡ false → i.outcome ≢ outcome.ValidateError → i.validate_state ≡ validate.Init
 
 -- A workunit is undecided, given up or decided, and not two of them.
 pub record IsConsistent (w : Workunit) : Type 0 where

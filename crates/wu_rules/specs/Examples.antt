@@ -213,12 +213,12 @@ two_of_four = job (with_quorum 4 4) (two_and_two validate.Init)
 abbrev pub two_of_four_doubted : Workunit
 two_of_four_doubted = job (with_quorum 4 5) (two_and_two validate.Inconclusive)
 
--- one result, with no bytes, for a quorum of one
+-- one result for a quorum of one
 abbrev pub one_of_one : Workunit
-one_of_one = job (with_quorum 1 1) (success h1 [] validate.Init ∷ [])
+one_of_one = job (with_quorum 1 1) (success h1 aa validate.Init ∷ [])
 
 abbrev pub one_of_one_chosen : Workunit
-one_of_one_chosen = decided_for 0 (job (with_quorum 1 1) (success h1 [] validate.Valid ∷ []))
+one_of_one_chosen = decided_for 0 (job (with_quorum 1 1) (success h1 aa validate.Valid ∷ []))
 
 -- ---- ends without a result
 
@@ -274,9 +274,34 @@ first_chosen = decided_for 0 (job (with_target 3) (two_agree_and validate.Valid 
 abbrev pub second_may_go : Workunit
 second_may_go = assimilated_at sending file_delete.Init (decided_for 0 (job (with_target 3) (success h1 aa validate.Valid ∷ with_file file_delete.Ready (success h2 aa validate.Valid) ∷ out h3 ∷ [])))
 
--- input and outputs are gone, and the third is a success with this verdict
+-- input and outputs are gone, and this is the third
+abbrev pub after_all : Instance → Workunit
+after_all third = assimilated_at sending file_delete.Done (decided_for 0 (job (with_target 3) (gone (success h1 aa validate.Valid) ∷ gone (success h2 aa validate.Valid) ∷ third ∷ [])))
+
+-- a success with this verdict
 abbrev pub third_after_all : ValidateState → Workunit
-third_after_all verdict = assimilated_at sending file_delete.Done (decided_for 0 (job (with_target 3) (gone (success h1 aa validate.Valid) ∷ gone (success h2 aa validate.Valid) ∷ success h3 aa verdict ∷ [])))
+third_after_all verdict = after_all (success h3 aa verdict)
+
+-- ---- empty outputs
+
+-- a success with no bytes
+abbrev pub empty : List ℕ → Instance
+empty host = success host [] validate.Init
+
+-- which is no result
+abbrev pub no_result : List ℕ → Instance
+no_result host = record (back host outcome.ValidateError []) { validate_state = validate.Invalid }
+
+-- this one, and a result
+abbrev pub one_and_a_result : Instance → List Instance → Workunit
+one_and_a_result one more = job default_parameters (one ∷ success h2 aa validate.Init ∷ more)
+
+abbrev pub two_of : Instance → Instance → Workunit
+two_of one other = job default_parameters (one ∷ other ∷ [])
+
+-- decided, and this one came after that
+abbrev pub after_decision : Instance → Workunit
+after_decision third = decided_for 0 (job (with_target 3) (two_agree_and validate.Valid third))
 
 -- ---- cancelled
 

@@ -29,9 +29,10 @@ abbrev pub is_success_outcome : Outcome → Bool
 is_success_outcome outcome.Success = true
 is_success_outcome _ = false
 
-abbrev pub is_client_error_outcome : Outcome → Bool
-is_client_error_outcome outcome.ClientError = true
-is_client_error_outcome _ = false
+abbrev pub is_error_outcome : Outcome → Bool
+is_error_outcome outcome.ClientError = true
+is_error_outcome outcome.ValidateError = true
+is_error_outcome _ = false
 
 abbrev pub is_init_verdict : ValidateState → Bool
 is_init_verdict validate.Init = true
@@ -96,9 +97,9 @@ is_viable i = is_success i && is_open_verdict i.validate_state
 abbrev pub is_kept : Instance → Bool
 is_kept i = is_success i && not (is_invalid_verdict i.validate_state)
 
--- an error is an instance with outcome CLIENT_ERROR
+-- an error is an instance with outcome CLIENT_ERROR, or VALIDATE_ERROR
 abbrev pub is_error : Instance → Bool
-is_error i = is_client_error_outcome i.outcome
+is_error i = is_error_outcome i.outcome
 
 -- in progress with a deadline before now
 abbrev pub is_overdue : ℕ → Instance → Bool

@@ -1,10 +1,11 @@
 -- The validator.
-use Rattle.std.specs.Prelude.{ℕ, ◌+◌, nat_lt, nat_le, Bool, true, false, ◌&&◌, if◌then◌else◌, is_none, List, [], map, length, bytes_eq, slice_get, Option, Some, None, option_map}
+use Rattle.std.specs.Prelude.{ℕ, ◌+◌, nat_lt, nat_le, Bool, true, false, ◌&&◌, if◌then◌else◌, is_none, List, [], ◌∷◌, map, length, bytes_eq, slice_get, Option, Some, None, option_map}
 use Rattle.std.specs.List.{filter_map, enumerate_from}
 use Rattle.std.specs.Option.{option_map_or}
 use Rattle.wu_core.specs.declared.workunit.Instance.{Instance}
 use Rattle.wu_core.specs.declared.workunit.Workunit.{Workunit}
 use Rattle.wu_core.specs.declared.workunit.Grant.{Grant}
+use Rattle.wu_core.specs.declared.states.Outcome.TheVariants as outcome
 use Rattle.wu_core.specs.declared.states.ValidateState.{ValidateState}
 use Rattle.wu_core.specs.declared.states.ValidateState.TheVariants as validate
 use Rattle.wu_core.specs.Parameters.{Parameters}
@@ -18,6 +19,40 @@ is_to_validate w =
     is_clear w.error_mask
     && has_new_success w
     && (if is_none w.canonical then nat_le w.params.min_quorum (length (viable w)) else true)
+
+-- ---- what is no result
+
+-- before the decision the validator judges viable successes, after it new ones
+abbrev pub is_judged_where : Bool → Instance → Bool
+is_judged_where undecided i = if undecided then is_viable i else is_new i
+
+abbrev pub is_judged : Workunit → Instance → Bool
+is_judged w i = is_judged_where (is_none w.canonical) i
+
+abbrev pub is_empty : List ℕ → Bool
+is_empty [] = true
+is_empty (byte ∷ bytes) = false
+
+-- a success that it judges, with an empty output, is no result
+abbrev pub is_no_result : Bool → Instance → Bool
+is_no_result undecided i = is_judged_where undecided i && is_empty i.output
+
+-- that is an error of validation, and INVALID
+abbrev pub refused : Instance → Instance
+refused i = record i { outcome = outcome.ValidateError; validate_state = validate.Invalid }
+
+abbrev pub refused_where : Bool → Instance → Instance
+refused_where undecided i = if is_no_result undecided i then refused i else i
+
+-- the workunit with what is no result refused
+abbrev pub with_refused : Bool → Workunit → Workunit
+with_refused undecided w = record w { instances = map (refused_where undecided) w.instances }
+
+-- of a workunit that the validator looks at, what is no result is refused
+abbrev pub checked : Workunit → Workunit
+checked w = if is_to_validate w then with_refused (is_none w.canonical) w else w
+
+-- ---- what the others decide
 
 -- the output of the instance of this number, or no bytes where there is none
 abbrev pub output_at : List Instance → ℕ → List ℕ
@@ -101,17 +136,17 @@ abbrev pub validated_by : Workunit → Option ℕ → Workunit
 validated_by w (Some n) = judged_after w n
 validated_by w None = decided w (consensus w)
 
--- what the validator makes of a workunit
+-- what comes of a workunit without such, where there is still something to look at
+unfoldable pub concluded : Workunit → Workunit
+concluded w = if is_to_validate w then validated_by w w.canonical else w
+
+-- what the validator makes of a workunit: what is no result is refused, and the others decide
 unfoldable pub validated : Workunit → Workunit
-validated w = if is_to_validate w then validated_by w w.canonical else w
+validated w = concluded (checked w)
 
 -- the credit of an instance for its host
 abbrev pub grant_of : Workunit → ℕ → Instance → Option Grant
 grant_of w n i = option_map (λ host. record { workunit = w.number; n = n; host = host; credit = w.params.credit }) i.host
-
--- before the decision the validator judges viable successes, after it new ones
-abbrev pub is_judged : Workunit → Instance → Bool
-is_judged w i = if is_none w.canonical then is_viable i else is_new i
 
 -- the credit of an instance that is made VALID by this output
 abbrev pub granted_to : Workunit → List ℕ → ℕ → Instance → Option Grant
@@ -135,6 +170,10 @@ abbrev pub granted_by : Workunit → Option ℕ → List Grant
 granted_by w (Some n) = grants_after w n
 granted_by w None = grants_by_consensus w
 
+-- what is granted to those that decide
+unfoldable pub credited : Workunit → List Grant
+credited w = if is_to_validate w then granted_by w w.canonical else []
+
 -- what the validator grants
 unfoldable pub grants : Workunit → List Grant
-grants w = if is_to_validate w then granted_by w w.canonical else []
+grants w = credited (checked w)

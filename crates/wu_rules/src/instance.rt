@@ -56,10 +56,14 @@ pub fn is_kept(instance: &Instance) -> bool
     is_success(instance) && instance.validate_state != ValidateState::Invalid
 }
 
+/// Whether the instance ended with an error, of its host or of validation.
 pub fn is_error(instance: &Instance) -> bool
     ensures { result ≡ is_error instance.now }
 {
-    instance.outcome == Outcome::ClientError
+    matches!(
+        instance.outcome,
+        Outcome::ClientError | Outcome::ValidateError
+    )
 }
 
 /// Whether the instance is in progress with a deadline before now.

@@ -19,10 +19,10 @@ use Rattle.wu_rules.specs.Assimilation.{without_output}
 use Rattle.wu_rules.specs.Instances.{closed, given_up, is_in_progress, is_init_file, is_init_verdict, is_new, is_open_verdict, is_over_state, is_overdue, is_ready_file, is_success, is_success_outcome, is_unsent, is_unsent_state, is_viable, output_readied, readied_file, timed_out}
 use Rattle.wu_rules.specs.Reporting.{reported_as}
 use Rattle.wu_rules.specs.Sending.{due_at}
-use Rattle.wu_rules.specs.Validation.{doubted, doubted_or_closed, judged_by, judged_late_by, verdict}
+use Rattle.wu_rules.specs.Validation.{doubted, doubted_or_closed, is_empty, is_judged_where, is_no_result, judged_by, judged_late_by, refused, refused_where, verdict}
 use Rattle.wu_rules.proofs.Timing.{and_left as overdue_left, not_over}
 use Rattle.wu_rules.specs.Consistent.{IsPossible, instance_host, is_valid_at, is_valid_verdict}
-use Rattle.wu_rules_laws.proofs.Changed.{or_false, placed}
+use Rattle.wu_rules_laws.proofs.Changed.{and_false, or_false, placed}
 use Rattle.wu_rules_laws.proofs.Spent.{and_left, and_right}
 
 -- ---- verdicts and states
@@ -67,7 +67,7 @@ verdict_valid true = refl
 verdict_valid false = refl
 
 -- what is unsent is not over
-unsent_not_over : (s : ServerState) → is_unsent_state s ≡ true → is_over_state s ≡ false
+pub unsent_not_over : (s : ServerState) → is_unsent_state s ≡ true → is_over_state s ≡ false
 unsent_not_over server.Unsent e = refl
 unsent_not_over server.Inactive e = refl
 unsent_not_over server.InProgress e = refl
@@ -80,6 +80,27 @@ not_over_no_success i e = ap (λ b. b && is_success_outcome i.outcome) e
 -- what is unsent is no success
 pub unsent_no_success : (i : Instance) → is_unsent i ≡ true → is_success i ≡ false
 unsent_no_success i e = not_over_no_success i (unsent_not_over i.server_state e)
+
+-- the test for OVER is one
+pub over_is : (s : ServerState) → is_over_state s ≡ true → s ≡ server.Over
+over_is server.Over e = refl
+over_is server.Inactive e = cc
+over_is server.Unsent e = cc
+over_is server.InProgress e = cc
+
+-- a success was not refused
+success_not_refused : (i : Instance) → is_success i ≡ true → i.outcome ≢ outcome.ValidateError
+success_not_refused i success e =
+    let fails : is_success i ≡ false = ap (λ o. is_over_state i.server_state && is_success_outcome o) e ∙ and_false (is_over_state i.server_state) false refl in
+    let both : true ≡ false = sym success ∙ fails in
+    cc
+
+-- of what is possible, only what is over was refused
+pub not_over_not_refused : (i : Instance) → IsPossible i → is_over_state i.server_state ≡ false → i.outcome ≢ outcome.ValidateError
+not_over_not_refused i possible out e =
+    let over : is_over_state i.server_state ≡ true = ap is_over_state (possible.refused e).0 in
+    let both : true ≡ false = sym over ∙ out in
+    cc
 
 -- a file that is named for deletion is not in error
 pub readied_right : (b : Bool) (f : FileDelete) → f ≢ file_delete.Error → readied_file b f ≢ file_delete.Error
@@ -99,11 +120,11 @@ pub record Becomes (made : Bool) (i j : Instance) : Type 0 where
   pub host : j.host ≡ i.host
 
 -- what stays becomes itself
-stays : (i : Instance) → Becomes false i i
+pub stays : (i : Instance) → Becomes false i i
 stays i = record { possible = λ h. h; valid = refl; final = λ e. refl; host = refl }
 
 -- what becomes of it in both branches becomes of it
-becomes_either : (made b : Bool) (i x y : Instance) → (b ≡ true → Becomes made i x) → (b ≡ false → Becomes made i y) → Becomes made i (cond b x y)
+pub becomes_either : (made b : Bool) (i x y : Instance) → (b ≡ true → Becomes made i x) → (b ≡ false → Becomes made i y) → Becomes made i (cond b x y)
 becomes_either made true i x y h k = h refl
 becomes_either made false i x y h k = k refl
 
@@ -116,9 +137,9 @@ becomes_judged i v e =
       possible = λ h. record {
         active = h.active;
         sendable = h.sendable;
-        checked = h.checked;
+        refused = λ f. absurd (success_not_refused i success f);
         deletable = h.deletable;
-        judged = λ fails. (let both : true ≡ false = sym success ∙ fails in cc);
+        judged = λ fails f. (let both : true ≡ false = sym success ∙ fails in cc);
       };
       valid = sym (ap (λ b. is_valid_verdict v || b) (open_not_valid i.validate_state opened) ∙ or_false (is_valid_verdict v));
       final = λ fails. (let both : true ≡ false = sym opened ∙ fails in cc);
@@ -129,21 +150,45 @@ becomes_judged i v e =
 becomes_filed : (i : Instance) (f : FileDelete) (output : List ℕ) → (i.file_delete ≢ file_delete.Error → f ≢ file_delete.Error)
     → Becomes false i (record i { file_delete = f; output = output })
 becomes_filed i f output right = record {
-  possible = λ h. record { active = h.active; sendable = h.sendable; checked = h.checked; deletable = right h.deletable; judged = h.judged };
+  possible = λ h. record { active = h.active; sendable = h.sendable; refused = h.refused; deletable = right h.deletable; judged = h.judged };
   valid = refl;
   final = λ e. refl;
   host = refl;
 }
 
--- over, where it was no success, with an outcome that is possible
-becomes_ended : (i : Instance) (o : Outcome) → is_success i ≡ false → o ≢ outcome.CouldntSend → o ≢ outcome.ValidateError
+-- over, where it was not, with an outcome that is possible
+becomes_ended : (i : Instance) (o : Outcome) → is_over_state i.server_state ≡ false → o ≢ outcome.CouldntSend → o ≢ outcome.ValidateError
     → Becomes false i (record i { server_state = server.Over; outcome = o })
-becomes_ended i o fails sendable checked = record {
-  possible = λ h. record { active = λ e. cc; sendable = sendable; checked = checked; deletable = h.deletable; judged = λ e. h.judged fails };
+becomes_ended i o out sendable other = record {
+  possible = λ h. record {
+    active = λ e. cc;
+    sendable = sendable;
+    refused = λ e. absurd (other e);
+    deletable = h.deletable;
+    judged = λ e f. h.judged (not_over_no_success i out) (not_over_not_refused i h out);
+  };
   valid = refl;
   final = λ e. refl;
   host = refl;
 }
+
+-- a viable success that is refused
+becomes_refused : (i : Instance) → is_viable i ≡ true → Becomes false i (refused i)
+becomes_refused i e =
+    let success : is_success i ≡ true = and_left (is_success i) (is_open_verdict i.validate_state) e in
+    let opened : is_open_verdict i.validate_state ≡ true = and_right (is_success i) (is_open_verdict i.validate_state) e in
+    record {
+      possible = λ h. record {
+        active = h.active;
+        sendable = λ f. cc;
+        refused = λ f. (over_is i.server_state (and_left (is_over_state i.server_state) (is_success_outcome i.outcome) success), refl);
+        deletable = h.deletable;
+        judged = λ fails other. absurd (other refl);
+      };
+      valid = sym (open_not_valid i.validate_state opened);
+      final = λ fails. (let both : true ≡ false = sym opened ∙ fails in cc);
+      host = refl;
+    }
 
 -- INIT is not VALID
 pub init_not_valid : (v : ValidateState) → v ≡ validate.Init → is_valid_verdict v ≡ false
@@ -155,7 +200,7 @@ pub possible_sent : (deadline : ℕ) (host : List ℕ) (moment : ℕ) (i : Insta
 possible_sent deadline host moment i h e = record {
   active = λ f. cc;
   sendable = h.sendable;
-  checked = h.checked;
+  refused = λ f. absurd (not_over_not_refused i h (unsent_not_over i.server_state e) f);
   deletable = h.deletable;
   judged = λ f. h.judged (unsent_no_success i e);
 }
@@ -172,13 +217,19 @@ outcome_checked status.Success e = cc
 outcome_checked status.ClientError e = cc
 outcome_checked status.Detached e = cc
 
--- a possible instance that is reported and was no success
-pub becomes_reported : (moment : ℕ) (status : Status) (output : List ℕ) (i : Instance) → IsPossible i → is_success i ≡ false
+-- a possible instance that is reported, and was no success and not refused
+pub becomes_reported : (moment : ℕ) (status : Status) (output : List ℕ) (i : Instance) → IsPossible i → is_success i ≡ false → i.outcome ≢ outcome.ValidateError
     → Becomes false i (reported_as moment status output i)
-becomes_reported moment status output i possible fails =
-    let init : i.validate_state ≡ validate.Init = possible.judged fails in
+becomes_reported moment status output i possible fails other =
+    let init : i.validate_state ≡ validate.Init = possible.judged fails other in
     record {
-      possible = λ h. record { active = λ f. cc; sendable = outcome_sendable status; checked = outcome_checked status; deletable = λ f. cc; judged = λ f. refl };
+      possible = λ h. record {
+        active = λ f. cc;
+        sendable = outcome_sendable status;
+        refused = λ f. absurd (outcome_checked status f);
+        deletable = λ f. cc;
+        judged = λ f g. refl;
+      };
       valid = sym (init_not_valid i.validate_state init);
       final = λ f. sym init;
       host = refl;
@@ -189,18 +240,30 @@ becomes_reported moment status output i possible fails =
 -- one that is closed where it is unsent
 pub becomes_closed : (i : Instance) → Becomes false i (closed i)
 becomes_closed i =
-    becomes_either false (is_unsent i) i _ i (λ e. becomes_ended i outcome.DidntNeed (unsent_no_success i e) (λ f. cc) (λ f. cc)) (λ e. stays i)
+    becomes_either false (is_unsent i) i _ i (λ e. becomes_ended i outcome.DidntNeed (unsent_not_over i.server_state e) (λ f. cc) (λ f. cc)) (λ e. stays i)
 
 -- one that is over where it is overdue
 pub becomes_timed_out : (now : ℕ) (i : Instance) → Becomes false i (timed_out now i)
 becomes_timed_out now i =
     becomes_either false (is_overdue now i) i _ i
-    (λ e. becomes_ended i outcome.NoReply (not_over_no_success i (not_over i.server_state (overdue_left (is_in_progress i) _ (sym e)))) (λ f. cc) (λ f. cc))
+    (λ e. becomes_ended i outcome.NoReply (not_over i.server_state (overdue_left (is_in_progress i) _ (sym e))) (λ f. cc) (λ f. cc))
     (λ e. stays i)
 
 -- one of a workunit that is given up
 pub becomes_given_up : (i : Instance) → Becomes false i (given_up i)
 becomes_given_up i = becomes_either false (is_viable i) i _ (closed i) (becomes_judged i validate.NoCheck) (λ e. becomes_closed i)
+
+-- what is judged is viable
+judged_is_viable : (undecided : Bool) (i : Instance) → is_judged_where undecided i ≡ true → is_viable i ≡ true
+judged_is_viable true i e = e
+judged_is_viable false i e = new_is_viable i e
+
+-- one that is refused where it is no result
+pub becomes_refused_where : (undecided : Bool) (i : Instance) → Becomes false i (refused_where undecided i)
+becomes_refused_where undecided i =
+    becomes_either false (is_no_result undecided i) i (refused i) i
+    (λ e. becomes_refused i (judged_is_viable undecided i (and_left (is_judged_where undecided i) (is_empty i.output) e)))
+    (λ e. stays i)
 
 -- one that is inconclusive where it is viable
 pub becomes_doubted : (i : Instance) → Becomes false i (doubted i)
@@ -293,7 +356,7 @@ all_become-set (x ∷ xs) (suc n) i j e h = (stays x, all_become-set xs n i j e 
 
 -- a new instance is possible
 fresh_possible : IsPossible fresh
-fresh_possible = record { active = λ e. cc; sendable = λ e. cc; checked = λ e. cc; deletable = λ e. cc; judged = λ e. refl }
+fresh_possible = record { active = λ e. cc; sendable = λ e. cc; refused = λ e. cc; deletable = λ e. cc; judged = λ e f. refl }
 
 -- new instances are possible
 all_fresh_possible : (ys : List Instance) → AllByRecursion (λ y. y ≡ fresh) ys → AllByRecursion IsPossible ys

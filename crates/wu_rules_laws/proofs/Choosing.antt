@@ -12,8 +12,9 @@ use Rattle.wu_rules.specs.Instances.{is_done_assimilate, is_ready_assimilate}
 use Rattle.wu_rules.specs.Reporting.{reported_as}
 use Rattle.wu_rules.specs.Sending.{sent_to}
 use Rattle.wu_rules.specs.Transition.{ended, extended, readied, settled, timed, transitioned, with_files_readied}
-use Rattle.wu_rules.specs.Validation.{decided, is_to_validate, left_open, validated, validated_by}
+use Rattle.wu_rules.specs.Validation.{checked, concluded, decided, is_to_validate, left_open, validated, validated_by}
 use Rattle.wu_rules_laws.specs.Laws.{ChoosesByQuorum, IsChosen}
+use Rattle.wu_rules_laws.proofs.Checking.{checked_canonical}
 use Rattle.wu_rules_laws.proofs.Granting.{chosen_exactly}
 
 -- of two that have this canonical result, either has it
@@ -30,9 +31,9 @@ decided_chooses : (w : Workunit) (o : Option ℕ) → consensus w ≡ o → (n :
 decided_chooses w None is n undecided chosen = let same = left_open_keeps w in cc
 decided_chooses w (Some m) is n undecided chosen = (chosen_exactly w n).0 (is ∙ chosen)
 
-validated_chooses : (w : Workunit) (n : ℕ) → w.canonical ≡ None → (validated w).canonical ≡ Some n → IsChosen w n
-unfolding validated
-validated_chooses w n undecided = by (is_to_validate w)
+concluded_chooses : (w : Workunit) (n : ℕ) → w.canonical ≡ None → (concluded w).canonical ≡ Some n → IsChosen w n
+unfolding concluded
+concluded_chooses w n undecided = by (is_to_validate w)
   where
     by_decision : (o : Option ℕ) → o ≡ None → (validated_by w o).canonical ≡ Some n → IsChosen w n
     by_decision None none chosen = decided_chooses w (consensus w) refl n undecided chosen
@@ -42,13 +43,22 @@ validated_chooses w n undecided = by (is_to_validate w)
     by true chosen = by_decision w.canonical undecided chosen
     by false chosen = cc
 
-validated_keeps : (w : Workunit) (n : ℕ) → w.canonical ≡ Some n → (validated w).canonical ≡ Some n
-unfolding validated
-validated_keeps w n chosen = by (is_to_validate w)
+concluded_keeps : (w : Workunit) (n : ℕ) → w.canonical ≡ Some n → (concluded w).canonical ≡ Some n
+unfolding concluded
+concluded_keeps w n chosen = by (is_to_validate w)
   where
     by : (b : Bool) → (cond b (validated_by w w.canonical) w).canonical ≡ Some n
     by true = rw chosen refl
     by false = chosen
+
+-- of what is left without empty outputs enough agree
+validated_chooses : (w : Workunit) (n : ℕ) → w.canonical ≡ None → (validated w).canonical ≡ Some n → IsChosen (checked w) n
+unfolding validated
+validated_chooses w n undecided = concluded_chooses (checked w) n (checked_canonical w ∙ undecided)
+
+validated_keeps : (w : Workunit) (n : ℕ) → w.canonical ≡ Some n → (validated w).canonical ≡ Some n
+unfolding validated
+validated_keeps w n chosen = concluded_keeps (checked w) n (checked_canonical w ∙ chosen)
 
 -- ---- the transitioner
 

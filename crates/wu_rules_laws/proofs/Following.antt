@@ -1,5 +1,5 @@
 -- Rules that make nothing VALID, and what they leave of a workunit.
-use Rattle.std.proofs.Common.{◌≡◌, ◌≢◌, ℕ, zero, suc, ◌<◌, Bool, true, false, cond, ◌&&◌, ◌||◌, List, [], ◌∷◌, map, length, replicate, slice_get, slice_set, Option, Some, None, is_none, option_map, refl, sym, ap, ◌∙◌, inl, inr, nat_lt, arith}
+use Rattle.std.proofs.Common.{◌≡◌, ◌≢◌, ℕ, zero, suc, ◌<◌, Bool, true, false, cond, ◌&&◌, ◌||◌, List, [], ◌∷◌, map, length, replicate, slice_get, slice_set, Option, Some, None, is_none, option_map, refl, sym, ap, subst, ◌∙◌, inl, inr, nat_lt, arith}
 use Rattle.std.proofs.lemmas.Bool.{cases_eq, ne_eqb}
 use Rattle.std.proofs.lemmas.List.Folds.{list_any-append}
 use Rattle.std.specs.List.{AllByRecursion, list_all, list_any}
@@ -21,11 +21,11 @@ use Rattle.wu_rules.specs.Counts.{is_clear, is_undecided, viable}
 use Rattle.wu_rules.specs.Instances.{closed, given_up, is_done_assimilate, is_open_verdict, is_ready_file, is_unsent, is_viable, readied_assimilate, timed_out}
 use Rattle.wu_rules.specs.Sending.{is_of}
 use Rattle.wu_rules.specs.Transition.{added, ended, extended, is_all_over, is_finished, may_output_go, outputs_readied, readied, settled, timed, transitioned, with_files_readied, with_output_readied}
-use Rattle.wu_rules.specs.Validation.{doubted, doubted_or_closed, left_open, raised_target}
+use Rattle.wu_rules.specs.Validation.{checked, doubted, doubted_or_closed, is_no_result, is_to_validate, left_open, raised_target, refused, refused_where, with_refused}
 use Rattle.wu_rules.proofs.Lists.{any-map}
 use Rattle.wu_rules.proofs.Timing.{not_unsent, same_timed}
 use Rattle.wu_rules.specs.Consistent.{IsPossible, KeepsVerdicts, instance_host, is_done, is_valid_at, is_valid_verdict}
-use Rattle.wu_rules_laws.proofs.Becoming.{AllBecome, all_become, all_become-more, all_become-placed, all_possible, all_stay, becomes_closed, becomes_doubted, becomes_doubted_or_closed, becomes_given_up, becomes_readied, becomes_timed_out, becomes_without_output, final_at, none_made, readied_right, same_host, valid_at, verdict_at}
+use Rattle.wu_rules_laws.proofs.Becoming.{AllBecome, all_become, all_become-more, all_become-placed, all_possible, all_stay, becomes_closed, becomes_doubted, becomes_doubted_or_closed, becomes_given_up, becomes_readied, becomes_refused_where, becomes_timed_out, becomes_without_output, final_at, none_made, readied_right, same_host, valid_at, verdict_at}
 use Rattle.wu_rules_laws.proofs.Changed.{and_false, any-placed, any_false-map, cond_keeps, or_from, or_left, or_right}
 use Rattle.wu_rules_laws.proofs.Hosted.{Apart, StayHosted, all_set, apart_same, at_other, at_set, stay_apart, stay_hosted}
 use Rattle.wu_rules_laws.proofs.Planned.{clear_of, extended-unflagged, no_errors_planned, no_total_planned, none_added}
@@ -101,6 +101,17 @@ follows_then xs ys zs h k = record {
 pub verdicts_kept : (w v : Workunit)
     → ((n : ℕ) (u : ValidateState) → verdict_at w.instances n ≡ Some u → is_open_verdict u ≡ false → verdict_at v.instances n ≡ Some u) → KeepsVerdicts w v
 verdicts_kept w v kept n i here final = kept n i.validate_state (ap (λ o. option_map (λ (j : Instance). j.validate_state) o) here) final
+
+-- one change after another
+pub kept_then : (w v u : Workunit) → KeepsVerdicts w v → KeepsVerdicts v u → KeepsVerdicts w u
+kept_then w v u first second n i here final = by_case (slice_get v.instances n) refl (first n i here final)
+  where
+    by_case : (o : Option Instance) → slice_get v.instances n ≡ o → option_map (λ j. j.validate_state) o ≡ Some i.validate_state
+        → verdict_at u.instances n ≡ Some i.validate_state
+    by_case None e f = cc
+    by_case (Some j) e f =
+        let same : j.validate_state ≡ i.validate_state = cc in
+        second n j e (subst (λ s. is_open_verdict s ≡ false) (sym same) final) ∙ ap Some same
 
 -- nothing is made VALID, decided or DONE; a new bit of the mask comes only where the workunit is undecided
 pub record Quietly (old new : Workunit) : Type 0 where
@@ -328,6 +339,24 @@ awaits_readied w h = by_case (is_done_assimilate w.assimilate)
 pub awaits_transitioned : (w : Workunit) (now : ℕ) → Awaits w → Awaits (transitioned w now)
 unfolding transitioned
 awaits_transitioned w now h = awaits_readied (settled (extended (timed w now))) (awaits_settled (timed w now) (awaits_timed w now h))
+
+-- ---- what is no result
+
+-- what is no result is refused, and nothing is made VALID, decided or DONE
+pub quietly_checked : (w : Workunit) → Quietly w (checked w)
+quietly_checked w =
+    let undecided = is_none w.canonical in
+    quietly_either (is_to_validate w) w (with_refused undecided w) w
+    (quietly_same w (map (refused_where undecided) w.instances) (all_become none_made (refused_where undecided) (becomes_refused_where undecided) w.instances))
+    (quietly_unchanged w)
+
+-- that leaves who is waited for
+pub awaits_checked : (w : Workunit) → Awaits w → Awaits (checked w)
+awaits_checked w h = by_case (is_to_validate w)
+  where
+    by_case : (b : Bool) → Awaits (cond b (with_refused (is_none w.canonical) w) w)
+    by_case true = awaits_same w (map (refused_where (is_none w.canonical)) w.instances) (unsent_same (is_no_result (is_none w.canonical)) refused (λ i. refl) w.instances) h
+    by_case false = h
 
 -- ---- without a consensus
 

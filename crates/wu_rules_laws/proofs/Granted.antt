@@ -10,13 +10,11 @@ use Rattle.wu_core.specs.declared.workunit.Instance.{Instance}
 use Rattle.wu_core.specs.declared.workunit.Workunit.{Workunit}
 use Rattle.wu_core.specs.declared.states.Outcome.{Outcome}
 use Rattle.wu_core.specs.declared.states.Outcome.TheVariants as outcome
-use Rattle.wu_core.specs.declared.states.ServerState.{ServerState}
-use Rattle.wu_core.specs.declared.states.ServerState.TheVariants as server
 use Rattle.wu_rules.specs.Instances.{is_open_verdict, is_over_state, is_success, is_success_outcome, is_viable}
 use Rattle.wu_rules.specs.Validation.{grant_of, granted_to, grants_by, is_judged}
 use Rattle.wu_rules.specs.Consistent.{GrantsToTheNew, IsGrantFor, is_valid_at, is_valid_verdict, one_if}
 use Rattle.wu_rules_laws.specs.Laws.{IsRightGrantIn}
-use Rattle.wu_rules_laws.proofs.Becoming.{AllBecome, open_not_valid, same_host, valid_at}
+use Rattle.wu_rules_laws.proofs.Becoming.{AllBecome, open_not_valid, over_is, same_host, valid_at}
 use Rattle.wu_rules_laws.proofs.Granting.{granted_number, names}
 use Rattle.wu_rules_laws.proofs.Spent.{and_left, and_right}
 
@@ -76,13 +74,6 @@ numbered_at h gives number s (x ∷ xs) all (suc k) m e = by_case (h s x) refl (
         counts_other g (given_from h (s + 1) xs) m (λ same. omega (arith, at, same, e)) ∙ r
 
 -- ---- what is judged and equal gives a grant
-
--- the test for OVER is one
-over_is : (s : ServerState) → is_over_state s ≡ true → s ≡ server.Over
-over_is server.Over e = refl
-over_is server.Inactive e = cc
-over_is server.Unsent e = cc
-over_is server.InProgress e = cc
 
 -- the test for SUCCESS is one
 success_is : (o : Outcome) → is_success_outcome o ≡ true → o ≡ outcome.Success

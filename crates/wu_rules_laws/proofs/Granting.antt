@@ -3,19 +3,21 @@ use Rattle.std.proofs.Common.{◌≡◌, ℕ, zero, suc, ◌+◌, ◌/◌, ◌<�
 use Rattle.std.specs.List.{position_from, filter_map, cons_option, enumerate_from, slice_get, All, AllByRecursion, AllPairs}
 use Rattle.std.specs.Option.{option_map}
 use Rattle.std.proofs.lemmas.Option.{slice_get-map}
-use Rattle.std.proofs.lemmas.List.Elements.{All-from_recursion}
+use Rattle.std.proofs.lemmas.List.Elements.{All-from_recursion, All-weaker}
 use Rattle.std.proofs.lemmas.List.Kept.{AllPairs-cons}
 use Rattle.wu_core.specs.declared.workunit.Instance.{Instance}
 use Rattle.wu_core.specs.declared.workunit.Workunit.{Workunit}
 use Rattle.wu_core.specs.declared.workunit.Grant.{Grant}
+use Rattle.wu_core.specs.Parameters.{Parameters}
 use Rattle.wu_core.specs.declared.states.ValidateState.{ValidateState}
 use Rattle.wu_core.specs.declared.states.ValidateState.TheVariants as validate
 use Rattle.wu_rules.specs.Instances.{is_success, is_viable, is_new, is_init_verdict, is_open_verdict, closed}
 use Rattle.wu_rules.specs.Counts.{viable, agreeing, is_agreed, consensus}
-use Rattle.wu_rules.specs.Validation.{is_to_validate, output_at, is_deleted_at, verdict, judged_by, judged_late_by, agreed_on, judged_after, decided, validated_by, validated, grant_of, is_judged, granted_to, grants_by, grants_decided, grants_after, granted_by, grants}
+use Rattle.wu_rules.specs.Validation.{checked, concluded, credited, is_to_validate, output_at, is_deleted_at, verdict, judged_by, judged_late_by, agreed_on, judged_after, decided, validated_by, validated, grant_of, is_judged, granted_to, grants_by, grants_decided, grants_after, granted_by, grants}
 use Rattle.wu_rules_laws.specs.Laws.{IsChosen, rehosted, IsRightGrantIn}
 use Rattle.wu_rules.proofs.Lists.{count_step}
 use Rattle.wu_rules_laws.proofs.Changed.{placed, count-placed}
+use Rattle.wu_rules_laws.proofs.Checking.{at_checked, becomes_checked, checked_in, checked_number, checked_params, stands_checked}
 use Rattle.wu_rules_laws.proofs.Spent.{and_from, and_left, and_right}
 
 -- ---- the first that passes
@@ -224,13 +226,46 @@ right_by : (w : Workunit) (o : Option ℕ) → w.canonical ≡ o → AllByRecurs
 right_by w None e = right_decided w e (consensus w)
 right_by w (Some c) e = right_after w c e
 
-pub grants_right : (w : Workunit) → All (IsRightGrantIn w (validated w)) (grants w)
-unfolding validated grants
-grants_right w = All-from_recursion (IsRightGrantIn w (validated w)) (grants w) (by_case (is_to_validate w))
+pub credits_right : (w : Workunit) → All (IsRightGrantIn w (concluded w)) (credited w)
+unfolding concluded credited
+credits_right w = All-from_recursion (IsRightGrantIn w (concluded w)) (credited w) (by_case (is_to_validate w))
   where
     by_case : (b : Bool) → AllByRecursion (IsRightGrantIn w (cond b (validated_by w w.canonical) w)) (cond b (granted_by w w.canonical) [])
     by_case true = right_by w w.canonical refl
     by_case false = tt
+
+-- a grant of what is left is of an instance that was open before
+right_before : (w v : Workunit) (g : Grant) → IsRightGrantIn (checked w) v g → IsRightGrantIn w v g
+right_before w v g r = by_case (slice_get w.instances g.n) refl
+  where
+    was_open : (i : Instance) → checked_in w i ≡ r.instance → (b : Bool) → is_open_verdict i.validate_state ≡ b → is_open_verdict i.validate_state ≡ true
+    was_open i same true e = e
+    was_open i same false e =
+        let verdict : r.instance.validate_state ≡ i.validate_state = sym (ap (λ (j : Instance). j.validate_state) same) ∙ (becomes_checked w i).final e in
+        let both : true ≡ false = sym r.open_before ∙ (ap is_open_verdict verdict ∙ e) in
+        cc
+
+    by_case : (o : Option Instance) → slice_get w.instances g.n ≡ o → IsRightGrantIn w v g
+    by_case None e =
+        let none : None ≡ Some r.instance = sym (at_checked w g.n ∙ ap (option_map (checked_in w)) e) ∙ r.stands in
+        absurd (cc)
+    by_case (Some i) e =
+        let there : Some (checked_in w i) ≡ Some r.instance = sym (stands_checked w g.n i e) ∙ r.stands in
+        let same : checked_in w i ≡ r.instance = cc in
+        record {
+          instance = i;
+          stands = e;
+          open_before = was_open i same (is_open_verdict i.validate_state) refl;
+          valid_after = r.valid_after;
+          host = sym (becomes_checked w i).host ∙ (ap (λ (j : Instance). j.host) same ∙ r.host);
+          workunit = r.workunit ∙ checked_number w;
+          credit = r.credit ∙ ap (λ (p : Parameters). p.credit) (checked_params w);
+        }
+
+pub grants_right : (w : Workunit) → All (IsRightGrantIn w (validated w)) (grants w)
+unfolding validated grants
+grants_right w =
+    All-weaker (IsRightGrantIn (checked w) (validated w)) (IsRightGrantIn w (validated w)) (right_before w (validated w)) (grants w) (credits_right (checked w))
 
 -- ---- no second grant
 
@@ -254,9 +289,9 @@ none_increasing = λ i j d lt inside. absurd (omega arith)
 by_increasing : (w : Workunit) (output : List ℕ) → AllPairs (λ a b. a.n < b.n) (grants_by w output)
 by_increasing w output = increasing (granted_to w output) (λ n i g e. (names w n i g (granted_number w output n i g e).2).number) 0 w.instances
 
-pub grants_increasing : (w : Workunit) → AllPairs (λ a b. a.n < b.n) (grants w)
-unfolding grants
-grants_increasing w = by_case (is_to_validate w) (by_canonical w.canonical)
+credits_increasing : (w : Workunit) → AllPairs (λ a b. a.n < b.n) (credited w)
+unfolding credited
+credits_increasing w = by_case (is_to_validate w) (by_canonical w.canonical)
   where
     decide : (o : Option ℕ) → AllPairs (λ a b. a.n < b.n) (grants_decided w o)
     decide None = none_increasing
@@ -273,3 +308,7 @@ grants_increasing w = by_case (is_to_validate w) (by_canonical w.canonical)
     by_case : (b : Bool) → AllPairs (λ a b. a.n < b.n) (granted_by w w.canonical) → AllPairs (λ a b. a.n < b.n) (cond b (granted_by w w.canonical) [])
     by_case true r = r
     by_case false r = none_increasing
+
+pub grants_increasing : (w : Workunit) → AllPairs (λ a b. a.n < b.n) (grants w)
+unfolding grants
+grants_increasing w = credits_increasing (checked w)

@@ -13,13 +13,13 @@ use Rattle.wu_core.specs.declared.states.Assimilate.TheVariants as assimilate
 use Rattle.wu_core.specs.declared.states.Status.{Status}
 use Rattle.wu_rules.specs.Instances.{is_ready_assimilate}
 use Rattle.wu_rules.specs.Transition.{transitioned}
-use Rattle.wu_rules.specs.Validation.{validated}
+use Rattle.wu_rules.specs.Validation.{checked, concluded, validated}
 use Rattle.wu_rules.specs.Assimilation.{assimilated, emptied}
 use Rattle.wu_rules.specs.Cancelling.{cancelled}
 use Rattle.wu_rules.specs.Reporting.{report_verdict_of, report_verdict_in, reported_as, reported_in}
 use Rattle.wu_rules.specs.Sending.{sent_to, sent_in}
 use Rattle.wu_rules.specs.declared.verdicts.ReportVerdict.TheVariants as report
-use Rattle.wu_rules.proofs.Keeping.{formed_stays, Keeps, keeps_cancelled, keeps_emptied, keeps_transitioned, keeps_validated}
+use Rattle.wu_rules.proofs.Keeping.{formed_stays, Keeps, keeps_cancelled, keeps_checked, keeps_concluded, keeps_emptied, keeps_transitioned, keeps_validated}
 use Rattle.wu_rules_laws.specs.Laws.{KeepsFormed}
 
 -- ---- the rules
@@ -43,6 +43,12 @@ formed_transitioned w now = formed_by w (transitioned w now) (keeps_transitioned
 
 formed_validated : (w : Workunit) → IsWorkunit w → IsWorkunit (validated w)
 formed_validated w = formed_by w (validated w) (keeps_validated IsInstance formed_stays w)
+
+pub formed_checked : (w : Workunit) → IsWorkunit w → IsWorkunit (checked w)
+formed_checked w = formed_by w (checked w) (keeps_checked IsInstance formed_stays w)
+
+pub formed_concluded : (w : Workunit) → IsWorkunit w → IsWorkunit (concluded w)
+formed_concluded w = formed_by w (concluded w) (keeps_concluded IsInstance formed_stays w)
 
 formed_assimilated : (w : Workunit) (now : ℕ) → IsWorkunit w → IsWorkunit (assimilated w now)
 unfolding assimilated

@@ -1,6 +1,7 @@
 pub mod Awake
 mod Becoming
 mod Changed
+mod Checking
 pub mod Cancels
 mod Choosing
 mod Deciding
@@ -16,6 +17,7 @@ pub mod Making
 mod Naming
 mod Planned
 mod Progress
+mod Refused
 pub mod Rewriting
 mod Settled
 pub mod Spent

@@ -1,17 +1,19 @@
 -- What has to happen happens: what is late is timed out, what has its quorum is decided, and what comes late is judged.
-use Rattle.std.proofs.Common.{◌≡◌, ℕ, zero, suc, ◌≤◌, nat_le, nat_lt, Bool, true, false, cond, ◌&&◌, List, [], ◌∷◌, length, slice_get, Option, Some, None, is_none, IfSome, refl, sym, ap, ◌∙◌, le-leb, arith}
+use Rattle.std.proofs.Common.{◌≡◌, ℕ, zero, suc, ◌≤◌, nat_le, nat_lt, Bool, true, false, cond, ◌&&◌, List, [], ◌∷◌, length, slice_get, Option, Some, None, is_none, IfSome, refl, sym, ap, subst, ◌∙◌, le-leb, arith}
 use Rattle.std.proofs.lemmas.Bool.Decides.{nat_tests}
 use Rattle.std.specs.List.{list_any}
 use Rattle.std.specs.Option.{option_map_or}
 use Rattle.wu_core.specs.declared.workunit.Instance.{Instance}
 use Rattle.wu_core.specs.declared.workunit.Workunit.{Workunit}
+use Rattle.wu_core.specs.Parameters.{Parameters}
 use Rattle.wu_core.specs.declared.states.ServerState.TheVariants as server
 use Rattle.wu_rules.specs.Counts.{consensus, has_new_success, is_clear, is_undecided, viable}
 use Rattle.wu_rules.specs.Instances.{is_in_progress_state, is_new, is_overdue}
 use Rattle.wu_rules.specs.Transition.{transitioned}
-use Rattle.wu_rules.specs.Validation.{is_to_validate, validated, validated_by}
+use Rattle.wu_rules.specs.Validation.{checked, concluded, is_to_validate, validated}
 use Rattle.wu_rules_laws.proofs.Awake.{transitioned-not_overdue}
 use Rattle.wu_rules_laws.proofs.Changed.{or_left, or_right}
+use Rattle.wu_rules_laws.proofs.Checking.{checked_canonical, checked_mask, checked_params, concluded_unlooked, validated_is}
 use Rattle.wu_rules_laws.proofs.Deciding.{decides}
 use Rattle.wu_rules_laws.proofs.Judged.{judges-all, none_new_left}
 
@@ -47,12 +49,21 @@ looks : (clear new none enough : Bool) → clear ≡ true → new ≡ true → e
 looks clear new true enough e f g = cc
 looks clear new false enough e f g = cc
 
-pub decides_quorum : (w : Workunit) (c : ℕ) → is_undecided w ≡ true → has_new_success w ≡ true → w.params.min_quorum ≤ length (viable w) → consensus w ≡ Some c
-    → (validated w).canonical ≡ Some c
-decides_quorum w c undecided new enough agreed =
+concludes_quorum : (w : Workunit) (c : ℕ) → is_undecided w ≡ true → has_new_success w ≡ true → w.params.min_quorum ≤ length (viable w) → consensus w ≡ Some c
+    → (concluded w).canonical ≡ Some c
+concludes_quorum w c undecided new enough agreed =
     let clear = no_error w.canonical (is_clear w.error_mask) undecided in
     let looked = looks (is_clear w.error_mask) (has_new_success w) (is_none w.canonical) _ clear new (le-leb w.params.min_quorum (length (viable w)) enough) in
     decides w looked (no_canonical w.canonical (is_clear w.error_mask) undecided) ∙ agreed
+
+pub decides_quorum : (w : Workunit) (c : ℕ) → is_undecided w ≡ true → has_new_success (checked w) ≡ true → w.params.min_quorum ≤ length (viable (checked w))
+    → consensus (checked w) ≡ Some c → (validated w).canonical ≡ Some c
+decides_quorum w c undecided new enough agreed =
+    let still : is_undecided (checked w) ≡ true =
+    ap (λ o. is_none o && is_clear (checked w).error_mask) (checked_canonical w) ∙ (ap (λ m. is_none w.canonical && is_clear m) (checked_mask w) ∙ undecided) in
+    let quorum : (checked w).params.min_quorum ≤ length (viable (checked w)) =
+    subst (λ (p : Parameters). p.min_quorum ≤ length (viable (checked w))) (sym (checked_params w)) enough in
+    ap (λ (v : Workunit). v.canonical) (validated_is w) ∙ concludes_quorum (checked w) c still new quorum agreed
 
 -- ---- what comes late is judged
 
@@ -67,14 +78,15 @@ nothing_new w c some clear e = by_case (is_clear w.error_mask) (has_new_success 
     by_case true false o e f g = refl
     by_case false new o e f g = cc
 
-none_new_after : (w : Workunit) (c : ℕ) → w.canonical ≡ Some c → is_clear w.error_mask ≡ true → has_new_success (validated w) ≡ false
-unfolding validated
+none_new_after : (w : Workunit) (c : ℕ) → w.canonical ≡ Some c → is_clear w.error_mask ≡ true → has_new_success (concluded w) ≡ false
 none_new_after w c some clear = by_case (is_to_validate w) refl
   where
-    by_case : (b : Bool) → is_to_validate w ≡ b → has_new_success (cond b (validated_by w w.canonical) w) ≡ false
-    by_case true e = none_new_left w (validated_by w w.canonical) (judges-all w)
-    by_case false e = nothing_new w c some clear e
+    by_case : (b : Bool) → is_to_validate w ≡ b → has_new_success (concluded w) ≡ false
+    by_case true e = none_new_left (is_none w.canonical) w (concluded w) (judges-all w e)
+    by_case false e = ap has_new_success (concluded_unlooked w e) ∙ nothing_new w c some clear e
 
 pub judges_late : (w : Workunit) (c : ℕ) → w.canonical ≡ Some c → is_clear w.error_mask ≡ true
     → (n : ℕ) (i : Instance) → slice_get (validated w).instances n ≡ Some i → is_new i ≡ false
-judges_late w c some clear n i here = fails_at is_new (validated w).instances n i (none_new_after w c some clear) here
+judges_late w c some clear n i here =
+    let none = ap has_new_success (validated_is w) ∙ none_new_after (checked w) c (checked_canonical w ∙ some) (ap is_clear (checked_mask w) ∙ clear) in
+    fails_at is_new (validated w).instances n i none here

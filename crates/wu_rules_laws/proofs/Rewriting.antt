@@ -1,6 +1,6 @@
 -- Each rule rewrites a consistent workunit.
-use Rattle.std.proofs.Common.{◌≡◌, ℕ, zero, suc, ◌+◌, ◌<◌, Bool, true, false, not, cond, ◌&&◌, ◌||◌, List, [], ◌∷◌, map, length, slice_get, slice_set, Option, Some, None, IfSome, is_none, is_some, option_to_list, refl, sym, ap, subst, ◌∙◌, bytes_eq, arith}
-use Rattle.std.proofs.lemmas.List.Elements.{All-from_recursion, recursion_from_All}
+use Rattle.std.proofs.Common.{◌≡◌, ◌≢◌, ℕ, zero, suc, ◌+◌, ◌<◌, Bool, true, false, not, cond, ◌&&◌, ◌||◌, List, [], ◌∷◌, map, length, slice_get, slice_set, Option, Some, None, IfSome, is_none, is_some, option_to_list, refl, sym, ap, subst, ◌∙◌, bytes_eq, arith}
+use Rattle.std.proofs.lemmas.List.Elements.{All-from_recursion, All-weaker, recursion_from_All}
 use Rattle.std.proofs.lemmas.Option.{get_or_from_slice_get, slice_get_within}
 use Rattle.std.proofs.lemmas.Slice.Eq.{bytes_eq-Decides}
 use Rattle.std.specs.List.{All, AllByRecursion, list_any}
@@ -26,19 +26,20 @@ use Rattle.wu_rules.specs.Instances.{is_done_assimilate, is_new, is_over_state, 
 use Rattle.wu_rules.specs.Reporting.{is_no_reply, is_sent_after, report_verdict_in, report_verdict_of, reported_as, reported_in}
 use Rattle.wu_rules.specs.Sending.{is_of, send_verdict_in, send_verdict_of, sent_in, sent_to}
 use Rattle.wu_rules.specs.Transition.{transitioned}
-use Rattle.wu_rules.specs.Validation.{agreed_on, decided, granted_by, grants, grants_by, grants_decided, is_deleted_at, is_judged, is_to_validate, judged_by, judged_late_by, left_open, output_at, validated, validated_by, verdict}
+use Rattle.wu_rules.specs.Validation.{agreed_on, checked, concluded, credited, decided, granted_by, grants, grants_by, grants_decided, is_deleted_at, is_judged, is_to_validate, judged_by, judged_late_by, left_open, output_at, validated, validated_by, verdict}
+use Rattle.wu_rules.specs.declared.verdicts.ReportVerdict.{ReportVerdict}
 use Rattle.wu_rules.specs.declared.verdicts.ReportVerdict.TheVariants as report
 use Rattle.wu_rules.specs.declared.verdicts.SendVerdict.TheVariants as send
 use Rattle.wu_rules_laws.specs.Consistent.{RulesRewrite}
 use Rattle.wu_rules.specs.Consistent.{ArchivesTheNew, GrantsToTheNew, IsConsistent, IsPossible, IsRowOf, Rewrites, instance_host, is_done, is_valid_at, is_valid_verdict, one_if}
 use Rattle.wu_rules_laws.specs.Laws.{IsChosen, IsRightGrantIn}
-use Rattle.wu_rules_laws.proofs.Becoming.{AllBecome, Becomes, all_become, all_become-set, all_possible, becomes_judged_by, becomes_judged_late_by, becomes_reported, becomes_too_late, final_at, init_not_valid, is_valid, new_is_viable, none_made, possible_sent, same_host, unsent_no_success, valid_at}
+use Rattle.wu_rules_laws.proofs.Becoming.{AllBecome, Becomes, all_become, all_become-set, all_possible, becomes_judged_by, becomes_judged_late_by, becomes_reported, becomes_too_late, final_at, init_not_valid, is_valid, new_is_viable, none_made, not_over_not_refused, possible_sent, same_host, unsent_no_success, unsent_not_over, valid_at}
 use Rattle.wu_rules_laws.proofs.Changed.{and_false, any_false-map}
-use Rattle.wu_rules_laws.proofs.Following.{Awaits, Follows, Quietly, awaits_cancelled, awaits_emptied, awaits_left_open, awaits_same, awaits_set, awaits_transitioned, follows, follows_sent, given_up_alone, quietly_cancelled, quietly_emptied, quietly_left_open, quietly_same, quietly_transitioned, quietly_unchanged, quietly_with, ready_done, unsent_same, verdicts_kept}
+use Rattle.wu_rules_laws.proofs.Following.{Awaits, Follows, Quietly, awaits_cancelled, awaits_checked, awaits_emptied, awaits_left_open, awaits_same, awaits_set, awaits_transitioned, follows, follows_sent, given_up_alone, quietly_cancelled, quietly_checked, quietly_emptied, quietly_left_open, quietly_same, quietly_transitioned, quietly_unchanged, quietly_with, ready_done, unsent_same, verdicts_kept, kept_then}
 use Rattle.wu_rules_laws.proofs.Granted.{grants_new}
-use Rattle.wu_rules_laws.proofs.Granting.{chosen, grants_right}
+use Rattle.wu_rules_laws.proofs.Granting.{chosen, credits_right}
 use Rattle.wu_rules_laws.proofs.Hosted.{apart_same}
-use Rattle.wu_rules_laws.proofs.Kept.{keeps_formed}
+use Rattle.wu_rules_laws.proofs.Kept.{formed_checked, formed_concluded, keeps_formed}
 use Rattle.wu_rules_laws.proofs.Settled.{unsent_judged}
 use Rattle.wu_rules_laws.proofs.Spent.{and_from, and_left, and_right}
 
@@ -52,9 +53,12 @@ IsRight i = (is_success i ≡ true) × (i.validate_state ≡ validate.Valid)
 valid_success : (i : Instance) → IsPossible i → is_valid_verdict i.validate_state ≡ true → is_success i ≡ true
 valid_success i possible e = by_case (is_success i) refl
   where
+    other : i.outcome ≢ outcome.ValidateError
+    other f = let both : true ≡ false = sym e ∙ ap is_valid_verdict (possible.refused f).1 in cc
+
     by_case : (b : Bool) → b ≡ is_success i → b ≡ true
     by_case true f = refl
-    by_case false f = let both : true ≡ false = sym e ∙ init_not_valid i.validate_state (possible.judged (sym f)) in cc
+    by_case false f = let both : true ≡ false = sym e ∙ init_not_valid i.validate_state (possible.judged (sym f) other) in cc
 
 -- of possible instances the one that is VALID is right
 right_at : (xs : List Instance) (n : ℕ) → AllByRecursion IsPossible xs → is_valid_at xs n ≡ true → IfSome (slice_get xs n) IsRight
@@ -277,7 +281,7 @@ rewrites_sent w n host moment formed h applied = by_case (slice_get w.instances 
         let unsent = was_unsent w host i f in
         rewrites_set w n (sent_to w host moment i) formed h
         (follows_sent w.instances n i (sent_to w host moment i) host e (possible_sent (moment + w.params.delay_bound) host moment i possible unsent)
-        (possible.judged (unsent_no_success i unsent)) refl (no_host i (holds_at IsInstance w.instances n i formed.instances e) unsent) refl
+        (possible.judged (unsent_no_success i unsent) (not_over_not_refused i possible (unsent_not_over i.server_state unsent))) refl (no_host i (holds_at IsInstance w.instances n i formed.instances e) unsent) refl
         (had_none w host i f))
         refl made
 
@@ -302,6 +306,25 @@ taken_no_success false false false true outcome.ClientDetached e = refl
 pub was_no_success : (host : List ℕ) (moment : ℕ) (i : Instance) → report_verdict_of host moment i ≡ report.Applied → is_success i ≡ false
 was_no_success host moment i e = taken_no_success (is_none i.host) (not (is_of host i)) (is_sent_after moment i) (is_over_state i.server_state) i.outcome e
 
+-- nor is it of what was refused
+refused_not_taken : (a b c : Bool)
+    → cond a report.NotSent (cond b report.WrongHost (cond c report.BeforeSent (cond (true && not (is_no_reply outcome.ValidateError)) report.Over report.Applied))) ≢ report.Applied
+refused_not_taken true b c e = cc
+refused_not_taken false true c e = cc
+refused_not_taken false false true e = cc
+refused_not_taken false false false e = cc
+
+pub was_not_refused : (host : List ℕ) (moment : ℕ) (i : Instance) → IsPossible i → report_verdict_of host moment i ≡ report.Applied → i.outcome ≢ outcome.ValidateError
+was_not_refused host moment i possible taken e = refused_not_taken (is_none i.host) (not (is_of host i)) (is_sent_after moment i) (sym is ∙ taken)
+  where
+    verdict_by : ServerState → Outcome → ReportVerdict
+    verdict_by s o =
+        cond (is_none i.host) report.NotSent
+        (cond (not (is_of host i)) report.WrongHost (cond (is_sent_after moment i) report.BeforeSent (cond (is_over_state s && not (is_no_reply o)) report.Over report.Applied)))
+
+    is : report_verdict_of host moment i ≡ verdict_by server.Over outcome.ValidateError
+    is = ap (λ s. verdict_by s i.outcome) (possible.refused e).0 ∙ ap (verdict_by server.Over) e
+
 -- a report that is applied rewrites
 rewrites_reported : (w : Workunit) (n : ℕ) (host : List ℕ) (moment : ℕ) (status : Status) (output : List ℕ) → IsWorkunit w → IsConsistent w
     → report_verdict_in w n host moment ≡ report.Applied → Rewrites w (reported_in w n moment status output) [] []
@@ -314,7 +337,8 @@ rewrites_reported w n host moment status output formed h applied =
     by_case None e f made = rewrites_unchanged w formed h
     by_case (Some i) e f made =
         let j = reported_as moment status output i in
-        let become = becomes_reported moment status output i (holds_at IsPossible w.instances n i h.instances e) (was_no_success host moment i f) in
+        let possible = holds_at IsPossible w.instances n i h.instances e in
+        let become = becomes_reported moment status output i possible (was_no_success host moment i f) (was_not_refused host moment i possible f) in
         rewrites_set w n j formed h (follows w.instances (slice_set w.instances n j) (all_become-set w.instances n i j e become)) refl made
 
 -- ---- the validator
@@ -463,10 +487,10 @@ rewrites_too_late w output formed h made =
     (awaits_same w (map (judged_late_by true output) w.instances)
     (unsent_same is_new (λ i. record i { validate_state = validate.TooLate }) (λ i. refl) w.instances) (awaits_of w h))
 
--- the validator rewrites, with its grants
-rewrites_validated : (w : Workunit) → IsWorkunit w → IsConsistent w → Rewrites w (validated w) (grants w) []
-unfolding validated grants
-rewrites_validated w formed h = by_case (is_to_validate w) refl (keeps_formed w formed).validated (grants_right w)
+-- what is concluded rewrites, with what is credited
+rewrites_concluded : (w : Workunit) → IsWorkunit w → IsConsistent w → Rewrites w (concluded w) (credited w) []
+unfolding concluded credited
+rewrites_concluded w formed h = by_case (is_to_validate w) refl (formed_concluded w formed) (credits_right w)
   where
     by_consensus : (o : Option ℕ) → consensus w ≡ o → is_clear w.error_mask ≡ true → w.canonical ≡ None
         → IsWorkunit (decided w o) → All (IsRightGrantIn w (decided w o)) (grants_decided w o) → Rewrites w (decided w o) (grants_decided w o) []
@@ -494,6 +518,41 @@ rewrites_validated w formed h = by_case (is_to_validate w) refl (keeps_formed w 
         by_canonical w.canonical refl
         (and_left (is_clear w.error_mask) (has_new_success w) (and_left (is_clear w.error_mask && has_new_success w) _ (sym e))) made right
     by_case false e made right = rewrites_unchanged w formed h
+
+-- what rewrites after a rule that makes nothing VALID rewrites
+rewrites_after : (w v u : Workunit) (gs : List Grant) → Quietly w v → Rewrites w v [] [] → Rewrites v u gs [] → Rewrites w u gs []
+rewrites_after w v u gs q h k = record {
+  number = k.number ∙ h.number;
+  name = k.name ∙ h.name;
+  credit = k.credit ∙ h.credit;
+  formed = k.formed;
+  consistent = k.consistent;
+  valid = λ n e. (let before = h.valid n e in let after = k.valid n before.0 in (after.0, after.1 ∙ before.1));
+  canonical = λ n e. k.canonical n (h.canonical n e);
+  verdicts = kept_then w v u h.verdicts k.verdicts;
+  hosts = λ n host e. k.hosts n host (h.hosts n host e);
+  apart = λ e. k.apart (h.apart e);
+  given_up = λ e. k.given_up (h.given_up e);
+  done = λ e. k.done (h.done e);
+  stays = λ e. (let before = h.stays e in let after = k.stays (h.done e) in (after.0 ∙ before.0, after.1 ∙ before.1));
+  granted = record {
+    workunit = All-weaker (λ (g : Grant). g.workunit ≡ v.number) (λ (g : Grant). g.workunit ≡ w.number) (λ g e. e ∙ h.number) gs k.granted.workunit;
+    each = λ n. k.granted.each n ∙ ap (λ b. one_if (is_valid_at u.instances n && not b)) (q.instances.valid n);
+    own = k.granted.own;
+  };
+  archives = record {
+    once = k.archives.once ∙ ap (λ b. one_if (is_done u && not b)) q.done;
+    own = λ n d lt. absurd (omega arith);
+  };
+}
+
+-- the validator rewrites, with its grants
+rewrites_validated : (w : Workunit) → IsWorkunit w → IsConsistent w → Rewrites w (validated w) (grants w) []
+unfolding validated grants
+rewrites_validated w formed h =
+    let made = formed_checked w formed in
+    let refuses = rewrites_quietly w (checked w) formed h made (quietly_checked w) (awaits_checked w (awaits_of w h)) in
+    rewrites_after w (checked w) (concluded (checked w)) (credited (checked w)) (quietly_checked w) refuses (rewrites_concluded (checked w) made refuses.consistent)
 
 -- ---- all rules
 

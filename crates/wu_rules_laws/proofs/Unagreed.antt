@@ -3,10 +3,13 @@ use Rattle.std.proofs.Common.{◌≡◌, ◌⊎◌, ℕ, ◌+◌, ◌<◌, ◌�
 use Rattle.std.proofs.lemmas.Bool.Decides.{nat_tests}
 use Rattle.std.specs.Prelude.{◌↔◌}
 use Rattle.wu_core.specs.Mask.{bit_value, error_mask_code}
+use Rattle.wu_core.specs.declared.mask.ErrorMask.{ErrorMask}
 use Rattle.wu_core.specs.declared.workunit.Workunit.{Workunit}
+use Rattle.wu_core.specs.Parameters.{Parameters}
 use Rattle.wu_rules.specs.Counts.{consensus, has_new_success, is_clear, viable}
-use Rattle.wu_rules.specs.Validation.{agreed_on, decided, doubted, doubted_or_closed, is_to_validate, judged_after, raised_target, validated, validated_by}
+use Rattle.wu_rules.specs.Validation.{agreed_on, checked, concluded, decided, doubted, doubted_or_closed, is_to_validate, judged_after, raised_target, validated, validated_by}
 use Rattle.wu_rules_laws.specs.Laws.{AsksForMore, IsUnagreed}
+use Rattle.wu_rules_laws.proofs.Checking.{checked_mask, checked_params, validated_is}
 use Rattle.wu_rules_laws.proofs.Planned.{no_bit}
 use Rattle.wu_rules_laws.proofs.Spent.{and_left}
 
@@ -16,8 +19,8 @@ opened w b = cond b
     (record w { error_mask = record w.error_mask { too_many_success_results = true }; instances = map doubted_or_closed w.instances })
     (record w { params = record w.params { target_nresults = raised_target w.params (length (viable w)) }; instances = map doubted w.instances })
 
-open_image : (w : Workunit) → IsUnagreed w → validated w ≡ opened w (nat_lt w.params.max_success_results (length (viable w)))
-unfolding validated
+open_image : (w : Workunit) → IsUnagreed w → concluded w ≡ opened w (nat_lt w.params.max_success_results (length (viable w)))
+unfolding concluded
 open_image w it =
     ap (λ b. cond b (validated_by w w.canonical) w) it.looked_at ∙ (ap (validated_by w) it.undecided ∙ ap (decided w) it.no_consensus)
 
@@ -33,7 +36,7 @@ module _ (w : Workunit) where
   abbrev many : ℕ
   many = length (viable w)
 
-  gives_up_many : IsUnagreed w → ((validated w).error_mask.too_many_success_results ≡ true) ↔ (w.params.max_success_results < length (viable w))
+  gives_up_many : IsUnagreed w → ((concluded w).error_mask.too_many_success_results ≡ true) ↔ (w.params.max_success_results < length (viable w))
   gives_up_many it =
       subst (λ (v : Workunit). (v.error_mask.too_many_success_results ≡ true) ↔ (w.params.max_success_results < length (viable w))) (sym (open_image w it))
       (by (nat_lt w.params.max_success_results (length (viable w))) refl)
@@ -47,7 +50,7 @@ module _ (w : Workunit) where
       )
 
   raises : IsUnagreed w → length (viable w) ≤ w.params.max_success_results → w.params.target_nresults ≤ length (viable w)
-      → (validated w).params.target_nresults ≡ length (viable w) + 1
+      → (concluded w).params.target_nresults ≡ length (viable w) + 1
   raises it borne reached =
       let few : nat_lt w.params.max_success_results (length (viable w)) ≡ false = grind (arith, nat_tests) in
       ap (λ (v : Workunit). v.params.target_nresults) (open_image w it)
@@ -55,7 +58,7 @@ module _ (w : Workunit) where
       ∙ ap (λ b. cond b (length (viable w) + 1) w.params.target_nresults) (le-leb w.params.target_nresults (length (viable w)) reached))
 
   stays_open : IsUnagreed w → (w.params.max_success_results < length (viable w)) ⊎ (length (viable w) < w.params.target_nresults)
-      → (validated w).params.target_nresults ≡ w.params.target_nresults
+      → (concluded w).params.target_nresults ≡ w.params.target_nresults
   stays_open it why =
       ap (λ (v : Workunit). v.params.target_nresults) (open_image w it) ∙ by (nat_lt w.params.max_success_results (length (viable w))) refl why
     where
@@ -69,11 +72,11 @@ module _ (w : Workunit) where
           let below : nat_le w.params.target_nresults (length (viable w)) ≡ false = grind (arith, nat_tests) in
           ap (λ b. cond b (length (viable w) + 1) w.params.target_nresults) below
 
--- this holds of what is validated where it holds of each image
-validated_has : (P : Workunit → Type 0) (w : Workunit) → P w → ((n : ℕ) → P (judged_after w n)) → ((n : ℕ) → P (agreed_on w n))
-    → (w.canonical ≡ None → (b : Bool) → P (opened w b)) → P (validated w)
-unfolding validated
-validated_has P w same after chosen left = by (is_to_validate w)
+-- this holds of what is concluded where it holds of each image
+concluded_has : (P : Workunit → Type 0) (w : Workunit) → P w → ((n : ℕ) → P (judged_after w n)) → ((n : ℕ) → P (agreed_on w n))
+    → (w.canonical ≡ None → (b : Bool) → P (opened w b)) → P (concluded w)
+unfolding concluded
+concluded_has P w same after chosen left = by (is_to_validate w)
   where
     by_consensus : (o : Option ℕ) → w.canonical ≡ None → P (decided w o)
     by_consensus (Some n) none = chosen n
@@ -87,14 +90,20 @@ validated_has P w same after chosen left = by (is_to_validate w)
     by true = by_canonical w.canonical refl
     by false = same
 
-pub asks_for_more : (w : Workunit) → AsksForMore w
-asks_for_more w = record {
-  given_up = gives_up_many w;
-  raised = raises w;
-  not_raised = stays_open w;
-  other_params = validated_has (λ v. v.params ≡ record w.params { target_nresults = v.params.target_nresults }) w refl (λ n. refl) (λ n. refl) (λ none. params_open);
-  other_bits = validated_has (λ v. v.error_mask ≡ record w.error_mask { too_many_success_results = v.error_mask.too_many_success_results }) w refl (λ n. refl) (λ n. refl) (λ none. bits_open);
-  decided = validated_has (λ v. (n : ℕ) → v.canonical ≡ Some n → (v.params ≡ w.params) × (v.error_mask ≡ w.error_mask)) w (λ n is. (refl, refl)) (λ m n is. (refl, refl)) (λ m n is. (refl, refl)) none_decided;
+-- what it changes of parameters and mask
+record Changes (w v : Workunit) : Type 0 where
+  other_params : v.params ≡ record w.params { target_nresults = v.params.target_nresults }
+  other_bits : v.error_mask ≡ record w.error_mask { too_many_success_results = v.error_mask.too_many_success_results }
+  decided : (n : ℕ) → v.canonical ≡ Some n → (v.params ≡ w.params) × (v.error_mask ≡ w.error_mask)
+
+changes : (w : Workunit) → Changes w (concluded w)
+changes w = record {
+  other_params = concluded_has (λ v. v.params ≡ record w.params { target_nresults = v.params.target_nresults }) w
+      refl (λ n. refl) (λ n. refl) (λ none. params_open);
+  other_bits = concluded_has (λ v. v.error_mask ≡ record w.error_mask { too_many_success_results = v.error_mask.too_many_success_results }) w
+      refl (λ n. refl) (λ n. refl) (λ none. bits_open);
+  decided = concluded_has (λ v. (n : ℕ) → v.canonical ≡ Some n → (v.params ≡ w.params) × (v.error_mask ≡ w.error_mask)) w
+      (λ n is. (refl, refl)) (λ m n is. (refl, refl)) (λ m n is. (refl, refl)) none_decided;
 }
   where
     params_open : (b : Bool) → (opened w b).params ≡ record w.params { target_nresults = (opened w b).params.target_nresults }
@@ -111,3 +120,54 @@ asks_for_more w = record {
 
     none_decided : w.canonical ≡ None → (b : Bool) (n : ℕ) → (opened w b).canonical ≡ Some n → ((opened w b).params ≡ w.params) × ((opened w b).error_mask ≡ w.error_mask)
     none_decided none b n is = absurd (let same = still_none b in cc)
+
+-- of what is left without empty outputs
+module _ (w : Workunit) where
+  -- its bit is set exactly where these are too many
+  abbrev SetWhereMany : Workunit → Parameters → Type 0
+  SetWhereMany v p = (v.error_mask.too_many_success_results ≡ true) ↔ (p.max_success_results < length (viable (checked w)))
+
+  gives_up : IsUnagreed (checked w) → SetWhereMany (validated w) w.params
+  gives_up it =
+      subst (λ (v : Workunit). SetWhereMany v w.params) (sym (validated_is w))
+      (subst (λ (p : Parameters). SetWhereMany (concluded (checked w)) p) (checked_params w) (gives_up_many (checked w) it))
+
+  raised : IsUnagreed (checked w) → length (viable (checked w)) ≤ w.params.max_success_results → w.params.target_nresults ≤ length (viable (checked w))
+      → (validated w).params.target_nresults ≡ length (viable (checked w)) + 1
+  raised it borne reached =
+      ap (λ (v : Workunit). v.params.target_nresults) (validated_is w)
+      ∙ raises (checked w) it
+      (subst (λ (p : Parameters). length (viable (checked w)) ≤ p.max_success_results) (sym (checked_params w)) borne)
+      (subst (λ (p : Parameters). p.target_nresults ≤ length (viable (checked w))) (sym (checked_params w)) reached)
+
+  -- these are too many, or too few for the target
+  abbrev ManyOrFew : Parameters → Type 0
+  ManyOrFew p = (p.max_success_results < length (viable (checked w))) ⊎ (length (viable (checked w)) < p.target_nresults)
+
+  not_raised : IsUnagreed (checked w) → ManyOrFew w.params → (validated w).params.target_nresults ≡ w.params.target_nresults
+  not_raised it why =
+      ap (λ (v : Workunit). v.params.target_nresults) (validated_is w)
+      ∙ (stays_open (checked w) it (subst ManyOrFew (sym (checked_params w)) why)
+      ∙ ap (λ (p : Parameters). p.target_nresults) (checked_params w))
+
+  changes_by : Changes w (validated w)
+  changes_by =
+      let by = changes (checked w) in
+      let made : Changes w (concluded (checked w)) = record {
+        other_params = by.other_params
+            ∙ ap (λ (p : Parameters). record p { target_nresults = (concluded (checked w)).params.target_nresults }) (checked_params w);
+        other_bits = by.other_bits
+            ∙ ap (λ (m : ErrorMask). record m { too_many_success_results = (concluded (checked w)).error_mask.too_many_success_results }) (checked_mask w);
+        decided = λ n is. (let both = by.decided n is in (both.0 ∙ checked_params w, both.1 ∙ checked_mask w));
+      } in
+      subst (λ (v : Workunit). Changes w v) (sym (validated_is w)) made
+
+  pub asks_for_more : AsksForMore w (checked w)
+  asks_for_more = record {
+    given_up = gives_up;
+    raised = raised;
+    not_raised = not_raised;
+    other_params = changes_by.other_params;
+    other_bits = changes_by.other_bits;
+    decided = changes_by.decided;
+  }

@@ -1,5 +1,5 @@
 -- No rule changes a final verdict.
-use Rattle.std.proofs.Common.{◌≡◌, ℕ, Bool, true, false, cond, List, slice_get, slice_set, Option, Some, None, option_map, refl, sym, ap, subst, ◌∙◌}
+use Rattle.std.proofs.Common.{◌≡◌, ℕ, Bool, true, false, cond, List, slice_get, slice_set, Option, Some, None, option_map, refl, ◌∙◌}
 use Rattle.std.specs.Option.{option_map_or}
 use Rattle.wu_core.specs.Workunit.{with_instance_set}
 use Rattle.wu_core.specs.declared.workunit.Instance.{Instance}
@@ -8,18 +8,18 @@ use Rattle.wu_core.specs.declared.states.Assimilate.TheVariants as assimilate
 use Rattle.wu_core.specs.declared.states.Status.{Status}
 use Rattle.wu_rules.specs.Assimilation.{assimilated, emptied}
 use Rattle.wu_rules.specs.Cancelling.{cancelled}
-use Rattle.wu_rules.specs.Instances.{is_open_verdict, is_ready_assimilate}
+use Rattle.wu_rules.specs.Instances.{is_ready_assimilate}
 use Rattle.wu_rules.specs.Reporting.{report_verdict_in, report_verdict_of, reported_as, reported_in}
 use Rattle.wu_rules.specs.Sending.{sent_in, sent_to}
 use Rattle.wu_rules.specs.Transition.{transitioned}
 use Rattle.wu_rules.specs.declared.verdicts.ReportVerdict.TheVariants as report
 use Rattle.wu_rules_laws.specs.Consistent.{RulesKeepVerdicts}
 use Rattle.wu_rules.specs.Consistent.{IsConsistent, IsPossible, KeepsVerdicts}
-use Rattle.wu_rules_laws.proofs.Becoming.{all_become-set, becomes_reported, final_at, none_made, verdict_at}
-use Rattle.wu_rules_laws.proofs.Following.{Follows, follows_cancelled, quietly_emptied, quietly_transitioned, verdicts_kept}
+use Rattle.wu_rules_laws.proofs.Becoming.{all_become-set, becomes_reported, final_at, none_made}
+use Rattle.wu_rules_laws.proofs.Following.{Follows, follows_cancelled, kept_then, quietly_emptied, quietly_transitioned, verdicts_kept}
 use Rattle.wu_rules_laws.proofs.Hosted.{at_set}
 use Rattle.wu_rules_laws.proofs.Judged.{finals_stay}
-use Rattle.wu_rules_laws.proofs.Rewriting.{holds_at, was_no_success}
+use Rattle.wu_rules_laws.proofs.Rewriting.{holds_at, was_no_success, was_not_refused}
 
 -- no change
 pub verdicts_unchanged : (w : Workunit) → KeepsVerdicts w w
@@ -27,14 +27,7 @@ verdicts_unchanged w = verdicts_kept w w (λ n u e final. e)
 
 -- one change after another
 pub verdicts_then : (w v u : Workunit) → KeepsVerdicts w v → KeepsVerdicts v u → KeepsVerdicts w u
-verdicts_then w v u first second n i here final = by_case (slice_get v.instances n) refl (first n i here final)
-  where
-    by_case : (o : Option Instance) → slice_get v.instances n ≡ o → option_map (λ j. j.validate_state) o ≡ Some i.validate_state
-        → verdict_at u.instances n ≡ Some i.validate_state
-    by_case None e f = cc
-    by_case (Some j) e f =
-        let same : j.validate_state ≡ i.validate_state = cc in
-        second n j e (subst (λ s. is_open_verdict s ≡ false) (sym same) final) ∙ ap Some same
+verdicts_then = kept_then
 
 -- where nothing is made VALID
 verdicts_follow : (w v : Workunit) → Follows w.instances v.instances → KeepsVerdicts w v
@@ -71,7 +64,8 @@ verdicts_reported w n host moment status output h applied = by_case (slice_get w
     by_case None e f = verdicts_unchanged w
     by_case (Some i) e f =
         let j = reported_as moment status output i in
-        let becomes = becomes_reported moment status output i (holds_at IsPossible w.instances n i h.instances e) (was_no_success host moment i f) in
+        let possible = holds_at IsPossible w.instances n i h.instances e in
+        let becomes = becomes_reported moment status output i possible (was_no_success host moment i f) (was_not_refused host moment i possible f) in
         verdicts_kept w (with_instance_set w n j) (final_at none_made w.instances (slice_set w.instances n j) (all_become-set w.instances n i j e becomes))
 
 -- all rules

@@ -21,7 +21,7 @@ use Rattle.wu_rules.specs.Counts.{viable, agreeing, is_agreed, is_clear, is_unde
 use Rattle.wu_rules.specs.Reporting.{report_verdict_in, reported_in}
 use Rattle.wu_rules.specs.Sending.{sent_in}
 use Rattle.wu_rules.specs.Transition.{transitioned}
-use Rattle.wu_rules.specs.Validation.{grants, is_deleted_at, is_to_validate, output_at, validated, verdict}
+use Rattle.wu_rules.specs.Validation.{checked, grants, is_deleted_at, is_judged, is_to_validate, output_at, validated, verdict}
 use Rattle.wu_rules.specs.Waking.{wake}
 use Rattle.wu_rules.specs.Consistent.{HostsApart}
 
@@ -106,9 +106,10 @@ pub record IsChosen (w : Workunit) (n : ℕ) : Type 0 where
 abbrev pub ChoosesByAgreement : Type 0
 ChoosesByAgreement = (w : Workunit) (n : ℕ) → (consensus w ≡ Some n) ↔ IsChosen w n
 
--- a canonical result comes by the validator alone, where enough agree, and no rule takes one away or chooses another
+-- a canonical result comes by the validator alone, where of what is left without empty outputs enough agree, and no
+-- rule takes one away or chooses another
 pub record ChoosesByQuorum (w : Workunit) : Type 0 where
-  pub chosen : (n : ℕ) → w.canonical ≡ None → (validated w).canonical ≡ Some n → IsChosen w n
+  pub chosen : (n : ℕ) → w.canonical ≡ None → (validated w).canonical ≡ Some n → IsChosen (checked w) n
   pub kept : (n : ℕ) → w.canonical ≡ Some n → (validated w).canonical ≡ Some n
   pub transitioned : (now : ℕ) → (transitioned w now).canonical ≡ w.canonical
   pub assimilated : (now : ℕ) → (assimilated w now).canonical ≡ w.canonical
@@ -124,33 +125,61 @@ ChoosesOnlyByQuorum = (w : Workunit) → ChoosesByQuorum w
 abbrev pub verdict_at : Workunit → ℕ → Option ValidateState
 verdict_at w n = option_map (λ i. i.validate_state) (slice_get w.instances n)
 
--- The validator decides by the consensus. At the decision a viable success is VALID where its output is the chosen one,
--- byte for byte, and else INVALID; so is a new one after it, as long as the canonical output is held, and TOO_LATE once
--- that is deleted. Without a consensus each viable success is INCONCLUSIVE.
-pub record DecidesBy (w : Workunit) : Type 0 where
-  pub chosen : is_to_validate w ≡ true → w.canonical ≡ None → (validated w).canonical ≡ consensus w
-  pub judged : (c n : ℕ) (i : Instance) → is_to_validate w ≡ true → w.canonical ≡ None → consensus w ≡ Some c
-      → slice_get w.instances n ≡ Some i → is_viable i ≡ true
-      → verdict_at (validated w) n ≡ Some (verdict (bytes_eq i.output (output_at w.instances c)))
-  pub judged_late : (c n : ℕ) (i : Instance) → is_to_validate w ≡ true → w.canonical ≡ Some c
-      → is_deleted_at w.instances c ≡ false → slice_get w.instances n ≡ Some i → is_new i ≡ true
-      → verdict_at (validated w) n ≡ Some (verdict (bytes_eq i.output (output_at w.instances c)))
-  pub too_late : (c n : ℕ) (i : Instance) → is_to_validate w ≡ true → w.canonical ≡ Some c
-      → is_deleted_at w.instances c ≡ true → slice_get w.instances n ≡ Some i → is_new i ≡ true
+-- ---- empty outputs
+
+-- this instance is refused: an error of validation, and INVALID; all else of it stays
+abbrev pub IsRefused : Instance → Option Instance → Type 0
+IsRefused i new = new ≡ Some (record i { outcome = outcome.ValidateError; validate_state = validate.Invalid })
+
+-- A success that the validator judges, and whose output is empty, is refused where the validator looks, before the
+-- decision and after it. No empty output is chosen, made VALID or granted.
+pub record RefusesEmpty (w : Workunit) : Type 0 where
+  pub refused : (n : ℕ) (i : Instance) → is_to_validate w ≡ true → slice_get w.instances n ≡ Some i
+      → is_judged w i ≡ true → i.output ≡ [] → IsRefused i (slice_get (validated w).instances n)
+  pub not_chosen : (n : ℕ) (i : Instance) → w.canonical ≡ None → (validated w).canonical ≡ Some n
+      → slice_get w.instances n ≡ Some i → i.output ≢ []
+  pub not_valid : (n : ℕ) (i : Instance) → slice_get w.instances n ≡ Some i → is_open_verdict i.validate_state ≡ true
+      → verdict_at (validated w) n ≡ Some validate.Valid → i.output ≢ []
+  pub not_granted : All (λ grant. (i : Instance) → slice_get w.instances grant.n ≡ Some i → i.output ≢ []) (grants w)
+  -- no other success is refused
+  pub others : (n : ℕ) (i : Instance) → slice_get w.instances n ≡ Some i → i.output ≢ []
+      → IfSome (slice_get (validated w).instances n) (λ j. j.outcome ≡ outcome.ValidateError → i.outcome ≡ outcome.ValidateError)
+  -- where what is left is not enough it stays as it is
+  pub rest : is_to_validate (checked w) ≡ false → validated w ≡ checked w
+
+abbrev pub RefusesWhatIsEmpty : Type 0
+RefusesWhatIsEmpty = (w : Workunit) → RefusesEmpty w
+
+-- ---- what the others decide
+
+-- Of what is left without empty outputs, where it is enough, the validator decides by the consensus. At the decision a
+-- viable success is VALID where its output is the chosen one, byte for byte, and else INVALID; so is a new one after
+-- it, as long as the canonical output is held, and TOO_LATE once that is deleted. Without a consensus each viable
+-- success is INCONCLUSIVE.
+pub record DecidesBy (w left : Workunit) : Type 0 where
+  pub chosen : is_to_validate left ≡ true → w.canonical ≡ None → (validated w).canonical ≡ consensus left
+  pub judged : (c n : ℕ) (i : Instance) → is_to_validate left ≡ true → w.canonical ≡ None → consensus left ≡ Some c
+      → slice_get left.instances n ≡ Some i → is_viable i ≡ true
+      → verdict_at (validated w) n ≡ Some (verdict (bytes_eq i.output (output_at left.instances c)))
+  pub judged_late : (c n : ℕ) (i : Instance) → is_to_validate left ≡ true → w.canonical ≡ Some c
+      → is_deleted_at left.instances c ≡ false → slice_get left.instances n ≡ Some i → is_new i ≡ true
+      → verdict_at (validated w) n ≡ Some (verdict (bytes_eq i.output (output_at left.instances c)))
+  pub too_late : (c n : ℕ) (i : Instance) → is_to_validate left ≡ true → w.canonical ≡ Some c
+      → is_deleted_at left.instances c ≡ true → slice_get left.instances n ≡ Some i → is_new i ≡ true
       → verdict_at (validated w) n ≡ Some validate.TooLate
-  pub doubted : (n : ℕ) (i : Instance) → is_to_validate w ≡ true → w.canonical ≡ None → consensus w ≡ None
-      → slice_get w.instances n ≡ Some i → is_viable i ≡ true
+  pub doubted : (n : ℕ) (i : Instance) → is_to_validate left ≡ true → w.canonical ≡ None → consensus left ≡ None
+      → slice_get left.instances n ≡ Some i → is_viable i ≡ true
       → verdict_at (validated w) n ≡ Some validate.Inconclusive
 
 abbrev pub DecidesByConsensus : Type 0
-DecidesByConsensus = (w : Workunit) → DecidesBy w
+DecidesByConsensus = (w : Workunit) → DecidesBy w (checked w)
 
--- An undecided workunit with a new success, and with viable ones enough for its quorum, gets its
+-- An undecided workunit with a new success, and with viable ones enough for its quorum, none of them empty, gets its
 -- canonical result from the validator as soon as enough of them agree.
 abbrev pub DecidesWithItsQuorum : Type 0
 DecidesWithItsQuorum =
-    (w : Workunit) (c : ℕ) → is_undecided w ≡ true → has_new_success w ≡ true
-    → w.params.min_quorum ≤ length (viable w) → consensus w ≡ Some c
+    (w : Workunit) (c : ℕ) → is_undecided w ≡ true → has_new_success (checked w) ≡ true
+    → w.params.min_quorum ≤ length (viable (checked w)) → consensus (checked w) ≡ Some c
     → (validated w).canonical ≡ Some c
 
 -- after the decision, and without an error, the validator leaves no success without a verdict
@@ -224,21 +253,21 @@ pub record IsCancelled (w new : Workunit) : Type 0 where
 abbrev pub CancelsWhatIsUnsent : Type 0
 CancelsWhatIsUnsent = (w : Workunit) → IsCancelled w (cancelled w)
 
--- the validator looks, nothing is chosen yet, and there is no consensus
+-- the validator decides, nothing is chosen yet, and there is no consensus
 pub record IsUnagreed (w : Workunit) : Type 0 where
   pub looked_at : is_to_validate w ≡ true
   pub undecided : w.canonical ≡ None
   pub no_consensus : consensus w ≡ None
 
--- Without a consensus a workunit with more viable successes than it bears is given up; of another one a target that
--- they have reached is raised to one more than they are. No other parameter changes, and no other bit; neither where
--- there is a canonical result then.
-pub record AsksForMore (w : Workunit) : Type 0 where
-  pub given_up : IsUnagreed w
-      → ((validated w).error_mask.too_many_success_results ≡ true) ↔ (w.params.max_success_results < length (viable w))
-  pub raised : IsUnagreed w → length (viable w) ≤ w.params.max_success_results → w.params.target_nresults ≤ length (viable w)
-      → (validated w).params.target_nresults ≡ length (viable w) + 1
-  pub not_raised : IsUnagreed w → (w.params.max_success_results < length (viable w)) ⊎ (length (viable w) < w.params.target_nresults)
+-- Without a consensus among what is left without empty outputs, a workunit with more viable successes than it bears is
+-- given up; of another one a target that they have reached is raised to one more than they are. No other parameter
+-- changes, and no other bit; neither where there is a canonical result then.
+pub record AsksForMore (w left : Workunit) : Type 0 where
+  pub given_up : IsUnagreed left
+      → ((validated w).error_mask.too_many_success_results ≡ true) ↔ (w.params.max_success_results < length (viable left))
+  pub raised : IsUnagreed left → length (viable left) ≤ w.params.max_success_results → w.params.target_nresults ≤ length (viable left)
+      → (validated w).params.target_nresults ≡ length (viable left) + 1
+  pub not_raised : IsUnagreed left → (w.params.max_success_results < length (viable left)) ⊎ (length (viable left) < w.params.target_nresults)
       → (validated w).params.target_nresults ≡ w.params.target_nresults
   pub other_params : (validated w).params ≡ record w.params { target_nresults = (validated w).params.target_nresults }
   pub other_bits : (validated w).error_mask
@@ -247,4 +276,4 @@ pub record AsksForMore (w : Workunit) : Type 0 where
       → ((validated w).params ≡ w.params) × ((validated w).error_mask ≡ w.error_mask)
 
 abbrev pub AsksForMoreOrGivesUp : Type 0
-AsksForMoreOrGivesUp = (w : Workunit) → AsksForMore w
+AsksForMoreOrGivesUp = (w : Workunit) → AsksForMore w (checked w)

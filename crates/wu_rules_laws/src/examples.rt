@@ -1,13 +1,14 @@
 //! Worked examples, computed on the definitions: each function's contract is what the rules make of a workunit.
-#![tactic(auto, unfolding(wu_rules::specs::Transition::transitioned, wu_rules::specs::Waking::wake, wu_rules::specs::Validation::validated, wu_rules::specs::Validation::grants, wu_rules::specs::Assimilation::assimilated, wu_rules::specs::Assimilation::emptied, wu_rules::specs::Assimilation::is_purgeable, wu_rules::specs::Assimilation::is_to_delete, wu_rules::specs::Marks::marks, wu_rules::specs::Cancelling::cancelled))]
+#![tactic(auto, unfolding(wu_rules::specs::Transition::transitioned, wu_rules::specs::Waking::wake, wu_rules::specs::Validation::validated, wu_rules::specs::Validation::concluded, wu_rules::specs::Validation::grants, wu_rules::specs::Validation::credited, wu_rules::specs::Assimilation::assimilated, wu_rules::specs::Assimilation::emptied, wu_rules::specs::Assimilation::is_purgeable, wu_rules::specs::Assimilation::is_to_delete, wu_rules::specs::Marks::marks, wu_rules::specs::Cancelling::cancelled))]
 
 ghost use Rattle.std.specs.Prelude.{◌≡◌, ◌∷◌, [], true, false, Some, None};
+ghost use Rattle.wu_core.specs.Workunit.{fresh};
 ghost use Rattle.wu_core.specs.declared.states.Status.TheVariants as status;
 ghost use Rattle.wu_core.specs.declared.states.ValidateState.TheVariants as validate;
 ghost use Rattle.wu_rules.specs.Transition.{transitioned};
 ghost use Rattle.wu_rules.specs.Validation.{is_to_validate, validated, grants};
 ghost use Rattle.wu_rules.specs.Cancelling.{cancelled};
-ghost use Rattle.wu_rules.specs.Counts.{is_undecided};
+ghost use Rattle.wu_rules.specs.Counts.{errors, is_undecided};
 ghost use Rattle.wu_rules.specs.Reporting.{report_verdict_in, reported_in};
 ghost use Rattle.wu_rules.specs.Sending.{send_verdict_in, sent_in};
 ghost use Rattle.wu_rules.specs.declared.verdicts.ReportVerdict.TheVariants as report;
@@ -17,7 +18,7 @@ ghost use Rattle.wu_rules.specs.Waking.{wake};
 ghost use Rattle.wu_rules_laws.specs.Marking.{wakes_at};
 ghost use Rattle.wu_rules.specs.Assimilation.{assimilated, emptied, is_purgeable};
 ghost use Rattle.wu_rules.specs.Examples.{noon, sending, due, a_second_late, reporting, h1, h2, h3, aa, credit, ready, masked, cancelled_mask};
-ghost use Rattle.wu_rules.specs.Examples.{new_job, two_unsent, one_out, one_lost, one_back, one_late, one_failed, two_differ, two_doubted, third_unsent, third_agrees, second_chosen, two_of_three, two_of_three_chosen, two_of_four, two_of_four_doubted, one_of_one, one_of_one_chosen, four_failed, ended_by_errors, last_out, ended_by_total, three_differ, three_doubted, one_left, ended_by_successes, two_agree, first_chosen, second_may_go, third_after_all, two_unneeded, two_may_go, one_may_go, one_gone_since, one_emptied};
+ghost use Rattle.wu_rules.specs.Examples.{new_job, two_unsent, one_out, one_lost, one_back, one_late, one_failed, two_differ, two_doubted, third_unsent, third_agrees, second_chosen, two_of_three, two_of_three_chosen, two_of_four, two_of_four_doubted, one_of_one, one_of_one_chosen, empty, no_result, one_and_a_result, two_of, after_decision, after_all, four_failed, ended_by_errors, last_out, ended_by_total, three_differ, three_doubted, one_left, ended_by_successes, two_agree, first_chosen, second_may_go, third_after_all, two_unneeded, two_may_go, one_may_go, one_gone_since, one_emptied};
 
 /// A new workunit gets its two instances at once, and no more.
 pub fn makes_instances()
@@ -106,6 +107,24 @@ pub fn agrees_by_half_and_one()
     ensures granted { grants two_of_three ≡ credit 0 h1 ∷ credit 2 h3 ∷ [] }
     ensures four { validated two_of_four ≡ two_of_four_doubted }
     ensures one { validated one_of_one ≡ one_of_one_chosen }
+{}
+
+/// An empty output is no result: it is refused, the result beside it waits, and another instance is made. Two of them
+/// agree on nothing, and are two errors.
+pub fn refuses_empty_outputs()
+    ensures one { validated (one_and_a_result (empty h1) []) ≡ one_and_a_result (no_result h1) [] }
+    ensures nothing { grants (one_and_a_result (empty h1) []) ≡ [] }
+    ensures made { transitioned (one_and_a_result (no_result h1) []) sending
+        ≡ one_and_a_result (no_result h1) (fresh ∷ []) }
+    ensures both { validated (two_of (empty h1) (empty h2)) ≡ two_of (no_result h1) (no_result h2) }
+    ensures errors { errors (two_of (no_result h1) (no_result h2)) ≡ 2 }
+{}
+
+/// An empty output that comes after the decision is refused, also where the canonical one is gone.
+pub fn refuses_late_empty_outputs()
+    ensures late { validated (after_decision (empty h3)) ≡ after_decision (no_result h3) }
+    ensures not_too_late { validated (after_all (empty h3)) ≡ after_all (no_result h3) }
+    ensures nothing { grants (after_decision (empty h3)) ≡ [] }
 {}
 
 /// More errors than a workunit bears end it, and its one success is not checked.

@@ -1,7 +1,7 @@
 //! Laws of the rules: each function's contract is one, for every workunit and every moment.
 
 ghost use Rattle.wu_core.specs.declared.workunit.Workunit.{Workunit};
-ghost use Rattle.wu_rules_laws.specs.Laws.{TransitionsOnce, TimesOutWhatIsLate, WakesInTime, LooksWhereItChanges, KeepsFinalVerdicts, AssimilatesWhatIsReady, ArchivesWhatWasRead, DeletesWhereItChanges, HoldsNothingReady, SelectsByMarks, PurgesWhatIsThrough, StaysPurgeable, ChoosesByAgreement, ChoosesOnlyByQuorum, ChoosesWithoutHosts, AgreeFromDifferentHosts, DecidesByConsensus, DecidesWithItsQuorum, JudgesWhatComesLate, GrantsToTheValid, GrantsOnce, KeepsWorkunitsFormed, CancelsWhatIsUnsent, AsksForMoreOrGivesUp};
+ghost use Rattle.wu_rules_laws.specs.Laws.{TransitionsOnce, TimesOutWhatIsLate, WakesInTime, LooksWhereItChanges, KeepsFinalVerdicts, AssimilatesWhatIsReady, ArchivesWhatWasRead, DeletesWhereItChanges, HoldsNothingReady, SelectsByMarks, PurgesWhatIsThrough, RefusesWhatIsEmpty, StaysPurgeable, ChoosesByAgreement, ChoosesOnlyByQuorum, ChoosesWithoutHosts, AgreeFromDifferentHosts, DecidesByConsensus, DecidesWithItsQuorum, JudgesWhatComesLate, GrantsToTheValid, GrantsOnce, KeepsWorkunitsFormed, CancelsWhatIsUnsent, AsksForMoreOrGivesUp};
 
 /// A second transition at the same moment changes nothing.
 pub fn transitions_once()
@@ -69,20 +69,26 @@ pub fn chooses_by_agreement()
     ensures { ChoosesByAgreement }
 {}
 
-/// A canonical result comes by the validator alone, where at least half of the quorum plus one agree with it; no rule
-/// takes it away or chooses another.
+/// A canonical result comes by the validator alone, where of what is left without empty outputs at least half of the
+/// quorum plus one agree with it; no rule takes it away or chooses another.
 pub fn chooses_only_by_quorum()
     ensures { ChoosesOnlyByQuorum }
 {}
 
-/// The validator decides exactly by the consensus: what it chooses is the consensus, and a success that it judges is
-/// VALID where its output is the chosen one byte for byte, and else INVALID.
+/// A success that the validator judges and whose output is empty is refused, as an error and INVALID; no empty output
+/// is chosen, made VALID or granted.
+pub fn refuses_what_is_empty()
+    ensures { RefusesWhatIsEmpty }
+{}
+
+/// The validator decides exactly by the consensus of what is left without empty outputs: what it chooses is the
+/// consensus, and a success that it judges is VALID where its output is the chosen one byte for byte, and else INVALID.
 pub fn decides_by_consensus()
     ensures { DecidesByConsensus }
 {}
 
-/// An undecided workunit with a new success, and with viable ones enough for its quorum, gets its canonical result from
-/// the validator as soon as enough of them agree.
+/// An undecided workunit with a new success, and with viable ones enough for its quorum, none of them empty, gets its
+/// canonical result from the validator as soon as enough of them agree.
 pub fn decides_with_its_quorum()
     ensures { DecidesWithItsQuorum }
 {}
@@ -123,8 +129,9 @@ pub fn cancels_what_is_unsent()
     ensures { CancelsWhatIsUnsent }
 {}
 
-/// Without a consensus the target is raised to one more than the successes that reached it, and more of them than are
-/// borne give the workunit up; nothing else of the parameters and of the mask changes.
+/// Without a consensus of what is left without empty outputs, the target is raised to one more than the successes that
+/// reached it, and more of them than are borne give the workunit up; nothing else of the parameters and of the mask
+/// changes.
 pub fn asks_for_more_or_gives_up()
     ensures { AsksForMoreOrGivesUp }
 {}
