@@ -6,6 +6,7 @@ mod ImportKeyLemmas
 pub mod KeyLemmas
 mod MovedLemmas
 pub mod OrderLemmas
+pub mod PartLemmas
 pub mod PlaceLemmas
 pub mod PlacingLemmas
 pub mod RecordLemmas

@@ -46,8 +46,10 @@ pub record IsInOneState (w : Workunit) : Type 0 where
       → list_any is_unsent w.instances ≡ false
   pub undecided : (is_clear w.error_mask && is_none w.canonical) ≡ true → w.assimilate ≡ assimilate.Init
 
+-- a success that was found VALID
+abbrev pub IsValidSuccess : Instance → Type 0
+IsValidSuccess i = (is_success i ≡ true) × (i.validate_state ≡ validate.Valid)
+
 -- the canonical instance, if there is one, is a success that was found VALID
 abbrev pub IsCanonicalValid : Workunit → Type 0
-IsCanonicalValid w =
-    IfSome w.canonical (λ n. IfSome (slice_get w.instances n)
-    (λ i. (is_success i ≡ true) × (i.validate_state ≡ validate.Valid)))
+IsCanonicalValid w = IfSome w.canonical (λ n. IfSome (slice_get w.instances n) IsValidSuccess)

@@ -5,7 +5,7 @@ ghost use Rattle.wu_core.specs.Storable.{IsNextNumber};
 ghost use Rattle.wu_core.specs.World.{IsInOrder};
 ghost use Rattle.wu_core.specs.declared.fault.Fault.TheVariants.{Memory};
 ghost use Rattle.wu_machine.specs.Sound.{IsSound};
-ghost use Rattle.wu_audit.specs.Wrong.{FindsWrong, StandsAgainst, ToArchivedAstray, ToEnd, ToGrantAstray, ToGrantValues, ToNumber};
+ghost use Rattle.wu_audit.specs.Wrong.{FindsWrong, StandsAgainst, ToArchivedAstray, ToArchivedNumber, ToEnd, ToGrantAstray, ToGrantValues, ToNumber};
 
 use crate::firsts::{
     first_inconsistent, first_unformed, first_ungiven, first_ungiven_archived, first_unstorable,
@@ -54,10 +54,10 @@ fn wrong_row(loaded: &Loaded) -> Option<Wrong>
     None
 }
 
-/// The first workunit or archived row whose key is wrong: not given, out of order or another's.
-fn wrong_key(alloc: Global, loaded: &Loaded) -> Result<Option<Wrong>, AllocError>
+/// The first workunit whose key is wrong: not given, out of order or another's.
+fn wrong_workunit_key(alloc: Global, loaded: &Loaded) -> Result<Option<Wrong>, AllocError>
     requires { ToNumber loaded.now }
-    ensures { IfOk result (FindsWrong ToGrantValues loaded.now) }
+    ensures { IfOk result (FindsWrong ToArchivedNumber loaded.now) }
 {
     if let Some(place) = first_ungiven(loaded) {
         return Ok(Some(Wrong::WorkunitNumber(place)));
@@ -68,6 +68,14 @@ fn wrong_key(alloc: Global, loaded: &Loaded) -> Result<Option<Wrong>, AllocError
     if let Some(place) = first_repeated_name(alloc, loaded.workunits())? {
         return Ok(Some(Wrong::WorkunitTwice(place)));
     }
+    Ok(None)
+}
+
+/// The first archived row whose key is wrong: not given, or another's.
+fn wrong_archived_key(alloc: Global, loaded: &Loaded) -> Result<Option<Wrong>, AllocError>
+    requires { ToArchivedNumber loaded.now }
+    ensures { IfOk result (FindsWrong ToGrantValues loaded.now) }
+{
     if let Some(place) = first_ungiven_archived(loaded) {
         return Ok(Some(Wrong::ArchivedNumber(place)));
     }
@@ -78,6 +86,17 @@ fn wrong_key(alloc: Global, loaded: &Loaded) -> Result<Option<Wrong>, AllocError
         return Ok(Some(Wrong::ArchivedNameTwice(place)));
     }
     Ok(None)
+}
+
+/// The first workunit or archived row whose key is wrong.
+fn wrong_key(alloc: Global, loaded: &Loaded) -> Result<Option<Wrong>, AllocError>
+    requires { ToNumber loaded.now }
+    ensures { IfOk result (FindsWrong ToGrantValues loaded.now) }
+{
+    if let Some(wrong) = wrong_workunit_key(alloc, loaded)? {
+        return Ok(Some(wrong));
+    }
+    wrong_archived_key(alloc, loaded)
 }
 
 /// The first grant with a value out of its range, or the first grant or import whose key is another's.

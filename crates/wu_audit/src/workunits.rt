@@ -9,12 +9,12 @@ ghost use Rattle.wu_core.specs.declared.states.Assimilate.TheVariants as assimil
 ghost use Rattle.wu_rules.specs.Consistent.{IsConsistent, IsPossible};
 ghost use Rattle.wu_rules.specs.Counts.{is_clear};
 ghost use Rattle.wu_rules.specs.Instances.{is_unsent};
-ghost use Rattle.wu_audit.specs.Parts.{HasFormedInstances, IsCanonicalPlace, IsCanonicalValid, IsDoneWithMoment, IsInOneState, IsSettable};
+ghost use Rattle.wu_audit.specs.Parts.{HasFormedInstances, IsCanonicalPlace, IsCanonicalValid, IsDoneWithMoment, IsInOneState, IsSettable, IsValidSuccess};
 
 use crate::instances::{is_formed_instance, is_possible_instance, is_stored_instance, is_success};
 use wu_core::{
-    Assimilate, ErrorMask, FileDelete, Instances, LONGEST_INPUT, Moment, Params, ServerState,
-    ValidateState, Workunit,
+    Assimilate, ErrorMask, FileDelete, Instance, Instances, LONGEST_INPUT, Moment, Params,
+    ServerState, ValidateState, Workunit,
 };
 
 /// The parameters of a workunit are in their ranges.
@@ -144,6 +144,13 @@ fn is_clear(mask: ErrorMask) -> bool
     mask.code() == 0
 }
 
+/// Whether the instance is a success that was found valid.
+fn is_valid_success(instance: &Instance) -> bool
+    ensures { IsTrue result ↔ IsValidSuccess instance.now }
+{
+    is_success(instance) && instance.validate_state == ValidateState::Valid
+}
+
 /// Whether the canonical instance, if there is one, is a success that was found valid.
 fn is_canonical_valid(workunit: &Workunit) -> bool
     ensures { IsTrue result ↔ IsCanonicalValid workunit.now }
@@ -152,9 +159,7 @@ fn is_canonical_valid(workunit: &Workunit) -> bool
         return true;
     };
     match workunit.instances.as_slice().get(n as usize) {
-        Some(instance) => {
-            is_success(instance) && instance.validate_state == ValidateState::Valid
-        }
+        Some(instance) => is_valid_success(instance),
         None => true,
     }
 }

@@ -1,3 +1,5 @@
+pub mod Checking
+pub mod Checks
 pub mod Endings
 pub mod Explaining
 pub mod Performing

@@ -12,7 +12,7 @@ use Rattle.wu_feed.specs.declared.script.LineCause.TheVariants.{NotText}
 use Rattle.wu_words.specs.declared.usage.Usage.TheVariants.{Refused}
 use Rattle.wu_cli.specs.Endings.{cause_text}
 use Rattle.wu_cli.specs.declared.start.Start.{Start}
-use Rattle.wu_cli.specs.declared.start.Start.TheVariants.{Demonstration, Explanation, Words}
+use Rattle.wu_cli.specs.declared.start.Start.TheVariants.{Check, Demonstration, Explanation, Words}
 use Rattle.wu_cli.specs.declared.trouble.Trouble.{Trouble}
 use Rattle.wu_cli.specs.declared.trouble.Trouble.TheVariants as trouble
 
@@ -21,14 +21,18 @@ abbrev pub IsUnheard : ErrorKind → Trouble → Type 0
 IsUnheard OutOfMemory told = told ≡ trouble.Fault fault.Memory
 IsUnheard _ told = (told ≡ trouble.Usage (Refused (cause_text NotText))) ⊎ (told ≡ trouble.Fault fault.Memory)
 
--- the word behind the program's name is `explain`
-abbrev pub asks_to_explain : List (List ℕ) → Bool
-asks_to_explain words = option_map_or (λ word. bytes_eq word (codes "explain")) (slice_get words 1) false
+-- this is the word behind the program's name
+abbrev pub asks_to : List ℕ → List (List ℕ) → Bool
+asks_to what words = option_map_or (λ word. bytes_eq word what) (slice_get words 1) false
 
--- with no word after the program's name the demonstration, behind `explain` an explanation, else what the words ask for
+-- with no word after the program's name the demonstration, behind `explain` an explanation, behind `check` a check, else
+-- what the words ask for
 abbrev pub start_by : Vec (String Global) Global → Start
 start_by words =
-    if nat_le (vec_len words) 1 then Demonstration else (if asks_to_explain (map string_bytes words.items) then Explanation words else Words words)
+    if nat_le (vec_len words) 1 then Demonstration
+    else if asks_to (codes "explain") (map string_bytes words.items) then Explanation words
+    else if asks_to (codes "check") (map string_bytes words.items) then Check words
+    else Words words
 
 -- so the program starts; or why its words could not be had
 abbrev pub StartsBy : Result (Vec (String Global) Global) Error → Result Start Trouble → Type 0

@@ -3,17 +3,20 @@ use Rattle.std.specs.Prelude.{ℕ, List}
 use Rattle.wu_core.specs.declared.fault.Fault.{Fault}
 use Rattle.wu_core.specs.declared.fault.Fault.TheVariants as fault
 use Rattle.wu_words.specs.Statuses.{fault_status, refusal_status, usage_status}
+use Rattle.wu_cli.specs.Checks.{finding_line, reason_line, reason_status}
 use Rattle.wu_cli.specs.Endings.{bad_line_text, fault_line, line_fault_text, unopened_line, usage_text}
 use Rattle.wu_cli.specs.declared.trouble.Trouble.{Trouble}
 use Rattle.wu_cli.specs.declared.trouble.Trouble.TheVariants as trouble
 
--- 3: the database can't be opened; else the status of refused words or of a fault
+-- 3: the database can't be opened; 1: it holds no sound project; else the status of refused words or of a fault
 abbrev pub trouble_status : Trouble → ℕ
 trouble_status (trouble.Usage usage) = usage_status usage
 trouble_status (trouble.BadLine bad) = refusal_status bad.why
 trouble_status trouble.Unopened = 3
 trouble_status (trouble.Fault fault) = fault_status fault
 trouble_status (trouble.LineFault end) = fault_status end.fault
+trouble_status (trouble.Unchecked reason) = reason_status reason
+trouble_status (trouble.Unsound finding) = 1
 
 abbrev pub trouble_text : Trouble → List ℕ
 trouble_text (trouble.Usage usage) = usage_text usage
@@ -21,6 +24,8 @@ trouble_text (trouble.BadLine bad) = bad_line_text bad
 trouble_text trouble.Unopened = unopened_line
 trouble_text (trouble.Fault fault) = fault_line fault
 trouble_text (trouble.LineFault end) = line_fault_text end
+trouble_text (trouble.Unchecked reason) = reason_line reason
+trouble_text (trouble.Unsound finding) = finding_line finding
 
 -- of an opening only want of memory is told
 abbrev pub trouble_of_opening : Fault → Trouble

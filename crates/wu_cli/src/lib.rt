@@ -1,16 +1,22 @@
 //! The command line: what is done over a project for its words, the status that it ends with, and the lines of faults.
 #![tactic(auto)]
 
+mod checking;
 mod explaining;
+mod findings;
 mod performing;
+mod reason;
 mod repeating;
 mod start;
 mod texts;
 mod trouble;
 mod work;
 
+pub use checking::check_over;
 pub use explaining::explain;
+pub use findings::{write_finding, write_reason, write_sound};
 pub use performing::{perform, perform_script};
+pub use reason::Reason;
 pub use start::{Start, start_of};
 pub use texts::{write_bad_line, write_fault, write_line_fault, write_unopened, write_usage};
 pub use trouble::{Trouble, unopened};

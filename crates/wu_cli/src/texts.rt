@@ -14,7 +14,7 @@ use wu_report::{Piece, flush, write_pieces};
 use wu_words::{BadLine, LineFault, Refusal, Usage};
 
 /// Writes the pieces in turn, and flushes.
-fn write_flushed<W: Write>(out: &mut W, pieces: &[Piece<'_>]) -> Result<(), Fault>
+pub(crate) fn write_flushed<W: Write>(out: &mut W, pieces: &[Piece<'_>]) -> Result<(), Fault>
     ensures { WritesTo W.contents out.old out.new (flat_map piece_text pieces.now) result }
 {
     write_pieces(out, pieces)?;
@@ -31,7 +31,7 @@ pub(crate) fn write_text<W: Write>(out: &mut W, text: &str) -> Result<(), Fault>
 }
 
 /// Writes a line.
-fn plain<W: Write>(out: &mut W, text: &str) -> Result<(), Fault>
+pub(crate) fn plain<W: Write>(out: &mut W, text: &str) -> Result<(), Fault>
     ensures { WritesTo W.contents out.old out.new (text.now ++ line_end) result }
 {
     write_flushed(out, &[Piece::Text(text), Piece::Text("\n")])
@@ -58,7 +58,12 @@ fn numbered<W: Write>(out: &mut W, text: &str, number: u64) -> Result<(), Fault>
 }
 
 /// Writes a line that ends in a number and a word.
-fn placed<'a, W: Write>(out: &mut W, text: &'a str, row: u64, cause: &'a str) -> Result<(), Fault>
+pub(crate) fn placed<'a, W: Write>(
+    out: &mut W,
+    text: &'a str,
+    row: u64,
+    cause: &'a str,
+) -> Result<(), Fault>
     ensures { WritesTo W.contents out.old out.new
         (text.now ++ decimal row ++ codes " " ++ cause.now ++ line_end) result }
 {

@@ -7,13 +7,19 @@ ghost use Rattle.wu_cli.specs.Endings.{WritesAll};
 ghost use Rattle.wu_cli.specs.Troubles.{trouble_of_opening, trouble_status, trouble_text};
 ghost use Rattle.wu_schema.specs.Faults.{fault_of};
 
+use crate::findings::{write_finding, write_reason};
+use crate::reason::Reason;
 use crate::texts::{write_bad_line, write_fault, write_line_fault, write_unopened, write_usage};
 use sqlite::Error;
 use std::alloc::{AllocError, AllocFailed};
 use std::io::Write;
+use wu_check::Finding;
 use wu_core::Fault;
 use wu_schema::fault_of;
 use wu_words::{BadLine, LineFault, UNOPENED, Usage, fault_status};
+
+/// The status of a check that finds no sound project.
+const UNSOUND: u8 = 1;
 
 /// What ends a run of the program before all of it is done.
 #[derive(Drop)]
@@ -28,6 +34,10 @@ pub enum Trouble {
     Fault(Fault),
     /// A line of a script came to a fault.
     LineFault(LineFault),
+    /// The database that was to be checked can't be opened.
+    Unchecked(Reason),
+    /// The database that was checked holds no sound project.
+    Unsound(Finding),
 }
 
 impl From<Usage> for Trouble {
@@ -89,6 +99,8 @@ impl Trouble {
             Trouble::Unopened => UNOPENED,
             Trouble::Fault(fault) => fault_status(*fault),
             Trouble::LineFault(end) => fault_status(end.fault),
+            Trouble::Unchecked(reason) => reason.status(),
+            Trouble::Unsound(_) => UNSOUND,
         }
     }
 
@@ -103,6 +115,8 @@ impl Trouble {
             Trouble::Unopened => write_unopened(err),
             Trouble::Fault(fault) => write_fault(fault, err),
             Trouble::LineFault(end) => write_line_fault(end, err),
+            Trouble::Unchecked(reason) => write_reason(*reason, err),
+            Trouble::Unsound(finding) => write_finding(finding, err),
         }
     }
 }

@@ -14,9 +14,10 @@ Done: what was asked for was done, and its answer was written.
         ),
         "1" => Some(
             "Status 1
-F1 to F13: that command was refused; the line on standard error says why, and
-explain F1 to explain F13 what to do. The tables are as they were before it. Of a
-cycle and of a script the commands before it are done.
+F1 to F13: that command was refused, or a check found no sound project; the line
+on standard error says why, and explain F1 to explain F13 what to do, or explain
+checks. The tables are as they were before it. Of a cycle and of a script the
+commands before it are done.
 ",
         ),
         "2" => Some(

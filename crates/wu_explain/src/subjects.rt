@@ -22,6 +22,7 @@ pub fn subject_text<'a>(name: &str) -> Option<&'a str>
   passes        what each pass does, and whether there is more to do
   mask          why a workunit is given up
   scripts       many commands in one opening
+  checks        whether a database holds a sound project
 ",
         ),
         "causes" => Some(
@@ -127,6 +128,17 @@ commands run in one opening up to the first fault; the lines before it are done.
 Behind the word repeat a pass is run until it answers less than its limit, each time
 as a command of its own, and at most a million times:
   repeat transition --now 2026-03-01T12:00:00Z --limit 1000
+",
+        ),
+        "checks" => Some(
+            "Whether a database holds a sound project
+lintelthyme check --db PATH reads all tables whole, and answers with status 0
+  ok version=2 workunits=4 results=8
+or tells with status 1 the first thing that is wrong: the table, the key of the
+row or its place in order of the key, and what is the matter; or with status 3
+why the database can't be opened. It changes no table and makes no database, and
+its memory grows with the tables. Where it tells something, stop all passes, keep
+a copy of both files, and go back to a copy that a check calls sound.
 ",
         ),
         _ => None,

@@ -1,4 +1,5 @@
 pub mod Asking
+pub mod Checks
 pub mod Closing
 pub mod Contents
 pub mod Opening

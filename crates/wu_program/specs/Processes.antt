@@ -1,4 +1,4 @@
--- What the program does with the words of its process: the demonstration, an explanation, or what they ask for.
+-- What the program does with the words of its process: the demonstration, an explanation, a check, or what they ask for.
 use Rattle.std.specs.Prelude.{◌≡◌, ℕ, Bool, List, map, Option, Result, Ok, Err, String, string_bytes}
 use Rattle.std.specs.declared.alloc.Global.{Global}
 use Rattle.std.specs.declared.io.Error.{Error}
@@ -12,8 +12,9 @@ use Rattle.wu_drive.specs.Demonstration.{IsDemonstrated}
 use Rattle.wu_cli.specs.Explaining.{ExplainsTopic}
 use Rattle.wu_cli.specs.Starting.{StartsBy}
 use Rattle.wu_cli.specs.declared.start.Start.{Start}
-use Rattle.wu_cli.specs.declared.start.Start.TheVariants.{Demonstration, Explanation, Words}
+use Rattle.wu_cli.specs.declared.start.Start.TheVariants.{Check, Demonstration, Explanation, Words}
 use Rattle.wu_cli.specs.declared.trouble.Trouble.{Trouble}
+use Rattle.wu_program.specs.Checks.{RunsCheck}
 use Rattle.wu_program.specs.Running.{Obeys, TellsTrouble}
 use Rattle.wu_program.specs.declared.End.{End}
 
@@ -26,10 +27,17 @@ module _ {S W E : Type 0} {c : calls.Ghosts Host} {s : start.Ghosts S} {g : Ghos
   abbrev pub EndsUnopened : Result (Unit {0}) Trouble → Type 0
   EndsUnopened done = TellsTrouble told_of err_old err_new done end.status end.is_told
 
+  -- the database that the words name is checked, and what is found is told with its status
+  pub record TellsCheck (words : List (List ℕ)) : Type 0 where
+    pub done : Result (Unit {0}) Trouble
+    pub runs : RunsCheck contents words old new done end.left
+    pub tells : TellsTrouble told_of err_old err_new done end.status end.is_told
+
   -- what the program does where it starts so
   abbrev pub RunsStarted : Result Start Trouble → Type 0
   RunsStarted (Ok Demonstration) = Demonstrates (contents old) (contents new) end.status × (err_new ≡ err_old)
   RunsStarted (Ok (Explanation words)) = (done : Result (Unit {0}) Trouble) × ExplainsTopic contents old new done × EndsUnopened done
+  RunsStarted (Ok (Check words)) = TellsCheck (map string_bytes words.items)
   RunsStarted (Ok (Words words)) = Obeys contents told_of (map string_bytes words.items) old new err_old err_new end
   RunsStarted (Err trouble) = EndsUnopened (Err trouble) × (new ≡ old)
 

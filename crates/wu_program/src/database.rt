@@ -31,7 +31,7 @@ impl<D: Disk + Drop> Drop for Left<D> {
 }
 
 /// Closes a database, as far as its files let it.
-fn close<D: Disk + Drop>(conn: Connection<FileStore<D>>) -> Left<D>
+pub fn close<D: Disk + Drop>(conn: Connection<FileStore<D>>) -> Left<D>
     ensures { IsLeftByClose conn result }
 {
     match conn.close_files() {

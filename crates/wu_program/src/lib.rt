@@ -6,13 +6,15 @@
 
 ghost use Rattle.std.specs.Prelude.{◌≡◌, map, None, string_bytes};
 ghost use Rattle.wu_program.specs.Running.{Obeys, RunsWords, TellsTrouble};
-ghost use Rattle.wu_program.specs.Processes.{Demonstrates, RunsProcess};
+ghost use Rattle.wu_program.specs.Processes.{Demonstrates, RunsProcess, TellsCheck};
 
+mod check;
 mod contents;
 mod database;
 mod signs;
 mod work;
 
+use check::check_words;
 pub use database::Left;
 use database::open_and_perform;
 use signs::{Cleared, Signs, Watched};
@@ -90,6 +92,26 @@ pub fn obey<S: sqlite::Start, O: Write, E: Write>(
     }
 }
 
+/// Checks the database that the words name, as `check_words`, and tells of the trouble that ended it, if one did.
+fn check_and_tell<S: sqlite::Start, O: Write, E: Write>(
+    rt: &HostRuntime,
+    words: &[String],
+    start: S,
+    out: &mut O,
+    err: &mut E,
+) -> End<FileFrom<S>>
+    ensures { TellsCheck O.contents E.contents out.old out.new err.old err.new result
+        (map string_bytes words.now) }
+{
+    let (checked, left) = check_words(rt, words, start, out);
+    let (status, is_told) = tell(checked, err);
+    End {
+        status,
+        is_told,
+        left,
+    }
+}
+
 /// The end of a run that opens no database.
 fn unopened_end<D: Disk>(status: u8, is_told: bool) -> End<D>
     ensures status { result.status ≡ status }
@@ -114,7 +136,7 @@ fn demonstrate<O: Write>(alloc: Global, out: &mut O) -> u8
 }
 
 /// Does what the words of a process ask for, of which the first is the program's name: with no other it is the
-/// demonstration, behind `explain` a topic is explained, and else it is as of `obey`. Words that could not be had are
+/// demonstration, behind `explain` a topic is explained, behind `check` a database is checked, and else it is as of `obey`. Words that could not be had are
 /// told as such.
 pub fn run_with<S: sqlite::Start, O: Write, E: Write>(
     rt: &HostRuntime,
@@ -132,6 +154,7 @@ pub fn run_with<S: sqlite::Start, O: Write, E: Write>(
             let (status, is_told) = tell(explain(alloc, words.as_slice(), out), err);
             unopened_end(status, is_told)
         }
+        Ok(Start::Check(words)) => check_and_tell(rt, words.as_slice(), start, out, err),
         Ok(Start::Words(words)) => obey(rt, words.as_slice(), start, out, err),
         Err(trouble) => {
             let (status, is_told) = tell(Err(trouble), err);

@@ -57,6 +57,9 @@ use Rattle.wu_cli.specs.Scripting.{so_far}
 use Rattle.wu_cli.specs.Troubles.{trouble_status}
 use Rattle.wu_cli.specs.Working.{BeginsFrom, commands_of_work, DoesAdopted, DoesNothing, DoesOver, DrivesOver, DrivesWork, RefusesWork}
 use Rattle.wu_cli.proofs.WorkLemmas.{begins, line_whole, work_clean}
+use Rattle.wu_cli.specs.Checks.{reason_status}
+use Rattle.wu_cli.specs.declared.reason.Reason.{Reason}
+use Rattle.wu_cli.specs.declared.reason.Reason.TheVariants as reason
 use Rattle.wu_cli.specs.declared.trouble.Trouble.{Trouble}
 use Rattle.wu_cli.specs.declared.trouble.Trouble.TheVariants as trouble
 use Rattle.wu_cli.specs.declared.work.Work.{Work}
@@ -108,12 +111,24 @@ refusal_told refusal.Script none = absurd (omega (arith, none))
 refusal_told refusal.Repeat none = absurd (omega (arith, none))
 refusal_told (refusal.Fault f) none = fault_told f none
 
+reason_told : (r : Reason) → reason_status r ≡ 0 → ⊥
+reason_told reason.NoFile none = absurd (omega (arith, none))
+reason_told reason.InUse none = absurd (omega (arith, none))
+reason_told reason.NoDatabase none = absurd (omega (arith, none))
+reason_told reason.Damaged none = absurd (omega (arith, none))
+reason_told reason.FailingDisk none = absurd (omega (arith, none))
+reason_told reason.FullDisk none = absurd (omega (arith, none))
+reason_told reason.Refused none = absurd (omega (arith, none))
+reason_told reason.Memory none = absurd (omega (arith, none))
+
 trouble_told : (t : Trouble) → trouble_status t ≡ 0 → ⊥
 trouble_told (trouble.Usage u) none = usage_told u none
 trouble_told (trouble.BadLine bad) none = refusal_told bad.why none
 trouble_told trouble.Unopened none = absurd (omega (arith, none))
 trouble_told (trouble.Fault f) none = fault_told f none
 trouble_told (trouble.LineFault end) none = fault_told end.fault none
+trouble_told (trouble.Unchecked r) none = reason_told r none
+trouble_told (trouble.Unsound found) none = absurd (omega (arith, none))
 
 -- with status 0 there was no trouble
 whole_at : {W : Type 0} (contents : W → Option (List ℕ)) (old new : W) (done : Result (Unit {0}) Trouble) (status : ℕ) (is_told : Bool) (A : Type 0)

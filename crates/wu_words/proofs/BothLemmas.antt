@@ -1,10 +1,9 @@
 -- A name and files, of which the first fault is told, want of memory last.
-use Rattle.std.proofs.Common.{◌≡◌, ◌∙◌, ℕ, zero, suc, Bool, true, false, if◌then◌else◌, List, [], ◌∷◌, drop, Option, Some, None, Result, Ok, Err, ap, inl, inr, refl, subst, sym}
+use Rattle.std.proofs.Common.{◌≡◌, ◌∙◌, ℕ, zero, suc, Bool, true, false, if◌then◌else◌, List, [], ◌∷◌, drop, Option, Some, None, Result, Ok, Err, inl, inr, refl, subst, sym}
 use Rattle.wu_core.specs.Names.{is_name, name_of}
 use Rattle.wu_core.specs.Reads.{IsOrWantsMemory, TellsRefusal}
 use Rattle.wu_core.specs.declared.fault.Fault.{Fault}
-use Rattle.wu_core.specs.declared.fault.Fault.TheVariants.{BadFile, BadName, Memory}
-use Rattle.wu_core.specs.declared.fault.FileCause.TheVariants.{Unreadable}
+use Rattle.wu_core.specs.declared.fault.Fault.TheVariants.{BadName, Memory}
 use Rattle.std.specs.declared.vec.Vec.{Vec}
 use Rattle.wu_words.specs.Actions.{and_then, both, bytes_of, content_of, read_bytes}
 

@@ -103,3 +103,15 @@ program_with subcommands = record {
 
 abbrev pub program : App
 program = program_with (map subcommand_shape all_subcommands)
+
+-- ---- a check
+
+-- the program with a check alone: of one database
+abbrev pub check_shape : Shape
+check_shape = shape_with (codes "check") (option_rule Database ∷ [])
+
+abbrev pub check_program : App
+check_program = record {
+  top = record (new_app (codes "lintelthyme")).top { is_leaf = false; subcommand_required = true };
+  subs = check_shape ∷ [];
+}

@@ -1,11 +1,11 @@
 -- Why words are no line.
 use Rattle.std.specs.Prelude.{◌≡◌, ◌≢◌, ◌⊎◌, ◌<◌, ◌^◌, ℕ, Bool, true, false, List, [], ◌∷◌, Option, Some, None, Result, IfErr, ⊤}
 use Rattle.std.specs.Str.Parse.{IsNumeral, digits_value, without_leading_plus}
-use Rattle.clap.specs.Words.{Row, fault_of, kind_of, one_of, subcommand_of}
+use Rattle.clap.specs.Words.{App, Row, fault_of, kind_of, one_of, subcommand_of}
 use Rattle.clap.specs.declared.error.Error.{Error}
 use Rattle.clap.specs.declared.error.kind.ErrorKind.TheVariants.{OutOfMemory}
 use Rattle.wu_machine.specs.declared.view.View.{View}
-use Rattle.wu_words.specs.CommandLine.{is_number, is_required, option_name, options_of, program, subcommand_name, subcommand_named}
+use Rattle.wu_words.specs.CommandLine.{check_program, is_number, is_required, option_name, options_of, program, subcommand_name, subcommand_named}
 use Rattle.wu_words.specs.Lines.{HasFoundValues, IsScript, IsViewIn, subcommand_of_line, value_in}
 use Rattle.wu_words.specs.declared.line.Line.{Line}
 use Rattle.wu_words.specs.declared.order.Order.{Order}
@@ -25,12 +25,16 @@ IsTold error UnknownView = ⊥
 IsTold error Incomplete = ⊥
 IsTold error Memory = ⊤
 
--- clap refuses the words, or memory is wanted
+-- by a command clap refuses the words, or memory is wanted
+abbrev pub IsRefusalBy : App → List (List ℕ) → Usage → Type 0
+IsRefusalBy app words (Refused text) = fault_of app words ≢ []
+IsRefusalBy app words UnknownView = ⊥
+IsRefusalBy app words Incomplete = ⊥
+IsRefusalBy app words Memory = ⊤
+
+-- so it is by the program's
 abbrev pub IsRefusal : List (List ℕ) → Usage → Type 0
-IsRefusal words (Refused text) = fault_of program words ≢ []
-IsRefusal words UnknownView = ⊥
-IsRefusal words Incomplete = ⊥
-IsRefusal words Memory = ⊤
+IsRefusal words usage = IsRefusalBy program words usage
 
 -- the text writes a number of 64 bits in decimal
 abbrev pub IsNumberText : List ℕ → Type 0
@@ -117,3 +121,22 @@ IsScriptOf words script =
 abbrev pub IsOrderOf : List (List ℕ) → Order → Type 0
 IsOrderOf words (order.Line line) = IsLineOf words line
 IsOrderOf words (order.Script script) = IsScriptOf words script
+
+-- ---- of a check
+
+-- clap takes the words, and this is the database that it finds
+abbrev pub IsCheckOf : List (List ℕ) → List ℕ → Type 0
+IsCheckOf words path =
+    (fault_of check_program words ≡ []) × ((name : List ℕ) × (found : List Row) × (subcommand_of check_program words ≡ Some (name, found)) × (value_in found option.Database ≡ Some path))
+
+-- it finds no subcommand, or no database
+abbrev pub LacksDatabase : Option (List ℕ × List Row) → Type 0
+LacksDatabase None = ⊤
+LacksDatabase (Some found) = LacksText found.1 option.Database
+
+-- why words ask for no check: clap refuses them, or they are incomplete
+abbrev pub ExplainsCheck : List (List ℕ) → Usage → Type 0
+ExplainsCheck words (Refused text) = fault_of check_program words ≢ []
+ExplainsCheck words UnknownView = ⊥
+ExplainsCheck words Incomplete = (fault_of check_program words ≡ []) × LacksDatabase (subcommand_of check_program words)
+ExplainsCheck words Memory = ⊤

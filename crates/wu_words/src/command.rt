@@ -11,7 +11,7 @@ use clap::{Arg, ArgAction, Command, value_parser};
 use std::alloc::{AllocError, Global};
 
 /// An option, with what help says of it.
-fn arg<'a>(alloc: Global, option: LineOption) -> Arg<'a>
+pub fn arg<'a>(alloc: Global, option: LineOption) -> Arg<'a>
     ensures rule { rule_of result ≡ option_rule option }
     ensures local { result.global ≡ false }
 {
@@ -54,7 +54,7 @@ pub fn command<'a>(alloc: Global) -> Result<Command<'a>, AllocError>
         .about("The back end of a BOINC project: one command on a project in a database file")
         .version(VERSION)
         .after_help(
-            "With no word after its name, the program runs a demonstration in memory.\nlintelthyme explain lists what it explains: each fault, status, view, file and key.\nStatus: 0 done; 1 refused; 2 wrong words; 3 the database failed or could not be opened; 4 no memory; 5 the output failed.",
+            "With no word after its name, the program runs a demonstration in memory.\nlintelthyme explain lists what it explains: each fault, status, view, file and key.\nlintelthyme check --db DB tells whether a database holds a sound project.\nStatus: 0 done; 1 refused; 2 wrong words; 3 the database failed or could not be opened; 4 no memory; 5 the output failed.",
         )
         .subcommand_required(true);
     for each in SUBCOMMANDS {

@@ -3,6 +3,7 @@
 #![tactic(auto)]
 
 mod action;
+mod checking;
 mod command;
 mod entry;
 mod files;
@@ -22,6 +23,7 @@ mod word;
 mod words;
 
 pub use action::{Action, Commands, prepare};
+pub use checking::read_check;
 pub use entry::{Entries, Entry, Refusal};
 pub use files::LineFile;
 pub use line::Line;

@@ -1,0 +1,125 @@
+-- From question to question.
+use Rattle.wu_schema.proofs.Words.{Database, Err, Fault, Ghosts, HasCleanDisk, HasTables, Held, IfErr, IfOk, IsErrAnd, Ok, Option, ProjectTrees, Refines, Result, World, arith, state, subst, sym, ℕ, ◌∙◌, ◌≡◌, ◌≢◌}
+use Rattle.sqlite.specs.State.{IsLive}
+use Rattle.std.proofs.lemmas.Result.{IfOk-weaker}
+use Rattle.wu_core.specs.declared.fault.Fault.TheVariants.{Broken, Memory}
+use Rattle.wu_loader.specs.Asked.{IsAnsweredUnlessFailed}
+use Rattle.wu_loader.specs.Finding.{FindsNone, FindsWorld}
+use Rattle.wu_schema.specs.Faults.{IsStoreFault}
+use Rattle.wu_store.specs.StandsFor.{IsQueued}
+use Rattle.wu_loader.specs.declared.finding.Found.{Found}
+use Rattle.wu_loader.specs.declared.finding.Found.TheVariants as found
+use Rattle.wu_schema.specs.Asking.{Asks, ServesUnlessFailed}
+use Rattle.wu_schema.proofs.AskingLemmas.{asks_fault, asks_made, asks_none, asks_now, asks_then, asks_unchanged}
+use Rattle.wu_store.specs.Loading.{StaysUnlessFailed}
+use Rattle.sqlite_trees.specs.View.{IsShaped}
+use Rattle.sqlite_trees.specs.declared.store.Shape.TheVariants as shape
+use Rattle.wu_tables.specs.Found.{HasQueueIn}
+use Rattle.wu_check.specs.Queues.{HasMarks, LooksInQueue}
+use Rattle.wu_check.specs.Examining.{Examines, IsLegible}
+use Rattle.wu_check.specs.Findings.{Tells}
+use Rattle.wu_check.specs.declared.finding.Finding.TheVariants as finding
+
+pub never_broken : {T : Type 0} (x : T) → ◌≢◌ {A = Result T Fault} (Ok x) (Err Broken)
+never_broken x is = absurd cc
+
+memory_other : {T : Type 0} → ◌≢◌ {A = Result T Fault} (Err Memory) (Err Broken)
+memory_other is = absurd cc
+
+module _ {S : Type 0} (g : Ghosts S) (h : Held S) where
+  -- what is known with no question
+  pub examines_none : {T : Type 0} (x : T) (Is : Database → T → Type 0) → Is (state g h).now x → Examines g h h (Ok x) Is
+  examines_none x Is it = record {
+    asks = asks_none g h (Ok x) (never_broken x);
+    says = λ clean legible. it;
+    fault = tt;
+    answered = λ clean unlimited. tt;
+  }
+
+module _ {S T : Type 0} (g : Ghosts S) (a b : Held S) (Is : Database → T → Type 0) where
+  -- what is made of an answer
+  pub examines_made : {U : Type 0} (x : T) (y : U) (Then : Database → U → Type 0) → (Is (state g a).now x → Then (state g a).now y) → Examines g a b (Ok x) Is → Examines g a b (Ok y) Then
+  examines_made x y Then made it = record {
+    asks = asks_made g a b x (Ok y) (never_broken y) it.asks;
+    says = λ clean legible. made (it.says clean legible);
+    fault = tt;
+    answered = λ clean unlimited. tt;
+  }
+
+  -- a fault that is handed on
+  pub examines_fault : {U : Type 0} (fault : Fault) (Then : Database → U → Type 0) → Examines g a b (Err fault) Is → (r : Result U Fault) → IsErrAnd r (λ other. other ≡ fault) → Examines g a b r Then
+  examines_fault fault Then it (Ok y) same = absurd same
+  examines_fault fault Then it (Err other) same = subst (λ f. Examines g a b (Err f) Then) (sym same) (record {
+    asks = asks_fault g a b fault it.asks;
+    says = λ clean legible. tt;
+    fault = it.fault;
+    answered = it.answered;
+  })
+
+module _ {S T U : Type 0} (g : Ghosts S) (a b c : Held S) (x : T) (Is : Database → T → Type 0) (one : Examines g a b (Ok x) Is) (r : Result U Fault) (Then : Database → U → Type 0) (two : Examines g b c r Then) where
+  before : HasCleanDisk (state g c) → HasCleanDisk (state g b)
+  before clean = omega (arith, two.asks.crash.clean)
+
+  same : HasCleanDisk (state g c) → (state g b).now ≡ (state g a).now
+  same clean = asks_now g a b x one.asks (before clean)
+
+  -- one question after another
+  pub examines_then : (Last : Database → U → Type 0) → ((y : U) → Is (state g a).now x → Then (state g a).now y → Last (state g a).now y) → Examines g a c r Last
+  examines_then Last join = record {
+    asks = asks_then g a b c x one.asks r two.asks;
+    says = λ clean legible.
+        IfOk-weaker r _ _ (λ y then. join y (one.says (before clean) legible) then)
+        (subst (λ (db : Database). IfOk r (Then db)) (same clean) (two.says clean (subst IsLegible (sym (same clean)) legible)));
+    fault = two.fault;
+    answered = λ clean unlimited. two.answered clean (one.asks.crash.limit ∙ unlimited);
+  }
+
+-- a connection that was open after an answer stays open
+pub serves_then : {S T U : Type 0} (g : Ghosts S) (b c : Held S) (x : T) (r : Result U Fault) → (HasCleanDisk (state g c) → HasCleanDisk (state g b)) → ServesUnlessFailed g b (Ok x) → StaysUnlessFailed g b c r → ServesUnlessFailed g c r
+serves_then g b c x r before opened stays clean = stays (opened (before clean)) clean
+
+-- ---- the world that is loaded
+
+abbrev pub Finds : Database → Found → Type 0
+Finds db (found.World world) = Refines db world
+Finds db (found.Wrong wrong) = Tells db (finding.Row wrong)
+
+module _ {S : Type 0} (g : Ghosts S) (a b : Held S) (trees : ProjectTrees) (tables : HasTables (state g a).now.schema trees) where
+  says_found : (r : Result Found Fault) → FindsWorld g a b r → FindsNone g a b r → HasCleanDisk (state g b) → IsLegible (state g a).now → IfOk r (Finds (state g a).now)
+  says_found (Ok (found.World world)) is none clean legible = is clean trees (record { tables = tables; arranged = legible.project trees tables }) (legible.workunits trees.workunit tables.workunit)
+  says_found (Ok (found.Wrong wrong)) is none clean legible = none clean
+  says_found (Err fault) is none clean legible = tt
+
+  pub examines_world : (r : Result Found Fault) → Asks g a b r → IfErr r IsStoreFault → IsAnsweredUnlessFailed g a b r → FindsWorld g a b r → FindsNone g a b r → Examines g a b r Finds
+  examines_world r asks fault answered world none = record {
+    asks = asks;
+    says = says_found r world none;
+    fault = fault;
+    answered = λ clean unlimited. answered clean trees tables unlimited;
+  }
+
+-- ---- the rows of the queue
+
+module _ {S : Type 0} (g : Ghosts S) (a b : Held S) (world : World) (queued : IsQueued world) (tree : ℕ) (has : HasQueueIn (state g a).now.schema tree) (live : IsLive (state g a)) where
+  abbrev pub MarksIn : Database → Option ℕ → Type 0
+  MarksIn db found = Refines db world → IsShaped shape.Table (db.trees tree) × HasMarks world (db.trees tree) found
+
+  says_marks : (r : Result (Option ℕ) Fault) → LooksInQueue g a b r (HasMarks world) → HasCleanDisk (state g b) → IsLegible (state g a).now → IfOk r (MarksIn (state g a).now)
+  says_marks (Ok found) it clean legible = λ stands.
+      let kept = legible.queue world stands queued tree has.table in (
+        kept.ordered,
+        it.says clean tree (record {
+          sound = (live (asks_unchanged g a b found it.asks it.opens clean).0.was_open).0;
+          table = has.table;
+          kept = kept;
+        }),
+      )
+  says_marks (Err fault) it clean legible = tt
+
+  pub examines_marks : (r : Result (Option ℕ) Fault) → LooksInQueue g a b r (HasMarks world) → Examines g a b r MarksIn
+  examines_marks r it = record {
+    asks = it.asks;
+    says = says_marks r it;
+    fault = it.fault;
+    answered = λ clean unlimited. it.answered clean tree has.table unlimited;
+  }

@@ -1,0 +1,6 @@
+pub mod KeptLemmas
+pub mod ExamineLemmas
+pub mod VerdictLemmas
+pub mod SizeLemmas
+pub mod RowLemmas
+pub mod QueueLemmas

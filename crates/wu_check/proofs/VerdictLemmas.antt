@@ -1,0 +1,158 @@
+-- What is found keeps a database from holding a sound project.
+use Rattle.wu_schema.proofs.Words.{Database, Err, Fault, HasNamed, IfOk, List, None, Ok, Refines, Result, Row, Some, Table, World, ap, arith, codes, length, map, refl, slice_get, stored_workunit, subst, sym, ℕ, [], ◌∷◌, ◌+◌, ◌-◌, ◌∙◌, ◌≡◌, ◌≤◌}
+use Rattle.wu_audit.proofs.SoundLemmas.{stands_against}
+use Rattle.wu_audit.specs.Laws.{SoundInAnyOrder}
+use Rattle.wu_core.specs.declared.workunit.Workunit.{Workunit}
+use Rattle.wu_loader.proofs.StandLemmas.{stands_arranged}
+use Rattle.wu_loader.specs.Shown.{AreWhole, IsArranged}
+use Rattle.wu_loader.specs.Worlds.{IsReadable}
+use Rattle.wu_machine.specs.Sound.{IsSound}
+use Rattle.wu_rules.specs.Marks.{marks}
+use Rattle.wu_schema.specs.Queue.{HasQueue}
+use Rattle.wu_schema.specs.Stored.{stored_marks}
+use Rattle.wu_schema.specs.Tables.{queue_at, workunit_at}
+use Rattle.wu_store.specs.StandsFor.{IsQueued, marked}
+use Rattle.wu_store.specs.Worlds.{SameWorld}
+use Rattle.wu_store.proofs.SameWorld.{one_world}
+use Rattle.wu_tables.specs.Found.{HasQueueIn}
+use Rattle.sqlite_trees.specs.View.{IsShaped}
+use Rattle.sqlite_trees.specs.declared.store.Shape.TheVariants as shape
+use Rattle.wu_check.specs.Queues.{HasMarks}
+use Rattle.wu_check.specs.Checking.{IsCounted, IsKnown, IsSoundProject}
+use Rattle.wu_check.specs.Examining.{IsLegible}
+use Rattle.wu_check.specs.Findings.{IsJudged, IsRightWorld, IsSoundAs, Says, SaysSound, SaysUnsound, SaysWhy, Tells}
+use Rattle.wu_check.specs.declared.finding.Finding.{Finding}
+use Rattle.wu_check.specs.declared.finding.Finding.TheVariants as finding
+use Rattle.wu_check.specs.declared.finding.Verdict.{Verdict}
+use Rattle.wu_check.specs.declared.finding.Verdict.TheVariants as verdict
+
+-- a name finds one table, and so one list of rows
+one_table : (db : Database) (name : List ℕ) (s t : Table) → HasNamed db.schema name s → HasNamed db.schema name t → db.trees s.tree ≡ db.trees t.tree
+one_table db name s t has_s has_t =
+    let at : has_s.0 ≡ has_t.0 = same_some (sym has_s.1.named ∙ has_t.1.named) in
+    ap (λ (u : Table). db.trees u.tree) (same_some (sym has_s.1.there ∙ ap (slice_get db.schema.tables) at ∙ has_t.1.there))
+  where
+    same_some : {X : Type 0} {x y : X} → Some x ≡ Some y → x ≡ y
+    same_some e = cc
+
+-- the values of a sound world are such as rows are read as
+pub readable : (world : World) → IsSound world → 1 ≤ world.version → IsReadable world
+readable world sound first = record {
+  project = record { version = first; next_number = sound.next_number };
+  workunits = sound.storable;
+  grants = λ k d low. record { host = sound.granted_to k d low; n = let few = (sound.grants k d low).1 in omega (arith, few) };
+  archived = sound.archivable;
+  imports = λ k d low. record { name = (sound.imports k d low).0; verdicts = (sound.imports k d low).1 };
+}
+
+all_whole : {X : Type 0} (count : ℕ) (stored : X → Row) → ((x : X) → length (stored x) ≡ count + 1) → (xs : List X) → AreWhole count (map stored xs)
+all_whole count stored long [] = tt
+all_whole count stored long (x ∷ xs) = (long x, all_whole count stored long xs)
+
+module _ (any_order : SoundInAnyOrder) (db : Database) (p : IsSoundProject db) where
+  same : (world : World) → Refines db world → SameWorld p.world world
+  same world stands = one_world db p.world world p.stands.refines stands
+
+  -- each world that the tables stand for is sound
+  sound_of : (world : World) → Refines db world → IsSound world
+  sound_of world stands =
+      let it = same world stands in
+      let here : record p.world { imports = world.imports } ≡ world = λ i. record {
+        workunits = it.workunits i;
+        grants = it.grants i;
+        archived = it.archived i;
+        imports = world.imports;
+        next_number = it.next_number i;
+        version = it.version i;
+      } in
+      subst IsSound here (any_order p.world world.imports it.imports p.sound)
+
+  -- and has its queue
+  queue_of : (world : World) → Refines db world → IsQueued world → HasQueue db (marked world)
+  queue_of world stands queued =
+      let it = same world stands in
+      let version = it.version in
+      subst (λ (ws : List Workunit). HasQueue db (map (λ (w : Workunit). (w.number, marks w)) ws)) it.workunits (p.stands.queue (omega (arith, queued, version)))
+
+  refuted : (found : Finding) → Tells db found → ⊥
+  refuted (finding.Tables misfit) told = told.none p.stands.refines.trees p.stands.refines.tables
+  refuted (finding.Row wrong) told = told p.world (readable p.world p.sound p.known.first) p.stands.refines
+  refuted (finding.Version version) told = told.other (subst IsKnown (told.stands p.world p.stands.refines) p.known)
+  refuted (finding.World wrong key) told = stands_against told.world wrong told.against (sound_of told.world told.refines)
+  refuted finding.Queue told =
+      let q = queue_of told.world told.refines told.queued in
+      told.none q.tree (record { table = q.table; indexes = q.indexes })
+  refuted (finding.Marks place) told =
+      let q = queue_of told.world told.refines told.queued in
+      let rows = one_table db (codes "queue") (queue_at told.tree) (queue_at q.tree) told.queue.table q.table ∙ q.rows.same in
+      told.differs.other (ap (λ (rs : List Row). slice_get rs (place - 1)) rows)
+
+  -- what questions show of it is all that is there
+  sound_legible : IsLegible db
+  sound_legible =
+      let there = stands_arranged db p.stands.refines.trees p.world p.stands.refines.rows in
+      let tables = p.stands.refines.tables in
+      record {
+        project = λ trees has. record {
+          project = subst IsArranged (one_table db _ _ _ tables.project has.project) there.project;
+          workunit = subst IsArranged (one_table db _ _ _ tables.workunit has.workunit) there.workunit;
+          result = subst IsArranged (one_table db _ _ _ tables.result has.result) there.result;
+          grant = subst IsArranged (one_table db _ _ _ tables.grant has.grant) there.grant;
+          host = subst IsArranged (one_table db _ _ _ tables.host has.host) there.host;
+          archived = subst IsArranged (one_table db _ _ _ tables.archived has.archived) there.archived;
+          import = subst IsArranged (one_table db _ _ _ tables.import has.import) there.import;
+        };
+        workunits = λ tree has.
+            subst (AreWhole 15) (sym p.stands.refines.rows.workunits.same ∙ one_table db _ _ (workunit_at tree) tables.workunit has) (all_whole 15 stored_workunit (λ w. refl) p.world.workunits);
+        queue = λ world stands queued tree has.
+            let q = queue_of world stands queued in
+            let same_rows = one_table db (codes "queue") (queue_at q.tree) (queue_at tree) q.table has in
+            record {
+              ordered = subst IsArranged same_rows q.rows.shaped;
+              whole = subst (AreWhole 6) (sym q.rows.same ∙ same_rows) (all_whole 6 stored_marks (λ m. refl) (marked world));
+            };
+      }
+
+-- ---- the parts of what a verdict says
+
+pub says_sound : (db : Database) (v : Verdict) → Says db v → SaysSound db v
+says_sound db (verdict.Sound version workunits results) says = says
+says_sound db (verdict.Unsound found) says = tt
+
+pub says_why : (db : Database) (v : Verdict) → Says db v → SaysWhy db v
+says_why db (verdict.Sound version workunits results) says = tt
+says_why db (verdict.Unsound found) says = says
+
+-- of a sound project questions show all
+says_unsound : SoundInAnyOrder → (db : Database) (v : Verdict) → (IsLegible db → Says db v) → SaysUnsound db v
+says_unsound any_order db (verdict.Sound version workunits results) says = tt
+says_unsound any_order db (verdict.Unsound found) says = λ p. refuted any_order db p found (says (sound_legible any_order db p))
+
+pub unsound_from : SoundInAnyOrder → (db : Database) (r : Result Verdict Fault) → (IsLegible db → IfOk r (Says db)) → IfOk r (SaysUnsound db)
+unsound_from any_order db (Ok v) says = says_unsound any_order db v says
+unsound_from any_order db (Err fault) says = tt
+
+-- a world that was judged right is that of a sound project, and is counted as it is
+pub judged_sound : (db : Database) (world : World) → Refines db world → IsJudged db world → (version workunits results : ℕ) → IsCounted world version workunits results → IsSoundAs db version workunits results
+judged_sound db world stands judged version workunits results counted = record {
+  project = record {
+    world = world;
+    stands = record { refines = stands; queue = judged.queue };
+    sound = judged.sound;
+    known = judged.known;
+  };
+  counted = counted;
+}
+
+-- ---- the queue of a world that is right but for it
+
+module _ (db : Database) (world : World) (tree : ℕ) (has : HasQueueIn db.schema tree) (right : IsRightWorld db.schema world) (shaped : IsShaped shape.Table (db.trees tree)) where
+  pub judged_right : HasMarks world (db.trees tree) None → IsJudged db world
+  judged_right same = record {
+    sound = right.sound;
+    known = right.known;
+    queue = λ queued. record { tree = tree; table = has.table; indexes = has.indexes; rows = record { shaped = shaped; same = same } };
+  }
+
+  pub judged_wrong : Refines db world → IsQueued world → (place : ℕ) → HasMarks world (db.trees tree) (Some place) → Tells db (finding.Marks place)
+  judged_wrong refines queued place differs = record { world = world; refines = refines; queued = queued; tree = tree; queue = has; differs = differs }

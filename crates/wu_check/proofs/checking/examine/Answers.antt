@@ -1,0 +1,44 @@
+use Rattle.wu_schema.proofs.Words.{Database, List, Option, Refines, Workunit, ap, length, state, subst, sym, ◌^◌, ◌<◌, ◌∙◌}
+use Rattle.std.proofs.Common.{rules}
+use Rattle.std.specs.Prelude.{IsNone, sum_by}
+use Rattle.wu_check.specs.Findings.{IsBasis, Judges, Says}
+use Rattle.wu_check.specs.declared.finding.Finding.{Finding}
+use Rattle.wu_check.specs.declared.finding.Verdict.TheVariants as verdict
+use Rattle.wu_check.proofs.ExamineLemmas.{examines_fault, examines_made, examines_then}
+use Rattle.wu_check.proofs.SizeLemmas.{counts_fit}
+use Rattle.wu_check.proofs.VerdictLemmas.{judged_sound}
+use Rattle.wu_check.proofs.checking.examine.Goals as goal
+
+pub returns-in_err-finding-clause-examines : goal.returns-in_err-finding-clause-examines
+returns-in_err-finding-clause-examines g c =
+    let Is : Database → Option Finding → Type 0 = λ db found. Refines db c.in-World.loaded × Judges db c.in-World.loaded found in
+    let now = (state g.S.Store c.args.conn.now).now in
+    examines_fault g.S.Store c.args.conn.now c.judge.new.conn Is c.in_err-finding.field-0.0 Says
+    (examines_then g.S.Store c.args.conn.now c.find_world.new.conn c.judge.new.conn c.in_ok-loaded.field-0 IsBasis c.in_ok-loaded.ensures.examines _ _ c.in_err-finding.ensures.examines Is
+    (λ y basis then. let stands = subst (IsBasis now) c.in-World.is basis in (stands, then stands)))
+    c.from_residual-in_err-finding.result c.from_residual-in_err-finding.ensures.1
+
+pub returns-in-Some-clause-examines : goal.returns-in-Some-clause-examines
+returns-in-Some-clause-examines g c =
+    let Is : Database → Option Finding → Type 0 = λ db found. Refines db c.in-World.loaded × Judges db c.in-World.loaded found in
+    let now = (state g.S.Store c.args.conn.now).now in
+    examines_made g.S.Store c.args.conn.now c.judge.new.conn Is c.in_ok-finding.field-0 (verdict.Unsound c.in-Some.finding) Says
+    (λ h. subst (Judges now c.in-World.loaded) c.in-Some.is h.1)
+    (examines_then g.S.Store c.args.conn.now c.find_world.new.conn c.judge.new.conn c.in_ok-loaded.field-0 IsBasis c.in_ok-loaded.ensures.examines _ _ c.in_ok-finding.ensures.examines Is
+    (λ y basis then. let stands = subst (IsBasis now) c.in-World.is basis in (stands, then stands)))
+
+pub count_results-requires : goal.count_results-requires
+count_results-requires g c =
+    let none : IsNone c.in_ok-finding.field-0 = search rules in
+    let few = counts_fit c.in-World.loaded (c.in_ok-finding.ensures.sound none) in
+    subst (λ (ws : List Workunit). sum_by (λ (w : Workunit). length w.instances) ws < 2 ^ 64) (sym c.workunits-2.ensures) few
+
+pub returns-clause-examines : goal.returns-clause-examines
+returns-clause-examines g c =
+    let Is : Database → Option Finding → Type 0 = λ db found. Refines db c.in-World.loaded × Judges db c.in-World.loaded found in
+    let now = (state g.S.Store c.args.conn.now).now in
+    examines_made g.S.Store c.args.conn.now c.judge.new.conn Is c.in_ok-finding.field-0 (verdict.Sound c.version.result (length c.workunits.result.now) c.count_results.result) Says
+    (λ h. judged_sound now c.in-World.loaded h.0 (subst (Judges now c.in-World.loaded) c.in_default.is h.1) c.version.result (length c.workunits.result.now) c.count_results.result
+    (c.version.ensures, ap (λ (ws : List Workunit). length ws) c.workunits.ensures, c.count_results.ensures ∙ ap (λ (ws : List Workunit). sum_by (λ (w : Workunit). length w.instances) ws) c.workunits-2.ensures))
+    (examines_then g.S.Store c.args.conn.now c.find_world.new.conn c.judge.new.conn c.in_ok-loaded.field-0 IsBasis c.in_ok-loaded.ensures.examines _ _ c.in_ok-finding.ensures.examines Is
+    (λ y basis then. let stands = subst (IsBasis now) c.in-World.is basis in (stands, then stands)))

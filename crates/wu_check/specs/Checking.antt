@@ -1,0 +1,40 @@
+-- When a database holds a sound project.
+use Rattle.std.specs.Prelude.{◌≡◌, ◌≤◌, ℕ, codes, length, sum_by}
+use Rattle.sqlite.specs.Effect.{Database}
+use Rattle.sqlite.specs.Table.{Table}
+use Rattle.sqlite_rules.specs.Lists.{Has}
+use Rattle.sqlite_trees.specs.View.{IsShaped}
+use Rattle.sqlite_trees.specs.declared.store.Shape.TheVariants as shape
+use Rattle.wu_core.specs.World.{World}
+use Rattle.wu_core.specs.declared.workunit.Workunit.{Workunit}
+use Rattle.wu_loader.specs.Shown.{AreWhole}
+use Rattle.wu_machine.specs.Machine.{present_version}
+use Rattle.wu_machine.specs.Sound.{IsSound}
+use Rattle.wu_schema.specs.Tables.{HasNamed, queue_at, workunit_at}
+use Rattle.wu_store.specs.StandsFor.{StandsFor}
+
+-- a version that this program knows
+pub record IsKnown (version : ℕ) : Type 0 where
+  pub first : 1 ≤ version
+  pub present : version ≤ present_version
+
+-- the tables stand for a sound world of such a version
+pub record IsSoundProject (db : Database) : Type 0 where
+  pub world : World
+  pub stands : StandsFor db world
+  pub sound : IsSound world
+  pub known : IsKnown world.version
+
+-- What no question tells of a database. The rows of each table stand in order of their rowids, as every store keeps
+-- them, and no row of a workunit or of the queue ends before its last column, as none does that was inserted into the
+-- table as it is: one that does is shown as one with an empty cell there.
+pub record IsKept (db : Database) : Type 0 where
+  pub ordered : (table : Table) → Has db.schema.tables table → IsShaped shape.Table (db.trees table.tree)
+  pub workunits : (tree : ℕ) → HasNamed db.schema (codes "workunit") (workunit_at tree) → AreWhole 15 (db.trees tree)
+  pub queue : (tree : ℕ) → HasNamed db.schema (codes "queue") (queue_at tree) → AreWhole 6 (db.trees tree)
+
+-- a world is of this version, and has so many workunits and instances
+abbrev pub IsCounted : World → (version workunits results : ℕ) → Type 0
+IsCounted world version workunits results =
+    (version ≡ world.version) × (workunits ≡ length world.workunits)
+    × (results ≡ sum_by (λ (w : Workunit). length w.instances) world.workunits)

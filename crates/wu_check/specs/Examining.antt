@@ -1,0 +1,37 @@
+-- What questions do to a connection, and what they say of the database that it shows.
+use Rattle.std.specs.Prelude.{◌≡◌, ℕ, codes, None, Result, IfErr, IfOk}
+use Rattle.sqlite.specs.Effect.{Database}
+use Rattle.sqlite.specs.Held.{Held, state}
+use Rattle.sqlite.specs.State.{HasCleanDisk}
+use Rattle.sqlite.specs.Store.{Ghosts}
+use Rattle.wu_core.specs.declared.fault.Fault.{Fault}
+use Rattle.wu_schema.specs.Asking.{Asks}
+use Rattle.wu_schema.specs.Faults.{IsFailure, IsStoreFault}
+use Rattle.wu_core.specs.World.{World}
+use Rattle.wu_loader.specs.Shown.{AreArranged, AreWhole}
+use Rattle.wu_schema.specs.Refines.{Refines}
+use Rattle.wu_schema.specs.Tables.{HasNamed, HasTables, ProjectTrees, queue_at, workunit_at}
+use Rattle.wu_store.specs.StandsFor.{IsQueued}
+use Rattle.wu_check.specs.Checking.{IsKept}
+use Rattle.wu_check.specs.Queues.{IsKeptQueue}
+
+-- with an answer, this holds of the database that was shown and of the answer, where its tables are kept in order
+abbrev pub OnKept : {S T : Type 0} → Ghosts S → Held S → Held S → Result T Fault → (Database → T → Type 0) → Type 0
+OnKept g old new result Is = HasCleanDisk (state g new) → IsKept (state g old).now → IfOk result (Is (state g old).now)
+
+-- where steps have no limit, only want of memory or of the disk refuses an answer
+abbrev pub AnswersUnlessFailed : {S T : Type 0} → Ghosts S → Held S → Held S → Result T Fault → Type 0
+AnswersUnlessFailed g old new result = HasCleanDisk (state g new) → old.step_limit ≡ None → IfErr result IsFailure
+
+-- of the tables of a project, and of its queue where it has one, questions show all that is in them
+pub record IsLegible (db : Database) : Type 0 where
+  pub project : (trees : ProjectTrees) → HasTables db.schema trees → AreArranged db.trees trees
+  pub workunits : (tree : ℕ) → HasNamed db.schema (codes "workunit") (workunit_at tree) → AreWhole 15 (db.trees tree)
+  pub queue : (world : World) → Refines db world → IsQueued world → (tree : ℕ) → HasNamed db.schema (codes "queue") (queue_at tree) → IsKeptQueue (db.trees tree)
+
+-- questions, and what they say of such a database
+pub record Examines {S T : Type 0} (g : Ghosts S) (old new : Held S) (result : Result T Fault) (Is : Database → T → Type 0) : Type 0 where
+  pub asks : Asks g old new result
+  pub says : HasCleanDisk (state g new) → IsLegible (state g old).now → IfOk result (Is (state g old).now)
+  pub fault : IfErr result IsStoreFault
+  pub answered : AnswersUnlessFailed g old new result

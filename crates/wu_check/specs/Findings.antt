@@ -1,0 +1,147 @@
+-- What is found to keep a database from holding a sound project.
+use Rattle.std.specs.Prelude.{◌≡◌, ℕ, ◌+◌, ⊤, List, map, Option, Some, None, slice_get}
+use Rattle.sqlite.specs.Effect.{Database}
+use Rattle.sqlite.specs.Schema.{Schema}
+use Rattle.wu_core.specs.World.{World, Import}
+use Rattle.wu_core.specs.declared.workunit.Workunit.{Workunit}
+use Rattle.wu_audit.specs.Words.{place_of_wrong, table_of}
+use Rattle.wu_audit.specs.Wrong as audit
+use Rattle.wu_audit.specs.declared.wrong.Table.{Table}
+use Rattle.wu_audit.specs.declared.wrong.Table.TheVariants as table
+use Rattle.wu_audit.specs.declared.wrong.Wrong.{Wrong}
+use Rattle.wu_machine.specs.Sound.{IsSound}
+use Rattle.wu_loader.specs.Worlds.{IsReadable}
+use Rattle.wu_schema.specs.Queue.{HasQueue}
+use Rattle.wu_schema.specs.Refines.{Refines}
+use Rattle.wu_schema.specs.Stored.{stored_marks}
+use Rattle.wu_schema.specs.Tables.{HasTables, ProjectTrees}
+use Rattle.wu_store.specs.StandsFor.{IsQueued, marked}
+use Rattle.wu_tables.specs.Found as tables
+use Rattle.wu_tables.specs.declared.project.Misfit.{Misfit}
+use Rattle.wu_check.specs.Checking.{IsCounted, IsKnown, IsSoundProject}
+use Rattle.wu_check.specs.Queues.{DiffersAt}
+use Rattle.wu_check.specs.declared.finding.Finding.{Finding}
+use Rattle.wu_check.specs.declared.finding.Finding.TheVariants as finding
+use Rattle.wu_check.specs.declared.finding.Key.{Key}
+use Rattle.wu_check.specs.declared.finding.Key.TheVariants as key
+use Rattle.wu_check.specs.declared.finding.Verdict.{Verdict}
+use Rattle.wu_check.specs.declared.checking.Basis.{Basis}
+use Rattle.wu_check.specs.declared.checking.Basis.TheVariants as basis
+use Rattle.wu_check.specs.declared.finding.Verdict.TheVariants as verdict
+
+-- ---- the row that is wrong
+
+-- this stands at a place, from 0, if there is one
+abbrev pub IsAt : {X : Type 0} → List X → Option ℕ → X → Type 0
+IsAt xs place x = (n : ℕ) × (place ≡ Some n) × (slice_get xs n ≡ Some x)
+
+-- the key of the row at the place of the table: grants and archived rows are counted from 1
+abbrev pub IsKeyAt : World → Table → Option ℕ → Key → Type 0
+IsKeyAt world table.Project place k = k ≡ key.Project
+IsKeyAt world table.Workunit place k = (w : Workunit) × IsAt world.workunits place w × (k ≡ key.Workunit w.number)
+IsKeyAt world table.CreditGrant place k = (n : ℕ) × (place ≡ Some n) × (k ≡ key.Grant (n + 1))
+IsKeyAt world table.Archived place k = (n : ℕ) × (place ≡ Some n) × (k ≡ key.Archived (n + 1))
+IsKeyAt world table.Import place k = (i : Import) × IsAt world.imports place i × (k ≡ key.Import i.kind i.name)
+
+-- the key of the row that is told of
+abbrev pub IsKeyOf : World → Wrong → Key → Type 0
+IsKeyOf world wrong = IsKeyAt world (table_of wrong) (place_of_wrong wrong)
+
+-- ---- what is wrong
+
+-- the tables of a project are not all there, and this is why
+pub record LacksTables (schema : Schema) (misfit : Misfit) : Type 0 where
+  pub told : tables.StandsAgainst schema misfit
+  pub none : (trees : ProjectTrees) → HasTables schema trees → ⊥
+
+-- each world that the tables stand for has this version, which this program does not know
+pub record HasOtherVersion (db : Database) (version : ℕ) : Type 0 where
+  pub stands : (world : World) → Refines db world → world.version ≡ version
+  pub other : ¬ IsKnown version
+
+-- the tables stand for a world of which this is told, at the row with this key
+pub record HasUnsoundWorld (db : Database) (wrong : Wrong) (row : Key) : Type 0 where
+  pub world : World
+  pub refines : Refines db world
+  pub against : audit.StandsAgainst world wrong
+  pub key : IsKeyOf world wrong row
+
+-- they stand for a world of a version with a queue, and none is there
+pub record LacksQueue (db : Database) : Type 0 where
+  pub world : World
+  pub refines : Refines db world
+  pub queued : IsQueued world
+  pub none : (tree : ℕ) → tables.HasQueueIn db.schema tree → ⊥
+
+-- the queue is there, and differs at this place from the marks of the world that the tables stand for
+pub record HasOtherMarks (db : Database) (place : ℕ) : Type 0 where
+  pub world : World
+  pub refines : Refines db world
+  pub queued : IsQueued world
+  pub tree : ℕ
+  pub queue : tables.HasQueueIn db.schema tree
+  pub differs : DiffersAt (map stored_marks (marked world)) (db.trees tree) place
+
+-- the finding is true of the database
+abbrev pub Tells : Database → Finding → Type 0
+Tells db (finding.Tables misfit) = LacksTables db.schema misfit
+Tells db (finding.Row wrong) = (world : World) → IsReadable world → Refines db world → ⊥
+Tells db (finding.Version version) = HasOtherVersion db version
+Tells db (finding.World wrong row) = HasUnsoundWorld db wrong row
+Tells db finding.Queue = LacksQueue db
+Tells db (finding.Marks place) = HasOtherMarks db place
+
+-- ---- what a verdict says
+
+-- a sound project has this version, and so many workunits and results
+pub record IsSoundAs (db : Database) (version workunits results : ℕ) : Type 0 where
+  pub project : IsSoundProject db
+  pub counted : IsCounted project.world version workunits results
+
+-- a sound one is there, as told
+abbrev pub SaysSound : Database → Verdict → Type 0
+SaysSound db (verdict.Sound version workunits results) = IsSoundAs db version workunits results
+SaysSound db (verdict.Unsound found) = ⊤
+
+-- none is there
+abbrev pub SaysUnsound : Database → Verdict → Type 0
+SaysUnsound db (verdict.Sound version workunits results) = ⊤
+SaysUnsound db (verdict.Unsound found) = IsSoundProject db → ⊥
+
+-- for what is told
+abbrev pub SaysWhy : Database → Verdict → Type 0
+SaysWhy db (verdict.Sound version workunits results) = ⊤
+SaysWhy db (verdict.Unsound found) = Tells db found
+
+-- all of it
+abbrev pub Says : Database → Verdict → Type 0
+Says db (verdict.Sound version workunits results) = IsSoundAs db version workunits results
+Says db (verdict.Unsound found) = Tells db found
+
+-- ---- on the way
+
+-- the tables stand for the world, or this is found
+abbrev pub IsBasis : Database → Basis → Type 0
+IsBasis db (basis.World world) = Refines db world
+IsBasis db (basis.Unsound found) = Tells db found
+
+-- the world is sound, of a version that this program knows, and has its queue where it has one
+pub record IsRightWorld (schema : Schema) (world : World) : Type 0 where
+  pub sound : IsSound world
+  pub known : IsKnown world.version
+  pub queue : IsQueued world → (tree : ℕ) × tables.HasQueueIn schema tree
+
+-- and the queue has its marks
+pub record IsJudged (db : Database) (world : World) : Type 0 where
+  pub sound : IsSound world
+  pub known : IsKnown world.version
+  pub queue : IsQueued world → HasQueue db (marked world)
+
+-- this is true of each database with the schema that stands for the world
+abbrev pub TellsOf : Schema → World → Finding → Type 0
+TellsOf schema world found = (db : Database) → db.schema ≡ schema → Refines db world → Tells db found
+
+-- nothing is found of a world that the tables stand for, or this
+abbrev pub Judges : Database → World → Option Finding → Type 0
+Judges db world None = IsJudged db world
+Judges db world (Some found) = Tells db found

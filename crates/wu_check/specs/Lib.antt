@@ -1,0 +1,4 @@
+pub mod Checking
+pub mod Queues
+pub mod Examining
+pub mod Findings

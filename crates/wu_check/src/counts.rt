@@ -1,0 +1,16 @@
+//! How much a world has.
+
+ghost use Rattle.std.specs.Prelude.{◌≡◌, ◌<◌, ◌^◌, length, sum_by};
+
+use wu_core::Workunit;
+
+/// The number of all instances of these workunits.
+pub fn count_results(workunits: &[Workunit]) -> u64
+    requires { sum_by (λ (w : Workunit). length w.instances) workunits.now < 2 ^ 64 }
+    ensures { result ≡ sum_by (λ (w : Workunit). length w.instances) workunits.now }
+{
+    workunits
+        .iter()
+        .map(|workunit| workunit.instances.as_slice().len() as u64)
+        .sum()
+}

@@ -1,0 +1,51 @@
+//! What is found of a database.
+
+use wu_audit::Wrong;
+use wu_core::{ImportKind, Name};
+use wu_loader::finding::Wrong as WrongRow;
+use wu_tables::Misfit;
+
+/// The row of a table that is wrong.
+#[derive(Drop)]
+pub enum Key {
+    /// The one row of the project.
+    Project,
+    /// The workunit of this number.
+    Workunit(u64),
+    /// The grant at this place in the order of their making, from 1.
+    Grant(u64),
+    /// The archived row at this place in the order of their archiving, from 1.
+    Archived(u64),
+    /// The import of this kind and name.
+    Import(ImportKind, Name),
+}
+
+/// What keeps a database from holding a sound project.
+#[derive(Drop)]
+pub enum Finding {
+    /// A table is missing or altered.
+    Tables(Misfit),
+    /// A row is that of no value, or lacks.
+    Row(WrongRow),
+    /// The project has a version that this program does not know, as a later one.
+    Version(u64),
+    /// The rows do not agree, or one is not sound by itself.
+    World(Wrong, Key),
+    /// The queue, or one of its indexes, is missing or altered.
+    Queue,
+    /// The row of the queue at this place, from 1, is not that of its workunit's marks; or a row lacks there.
+    Marks(u64),
+}
+
+/// Whether a database holds a sound project.
+#[derive(Drop)]
+pub enum Verdict {
+    /// It does, of a version that this program knows.
+    Sound {
+        version: u64,
+        workunits: u64,
+        results: u64,
+    },
+    /// It does not, for this.
+    Unsound(Finding),
+}

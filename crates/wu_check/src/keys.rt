@@ -1,0 +1,46 @@
+//! The key of the row of which a world's audit tells.
+
+ghost use Rattle.std.specs.Prelude.{◌≡◌, ◌+◌, ◌<◌, length, Some, IfErr, IfOk};
+ghost use Rattle.wu_audit.specs.Wrong.{StandsAgainst};
+ghost use Rattle.wu_check.specs.Findings.{IsKeyAt, IsKeyOf};
+ghost use Rattle.wu_core.specs.declared.fault.Fault.TheVariants.{Memory};
+
+use crate::finding::Key;
+use wu_audit::{Loaded, Table, Wrong};
+use wu_core::Fault;
+
+/// The place, counted from 1, of one of so many rows.
+fn counted(place: usize, rows: usize) -> u64
+    requires { place < rows }
+    ensures { result ≡ place + 1 }
+{
+    place as u64 + 1
+}
+
+/// The key of the import at this place.
+fn import_key(loaded: &Loaded, place: usize) -> Result<Key, Fault>
+    requires { place < length loaded.now.imports }
+    ensures key { IfOk result (IsKeyAt loaded.now Table.Import (Some place)) }
+    ensures memory { IfErr result (λ fault. fault ≡ Memory) }
+{
+    let import = &loaded.imports()[place];
+    Ok(Key::Import(import.kind(), import.name().copy()?))
+}
+
+/// The key of the row that is wrong.
+pub fn key_of(loaded: &Loaded, wrong: Wrong) -> Result<Key, Fault>
+    requires { StandsAgainst loaded.now wrong }
+    ensures key { IfOk result (IsKeyOf loaded.now wrong) }
+    ensures memory { IfErr result (λ fault. fault ≡ Memory) }
+{
+    let Some(place) = wrong.place() else {
+        return Ok(Key::Project);
+    };
+    match wrong.table() {
+        Table::Project => Ok(Key::Project),
+        Table::Workunit => Ok(Key::Workunit(loaded.workunits()[place].number)),
+        Table::CreditGrant => Ok(Key::Grant(counted(place, loaded.grants().len()))),
+        Table::Archived => Ok(Key::Archived(counted(place, loaded.archived().len()))),
+        Table::Import => import_key(loaded, place),
+    }
+}

@@ -1,0 +1,112 @@
+//! Whether the queue has the marks of each workunit.
+
+ghost use Rattle.std.specs.Prelude.{◌≡◌, ◌↔◌, ◌<◌, IsTrue, length, map};
+ghost use Rattle.sqlite.specs.Order.{column};
+ghost use Rattle.wu_check.specs.Queues.{ComparesTo, HasMarks, LooksInQueue, marked_row};
+ghost use Rattle.wu_loader.specs.Shown.{keyed};
+ghost use Rattle.wu_schema.specs.Stored.{flag, number, number_or_null};
+
+use sqlite::types::ValueRef;
+use sqlite::{Alter, Connection, Row};
+use wu_audit::Loaded;
+use wu_core::{Fault, Moment, Workunit};
+use wu_rules::marks_of;
+use wu_schema::query;
+
+/// Whether the column is this number.
+fn is_number(row: &Row, at: usize, wanted: u64) -> bool
+    requires { at < length row.now }
+    ensures { IsTrue result ↔ (column row.now at ≡ number wanted) }
+{
+    match row.get_ref(at) {
+        Ok(ValueRef::Int(found)) => found >= 0 && found as u64 == wanted,
+        _ => false,
+    }
+}
+
+/// Whether the column is this number, or empty where there is none.
+fn is_number_or_null(row: &Row, at: usize, wanted: Option<u64>) -> bool
+    requires { at < length row.now }
+    ensures { IsTrue result ↔ (column row.now at ≡ number_or_null wanted) }
+{
+    match wanted {
+        Some(wanted) => is_number(row, at, wanted),
+        None => matches!(row.get_ref(at), Ok(ValueRef::Null)),
+    }
+}
+
+/// Whether the column is this moment, or empty where there is none.
+fn is_moment_or_null(row: &Row, at: usize, wanted: Option<Moment>) -> bool
+    requires { at < length row.now }
+    ensures { IsTrue result ↔ (column row.now at ≡ number_or_null wanted) }
+{
+    match wanted {
+        Some(wanted) => is_number(row, at, wanted.seconds()),
+        None => is_number_or_null(row, at, None),
+    }
+}
+
+/// Whether the column is this mark.
+fn is_flag(row: &Row, at: usize, wanted: bool) -> bool
+    requires { at < length row.now }
+    ensures { IsTrue result ↔ (column row.now at ≡ flag wanted) }
+{
+    if wanted {
+        is_number(row, at, 1)
+    } else {
+        is_number(row, at, 0)
+    }
+}
+
+/// Whether the row is that of the marks of the workunit.
+fn has_marks(row: &Row, workunit: &Workunit) -> bool
+    ensures { IsTrue result ↔ (row.now ≡ marked_row workunit.now) }
+{
+    let marks = marks_of(workunit);
+    row.column_count() == 6
+        && is_number(row, 0, workunit.number)
+        && is_number_or_null(row, 1, marks.wake)
+        && is_flag(row, 2, marks.to_validate)
+        && is_flag(row, 3, marks.to_assimilate)
+        && is_flag(row, 4, marks.to_delete)
+        && is_moment_or_null(row, 5, marks.purge_from)
+}
+
+/// The first place, from 1, at which the rows are not those of the workunits' marks.
+fn first_other(rows: &[Row], workunits: &[Workunit]) -> Option<u64>
+    ensures { ComparesTo (map marked_row workunits.now) rows.now result }
+{
+    'each: for (place, row) in rows.iter().enumerate() {
+        match workunits.get(place) {
+            Some(workunit) if has_marks(row, workunit) => {}
+            _ => return Some(place as u64 + 1),
+        }
+    }
+    if rows.len() < workunits.len() {
+        Some(rows.len() as u64 + 1)
+    } else {
+        None
+    }
+}
+
+/// The rows of the queue, in order of their workunits' numbers.
+fn queue_rows<S: Alter>(conn: &mut Connection<S>) -> Result<Vec<Row>, Fault>
+    ensures { LooksInQueue S.Store conn.old conn.new result (λ rows shown. shown.items ≡ map (keyed 6) rows) }
+{
+    query(
+        conn,
+        "SELECT workunit, wake, to_validate, to_assimilate, to_delete, purge_from FROM queue ORDER BY workunit",
+        &[],
+    )
+}
+
+/// The first place, from 1, at which the rows of the queue are not the marks of each workunit.
+pub fn wrong_marks<S: Alter>(
+    conn: &mut Connection<S>,
+    loaded: &Loaded,
+) -> Result<Option<u64>, Fault>
+    ensures { LooksInQueue S.Store conn.old conn.new result (HasMarks loaded.now) }
+{
+    let rows = queue_rows(conn)?;
+    Ok(first_other(&rows, loaded.workunits()))
+}

@@ -1,0 +1,103 @@
+-- What a check tells: a line on the outcome, or what keeps the database from holding a sound project.
+use Rattle.std.specs.Prelude.{◌≡◌, ℕ, List, ◌++◌, codes, Option, Result, Ok, Err}
+use Rattle.std.specs.Fmt.{decimal}
+use Rattle.sqlite.specs.Held.{Held, state}
+use Rattle.sqlite.specs.Store.{Ghosts}
+use Rattle.sqlite.specs.declared.error.Error.{Error}
+use Rattle.sqlite.specs.declared.error.Error.TheVariants.{SqliteFailure}
+use Rattle.sqlite.specs.declared.error.ErrorCode.TheVariants as code
+use Rattle.wu_core.specs.declared.fault.Fault.{Fault}
+use Rattle.wu_core.specs.declared.fault.Fault.TheVariants as fault
+use Rattle.wu_core.specs.declared.import.ImportKind.{ImportKind}
+use Rattle.wu_core.specs.declared.import.ImportKind.TheVariants as kind
+use Rattle.wu_audit.specs.Words.{wrong_word}
+use Rattle.wu_check.specs.Examining.{AnswersUnlessFailed, OnKept}
+use Rattle.wu_check.specs.Findings.{Says}
+use Rattle.wu_check.specs.declared.finding.Finding.{Finding}
+use Rattle.wu_check.specs.declared.finding.Finding.TheVariants as finding
+use Rattle.wu_check.specs.declared.finding.Key.{Key}
+use Rattle.wu_check.specs.declared.finding.Key.TheVariants as key
+use Rattle.wu_check.specs.declared.finding.Verdict.{Verdict}
+use Rattle.wu_check.specs.declared.finding.Verdict.TheVariants as verdict
+use Rattle.wu_loader.specs.declared.finding.Table.{Table}
+use Rattle.wu_loader.specs.declared.finding.Table.TheVariants as table
+use Rattle.wu_report.specs.Texts.{line_end}
+use Rattle.wu_report.specs.Writing.{WritesTo}
+use Rattle.wu_schema.specs.Asking.{Asks, ServesUnlessFailed}
+use Rattle.wu_tables.specs.Known.{name_of}
+use Rattle.wu_tables.specs.declared.project.Misfit.{Misfit}
+use Rattle.wu_tables.specs.declared.project.Misfit.TheVariants as misfit
+use Rattle.wu_cli.specs.declared.reason.Reason.{Reason}
+use Rattle.wu_cli.specs.declared.reason.Reason.TheVariants as reason
+
+-- ---- a sound project
+
+abbrev pub sound_line : ℕ → ℕ → ℕ → List ℕ
+sound_line version workunits results =
+    codes "ok version=" ++ (decimal version ++ (codes " workunits=" ++ (decimal workunits ++ (codes " results=" ++ (decimal results ++ line_end)))))
+
+-- ---- an unsound one
+
+abbrev pub kind_word : ImportKind → List ℕ
+kind_word kind.Batch = codes "batch"
+kind_word kind.Sent = codes "sent"
+kind_word kind.Reported = codes "reported"
+
+-- the name of a table before a row's place
+abbrev pub row_front : Table → List ℕ
+row_front table.Project = codes "project row "
+row_front table.Workunit = codes "workunit row "
+row_front table.Result = codes "result row "
+row_front table.CreditGrant = codes "credit_grant row "
+row_front table.Host = codes "host row "
+row_front table.Archived = codes "archived row "
+row_front table.Import = codes "import row "
+
+-- a table and the key of one of its rows
+abbrev pub key_text : Key → List ℕ
+key_text key.Project = codes "project"
+key_text (key.Workunit number) = codes "workunit " ++ decimal number
+key_text (key.Grant place) = codes "credit_grant " ++ decimal place
+key_text (key.Archived place) = codes "archived " ++ decimal place
+key_text (key.Import kind name) = codes "import " ++ kind_word kind ++ codes " " ++ name
+
+abbrev pub misfit_line : Misfit → List ℕ
+misfit_line (misfit.Missing table) = codes "table " ++ name_of table ++ codes " is missing" ++ line_end
+misfit_line (misfit.Altered table) = codes "table " ++ name_of table ++ codes " is not that of a project" ++ line_end
+misfit_line misfit.HostNames = codes "table host has an index that does not compare names by their bytes" ++ line_end
+
+-- the line of what was found
+abbrev pub finding_line : Finding → List ℕ
+finding_line (finding.Tables misfit) = misfit_line misfit
+finding_line (finding.Row wrong) = row_front wrong.table ++ decimal wrong.place ++ codes " " ++ codes "is missing, or none of a project" ++ line_end
+finding_line (finding.Version version) = codes "version " ++ decimal version ++ codes " " ++ codes "is not known" ++ line_end
+finding_line (finding.World wrong row) = key_text row ++ (codes " " ++ wrong_word wrong ++ line_end)
+finding_line finding.Queue = codes "table queue or one of its indexes is missing, or is not that of a project" ++ line_end
+finding_line (finding.Marks place) = codes "queue row " ++ decimal place ++ codes " " ++ codes "is missing, or not that of its workunit" ++ line_end
+
+-- ---- why a database can't be opened
+
+abbrev pub reason_line : Reason → List ℕ
+reason_line reason.NoFile = codes "cannot open the database: there is no such file" ++ line_end
+reason_line reason.InUse = codes "cannot open the database: it is in use" ++ line_end
+reason_line reason.NoDatabase = codes "cannot open the database: it is no database that this program reads" ++ line_end
+reason_line reason.Damaged = codes "cannot open the database: it is damaged" ++ line_end
+reason_line reason.FailingDisk = codes "cannot open the database: the disk failed" ++ line_end
+reason_line reason.FullDisk = codes "cannot open the database: the disk is full" ++ line_end
+reason_line reason.Refused = codes "cannot open the database: the file cannot be opened" ++ line_end
+reason_line reason.Memory = codes "F14 Memory" ++ line_end
+
+-- 4 for want of memory, else 3
+abbrev pub reason_status : Reason → ℕ
+reason_status reason.Memory = 4
+reason_status _ = 3
+
+-- the reason of an error of the store
+abbrev pub reason_of : Error → Reason
+reason_of (SqliteFailure code.OutOfMemory) = reason.Memory
+reason_of (SqliteFailure code.DatabaseBusy) = reason.InUse
+reason_of (SqliteFailure code.NotADatabase) = reason.NoDatabase
+reason_of (SqliteFailure code.DatabaseCorrupt) = reason.Damaged
+reason_of (SqliteFailure code.SystemIoFailure) = reason.FailingDisk
+reason_of (SqliteFailure code.DiskFull) = reason.FullDisk
+reason_of _ = reason.Refused

@@ -1,0 +1,185 @@
+//! The lines that a check writes.
+
+ghost use Rattle.std.specs.Prelude.{◌≡◌, ◌++◌, codes};
+ghost use Rattle.std.specs.Fmt.{decimal};
+ghost use Rattle.wu_report.specs.Texts.{line_end};
+ghost use Rattle.wu_report.specs.Writing.{WritesTo};
+ghost use Rattle.wu_cli.specs.Checks.{finding_line, key_text, kind_word, misfit_line, reason_line, row_front, sound_line};
+ghost use Rattle.wu_cli.specs.Endings.{WritesAll};
+
+use crate::reason::Reason;
+use crate::texts::{placed, plain, write_flushed, write_text};
+use std::io::Write;
+use wu_check::{Finding, Key};
+use wu_core::{Fault, ImportKind};
+use wu_loader::finding::Table;
+use wu_report::{Piece, write_pieces};
+use wu_tables::Misfit;
+
+/// The word of the subcommand that imports such files.
+fn kind_word(kind: ImportKind) -> &'static str
+    ensures { result.now ≡ kind_word kind }
+{
+    match kind {
+        ImportKind::Batch => "batch",
+        ImportKind::Sent => "sent",
+        ImportKind::Reported => "reported",
+    }
+}
+
+/// The name of a table before a row's place.
+fn row_front(table: Table) -> &'static str
+    ensures { result.now ≡ row_front table }
+{
+    match table {
+        Table::Project => "project row ",
+        Table::Workunit => "workunit row ",
+        Table::Result => "result row ",
+        Table::CreditGrant => "credit_grant row ",
+        Table::Host => "host row ",
+        Table::Archived => "archived row ",
+        Table::Import => "import row ",
+    }
+}
+
+/// Writes a word and a number.
+fn counted<W: Write>(out: &mut W, word: &str, number: u64) -> Result<(), Fault>
+    ensures { WritesTo W.contents out.old out.new (word.now ++ decimal number) result }
+{
+    write_pieces(out, &[Piece::Text(word), Piece::Number(number)])
+}
+
+/// Writes a table and the key of one of its rows.
+fn write_key<W: Write>(out: &mut W, key: &Key) -> Result<(), Fault>
+    ensures { WritesTo W.contents out.old out.new (key_text key.now) result }
+{
+    match key {
+        Key::Project => write_pieces(out, &[Piece::Text("project")]),
+        Key::Workunit(number) => counted(out, "workunit ", *number),
+        Key::Grant(place) => counted(out, "credit_grant ", *place),
+        Key::Archived(place) => counted(out, "archived ", *place),
+        Key::Import(kind, name) => write_pieces(
+            out,
+            &[
+                Piece::Text("import "),
+                Piece::Text(kind_word(*kind)),
+                Piece::Text(" "),
+                Piece::Text(name.as_str()),
+            ],
+        ),
+    }
+}
+
+/// Writes a line on a table.
+fn of_table<'a, W: Write>(out: &mut W, name: &'a str, what: &'a str) -> Result<(), Fault>
+    ensures { WritesTo W.contents out.old out.new
+        (codes "table " ++ name.now ++ what.now ++ line_end) result }
+{
+    write_flushed(
+        out,
+        &[
+            Piece::Text("table "),
+            Piece::Text(name),
+            Piece::Text(what),
+            Piece::Text("\n"),
+        ],
+    )
+}
+
+/// Writes why the tables are not those of a project.
+fn line_of_misfit<W: Write>(out: &mut W, misfit: Misfit) -> Result<(), Fault>
+    ensures { WritesTo W.contents out.old out.new (misfit_line misfit) result }
+{
+    match misfit {
+        Misfit::Missing(table) => of_table(out, table.form().name, " is missing"),
+        Misfit::Altered(table) => of_table(out, table.form().name, " is not that of a project"),
+        Misfit::HostNames => plain(
+            out,
+            "table host has an index that does not compare names by their bytes",
+        ),
+    }
+}
+
+/// Writes which row is wrong, and how.
+fn line_of_row<W: Write>(out: &mut W, key: &Key, what: &str) -> Result<(), Fault>
+    ensures { WritesTo W.contents out.old out.new
+        (key_text key.now ++ (codes " " ++ what.now ++ line_end)) result }
+{
+    write_key(out, key)?;
+    write_flushed(
+        out,
+        &[Piece::Text(" "), Piece::Text(what), Piece::Text("\n")],
+    )
+}
+
+/// Writes what was found.
+fn line_of_finding<W: Write>(out: &mut W, finding: &Finding) -> Result<(), Fault>
+    ensures { WritesTo W.contents out.old out.new (finding_line finding.now) result }
+{
+    match finding {
+        Finding::Tables(misfit) => line_of_misfit(out, *misfit),
+        Finding::Row(wrong) => placed(
+            out,
+            row_front(wrong.table),
+            wrong.place,
+            "is missing, or none of a project",
+        ),
+        Finding::Version(version) => placed(out, "version ", *version, "is not known"),
+        Finding::World(wrong, key) => line_of_row(out, key, wrong.word()),
+        Finding::Queue => plain(
+            out,
+            "table queue or one of its indexes is missing, or is not that of a project",
+        ),
+        Finding::Marks(place) => placed(
+            out,
+            "queue row ",
+            *place,
+            "is missing, or not that of its workunit",
+        ),
+    }
+}
+
+/// Writes what was found and flushes, without taking memory. It answers whether all of it went out.
+pub fn write_finding<W: Write>(finding: &Finding, out: &mut W) -> bool
+    ensures { WritesAll (W.contents out.old) (W.contents out.new)
+        (finding_line finding.now) result }
+{
+    match line_of_finding(out, finding) {
+        Ok(()) => true,
+        Err(_) => false,
+    }
+}
+
+/// Writes why a database can't be opened and flushes, without taking memory. It answers whether all of it went out.
+pub fn write_reason<W: Write>(reason: Reason, out: &mut W) -> bool
+    ensures { WritesAll (W.contents out.old) (W.contents out.new) (reason_line reason) result }
+{
+    match write_text(out, reason.line()) {
+        Ok(()) => true,
+        Err(_) => false,
+    }
+}
+
+/// Writes that a database holds a sound project, and flushes.
+pub fn write_sound<W: Write>(
+    out: &mut W,
+    version: u64,
+    workunits: u64,
+    results: u64,
+) -> Result<(), Fault>
+    ensures { WritesTo W.contents out.old out.new
+        (sound_line version workunits results) result }
+{
+    write_flushed(
+        out,
+        &[
+            Piece::Text("ok version="),
+            Piece::Number(version),
+            Piece::Text(" workunits="),
+            Piece::Number(workunits),
+            Piece::Text(" results="),
+            Piece::Number(results),
+            Piece::Text("\n"),
+        ],
+    )
+}

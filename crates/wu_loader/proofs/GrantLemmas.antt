@@ -1,0 +1,324 @@
+-- What hosts were granted, and whether they are those of the grants.
+use Rattle.wu_schema.proofs.Words.{AllByRecursion, IsAscending, IsPermutation, IsSorted, Row, column, length-map, map-map, Equal, Greater, Less, Has, all_from, all_has, cases_Bool, has_mapped, hosts_of, is_eq, map, mapped_has, ordering_reverse, Bool, Grant, List, Ordering, [], ap, arith, bytes_eq, bytes_eq-Decides, cond, false, filter, get_or, length, on_total, refl, subst, suc, sum_by, sym, take, true, zero, ℕ, ◌++◌, ◌+◌, ◌<◌, ◌∙◌, ◌∷◌, ◌≡◌, ◌≤◌, ◌⊎◌, if◌then◌else◌, inl, inr}
+use Rattle.std.specs.Cmp.{IsTotalOrder}
+use Rattle.std.proofs.lemmas.Cmp.{nat_list_cmp_total}
+use Rattle.std.proofs.lemmas.List.{take_more}
+use Rattle.std.proofs.lemmas.List.Sums.{sum_by-cons}
+use Rattle.wu_core.specs.Hosts.{credit_of, grants_of, is_to, with_host}
+use Rattle.std.specs.Cmp.Lexicographic.{slice_cmp, texts_ties}
+use Rattle.std.specs.Ordering.{is_lt, match_ordering, nat_cmp, on}
+use Rattle.std.specs.Prelude.{All}
+use Rattle.std.proofs.lemmas.List.{get_or-map}
+use Rattle.wu_core.specs.Storable.{IsName}
+use Rattle.wu_store.proofs.OneOrder.{one_order}
+use Rattle.wu_store.proofs.SameWorld.{read_number, read_text}
+use Rattle.wu_loader.specs.Whole.{IsNoRow}
+use Rattle.wu_loader.specs.declared.finding.Wrong.{Wrong}
+use Rattle.wu_loader.proofs.WholeLemmas.{none_permuted}
+use Rattle.wu_loader.proofs.WorkLemmas.{one_list}
+use Rattle.std.proofs.lemmas.List.Elements.{All-from_recursion, recursion_from_All}
+use Rattle.wu_schema.specs.Refines.{host_of}
+use Rattle.wu_schema.specs.Stored.{host_cells}
+use Rattle.wu_loader.specs.Rows.{host_row, IsStoredGrant, IsStoredHost}
+use Rattle.wu_core.proofs.HostLemmas.{Ascends, credit_more, grants_more, is_among, no_grants, once}
+use Rattle.wu_loader.specs.Granting.{by_name, AreHosts, IsGranted, IsListed, Rise}
+use Rattle.wu_loader.specs.declared.rows.Host.{Host}
+
+pub by_name_total : IsTotalOrder by_name
+by_name_total = on_total (λ (h : Host). h.name) nat_list_cmp_total
+
+-- ---- what one host was granted
+
+-- with more grants no host has less
+credit_rises : (k : ℕ) (grants : List Grant) (name : List ℕ) → credit_of (take k grants) name ≤ credit_of grants name
+credit_rises zero grants name = omega arith
+credit_rises (suc k) [] name = omega arith
+credit_rises (suc k) (g ∷ grants) name = go (is_to name g) (credit_rises k grants name)
+  where
+    go : (b : Bool) → credit_of (take k grants) name ≤ credit_of grants name → sum_by (λ (x : Grant). x.credit) (cond b (g ∷ filter (is_to name) (take k grants)) (filter (is_to name) (take k grants))) ≤ sum_by (λ (x : Grant). x.credit) (cond b (g ∷ filter (is_to name) grants) (filter (is_to name) grants))
+    go true low = let a = sum_by-cons (λ (x : Grant). x.credit) g (filter (is_to name) (take k grants)) in let b = sum_by-cons (λ (x : Grant). x.credit) g (filter (is_to name) grants) in omega (arith, a, b, low)
+    go false low = low
+
+count_rises : (k : ℕ) (grants : List Grant) (name : List ℕ) → grants_of (take k grants) name ≤ grants_of grants name
+count_rises zero grants name = omega arith
+count_rises (suc k) [] name = omega arith
+count_rises (suc k) (g ∷ grants) name =
+    let a = sum_by-cons (λ x. cond (is_to name x) 1 0) g (take k grants) in
+    let b = sum_by-cons (λ x. cond (is_to name x) 1 0) g grants in
+    let low = count_rises k grants name in
+    omega (arith, a, b, low)
+
+module _ (host : Host) (grants : List Grant) (credit count i : ℕ) (g : Grant) (total : host.total ≡ credit + credit_of (take i grants) host.name) (so_many : host.grants ≡ count + grants_of (take i grants) host.name)
+    (low : i < length grants) (at : get_or grants i g ≡ g) (same : g.host ≡ host.name) where
+  itself : bytes_eq g.host host.name ≡ true
+  itself = (bytes_eq-Decides g.host host.name).1 same
+
+  more : take (i + 1) grants ≡ take i grants ++ g ∷ []
+  more = take_more grants i g low ∙ ap (λ x. take i grants ++ x ∷ []) at
+
+  pub credit_there : credit_of (take (i + 1) grants) host.name ≡ credit_of (take i grants) host.name + g.credit
+  credit_there = ap (λ gs. credit_of gs host.name) more ∙ credit_more (take i grants) g host.name ∙ rw itself refl
+
+  pub count_there : grants_of (take (i + 1) grants) host.name ≡ grants_of (take i grants) host.name + 1
+  count_there = ap (λ gs. grants_of gs host.name) more ∙ grants_more (take i grants) g host.name ∙ rw itself refl
+
+  -- what has less left than one grant more brings was not granted so
+  pub never_granted : (credit < g.credit) ⊎ (count ≡ 0) → ¬ IsGranted grants host
+  never_granted (inl less) is =
+      let a = credit_there in
+      let b = credit_rises (i + 1) grants host.name in
+      let c = is.total in
+      omega (arith, total, a, b, c, less)
+  never_granted (inr none) is =
+      let a = count_there in
+      let b = count_rises (i + 1) grants host.name in
+      let c = is.count in
+      omega (arith, so_many, a, b, c, none)
+
+-- ---- the hosts of the grants
+
+-- whatever stands behind the end
+same_default : (grants : List Grant) (i : ℕ) (d e : Grant) → i < length grants → get_or grants i d ≡ get_or grants i e
+same_default [] i d e low = absurd (omega (arith, low))
+same_default (g ∷ grants) zero d e low = refl
+same_default (g ∷ grants) (suc i) d e low = same_default grants i d e (omega (arith, low))
+
+pub listed_at : (hosts : List Host) (grants : List Grant) (i : ℕ) (g : Grant) → i < length grants → get_or grants i g ≡ g → IsListed hosts g.host → (d : Grant) → IsListed hosts (get_or grants i d).host
+listed_at hosts grants i g low at on d = subst (λ (x : Grant). IsListed hosts x.host) (sym (same_default grants i d g low ∙ at)) on
+
+-- names in the order of their bytes
+abbrev Below : List ℕ → List ℕ → Type 0
+Below a b = slice_cmp nat_cmp a b ≡ Less
+
+one_name : (a b : List ℕ) → slice_cmp nat_cmp a b ≡ Equal → a ≡ b
+one_name a b tie = (bytes_eq-Decides a b).0 (texts_ties a b ∙ ap is_eq tie)
+
+-- what holds of a name and of each other holds of each with it
+each_with : (P : List ℕ → Type 0) (name : List ℕ) (names : List (List ℕ)) → P name → AllByRecursion P names → AllByRecursion P (with_host name names)
+each_with P name [] new all = (new, tt)
+each_with P name (h ∷ names) new all = go (each_with P name names new all.1) (slice_cmp nat_cmp name h)
+  where
+    go : AllByRecursion P (with_host name names) → (o : Ordering) → AllByRecursion P (match_ordering o (name ∷ h ∷ names) (h ∷ names) (h ∷ with_host name names))
+    go rest Less = (new, all)
+    go rest Equal = all
+    go rest Greater = (all.0, rest)
+
+-- what holds of the host of each grant holds of each host
+each_host : (P : List ℕ → Type 0) (grants : List Grant) → AllByRecursion (λ (g : Grant). P g.host) grants → AllByRecursion P (hosts_of grants)
+each_host P [] all = tt
+each_host P (g ∷ grants) all = each_with P g.host (hosts_of grants) all.0 (each_host P grants all.1)
+
+-- a name is among names with it, and so are the others
+has_with : (name : List ℕ) (names : List (List ℕ)) → Has (with_host name names) name
+has_with name [] = inl refl
+has_with name (h ∷ names) = go (has_with name names) (slice_cmp nat_cmp name h) refl
+  where
+    go : Has (with_host name names) name → (o : Ordering) → slice_cmp nat_cmp name h ≡ o → Has (match_ordering o (name ∷ h ∷ names) (h ∷ names) (h ∷ with_host name names)) name
+    go rest Less is = inl refl
+    go rest Equal is = inl (one_name name h is)
+    go rest Greater is = inr rest
+
+keeps_with : (name other : List ℕ) (names : List (List ℕ)) → Has names other → Has (with_host name names) other
+keeps_with name other [] has = absurd has
+keeps_with name other (h ∷ names) (inl same) = go (slice_cmp nat_cmp name h)
+  where
+    go : (o : Ordering) → Has (match_ordering o (name ∷ h ∷ names) (h ∷ names) (h ∷ with_host name names)) other
+    go Less = inr (inl same)
+    go Equal = inl same
+    go Greater = inl same
+keeps_with name other (h ∷ names) (inr later) = go (keeps_with name other names later) (slice_cmp nat_cmp name h)
+  where
+    go : Has (with_host name names) other → (o : Ordering) → Has (match_ordering o (name ∷ h ∷ names) (h ∷ names) (h ∷ with_host name names)) other
+    go rest Less = inr (inr later)
+    go rest Equal = inr later
+    go rest Greater = inr rest
+
+-- the host of a grant is among the hosts
+host_there : (grants : List Grant) (g : Grant) → Has grants g → Has (hosts_of grants) g.host
+host_there [] g has = absurd has
+host_there (x ∷ grants) g (inl same) = subst (Has (with_host x.host (hosts_of grants))) (ap (λ (y : Grant). y.host) (sym same)) (has_with x.host (hosts_of grants))
+host_there (x ∷ grants) g (inr later) = keeps_with x.host g.host (hosts_of grants) (host_there grants g later)
+
+-- and each host has a grant
+some_grant : (grants : List Grant) (name : List ℕ) → Has (hosts_of grants) name → 0 < grants_of grants name
+some_grant grants name has = all_has (λ n. 0 < grants_of grants n) (hosts_of grants) name (each_host (λ n. 0 < grants_of grants n) grants (all_from (λ (g : Grant). 0 < grants_of grants g.host) grants (λ g in_grants. counted grants g in_grants))) has
+  where
+    counted : (grants : List Grant) (g : Grant) → Has grants g → 0 < grants_of grants g.host
+    counted [] g has = absurd has
+    counted (x ∷ grants) g (inl same) =
+        let a = sum_by-cons (λ y. cond (is_to g.host y) 1 0) x grants in
+        let on : ◌≡◌ {A = ℕ} (cond (is_to g.host x) 1 0) 1 = ap (λ b. cond b 1 0) ((bytes_eq-Decides x.host g.host).1 (ap (λ (y : Grant). y.host) (sym same))) in
+        omega (arith, a, on)
+    counted (x ∷ grants) g (inr later) = let a = sum_by-cons (λ y. cond (is_to g.host y) 1 0) x grants in let b = counted grants g later in omega (arith, a, b)
+
+-- a name with grants is among the hosts
+granted_there : (grants : List Grant) (name : List ℕ) → 0 < grants_of grants name → Has (hosts_of grants) name
+granted_there grants name some = elim (cases_Bool (is_among name (hosts_of grants))) [
+  | inl on ↦ found (hosts_of grants) on
+  | inr off ↦ absurd (let none = no_grants grants name off in omega (arith, some, none))
+]
+  where
+    found : (names : List (List ℕ)) → is_among name names ≡ true → Has names name
+    found [] on = absurd cc
+    found (h ∷ names) on = elim (cases_Bool (bytes_eq h name)) [
+      | inl same ↦ inl (sym ((bytes_eq-Decides h name).0 same))
+      | inr other ↦ inr (found names (rw other at on))
+    ]
+
+-- ---- names that rise
+
+never_below : (a : List ℕ) → ¬ Below a a
+never_below a low = absurd (let tie = nat_list_cmp_total.antisymm a a in let both : Less ≡ Greater = sym low ∙ tie ∙ ap ordering_reverse low in cc)
+
+-- two lists of names that rise and have the same names are one
+same_names : (xs ys : List (List ℕ)) → Ascends Below xs → Ascends Below ys → ((n : List ℕ) → Has xs n → Has ys n) → ((n : List ℕ) → Has ys n → Has xs n) → xs ≡ ys
+same_names [] [] up_x up_y one two = refl
+same_names [] (y ∷ ys) up_x up_y one two = absurd (two y (inl refl))
+same_names (x ∷ xs) [] up_x up_y one two = absurd (one x (inl refl))
+same_names (x ∷ xs) (y ∷ ys) up_x up_y one two =
+    let first : x ≡ y = elim (one x (inl refl)) [
+      | inl same ↦ same
+      | inr later ↦
+          let low : Below y x = all_has (Below y) ys x up_y.0 later in
+          elim (two y (inl refl)) [
+            | inl same ↦ sym same
+            | inr there ↦ absurd (never_below y (nat_list_cmp_total.trans y x y low (all_has (Below x) xs y up_x.0 there)))
+          ]
+    ] in
+    let rest_one : (n : List ℕ) → Has xs n → Has ys n = λ n has. elim (one n (inr has)) [
+      | inl same ↦ absurd (never_below x (subst (Below x) (same ∙ sym first) (all_has (Below x) xs n up_x.0 has)))
+      | inr later ↦ later
+    ] in
+    let rest_two : (n : List ℕ) → Has ys n → Has xs n = λ n has. elim (two n (inr has)) [
+      | inl same ↦ absurd (never_below y (subst (Below y) (same ∙ first) (all_has (Below y) ys n up_y.0 has)))
+      | inr later ↦ later
+    ] in
+    (λ i. first i ∷ same_names xs ys up_x.1 up_y.1 rest_one rest_two i)
+
+-- hosts of which each is above the one before it rise
+rise_names : (hosts : List Host) → Rise hosts → Ascends Below (map (λ (h : Host). h.name) hosts)
+rise_names [] up = tt
+rise_names (h ∷ hosts) up = (
+  all_names hosts h up,
+  rise_names hosts (λ k d low. let e : suc k + 1 ≡ suc (k + 1) = omega arith in subst (λ n. by_name (get_or hosts k d) (get_or (h ∷ hosts) n d) ≡ Less) e (up (suc k) d (omega (arith, low)))),
+)
+  where
+    all_names : (hosts : List Host) (h : Host) → Rise (h ∷ hosts) → AllByRecursion (Below h.name) (map (λ (g : Host). g.name) hosts)
+    all_names [] h up = tt
+    all_names (g ∷ hosts) h up =
+        let low : Below h.name g.name = up 0 h (omega arith) in
+        (low, higher hosts g h.name low (all_names hosts g (λ k d less. let e : suc k + 1 ≡ suc (k + 1) = omega arith in subst (λ n. by_name (get_or (g ∷ hosts) k d) (get_or (h ∷ g ∷ hosts) n d) ≡ Less) e (up (suc k) d (omega (arith, less))))))
+      where
+        higher : (hosts : List Host) (g : Host) (a : List ℕ) → Below a g.name → AllByRecursion (Below g.name) (map (λ (x : Host). x.name) hosts) → AllByRecursion (Below a) (map (λ (x : Host). x.name) hosts)
+        higher [] g a low all = tt
+        higher (x ∷ hosts) g a low all = (nat_list_cmp_total.trans a g.name x.name low all.0, higher hosts g a low all.1)
+
+-- ---- hosts that are those of the grants
+
+-- a host as the grants have it
+abbrev host_with : List Grant → List ℕ → Host
+host_with grants name = record { name = name; total = credit_of grants name; grants = grants_of grants name }
+
+got_in : (hosts : List Host) (k : ℕ) (d : Host) → k < length hosts → Has hosts (get_or hosts k d)
+got_in [] k d low = absurd (omega (arith, low))
+got_in (h ∷ hosts) zero d low = inl refl
+got_in (h ∷ hosts) (suc k) d low = inr (got_in hosts k d (omega (arith, low)))
+
+module _ (grants : List Grant) (hosts : List Host) where
+  names_are : AreHosts grants hosts → map (λ (h : Host). h.name) hosts ≡ hosts_of grants
+  names_are are = same_names (map (λ (h : Host). h.name) hosts) (hosts_of grants) (rise_names hosts are.rise) (once grants) there back
+    where
+      there : (n : List ℕ) → Has (map (λ (h : Host). h.name) hosts) n → Has (hosts_of grants) n
+      there n has =
+          let it = has_mapped (λ (h : Host). h.name) hosts n has in
+          let is = all_has (IsGranted grants) hosts it.0 (recursion_from_All (IsGranted grants) hosts are.each) it.1 in
+          let some = is.some in
+          let count = is.count in
+          subst (Has (hosts_of grants)) (sym it.2) (granted_there grants it.0.name (omega (arith, some, count)))
+
+      back : (n : List ℕ) → Has (hosts_of grants) n → Has (map (λ (h : Host). h.name) hosts) n
+      back n has = all_has (Has (map (λ (h : Host). h.name) hosts)) (hosts_of grants) n (each_host (Has (map (λ (h : Host). h.name) hosts)) grants (all_from (λ (g : Grant). Has (map (λ (h : Host). h.name) hosts) g.host) grants (λ g in_grants.
+          let listed = all_has (λ (x : Grant). IsListed hosts x.host) grants g (recursion_from_All (λ (x : Grant). IsListed hosts x.host) grants are.listed) in_grants in
+          subst (Has (map (λ (h : Host). h.name) hosts)) listed.3 (mapped_has (λ (h : Host). h.name) hosts (get_or hosts listed.0 listed.1) (got_in hosts listed.0 listed.1 listed.2))))) has
+
+  -- so their rows are
+  pub hosts_are : AreHosts grants hosts → map host_row hosts ≡ map (host_of grants) (hosts_of grants)
+  hosts_are are = each_row hosts (recursion_from_All (IsGranted grants) hosts are.each) ∙ ap (map (host_of grants)) (names_are are)
+    where
+      each_row : (hosts : List Host) → AllByRecursion (IsGranted grants) hosts → map host_row hosts ≡ map (host_of grants) (map (λ (h : Host). h.name) hosts)
+      each_row [] each = refl
+      each_row (h ∷ hosts) each = λ i. host_cells h.name (each.0.total i) (each.0.count i) ∷ each_row hosts each.1 i
+
+-- ---- no other hosts are
+
+abbrev by_named : Row → Row → Ordering
+by_named = on (λ (r : Row). read_text (column r 0)) (slice_cmp nat_cmp)
+
+by_named_total : IsTotalOrder by_named
+by_named_total = on_total (λ (r : Row). read_text (column r 0)) nat_list_cmp_total
+
+named_rise : (grants : List Grant) (names : List (List ℕ)) → Ascends Below names → IsAscending (λ a b. by_named a b ≡ Less) (map (host_of grants) names)
+named_rise grants [] up = tt
+named_rise grants (n ∷ names) up = (above names up.0, named_rise grants names up.1)
+  where
+    above : (names : List (List ℕ)) → AllByRecursion (Below n) names → AllByRecursion (λ b. by_named (host_of grants n) b ≡ Less) (map (host_of grants) names)
+    above [] all = tt
+    above (m ∷ names) all = (all.0, above names all.1)
+
+rows_sorted : (hosts : List Host) → IsSorted by_name hosts → IsSorted by_named (map host_row hosts)
+rows_sorted [] up = λ k d low high. absurd (omega (arith, high))
+rows_sorted (h ∷ hosts) up = λ k d low high.
+    let long = length-map (h ∷ hosts) host_row in
+    let one : get_or (map host_row (h ∷ hosts)) k d ≡ host_row (get_or (h ∷ hosts) k h) = get_or-map host_row (h ∷ hosts) k h d (omega (arith, high, long)) in
+    let two : get_or (map host_row (h ∷ hosts)) (k + 1) d ≡ host_row (get_or (h ∷ hosts) (k + 1) h) = get_or-map host_row (h ∷ hosts) (k + 1) h d (omega (arith, high, long)) in
+    (λ i. is_lt (by_named (two i) (one i))) ∙ up k h low (omega (arith, high, long))
+
+one_host : (a b : Host) → host_row a ≡ host_row b → a ≡ b
+one_host a b same = λ i. record { name = read_text (column (same i) 0); total = read_number (column (same i) 1); grants = read_number (column (same i) 2) }
+
+module _ (grants : List Grant) where
+  abbrev all_with : List (List ℕ) → List Host
+  all_with names = map (host_with grants) names
+
+  with_rise : (names : List (List ℕ)) → Ascends Below names → Rise (all_with names)
+  with_rise [] up k d low = absurd (omega (arith, low))
+  with_rise (n ∷ []) up k d low = absurd (omega (arith, low))
+  with_rise (n ∷ m ∷ names) up zero d low = up.0.0
+  with_rise (n ∷ m ∷ names) up (suc k) d low = let e : suc (k + 1) ≡ suc k + 1 = omega arith in subst (λ j. by_name (get_or (all_with (m ∷ names)) k d) (get_or (all_with (n ∷ m ∷ names)) j d) ≡ Less) e (with_rise (m ∷ names) up.1 k d (omega (arith, low)))
+
+  with_each : (names : List (List ℕ)) → ((n : List ℕ) → Has names n → Has (hosts_of grants) n) → AllByRecursion (IsGranted grants) (all_with names)
+  with_each [] there = tt
+  with_each (n ∷ names) there = (record { total = refl; count = refl; some = some_grant grants n (there n (inl refl)) }, with_each names (λ m has. there m (inr has)))
+
+  with_listed : (names : List (List ℕ)) (name : List ℕ) → Has names name → IsListed (all_with names) name
+  with_listed [] name has = absurd has
+  with_listed (n ∷ names) name (inl same) = (0, host_with grants n, omega arith, sym same)
+  with_listed (n ∷ names) name (inr later) = let it = with_listed names name later in let low = it.2 in (suc it.0, it.1, omega (arith, low), it.3)
+
+  hosts_with : AreHosts grants (all_with (hosts_of grants))
+  hosts_with = record {
+    rise = with_rise (hosts_of grants) (once grants);
+    each = All-from_recursion (IsGranted grants) (all_with (hosts_of grants)) (with_each (hosts_of grants) (λ n has. has));
+    listed = All-from_recursion (λ (g : Grant). IsListed (all_with (hosts_of grants)) g.host) grants (all_from (λ (g : Grant). IsListed (all_with (hosts_of grants)) g.host) grants (λ g has. with_listed (hosts_of grants) g.host (host_there grants g has)));
+  }
+
+  -- hosts whose rows are those of the grants' hosts are these
+  pub hosts_must : (hosts : List Host) → IsSorted by_name hosts → IsPermutation (map (host_of grants) (hosts_of grants)) (map host_row hosts) → AreHosts grants hosts
+  hosts_must hosts up same =
+      let rows : map host_row hosts ≡ map (host_of grants) (hosts_of grants) = one_order by_named by_named_total (map (host_of grants) (hosts_of grants)) (map host_row hosts) (named_rise grants (hosts_of grants) (once grants)) (rows_sorted hosts up) same in
+      let is : hosts ≡ all_with (hosts_of grants) = one_list host_row one_host hosts (all_with (hosts_of grants)) (rows ∙ sym (map-map host_row (host_with grants) (hosts_of grants))) in
+      subst (AreHosts grants) (sym is) hosts_with
+
+-- names of grants are names of hosts
+pub stored_hosts : (grants : List Grant) → All IsStoredGrant grants → All IsStoredHost (all_with grants (hosts_of grants))
+stored_hosts grants stored =
+    All-from_recursion IsStoredHost (all_with grants (hosts_of grants)) (named (hosts_of grants) (each_host IsName grants (all_from (λ (g : Grant). IsName g.host) grants (λ g has. (all_has IsStoredGrant grants g (recursion_from_All IsStoredGrant grants stored) has).host))))
+  where
+    named : (names : List (List ℕ)) → AllByRecursion IsName names → AllByRecursion IsStoredHost (all_with grants names)
+    named [] all = tt
+    named (n ∷ names) all = (all.0, named names all.1)
+
+-- a row that is that of no host is in the way
+pub never_hosts : (rows : List Row) (grants : List Grant) (wrong : Wrong) → IsNoRow (λ _. host_row) IsStoredHost rows wrong → All IsStoredGrant grants → ¬ IsPermutation (map (host_of grants) (hosts_of grants)) rows
+never_hosts rows grants wrong none stored same =
+    none_permuted host_row IsStoredHost rows wrong none (all_with grants (hosts_of grants)) (stored_hosts grants stored) (subst (λ rs. IsPermutation rs rows) (sym (map-map host_row (host_with grants) (hosts_of grants))) same)

@@ -1,0 +1,9 @@
+pub mod CellLemmas
+pub mod RowLemmas
+pub mod WholeLemmas
+pub mod SelectLemmas
+pub mod LookLemmas
+pub mod StandLemmas
+pub mod DealLemmas
+pub mod WorkLemmas
+pub mod GrantLemmas

@@ -1,0 +1,160 @@
+-- How rows read as values.
+use Rattle.wu_schema.proofs.Words.{Archived, Grant, Err, Fault, Import, ImportKind, Instance, List, None, Ok, Option, Result, Row, Value, Workunit, [], ap, column, drop, import_cells, import_kind_code, inl, instance_row, length, map, number, number_or_null, refl, text_or_null, subst, sym, verdict_digits, workunit_row, ℕ, ⊤, ◌++◌, ◌+◌, ◌<◌, ◌^◌, ◌∙◌, ◌∷◌, ◌≡◌, ◌≢◌, ◌≤◌, ◌==◌, if◌then◌else◌}
+use Rattle.std.specs.List.{range_with_len}
+use Rattle.sqlite.specs.declared.types.Value.TheVariants.{Text, Blob}
+use Rattle.wu_core.specs.Limits.{last_moment}
+use Rattle.wu_core.specs.Storable.{AreVerdicts, IsHost, IsInput, IsName, IsOutput, IsPlace, IsStoredArchived, IsStoredWorkunit, MayBeInstance}
+use Rattle.wu_core.specs.declared.import.ImportKind.TheVariants as kind
+use Rattle.wu_core.specs.declared.mask.ErrorMask.{ErrorMask}
+use Rattle.wu_core.proofs.MaskLemmas.{flags_of}
+use Rattle.wu_schema.specs.Restoring.{Restores}
+use Rattle.wu_schema.specs.Stored.{archived_cells}
+use Rattle.wu_schema.specs.Stored.{parameter_cells}
+use Rattle.wu_store.specs.Reading.{columns, mask_cell, verdicts_cell}
+use Rattle.wu_core.specs.Formed.{IsInstance}
+use Rattle.wu_core.specs.Parameters.{IsParameters}
+use Rattle.wu_store.proofs.ReadingLemmas.{as_columns, not_ok, same_verdicts}
+use Rattle.wu_store.proofs.SameWorld.{mask_again, maybe_again, read_blob, read_maybe, read_number, read_text, same_instances, same_workunit}
+use Rattle.wu_loader.specs.Cells.{kind_cell, moment_cells, progress_cells, state_cells, HasMoments, IsProgress}
+use Rattle.wu_loader.specs.declared.rows.Moments.{Moments}
+use Rattle.wu_loader.specs.declared.rows.Placed.{Placed}
+use Rattle.wu_loader.specs.declared.rows.Progress.{Progress}
+use Rattle.wu_loader.specs.declared.rows.States.{States}
+use Rattle.wu_loader.specs.Rows.{archived_row, grant_row, placed_row, IsStoredImport, IsStoredPlaced}
+
+-- a row that is the row of one value alone is read as it
+pub reads_as : {T : Type 0} (cells : T → Row) (IsValue : T → Type 0) (row : Row) (x : T) → row ≡ cells x → IsValue x → ((a b : T) → IsValue a → IsValue b → cells a ≡ cells b → a ≡ b) → Restores cells IsValue row (Ok x)
+reads_as cells IsValue row x same is one = record { value = (same, is); found = λ y is_y other. inl (ap (λ z. Ok z) (one x y is is_y (sym same ∙ other))); refused = tt }
+
+-- a row is its columns
+pub columns_of : (row : Row) (n : ℕ) → length row ≡ n → row ≡ map (column row) (range_with_len 0 n)
+columns_of row n long = sym (as_columns row) ∙ ap (λ k. map (column row) (range_with_len 0 k)) long
+
+-- ---- archived workunits
+
+abbrev read_archived : Row → Archived
+read_archived r = record {
+  number = read_number (column r 1);
+  name = read_text (column r 2);
+  error_mask = flags_of (read_number (column r 3));
+  canonical = read_maybe (column r 4);
+  output = read_blob (column r 5);
+  done_at = read_number (column r 6);
+}
+
+archived_again : (place : ℕ) (a : Archived) → read_archived (archived_row place a) ≡ a
+archived_again place a = λ i. record a { error_mask = mask_again a.error_mask i; canonical = maybe_again a.canonical i }
+
+pub one_archived : (place : ℕ) (a b : Archived) → IsStoredArchived a → IsStoredArchived b → archived_row place a ≡ archived_row place b → a ≡ b
+one_archived place a b is_a is_b same = sym (archived_again place a) ∙ ap read_archived same ∙ archived_again place b
+
+pub archived_reads : (row : Row) (place first : ℕ) (a : Archived) → length row ≡ 7 → first ≡ place → Restores number (λ _. ⊤) (column row 0) (Ok first) → Restores number (λ _. ⊤) (column row 1) (Ok a.number) → Restores Text IsName (column row 2) (Ok a.name)
+    → Restores mask_cell (λ _. ⊤) (column row 3) (Ok a.error_mask) → Restores number_or_null IsPlace (column row 4) (Ok a.canonical) → Restores Blob IsOutput (column row 5) (Ok a.output)
+    → Restores number (λ seconds. seconds ≤ last_moment) (column row 6) (Ok a.done_at) → Restores (archived_row place) IsStoredArchived row (Ok a)
+archived_reads row place first a long at first_is number_is name_is mask_is canonical_is output_is done_is =
+    let seq : column row 0 ≡ number place = first_is.value.0 ∙ ap number at in
+    reads_as (archived_row place) IsStoredArchived row a
+    (columns_of row 7 long ∙ (λ i. seq i ∷ number_is.value.0 i ∷ name_is.value.0 i ∷ mask_is.value.0 i ∷ canonical_is.value.0 i ∷ output_is.value.0 i ∷ done_is.value.0 i ∷ []))
+    (record { name = name_is.value.1; canonical = canonical_is.value.1; output = output_is.value.1; done_at = done_is.value.1 }) (one_archived place)
+
+-- ---- imports
+
+abbrev kind_of : ℕ → ImportKind
+kind_of n = if n == 1 then kind.Batch else if n == 2 then kind.Sent else kind.Reported
+
+kind_again : (k : ImportKind) → kind_of (import_kind_code k) ≡ k
+kind_again kind.Batch = refl
+kind_again _ = refl
+
+pub one_import : (a b : Import) → IsStoredImport a → IsStoredImport b → import_cells a ≡ import_cells b → a ≡ b
+one_import a b is_a is_b same =
+    let kinds = sym (kind_again a.kind) ∙ ap (λ r. kind_of (read_number (column r 0))) same ∙ kind_again b.kind in
+    let verdicts = same_verdicts a.verdicts b.verdicts (ap (λ r. read_text (column r 5)) same) in
+    (λ i. record {
+      kind = kinds i;
+      name = read_text (column (same i) 1);
+      template = read_blob (column (same i) 2);
+      content = read_blob (column (same i) 3);
+      first_number = read_number (column (same i) 4);
+      verdicts = verdicts i;
+    })
+
+pub import_reads : (row : Row) (a : Import) → length row ≡ 6 → Restores kind_cell (λ _. ⊤) (column row 0) (Ok a.kind) → Restores Text IsName (column row 1) (Ok a.name)
+    → Restores Blob (λ _. ⊤) (column row 2) (Ok a.template) → Restores Blob (λ _. ⊤) (column row 3) (Ok a.content) → Restores number (λ _. ⊤) (column row 4) (Ok a.first_number)
+    → Restores verdicts_cell (AreVerdicts a.kind) (column row 5) (Ok a.verdicts) → Restores import_cells IsStoredImport row (Ok a)
+import_reads row a long kind_is name_is template_is content_is first_is verdicts_are =
+    reads_as import_cells IsStoredImport row a
+    (columns_of row 6 long ∙ (λ i. kind_is.value.0 i ∷ name_is.value.0 i ∷ template_is.value.0 i ∷ content_is.value.0 i ∷ first_is.value.0 i ∷ verdicts_are.value.0 i ∷ []))
+    (record { name = name_is.value.1; verdicts = verdicts_are.value.1 }) one_import
+
+-- ---- parts of a row
+
+-- a row with a part that can't be read is stored of nothing
+part_unread : {T U : Type 0} (part : T → U) (row : Row) (from count : ℕ) (stored_as : T → Row) (cells : U → Row) (IsValue : T → Type 0) (IsPart : U → Type 0)
+    → ((t : T) → IsValue t → IsPart (part t)) → ((t : T) → columns (stored_as t) from count ≡ cells (part t)) → (f : Fault) → Restores cells IsPart (columns row from count) (Err f) → Restores stored_as IsValue row (Err f)
+part_unread part row from count stored_as cells IsValue IsPart are shown f unread = record {
+  value = tt;
+  found = λ t is same. not_ok f (part t) t (unread.found (part t) (are t is) (ap (λ r. columns r from count) same ∙ shown t));
+  refused = unread.refused;
+}
+
+-- ---- workunits
+
+-- the progress of a workunit
+abbrev progress_of : Workunit → Progress
+progress_of w = record { error_mask = w.error_mask; canonical = w.canonical; assimilate = w.assimilate; file_delete = w.file_delete; done_at = w.done_at }
+
+pub workunit_unread : (row : Row) (f : Fault) → Restores progress_cells IsProgress (columns row 10 5) (Err f) → Restores workunit_row IsStoredWorkunit row (Err f)
+workunit_unread row = part_unread progress_of row 10 5 workunit_row progress_cells IsStoredWorkunit IsProgress (λ w is. record { canonical = is.canonical; stamped = is.stamped }) (λ w. refl)
+
+one_workunit : (v w : Workunit) → IsStoredWorkunit v → IsStoredWorkunit w → workunit_row v ≡ workunit_row w → v ≡ w
+one_workunit v w is_v is_w same = same_workunit v w same ∙ (λ i. record w { instances = (is_v.bare ∙ sym is_w.bare) i })
+
+pub workunit_reads : (row : Row) (w : Workunit) → length row ≡ 15 → w.instances ≡ [] → Restores number (λ _. ⊤) (column row 0) (Ok w.number) → Restores Text IsName (column row 1) (Ok w.name) → Restores parameter_cells IsParameters (columns row 2 7) (Ok w.params)
+    → Restores Blob IsInput (column row 9) (Ok w.input) → Restores progress_cells IsProgress (columns row 10 5) (Ok (progress_of w)) → Restores workunit_row IsStoredWorkunit row (Ok w)
+workunit_reads row w long bare number_is name_is params_are input_is progress_is =
+    let whole : row ≡ column row 0 ∷ column row 1 ∷ columns row 2 7 ++ (column row 9 ∷ columns row 10 5) = columns_of row 15 long in
+    reads_as workunit_row IsStoredWorkunit row w
+    (whole ∙ (λ i. number_is.value.0 i ∷ name_is.value.0 i ∷ params_are.value.0 i ++ (input_is.value.0 i ∷ progress_is.value.0 i)))
+    (record { name = name_is.value.1; parameters = params_are.value.1; input = input_is.value.1; canonical = progress_is.value.1.canonical; stamped = progress_is.value.1.stamped; bare = bare }) one_workunit
+
+-- ---- instances
+
+-- the states and the moments of an instance
+abbrev states_of : Instance → States
+states_of i = record { server_state = i.server_state; outcome = i.outcome; validate_state = i.validate_state; file_delete = i.file_delete }
+
+abbrev moments_of : Instance → Moments
+moments_of i = record { sent_at = i.sent_at; deadline = i.deadline; received_at = i.received_at }
+
+pub states_unread : (row : Row) (f : Fault) → Restores state_cells (λ _. ⊤) (columns row 2 4) (Err f) → Restores instance_row MayBeInstance (columns row 2 9) (Err f)
+states_unread row = part_unread states_of (columns row 2 9) 0 4 instance_row state_cells MayBeInstance (λ _. ⊤) (λ i is. tt) (λ i. refl)
+
+pub moments_unread : (row : Row) (f : Fault) → Restores moment_cells HasMoments (columns row 7 3) (Err f) → Restores instance_row MayBeInstance (columns row 2 9) (Err f)
+moments_unread row = part_unread moments_of (columns row 2 9) 5 3 instance_row moment_cells MayBeInstance HasMoments (λ i is. is.moments) (λ i. refl)
+
+one_instance : (a b : Instance) → instance_row a ≡ instance_row b → a ≡ b
+one_instance a b same = let lists : a ∷ [] ≡ b ∷ [] = same_instances (a ∷ []) (b ∷ []) (λ i. same i ∷ []) in cc
+
+pub instance_reads : (row : Row) (i : Instance) → Restores state_cells (λ _. ⊤) (columns row 2 4) (Ok (states_of i)) → Restores text_or_null IsHost (column row 6) (Ok i.host) → Restores moment_cells HasMoments (columns row 7 3) (Ok (moments_of i))
+    → Restores Blob IsOutput (column row 10) (Ok i.output) → Restores instance_row MayBeInstance (columns row 2 9) (Ok i)
+instance_reads row i states_are host_is moments_are output_is =
+    reads_as instance_row MayBeInstance (columns row 2 9) i
+    (λ k. states_are.value.0 k ++ (host_is.value.0 k ∷ moments_are.value.0 k ++ (output_is.value.0 k ∷ [])))
+    (record { host = host_is.value.1; moments = moments_are.value.1; output = output_is.value.1 }) (λ a b is_a is_b. one_instance a b)
+
+pub one_placed : (a b : Placed) → placed_row a ≡ placed_row b → a ≡ b
+one_placed a b same =
+    let instance = one_instance a.instance b.instance (ap (λ r. drop 2 r) same) in
+    (λ i. record { workunit = read_number (column (same i) 0); n = read_number (column (same i) 1); instance = instance i })
+
+pub placed_reads : (row : Row) (p : Placed) → length row ≡ 11 → Restores number (λ _. ⊤) (column row 0) (Ok p.workunit) → Restores number (λ _. ⊤) (column row 1) (Ok p.n) → Restores instance_row MayBeInstance (columns row 2 9) (Ok p.instance)
+    → IsInstance p.instance → Restores placed_row IsStoredPlaced row (Ok p)
+placed_reads row p long workunit_is n_is instance_is formed =
+    reads_as placed_row IsStoredPlaced row p
+    (columns_of row 11 long ∙ (λ i. workunit_is.value.0 i ∷ n_is.value.0 i ∷ instance_is.value.0 i)) (record { values = instance_is.value.1; formed = formed }) (λ a b is_a is_b. one_placed a b)
+
+-- ---- grants
+
+pub one_grant : (place : ℕ) (a b : Grant) → grant_row place a ≡ grant_row place b → a ≡ b
+one_grant place a b same = λ i. record { workunit = read_number (column (same i) 1); n = read_number (column (same i) 2); host = read_text (column (same i) 3); credit = read_number (column (same i) 4) }

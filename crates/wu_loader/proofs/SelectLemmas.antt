@@ -1,0 +1,116 @@
+-- The questions about whole tables: each text, what it asks for, and what its answer shows of any rows.
+use Rattle.wu_schema.proofs.Words.{Answers, Database, Error, FailsToQuery, Fault, Ghosts, HasCleanDisk, HasTables, Held, IfErr, IsFailure, Ok, ProjectTrees, Result, Vec, HasNamed, fault_of, false, length, state, HasTable, Int, IsPermutation, IsTable, List, None, Query, Row, Shown, Some, State, Table, Term, Name, [], ap, archived_at, arith, codes, eval_all, everything, grant_at, host_at, import_at, lit, map, negsuc, project_at, refl, result_at, subst, sym, workunit_at, ℕ, ◌++◌, ◌∙◌, ◌∷◌, ◌≡◌}
+use Rattle.wu_schema.proofs.AnswerLemmas.{answers_are, meeting, showing, shown_answers}
+use Rattle.wu_schema.proofs.Parts.{Part, in_all, name_of, parts_in, table_in, tree_in}
+use Rattle.wu_schema.proofs.QueryLemmas.{alone, plain_query}
+use Rattle.wu_schema.proofs.ReadLemmas.{if_err, if_ok}
+use Rattle.wu_schema.proofs.RowLemmas.{no_test}
+use Rattle.wu_schema.proofs.SelectLemmas.{Asked, Fits, compiles, parsed_of, query_of, select_of, terms_of}
+use Rattle.wu_schema.proofs.ToldLemmas.{asked_told}
+use Rattle.wu_schema.specs.Asking.{Asks, FailsAll, IsSelect, ServesUnlessFailed, ShowsAll}
+use Rattle.wu_schema.specs.Faults.{IsStoreFault}
+use Rattle.wu_store.proofs.OrderAnswers.{sorted, sure_in_order}
+use Rattle.wu_store.proofs.SelectTexts.{workunit_columns, instance_columns}
+use Rattle.wu_loader.specs.Asked.{HasArranged, Looks}
+use Rattle.wu_loader.specs.Shown.{keyed, unkeyed}
+
+-- ---- the law of a question about a whole table
+
+-- all rows, in any order or in that of a column
+abbrev whole_table : List ℕ → List ℕ → Asked
+whole_table text shown = record { text = text; parameters = []; shown = shown; tests = []; order = None; limit = None; upto = lit (Int (negsuc 0)) }
+
+module _ (title : Name) (table : Table) (q : Asked) (fits : Fits title table q) (old new : State) (at : ℕ) (has : HasTable old.now.schema title at table) (shows : Row → Row) (same : (r : Row) → eval_all (terms_of title table q) ([] ∷ r ∷ []) ≡ shows r) (rows : List Row) (shown : Shown q.text [] old new rows) where
+  answers : Answers old.now (alone (query_of title table q)) [] rows
+  answers = shown_answers q.text [] old new _ _ _ (compiles old.now.schema title at table has q fits) rows shown
+
+  -- a question in the order of the key shows exactly the rows of the tree
+  pub shows_in_order : query_of title table q ≡ sorted table.tree [] (terms_of title table q) 0 false (lit (Int (negsuc 0))) [] → IsTable (old.now.trees table.tree) → rows ≡ map shows (old.now.trees table.tree)
+  shows_in_order ordered up =
+      let read = subst (λ query. Answers old.now (alone query) [] rows) ordered answers in
+      sure_in_order table.tree [] (terms_of title table q) (lit (Int (negsuc 0))) [] old.now rows has.low up read.answer
+      ∙ ap (map (λ r. eval_all (terms_of title table q) ([] ∷ r ∷ []))) (no_test (old.now.trees table.tree)) ∙ (λ i. map (λ r. same r i) (old.now.trees table.tree))
+
+  -- one with no order shows them in some order
+  pub shows_in_any_order : query_of title table q ≡ plain_query table.tree [] (terms_of title table q) → IsPermutation (map shows (old.now.trees table.tree)) rows
+  shows_in_any_order plain =
+      let read = subst (λ query. Answers old.now (alone query) [] rows) plain answers in
+      let all = answers_are table.tree [] (terms_of title table q) [] old.now rows has.low read in
+      subst (λ rs. IsPermutation rs rows) (ap (map (λ r. eval_all (terms_of title table q) ([] ∷ r ∷ []))) (no_test (old.now.trees table.tree)) ∙ (λ i. map (λ r. same r i) (old.now.trees table.tree))) all
+
+-- ---- what such a question does, and what it says
+
+module _ (p : Part) (q : Asked) (fits : (tree : ℕ) → Fits (name_of p) (table_in p tree) q) (none : q.parameters ≡ []) where
+  selects : IsSelect q.text
+  selects = record { parsed = parsed_of (name_of p) (table_in p 0) q; select = select_of (name_of p) (table_in p 0) q; read = (fits 0).read; is = refl }
+
+  module _ {S : Type 0} (g : Ghosts S) (old new : Held S) (given : Row) (same : given ≡ []) where
+    abbrev before : State
+    before = state g old
+
+    told : (trees : ProjectTrees) → HasTables before.now.schema trees → old.step_limit ≡ None → (fault : Fault) (error : Error) → fault ≡ fault_of error → FailsToQuery q.text given before (state g new) error → IsFailure fault
+    told trees has unlimited fault error is failed =
+        let there = parts_in 0 before.now.schema trees has p (in_all 0 p) in
+        subst IsFailure (sym is) (asked_told (name_of p) there.0 _ q (fits _) before (state g new) there.1 [] error (sym (ap (λ ps. length ps) none)) (fits _).typed unlimited (subst (λ ps. FailsToQuery q.text ps before (state g new) error) same failed))
+
+    pub looks_whole : {A : Type 0} (Is : Database → ProjectTrees → List Row → Type 0) → ((trees : ProjectTrees) → HasArranged before.now trees → (rows : List Row) → Shown q.text [] before (state g new) rows → Is before.now trees rows)
+        → (r : Result (Vec Row A) Fault) → (IsSelect q.text → Asks g old new r) → (IsSelect q.text → ServesUnlessFailed g new r) → ShowsAll g old new r q.text given → FailsAll g old new r q.text given → IfErr r IsStoreFault
+        → Looks g old new r (λ db trees rows. Is db trees rows.items)
+    looks_whole Is says r asks opens shows fails store = record {
+      asks = asks selects;
+      opens = opens selects;
+      says = λ clean trees has. if_ok r _ _ (λ rows h. says trees has rows.items (subst (λ ps. Shown q.text ps before (state g new) rows.items) same h)) (shows clean);
+      fault = store;
+      answered = λ clean trees has unlimited. if_err r _ _ (λ fault h. told trees has unlimited fault h.0 h.1 h.2) (fails clean);
+    }
+
+-- ---- each table
+
+abbrev pub project_asked : Asked
+project_asked = record (whole_table (codes "SELECT one, version, next_number FROM project ORDER BY one") (0 ∷ 1 ∷ 2 ∷ [])) { order = Some 0 }
+
+pub project_fits : (tree : ℕ) → Fits (codes "project") (project_at tree) project_asked
+unfolding everything
+project_fits tree = record { shown = refl; tests = refl; strict = refl; order = refl; height = (0, tt); few = omega arith; limit = λ schema. refl; read = refl; typed = refl }
+
+abbrev pub workunits_asked : Asked
+workunits_asked = record (whole_table (codes "SELECT " ++ workunit_columns ++ codes " FROM workunit ORDER BY number") (0 ∷ 1 ∷ 2 ∷ 3 ∷ 4 ∷ 5 ∷ 6 ∷ 7 ∷ 8 ∷ 9 ∷ 10 ∷ 11 ∷ 12 ∷ 13 ∷ 14 ∷ [])) { order = Some 0 }
+
+pub workunits_fits : (tree : ℕ) → Fits (codes "workunit") (workunit_at tree) workunits_asked
+unfolding everything
+workunits_fits tree = record { shown = refl; tests = refl; strict = refl; order = refl; height = (0, tt); few = omega arith; limit = λ schema. refl; read = refl; typed = refl }
+
+abbrev pub instances_asked : Asked
+instances_asked = record (whole_table (codes "SELECT workunit, n, " ++ instance_columns ++ codes " FROM result") (0 ∷ 1 ∷ 2 ∷ 3 ∷ 4 ∷ 5 ∷ 6 ∷ 7 ∷ 8 ∷ 9 ∷ 10 ∷ [])) { order = None }
+
+pub instances_fits : (tree : ℕ) → Fits (codes "result") (result_at tree) instances_asked
+unfolding everything
+instances_fits tree = record { shown = refl; tests = refl; strict = refl; order = tt; height = (0, tt); few = omega arith; limit = λ schema. refl; read = refl; typed = refl }
+
+abbrev pub grants_asked : Asked
+grants_asked = record (whole_table (codes "SELECT seq, workunit, n, host, credit FROM credit_grant ORDER BY seq") (0 ∷ 1 ∷ 2 ∷ 3 ∷ 4 ∷ [])) { order = Some 0 }
+
+pub grants_fits : (tree : ℕ) → Fits (codes "credit_grant") (grant_at tree) grants_asked
+unfolding everything
+grants_fits tree = record { shown = refl; tests = refl; strict = refl; order = refl; height = (0, tt); few = omega arith; limit = λ schema. refl; read = refl; typed = refl }
+
+abbrev pub hosts_asked : Asked
+hosts_asked = record (whole_table (codes "SELECT name, total, grants FROM host") (0 ∷ 1 ∷ 2 ∷ [])) { order = None }
+
+pub hosts_fits : (tree : ℕ) → Fits (codes "host") (host_at tree) hosts_asked
+unfolding everything
+hosts_fits tree = record { shown = refl; tests = refl; strict = refl; order = tt; height = (0, tt); few = omega arith; limit = λ schema. refl; read = refl; typed = refl }
+
+abbrev pub archived_asked : Asked
+archived_asked = record (whole_table (codes "SELECT seq, number, name, error_mask, canonical, output, done_at FROM archived ORDER BY seq") (0 ∷ 1 ∷ 2 ∷ 3 ∷ 4 ∷ 5 ∷ 6 ∷ [])) { order = Some 0 }
+
+pub archived_fits : (tree : ℕ) → Fits (codes "archived") (archived_at tree) archived_asked
+unfolding everything
+archived_fits tree = record { shown = refl; tests = refl; strict = refl; order = refl; height = (0, tt); few = omega arith; limit = λ schema. refl; read = refl; typed = refl }
+
+abbrev pub imports_asked : Asked
+imports_asked = record (whole_table (codes "SELECT kind, name, template, content, first_number, verdicts FROM import") (0 ∷ 1 ∷ 2 ∷ 3 ∷ 4 ∷ 5 ∷ [])) { order = None }
+
+pub imports_fits : (tree : ℕ) → Fits (codes "import") (import_at tree) imports_asked
+unfolding everything
+imports_fits tree = record { shown = refl; tests = refl; strict = refl; order = tt; height = (0, tt); few = omega arith; limit = λ schema. refl; read = refl; typed = refl }

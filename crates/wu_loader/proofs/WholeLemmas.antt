@@ -1,0 +1,114 @@
+-- All rows of a table as values.
+use Rattle.wu_schema.proofs.Words.{IfErr, IsErrAnd, Result, Contains-permutation, Err, Fault, Has, IsPermutation, IsPermutation-sym, Option, all_has, contains_had, has_contained, has_mapped, List, NotAProject, Ok, Row, Some, [], add-one, ap, arith, enumerate_from, inl, inr, length, map, refl, slice_get, subst, suc, sym, take, take_all, ℕ, zero, ◌++◌, ◌+◌, ◌-◌, ◌<◌, ◌∙◌, ◌∷◌, ◌≡◌, ◌≢◌}
+use Rattle.std.specs.Prelude.{All, get_or}
+use Rattle.std.proofs.lemmas.List.{take_more}
+use Rattle.std.proofs.lemmas.List.Elements.{All-push, recursion_from_All}
+use Rattle.wu_schema.specs.Restoring.{Restores}
+use Rattle.wu_loader.specs.Whole.{rows_of, IsNoRow, UnlessMemory}
+use Rattle.wu_loader.specs.declared.finding.NoWorld.{NoWorld}
+use Rattle.wu_loader.specs.declared.finding.NoWorld.TheVariants.{Memory, Wrong as told}
+use Rattle.wu_loader.specs.declared.finding.Table.{Table}
+use Rattle.wu_loader.specs.declared.finding.Wrong.{Wrong}
+
+module _ {T : Type 0} (cells : ℕ → T → Row) where
+  abbrev at : ℕ × T → Row
+  at p = cells p.0 p.1
+
+  later : (n : ℕ) (xs : List T) (x : T) → map at (enumerate_from n (xs ++ x ∷ [])) ≡ map at (enumerate_from n xs) ++ cells (n + length xs) x ∷ []
+  later n [] x = let e : n ≡ n + 0 = omega arith in ap (λ k. cells k x ∷ []) e
+  later n (y ∷ xs) x = let e : n + 1 + length xs ≡ n + suc (length xs) = omega arith in ap (λ rows. cells n y ∷ rows) (later (n + 1) xs x ∙ ap (λ k. map at (enumerate_from (n + 1) xs) ++ cells k x ∷ []) e)
+
+  -- one value more is one row more
+  pub rows_more : (xs : List T) (x : T) (rows : List Row) (i : ℕ) (row : Row) → rows_of cells xs ≡ take i rows → length xs ≡ i → i < length rows → get_or rows i row ≡ row → row ≡ cells (i + 1) x → rows_of cells (xs ++ x ∷ []) ≡ take (i + 1) rows
+  rows_more xs x rows i row so_far long low at is =
+      let e : 1 + length xs ≡ i + 1 = omega (arith, long) in
+      later 1 xs x ∙ ap (λ k. rows_of cells xs ++ cells k x ∷ []) e ∙ (λ k. so_far k ++ sym (at ∙ is) k ∷ []) ∙ sym (take_more rows i row low)
+
+  counted : (n : ℕ) (xs : List T) → length (map at (enumerate_from n xs)) ≡ length xs
+  counted n [] = refl
+  counted n (x ∷ xs) = ap suc (counted (n + 1) xs)
+
+  pub rows_counted : (xs : List T) → length (rows_of cells xs) ≡ length xs
+  rows_counted = counted 1
+
+get_there : (rows : List Row) (i : ℕ) (row : Row) → i < length rows → get_or rows i row ≡ row → slice_get rows i ≡ Some row
+get_there [] i row low at = absurd (omega (arith, low))
+get_there (r ∷ rows) zero row low at = ap Some at
+get_there (r ∷ rows) (suc i) row low at = get_there rows i row (omega (arith, low)) at
+
+-- what is no project's is the row of no value
+pub no_row : {T : Type 0} (cells : ℕ → T → Row) (IsValue : T → Type 0) (rows : List Row) (table : Table) (i : ℕ) (row : Row) → i < length rows → get_or rows i row ≡ row → Restores (cells (i + 1)) IsValue row (Err NotAProject)
+    → IsNoRow cells IsValue rows (record { table = table; place = i + 1 })
+no_row cells IsValue rows table i row low stands read = record {
+  row = row;
+  counted = omega arith;
+  there = let e : i + 1 - 1 ≡ i = omega arith in subst (λ k. slice_get rows k ≡ Some row) (sym e) (get_there rows i row low stands);
+  none = λ x is same. elim (read.found x is same) [ inl ok ↦ absurd cc | inr memory ↦ absurd cc ];
+}
+
+-- ---- what keeps rows from being those of values
+
+-- rows whose places are not told
+pub rows_plain : {T : Type 0} (f : T → Row) (xs : List T) → rows_of (λ _. f) xs ≡ map f xs
+rows_plain {T} f xs = go 1 xs
+  where
+    go : (n : ℕ) (xs : List T) → map (λ (p : ℕ × T). f p.1) (enumerate_from n xs) ≡ map f xs
+    go n [] = refl
+    go n (x ∷ xs) = ap (λ rows. f x ∷ rows) (go (n + 1) xs)
+
+-- each row is that of a value, at its place
+row_at : {T : Type 0} (cells : ℕ → T → Row) (n : ℕ) (xs : List T) (i : ℕ) (row : Row) → slice_get (map (λ (p : ℕ × T). cells p.0 p.1) (enumerate_from n xs)) i ≡ Some row → (x : T) × Has xs x × (row ≡ cells (n + i) x)
+row_at cells n [] i row there = absurd cc
+row_at cells n (x ∷ xs) zero row there = let e : n ≡ n + 0 = omega arith in (x, inl refl, same_row there ∙ ap (λ k. cells k x) e)
+  where
+    same_row : {a b : Row} → ◌≡◌ {A = Option Row} (Some a) (Some b) → b ≡ a
+    same_row is = cc
+row_at cells n (x ∷ xs) (suc i) row there = let it = row_at cells (n + 1) xs i row there in let e : n + 1 + i ≡ n + suc i = omega arith in (it.0, inr it.1, it.2 ∙ ap (λ k. cells k it.0) e)
+
+-- a row that is that of no value stands in no such rows
+pub no_rows : {T : Type 0} (cells : ℕ → T → Row) (IsValue : T → Type 0) (rows : List Row) (wrong : Wrong) → IsNoRow cells IsValue rows wrong → (xs : List T) → All IsValue xs → rows ≢ rows_of cells xs
+no_rows cells IsValue rows wrong none xs each are =
+    let it = row_at cells 1 xs (wrong.place - 1) none.row (sym (ap (λ rs. slice_get rs (wrong.place - 1)) are) ∙ none.there) in
+    let low = none.counted in
+    let e : 1 + (wrong.place - 1) ≡ wrong.place = omega (arith, low) in
+    none.none it.0 (all_has IsValue xs it.0 (recursion_from_All IsValue xs each) it.1) (it.2 ∙ ap (λ k. cells k it.0) e)
+
+-- nor in such rows in any order
+pub none_permuted : {T : Type 0} (f : T → Row) (IsValue : T → Type 0) (rows : List Row) (wrong : Wrong) → IsNoRow (λ _. f) IsValue rows wrong → (xs : List T) → All IsValue xs → ¬ IsPermutation (map f xs) rows
+none_permuted f IsValue rows wrong none xs each are =
+    let here = has_contained (map f xs) none.row (Contains-permutation rows (map f xs) none.row (IsPermutation-sym _ _ are) (contains_had rows none.row (got_has rows (wrong.place - 1) none.row none.there))) in
+    let it = has_mapped f xs none.row here in
+    none.none it.0 (all_has IsValue xs it.0 (recursion_from_All IsValue xs each) it.1) it.2
+  where
+    got_has : (rows : List Row) (i : ℕ) (row : Row) → slice_get rows i ≡ Some row → Has rows row
+    got_has [] i row there = absurd cc
+    got_has (r ∷ rows) zero row there = inl (let same = there in cc)
+    got_has (r ∷ rows) (suc i) row there = inr (got_has rows i row there)
+
+-- ---- through a refusal
+
+pub unless_then : (reason : NoWorld) (P Q : Wrong → Type 0) → ((wrong : Wrong) → P wrong → Q wrong) → UnlessMemory reason P → UnlessMemory reason Q
+unless_then Memory P Q f h = tt
+unless_then (told wrong) P Q f h = f wrong h
+
+pub refused : {T : Type 0} (r : Result T NoWorld) (P Q : Wrong → Type 0) → ((wrong : Wrong) → P wrong → Q wrong) → IfErr r (λ reason. UnlessMemory reason P) → IfErr r (λ reason. UnlessMemory reason Q)
+refused (Ok x) P Q f h = tt
+refused (Err reason) P Q f h = unless_then reason P Q f h
+
+-- a refusal that is handed on
+pub handed : {T : Type 0} (r : Result T NoWorld) (reason : NoWorld) (P Q : Wrong → Type 0) → ((wrong : Wrong) → P wrong → Q wrong) → IsErrAnd r (λ other. other ≡ reason) → UnlessMemory reason P → IfErr r (λ other. UnlessMemory other Q)
+handed (Ok x) reason P Q f same h = tt
+handed (Err other) reason P Q f same h = subst (λ k. UnlessMemory k Q) (sym same) (unless_then reason P Q f h)
+
+-- rows are those of one list of values alone, where each is that of one value
+pub one_rows : {T : Type 0} (cells : ℕ → T → Row) → ((k : ℕ) (a b : T) → cells k a ≡ cells k b → a ≡ b) → (xs ys : List T) → rows_of cells xs ≡ rows_of cells ys → xs ≡ ys
+one_rows {T} cells inj xs ys same = go 1 xs ys same
+  where
+    go : (n : ℕ) (xs ys : List T) → map (λ (p : ℕ × T). cells p.0 p.1) (enumerate_from n xs) ≡ map (λ (p : ℕ × T). cells p.0 p.1) (enumerate_from n ys) → xs ≡ ys
+    go n [] [] same = refl
+    go n [] (y ∷ ys) same = absurd cc
+    go n (x ∷ xs) [] same = absurd cc
+    go n (x ∷ xs) (y ∷ ys) same =
+        let first : cells n x ≡ cells n y = cc in
+        let rest : map (λ (p : ℕ × T). cells p.0 p.1) (enumerate_from (n + 1) xs) ≡ map (λ (p : ℕ × T). cells p.0 p.1) (enumerate_from (n + 1) ys) = cc in
+        (λ i. inj n x y first i ∷ go (n + 1) xs ys rest i)

@@ -1,0 +1,170 @@
+-- The workunits that rows are those of.
+use Rattle.wu_schema.proofs.Words.{AllByRecursion, Equal, Has, Instance, IsAscending, IsPermutation, IsPermutation-map, IsPermutation-sym, IsPermutation-trans, IsSorted, Less, List, Ordering, Row, Workunit, [], all_from, all_has, ap, arith, column, enumerate_from, flat_map, get_or, has_either, has_mapped, inl, inr, instance_cells, instances_of, is_eq, length, length-map, map, map-append, map-map, on_total, refl, subst, suc, sym, workunit_row, ℕ, ◌++◌, ◌+◌, ◌<◌, ◌∙◌, ◌∷◌, ◌≡◌, ◌≤◌}
+use Rattle.std.specs.Prelude.{All}
+use Rattle.std.specs.Cmp.{IsTotalOrder, nat_cmp_is}
+use Rattle.std.specs.Ordering.{is_lt, nat_cmp, on, ordering_then, then_cmp}
+use Rattle.std.proofs.lemmas.Bool.Decides.{nat_tests}
+use Rattle.std.proofs.lemmas.Cmp.{nat_cmp_total, then_total}
+use Rattle.std.proofs.lemmas.List.{get_or-map}
+use Rattle.std.proofs.lemmas.List.Elements.{All-from_recursion, recursion_from_All}
+use Rattle.wu_core.specs.Limits.{most_instances}
+use Rattle.wu_core.specs.Storable.{bare, IsStorable, IsStoredInstance, IsStoredWorkunit}
+use Rattle.wu_store.proofs.OneOrder.{one_order}
+use Rattle.wu_store.proofs.SameWorld.{read_number, same_workunit}
+use Rattle.wu_loader.specs.Dealing.{by_place, placed_from, placed_of, AreDealt}
+use Rattle.wu_loader.specs.Rows.{placed_row, IsStoredPlaced}
+use Rattle.wu_loader.specs.Whole.{rows_of, IsNoRow}
+use Rattle.wu_loader.specs.Worlds.{AreRowsOfWorks, IsOrdered}
+use Rattle.wu_loader.specs.declared.finding.Wrong.{Wrong}
+use Rattle.wu_loader.specs.declared.rows.Placed.{Placed}
+use Rattle.wu_loader.proofs.RowLemmas.{one_placed}
+use Rattle.wu_loader.proofs.WholeLemmas.{no_rows, none_permuted, rows_plain}
+
+-- ---- rows of instances and instances with their places
+
+placed_rows : (workunit n : ℕ) (is : List Instance) → map (λ (p : ℕ × Instance). instance_cells workunit p.0 p.1) (enumerate_from n is) ≡ map placed_row (map (λ (p : ℕ × Instance). record { workunit = workunit; n = p.0; instance = p.1 }) (enumerate_from n is))
+placed_rows workunit n [] = refl
+placed_rows workunit n (i ∷ is) = ap (λ rows. instance_cells workunit n i ∷ rows) (placed_rows workunit (n + 1) is)
+
+pub flat_rows : (ws : List Workunit) → flat_map instances_of ws ≡ map placed_row (flat_map placed_of ws)
+flat_rows [] = refl
+flat_rows (w ∷ ws) = (λ i. placed_rows w.number 0 w.instances i ++ flat_rows ws i) ∙ sym (map-append placed_row (placed_of w) (flat_map placed_of ws))
+
+-- rows of instances by the same order
+abbrev by_row : Row → Row → Ordering
+by_row = then_cmp (on (λ (r : Row). read_number (column r 0)) nat_cmp) (on (λ (r : Row). read_number (column r 1)) nat_cmp)
+
+by_row_total : IsTotalOrder by_row
+by_row_total = then_total (on_total (λ (r : Row). read_number (column r 0)) nat_cmp_total) (on_total (λ (r : Row). read_number (column r 1)) nat_cmp_total)
+
+less_is : (m n : ℕ) → m < n → nat_cmp m n ≡ Less
+less_is m n low = grind (arith, nat_tests, low)
+
+nat_cmp_same : (n : ℕ) → nat_cmp n n ≡ Equal
+nat_cmp_same n = grind (arith, nat_tests)
+
+abbrev Rise : Row → Row → Type 0
+Rise a b = by_row a b ≡ Less
+
+rise_number : (w n m : ℕ) (i j : Instance) → n < m → Rise (instance_cells w n i) (instance_cells w m j)
+rise_number w n m i j low = ap (λ o. ordering_then o (nat_cmp n m)) (nat_cmp_same w) ∙ less_is n m low
+
+rise_workunit : (v w n m : ℕ) (i j : Instance) → v < w → Rise (instance_cells v n i) (instance_cells w m j)
+rise_workunit v w n m i j low = ap (λ o. ordering_then o (nat_cmp n m)) (less_is v w low)
+
+-- the instances of a workunit rise
+rise_above : (w n m : ℕ) (i : Instance) (is : List Instance) → n < m → AllByRecursion (Rise (instance_cells w n i)) (map (λ (p : ℕ × Instance). instance_cells w p.0 p.1) (enumerate_from m is))
+rise_above w n m i [] low = tt
+rise_above w n m i (j ∷ is) low = (rise_number w n m i j low, rise_above w n (m + 1) i is (omega (arith, low)))
+
+rise_within : (w n : ℕ) (is : List Instance) → IsAscending Rise (map (λ (p : ℕ × Instance). instance_cells w p.0 p.1) (enumerate_from n is))
+rise_within w n [] = tt
+rise_within w n (i ∷ is) = (rise_above w n (n + 1) i is (omega arith), rise_within w (n + 1) is)
+
+all_append : {X : Type 0} (P : X → Type 0) (xs ys : List X) → AllByRecursion P xs → AllByRecursion P ys → AllByRecursion P (xs ++ ys)
+all_append P [] ys one two = two
+all_append P (x ∷ xs) ys one two = (one.0, all_append P xs ys one.1 two)
+
+rise_append : (xs ys : List Row) → IsAscending Rise xs → IsAscending Rise ys → ((x : Row) → Has xs x → AllByRecursion (Rise x) ys) → IsAscending Rise (xs ++ ys)
+rise_append [] ys one two cross = two
+rise_append (x ∷ xs) ys one two cross = (all_append (Rise x) xs ys one.0 (cross x (inl refl)), rise_append xs ys one.1 two (λ y has. cross y (inr has)))
+
+-- a row of a workunit is below those of later ones
+rise_over : (w n : ℕ) (i : Instance) (ws : List Workunit) → AllByRecursion (λ (u : Workunit). w < u.number) ws → AllByRecursion (Rise (instance_cells w n i)) (flat_map instances_of ws)
+rise_over w n i [] above = tt
+rise_over w n i (u ∷ us) above =
+    all_append (Rise (instance_cells w n i)) (instances_of u) (flat_map instances_of us)
+    (all_from (Rise (instance_cells w n i)) (instances_of u) (λ row has.
+    let it = has_mapped (λ (p : ℕ × Instance). instance_cells u.number p.0 p.1) (enumerate_from 0 u.instances) row has in
+    subst (Rise (instance_cells w n i)) (sym it.2) (rise_workunit w u.number n it.0.0 i it.0.1 above.0)))
+    (rise_over w n i us above.1)
+
+rise_all : (ws : List Workunit) → IsOrdered ws → IsAscending Rise (flat_map instances_of ws)
+rise_all [] up = tt
+rise_all (w ∷ ws) up = rise_append (instances_of w) (flat_map instances_of ws) (rise_within w.number 0 w.instances) (rise_all ws up.1) (λ row has.
+    let it = has_mapped (λ (p : ℕ × Instance). instance_cells w.number p.0 p.1) (enumerate_from 0 w.instances) row has in
+    subst (λ r. AllByRecursion (Rise r) (flat_map instances_of ws)) (sym it.2) (rise_over w.number it.0.0 it.0.1 ws up.0))
+
+-- what is sorted by place is so as rows
+rows_sorted : (ps : List Placed) → IsSorted by_place ps → IsSorted by_row (map placed_row ps)
+rows_sorted [] up = λ k d low high. absurd (omega (arith, high))
+rows_sorted (p ∷ ps) up = λ k d low high.
+    let long = length-map (p ∷ ps) placed_row in
+    let one : get_or (map placed_row (p ∷ ps)) k d ≡ placed_row (get_or (p ∷ ps) k p) = get_or-map placed_row (p ∷ ps) k p d (omega (arith, high, long)) in
+    let two : get_or (map placed_row (p ∷ ps)) (k + 1) d ≡ placed_row (get_or (p ∷ ps) (k + 1) p) = get_or-map placed_row (p ∷ ps) (k + 1) p d (omega (arith, high, long)) in
+    (λ i. is_lt (by_row (two i) (one i))) ∙ up k p low (omega (arith, high, long))
+
+-- ---- injections
+
+pub one_list : {X : Type 0} (f : X → Row) → ((a b : X) → f a ≡ f b → a ≡ b) → (xs ys : List X) → map f xs ≡ map f ys → xs ≡ ys
+one_list f inj [] [] same = refl
+one_list f inj [] (y ∷ ys) same = absurd cc
+one_list f inj (x ∷ xs) [] same = absurd cc
+one_list f inj (x ∷ xs) (y ∷ ys) same =
+    let first : f x ≡ f y = cc in
+    let rest : map f xs ≡ map f ys = cc in
+    (λ i. inj x y first i ∷ one_list f inj xs ys rest i)
+
+same_bares : (vs ws : List Workunit) → map workunit_row vs ≡ map workunit_row ws → map bare vs ≡ map bare ws
+same_bares [] [] same = refl
+same_bares [] (w ∷ ws) same = absurd cc
+same_bares (v ∷ vs) [] same = absurd cc
+same_bares (v ∷ vs) (w ∷ ws) same =
+    let first : workunit_row v ≡ workunit_row w = cc in
+    let rest : map workunit_row vs ≡ map workunit_row ws = cc in
+    (λ i. bare (same_workunit v w first i) ∷ same_bares vs ws rest i)
+
+bare_rows : (ws : List Workunit) → map workunit_row (map bare ws) ≡ map workunit_row ws
+bare_rows ws = map-map workunit_row bare ws
+
+-- ---- the workunits of the rows
+
+module _ (rows instances : List Row) (bares : List Workunit) (workunits_are : rows ≡ rows_of (λ _. workunit_row) bares) where
+  abbrev bare_is : rows ≡ map workunit_row bares
+  bare_is = workunits_are ∙ rows_plain workunit_row bares
+
+  module _ (placed sorted : List Placed) (instances_are : instances ≡ rows_of (λ _. placed_row) placed) (moved : IsPermutation placed sorted) where
+    abbrev placed_is : instances ≡ map placed_row placed
+    placed_is = instances_are ∙ rows_plain placed_row placed
+
+    pub works_are : (dealt : List Workunit) → AreDealt bares sorted dealt → AreRowsOfWorks rows instances dealt
+    works_are dealt are = record {
+      workunits_are = bare_is ∙ sym (bare_rows bares) ∙ ap (map workunit_row) (sym are.bare) ∙ bare_rows dealt;
+      instances_are =
+          subst (λ rs. IsPermutation rs instances) (ap (map placed_row) (sym are.all) ∙ sym (flat_rows dealt))
+          (subst (IsPermutation (map placed_row sorted)) (sym placed_is) (IsPermutation-map placed_row sorted placed (IsPermutation-sym placed sorted moved)));
+    }
+
+    -- no others are dealt so
+    pub works_dealt : IsSorted by_place sorted → (ws : List Workunit) → IsOrdered ws → All IsStorable ws → AreRowsOfWorks rows instances ws → AreDealt bares sorted ws
+    works_dealt up ws ordered storable are = record {
+      bare = same_bares ws bares (sym are.workunits_are ∙ bare_is);
+      all = one_list placed_row one_placed (flat_map placed_of ws) sorted (sym (flat_rows ws) ∙ sym same);
+      few = All-from_recursion (λ (w : Workunit). length w.instances ≤ most_instances) ws (all_from (λ (w : Workunit). length w.instances ≤ most_instances) ws (λ w has. (all_has IsStorable ws w (recursion_from_All IsStorable ws storable) has).instances.few));
+    }
+      where
+        same : map placed_row sorted ≡ flat_map instances_of ws
+        same = one_order by_row by_row_total (flat_map instances_of ws) (map placed_row sorted) (rise_all ws ordered) (rows_sorted sorted up)
+            (IsPermutation-trans _ _ _ (subst (IsPermutation (flat_map instances_of ws)) placed_is are.instances_are) (IsPermutation-map placed_row placed sorted moved))
+
+-- ---- where a row is that of none
+
+pub never_works : (rows instances : List Row) (wrong : Wrong) → IsNoRow (λ _. workunit_row) IsStoredWorkunit rows wrong → (ws : List Workunit) → IsOrdered ws → All IsStorable ws → ¬ AreRowsOfWorks rows instances ws
+never_works rows instances wrong none ws ordered storable are =
+    no_rows (λ _. workunit_row) IsStoredWorkunit rows wrong none (map bare ws) (All-from_recursion IsStoredWorkunit (map bare ws) (bares ws (recursion_from_All IsStorable ws storable))) (are.workunits_are ∙ sym (bare_rows ws) ∙ sym (rows_plain workunit_row (map bare ws)))
+  where
+    bares : (ws : List Workunit) → AllByRecursion IsStorable ws → AllByRecursion IsStoredWorkunit (map bare ws)
+    bares [] each = tt
+    bares (w ∷ ws) each = (each.0.row, bares ws each.1)
+
+pub never_placed : (rows instances : List Row) (wrong : Wrong) → IsNoRow (λ _. placed_row) IsStoredPlaced instances wrong → (ws : List Workunit) → IsOrdered ws → All IsStorable ws → ¬ AreRowsOfWorks rows instances ws
+never_placed rows instances wrong none ws ordered storable are =
+    none_permuted placed_row IsStoredPlaced instances wrong none (flat_map placed_of ws) (All-from_recursion IsStoredPlaced (flat_map placed_of ws) (each_placed ws (recursion_from_All IsStorable ws storable))) (subst (λ rs. IsPermutation rs instances) (flat_rows ws) are.instances_are)
+  where
+    within : (w n : ℕ) (is : List Instance) → AllByRecursion IsStoredInstance is → AllByRecursion IsStoredPlaced (map (λ (p : ℕ × Instance). record { workunit = w; n = p.0; instance = p.1 }) (enumerate_from n is))
+    within w n [] each = tt
+    within w n (i ∷ is) each = (each.0, within w (n + 1) is each.1)
+
+    each_placed : (ws : List Workunit) → AllByRecursion IsStorable ws → AllByRecursion IsStoredPlaced (flat_map placed_of ws)
+    each_placed [] each = tt
+    each_placed (w ∷ ws) each = all_append IsStoredPlaced (placed_of w) (flat_map placed_of ws) (within w.number 0 w.instances (recursion_from_All IsStoredInstance w.instances each.0.instances.each)) (each_placed ws each.1)

@@ -1,0 +1,26 @@
+use Rattle.wu_schema.proofs.Words.{IsPermutation, IsPermutation-map, IsPermutation-sym, IsPermutation-trans, List, Row, map, rules, subst, sym, ◌∙◌, ◌≡◌}
+use Rattle.wu_core.specs.Hosts.{hosts_of}
+use Rattle.wu_schema.specs.Refines.{host_of}
+use Rattle.wu_loader.specs.Rows.{host_row}
+use Rattle.wu_loader.proofs.GrantLemmas.{hosts_are, hosts_must, never_hosts}
+use Rattle.wu_loader.proofs.WholeLemmas.{handed, rows_plain}
+use Rattle.wu_loader.proofs.hosts.know_hosts.Goals as goal
+
+pub returns-in_err-hosts-clause-none : goal.returns-in_err-hosts-clause-none
+returns-in_err-hosts-clause-none c =
+    handed c.from_residual.result c.in_err-hosts.field-0.0 _ _ (λ wrong none. never_hosts c.args.rows.now c.args.grants.now wrong none) c.from_residual.ensures.1 c.in_err-hosts.ensures.none
+
+pub returns-in-Some-clause-none : goal.returns-in-Some-clause-none
+returns-in-Some-clause-none c stored same =
+    let rows = c.in_ok-hosts.ensures.same ∙ rows_plain host_row c.in_ok-hosts.hosts.items in
+    let moved = IsPermutation-map host_row c.in_ok-hosts.hosts.items c.sort.new.hosts.items c.in_ok-sort.ensures.same in
+    let all = IsPermutation-trans _ _ _ (subst (IsPermutation (map (host_of c.args.grants.now) (hosts_of c.args.grants.now))) rows same) moved in
+    let never = rw c.deref.ensures.value at c.in-Some.ensures.hosts in
+    never (hosts_must c.args.grants.now c.sort.new.hosts.items c.in_ok-sort.ensures.sorted all)
+
+pub returns-clause-hosts : goal.returns-clause-hosts
+returns-clause-hosts c =
+    let rows = c.in_ok-hosts.ensures.same ∙ rows_plain host_row c.in_ok-hosts.hosts.items in
+    let moved = IsPermutation-map host_row c.in_ok-hosts.hosts.items c.sort.new.hosts.items c.in_ok-sort.ensures.same in
+    let are = hosts_are c.args.grants.now c.sort.new.hosts.items (rw c.deref.ensures.value at c.in-None.ensures.hosts) in
+    subst (λ rs. IsPermutation rs c.args.rows.now) are (subst (IsPermutation (map host_row c.sort.new.hosts.items)) (sym rows) (IsPermutation-sym _ _ moved))

@@ -1,0 +1,23 @@
+use Rattle.wu_schema.proofs.Words.{rules, subst, sym}
+use Rattle.wu_schema.proofs.ReadLemmas.{if_ok}
+use Rattle.wu_loader.proofs.WholeLemmas.{handed, refused}
+use Rattle.wu_loader.proofs.WorkLemmas.{never_placed, never_works, works_are, works_dealt}
+use Rattle.wu_loader.proofs.works.works_from.Goals as goal
+
+pub returns-in_err-workunits-clause-none : goal.returns-in_err-workunits-clause-none
+returns-in_err-workunits-clause-none c =
+    handed c.from_residual.result c.in_err-workunits.field-0.0 _ _ (λ wrong none. never_works c.args.rows.now c.args.instances.now wrong none) c.from_residual.ensures.1 c.in_err-workunits.ensures.none
+
+pub returns-in_err-placed-clause-none : goal.returns-in_err-placed-clause-none
+returns-in_err-placed-clause-none c =
+    handed c.from_residual-in_err-placed.result c.in_err-placed.field-0.0 _ _ (λ wrong none. never_placed c.args.rows.now c.args.instances.now wrong none) c.from_residual-in_err-placed.ensures.1 c.in_err-placed.ensures.none
+
+pub returns-clause-works : goal.returns-clause-works
+returns-clause-works c =
+    if_ok c.deal.result _ _ (λ dealt are.
+    works_are c.args.rows.now c.args.instances.now c.in_ok-workunits.workunits.items c.in_ok-workunits.ensures.same c.in_ok-placed.placed.items c.in_ok-placed-2.placed.items c.in_ok-placed.ensures.same (rw c.in_ok-placed-2.ensures c.in_ok-sort.ensures.same) dealt.items are) c.deal.ensures.dealt
+
+pub returns-clause-none : goal.returns-clause-none
+returns-clause-none c =
+    refused c.deal.result _ _ (λ wrong none works ordered storable are.
+    none works ordered (works_dealt c.args.rows.now c.args.instances.now c.in_ok-workunits.workunits.items c.in_ok-workunits.ensures.same c.in_ok-placed.placed.items c.in_ok-placed-2.placed.items c.in_ok-placed.ensures.same (rw c.in_ok-placed-2.ensures c.in_ok-sort.ensures.same) (rw c.in_ok-placed-2.ensures c.in_ok-sort.ensures.sorted) works ordered storable are)) c.deal.ensures.none

@@ -1,0 +1,33 @@
+-- Instances in order of their workunits' numbers and of their own, and which are those of a workunit.
+use Rattle.std.specs.Prelude.{◌≡◌, ℕ, ◌≤◌, ◌∷◌, [], All, List, length, map}
+use Rattle.std.specs.List.{enumerate_from, flat_map}
+use Rattle.std.specs.Ordering.{nat_cmp, on, then_cmp}
+use Rattle.std.specs.declared.cmp.Ordering.{Ordering}
+use Rattle.wu_core.specs.Limits.{most_instances}
+use Rattle.wu_core.specs.Storable.{bare}
+use Rattle.wu_core.specs.declared.workunit.Instance.{Instance}
+use Rattle.wu_core.specs.declared.workunit.Workunit.{Workunit}
+use Rattle.wu_loader.specs.declared.rows.Placed.{Placed}
+
+-- by the workunit's number, then by its own
+abbrev pub by_place : Placed → Placed → Ordering
+by_place = then_cmp (on (λ (p : Placed). p.workunit) nat_cmp) (on (λ (p : Placed). p.n) nat_cmp)
+
+-- the instances of a workunit, numbered from 0
+abbrev pub placed_from : ℕ → List Instance → List Placed
+placed_from workunit instances = map (λ (p : ℕ × Instance). record { workunit = workunit; n = p.0; instance = p.1 }) (enumerate_from 0 instances)
+
+abbrev pub placed_of : Workunit → List Placed
+placed_of w = placed_from w.number w.instances
+
+-- the first of these is the one of this workunit and this number
+abbrev pub IsNext : ℕ → ℕ → List Placed → Type 0
+IsNext workunit n [] = ⊥
+IsNext workunit n (p ∷ more) = (p.workunit ≡ workunit) × (p.n ≡ n)
+
+-- these are the workunits with these instances
+pub record AreDealt (workunits : List Workunit) (placed : List Placed) (dealt : List Workunit) : Type 0 where
+  pub bare : map bare dealt ≡ map bare workunits
+  pub all : flat_map placed_of dealt ≡ placed
+  -- a workunit has at most so many
+  pub few : All (λ (w : Workunit). length w.instances ≤ most_instances) dealt

@@ -1,0 +1,33 @@
+-- What hosts were granted, as the grants say.
+use Rattle.std.specs.Prelude.{◌≡◌, ℕ, ◌+◌, ◌<◌, All, List, length, slice_index_or}
+use Rattle.std.specs.Cmp.Lexicographic.{slice_cmp}
+use Rattle.std.specs.Ordering.{nat_cmp}
+use Rattle.std.specs.declared.cmp.Ordering.{Ordering}
+use Rattle.std.specs.declared.cmp.Ordering.TheVariants.{Less}
+use Rattle.wu_core.specs.Hosts.{credit_of, grants_of}
+use Rattle.wu_core.specs.declared.workunit.Grant.{Grant}
+use Rattle.wu_loader.specs.declared.rows.Host.{Host}
+
+-- by the bytes of their names
+abbrev pub by_name : Host → Host → Ordering
+by_name one other = slice_cmp nat_cmp one.name other.name
+
+-- the host has grants, and its sums are theirs
+pub record IsGranted (grants : List Grant) (host : Host) : Type 0 where
+  pub total : host.total ≡ credit_of grants host.name
+  pub count : host.grants ≡ grants_of grants host.name
+  pub some : 0 < host.grants
+
+-- the hosts are in order of their names, and no two have one
+abbrev pub Rise : List Host → Type 0
+Rise hosts = (k : ℕ) (d : Host) → k + 1 < length hosts → by_name (slice_index_or hosts k d) (slice_index_or hosts (k + 1) d) ≡ Less
+
+-- one of them has the name
+abbrev pub IsListed : List Host → List ℕ → Type 0
+IsListed hosts name = (k : ℕ) × (d : Host) × (k < length hosts) × ((slice_index_or hosts k d).name ≡ name)
+
+-- the hosts are in order, each has what it was granted, and each that was granted something is there
+pub record AreHosts (grants : List Grant) (hosts : List Host) : Type 0 where
+  pub rise : Rise hosts
+  pub each : All (IsGranted grants) hosts
+  pub listed : All (λ (grant : Grant). IsListed hosts grant.host) grants

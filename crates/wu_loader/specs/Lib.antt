@@ -1,0 +1,9 @@
+pub mod Shown
+pub mod Asked
+pub mod Cells
+pub mod Rows
+pub mod Whole
+pub mod Worlds
+pub mod Dealing
+pub mod Granting
+pub mod Finding

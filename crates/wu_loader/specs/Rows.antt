@@ -1,0 +1,50 @@
+-- The rows of the tables as questions show them, and the values that they may stand for.
+use Rattle.std.specs.Prelude.{◌≡◌, ℕ, ◌<◌, ◌≤◌, ◌^◌, List, [], ◌∷◌}
+use Rattle.sqlite.specs.Order.{Row}
+use Rattle.wu_core.specs.Storable.{AreVerdicts, IsName, IsNextNumber, IsStoredInstance}
+use Rattle.wu_core.specs.World.{Import}
+use Rattle.wu_core.specs.declared.workunit.Archived.{Archived}
+use Rattle.wu_core.specs.declared.workunit.Grant.{Grant}
+use Rattle.wu_schema.specs.Stored.{archived_cells, grant_cells, host_cells, instance_cells, number}
+use Rattle.wu_loader.specs.declared.rows.Host.{Host}
+use Rattle.wu_loader.specs.declared.rows.Placed.{Placed}
+use Rattle.wu_loader.specs.declared.rows.ProjectRow.{ProjectRow}
+
+-- ---- rows
+
+abbrev pub project_row : ProjectRow → Row
+project_row p = number 1 ∷ number p.version ∷ number p.next_number ∷ []
+
+abbrev pub placed_row : Placed → Row
+placed_row p = instance_cells p.workunit p.n p.instance
+
+abbrev pub host_row : Host → Row
+host_row h = host_cells h.name h.total h.grants
+
+-- by the place in the list, from 1
+abbrev pub grant_row : ℕ → Grant → Row
+grant_row place g = number place ∷ grant_cells g
+
+abbrev pub archived_row : ℕ → Archived → Row
+archived_row place a = number place ∷ archived_cells a
+
+-- ---- values
+
+pub record IsStoredProject (p : ProjectRow) : Type 0 where
+  pub version : 1 ≤ p.version
+  pub next_number : IsNextNumber p.next_number
+
+abbrev pub IsStoredPlaced : Placed → Type 0
+IsStoredPlaced p = IsStoredInstance p.instance
+
+abbrev pub IsStoredHost : Host → Type 0
+IsStoredHost h = IsName h.name
+
+-- the number of an instance fits into 32 bits
+pub record IsStoredGrant (g : Grant) : Type 0 where
+  pub host : IsName g.host
+  pub n : g.n < 2 ^ 32
+
+pub record IsStoredImport (i : Import) : Type 0 where
+  pub name : IsName i.name
+  pub verdicts : AreVerdicts i.kind i.verdicts

@@ -1,0 +1,53 @@
+-- What a question about a whole table shows of its rows, and which rows of a tree it shows as they are.
+use Rattle.std.specs.Prelude.{◌≡◌, ℕ, ◌+◌, ◌-◌, List, [], ◌∷◌, map, length}
+use Rattle.std.specs.List.{AllByRecursion, range_with_len}
+use Rattle.std.specs.List.Sorted.{IsPermutation}
+use Rattle.sqlite.specs.Order.{Row, column}
+use Rattle.sqlite.specs.Tree.{Trees}
+use Rattle.sqlite.specs.declared.types.Value.TheVariants.{Null}
+use Rattle.sqlite_trees.specs.View.{IsShaped}
+use Rattle.sqlite_trees.specs.declared.store.Shape.TheVariants as shape
+use Rattle.wu_schema.specs.Tables.{ProjectTrees}
+use Rattle.wu_loader.specs.declared.tables.TableRows.{TableRows}
+
+-- a row of a table with so many columns whose key is the rowid: its key, and the columns behind the key's own
+abbrev pub keyed : ℕ → Row → Row
+keyed count row = column row 0 ∷ map (column row) (range_with_len 2 (count - 1))
+
+-- a row of one whose rowids the store chooses: its columns, behind the rowid
+abbrev pub unkeyed : ℕ → Row → Row
+unkeyed count row = map (column row) (range_with_len 1 count)
+
+-- a row as a table whose key is the rowid keeps it: the key first, and nothing in the key's own column
+abbrev pub behind_key : Row → Row
+behind_key [] = []
+behind_key (key ∷ cells) = key ∷ Null ∷ cells
+
+-- the rows stand in order of their rowids, as every store keeps those of a table
+abbrev pub IsArranged : List Row → Type 0
+IsArranged rows = IsShaped shape.Table rows
+
+-- so do those of the seven tables
+pub record AreArranged (db : Trees) (trees : ProjectTrees) : Type 0 where
+  pub project : IsArranged (db trees.project)
+  pub workunit : IsArranged (db trees.workunit)
+  pub result : IsArranged (db trees.result)
+  pub grant : IsArranged (db trees.grant)
+  pub host : IsArranged (db trees.host)
+  pub archived : IsArranged (db trees.archived)
+  pub import : IsArranged (db trees.import)
+
+-- each row has a cell for its rowid and one for each of so many columns. A question shows a last cell that a row lacks
+-- as one with nothing in it, so of a column that may be empty it does not tell
+abbrev pub AreWhole : ℕ → List Row → Type 0
+AreWhole count rows = AllByRecursion (λ row. length row ≡ count + 1) rows
+
+-- the rows that the tables show: those of a table whose key is the rowid in order of the key, others in any order
+pub record Shows (db : Trees) (trees : ProjectTrees) (rows : TableRows) : Type 0 where
+  pub project : rows.project.items ≡ map (keyed 3) (db trees.project)
+  pub workunits : rows.workunits.items ≡ map (keyed 15) (db trees.workunit)
+  pub instances : IsPermutation (map (unkeyed 11) (db trees.result)) rows.instances.items
+  pub grants : rows.grants.items ≡ map (keyed 5) (db trees.grant)
+  pub hosts : IsPermutation (map (unkeyed 3) (db trees.host)) rows.hosts.items
+  pub archived : rows.archived.items ≡ map (keyed 7) (db trees.archived)
+  pub imports : IsPermutation (map (unkeyed 6) (db trees.import)) rows.imports.items

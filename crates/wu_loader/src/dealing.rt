@@ -1,0 +1,97 @@
+//! Each workunit with its instances.
+
+ghost use Rattle.std.specs.Prelude.{◌≡◌, ◌↔◌, ◌++◌, length, IfErr, IfOk, IsTrue, List, OnOk};
+ghost use Rattle.std.specs.List.Sorted.{IsPermutation, IsSorted};
+ghost use Rattle.wu_core.specs.declared.workunit.Workunit.{Workunit};
+ghost use Rattle.wu_loader.specs.Dealing.{by_place, placed_from, AreDealt, IsNext};
+ghost use Rattle.wu_loader.specs.Whole.{UnlessMemory};
+ghost use Rattle.wu_loader.specs.Worlds.{IsOrdered};
+
+use crate::finding::{NoWorld, Table, Wrong};
+use crate::rows::Placed;
+use std::alloc::{AllocError, Global};
+use std::collections::VecDeque;
+use wu_core::{Instance, Instances, MOST_INSTANCES, Workunit};
+
+/// Sorts the instances by their workunits' numbers, and those of a workunit by their own.
+pub(crate) fn sort(placed: &mut Vec<Placed>) -> Result<(), AllocError>
+    ensures same { IsPermutation placed.old.items placed.new.items }
+    ensures sorted { OnOk result (IsSorted by_place placed.new.items) }
+{
+    placed.sort_by(|one, other| { one.workunit.cmp(&other.workunit).then(one.n.cmp(&other.n)) })
+}
+
+/// The instances as a queue.
+pub(crate) fn queue_of(alloc: Global, placed: Vec<Placed>) -> Result<VecDeque<Placed>, AllocError>
+    ensures { IfOk result (λ queue. queue.items ≡ placed.items) }
+{
+    let mut queue = VecDeque::new(alloc);
+    for one in placed {
+        queue.push_back(one)?;
+    }
+    Ok(queue)
+}
+
+/// Whether the first of these is the one of this workunit and this number.
+fn is_next(left: &VecDeque<Placed>, workunit: u64, n: usize) -> bool
+    ensures { IsTrue result ↔ IsNext workunit n left.now.items }
+{
+    match left.front() {
+        Some(placed) => placed.workunit == workunit && placed.n == n as u64,
+        None => false,
+    }
+}
+
+/// Takes the instances of this workunit from the front: those that are numbered from 0, as far as they go.
+fn take_instances(
+    alloc: Global,
+    workunit: u64,
+    left: &mut VecDeque<Placed>,
+) -> Result<Vec<Instance>, AllocError>
+    ensures taken { IfOk result (λ instances. left.old.items ≡ placed_from workunit instances.items ++ left.new.items) }
+    ensures all { IfOk result (λ instances. ¬ IsNext workunit (length instances.items) left.new.items) }
+{
+    let mut instances = Vec::new(alloc);
+    'each: while is_next(left, workunit, instances.len()) {
+        if let Some(placed) = left.pop_front() {
+            instances.push(placed.instance)?;
+        }
+    }
+    Ok(instances)
+}
+
+/// The workunits with these instances, which are in order. A result that is none of theirs is told, or the last one of
+/// too many of a workunit.
+pub(crate) fn deal(
+    alloc: Global,
+    workunits: Vec<Workunit>,
+    placed: VecDeque<Placed>,
+) -> Result<Vec<Workunit>, NoWorld>
+    ensures dealt { IfOk result (λ dealt. AreDealt workunits.items placed.items dealt.items) }
+    ensures none { IfErr result (λ reason. UnlessMemory reason (λ _. (dealt : List Workunit) → IsOrdered dealt → ¬ AreDealt workunits.items placed.items dealt)) }
+{
+    let total = placed.len();
+    let mut left = placed;
+    let mut dealt = Vec::new(alloc);
+    for mut workunit in workunits {
+        let instances = take_instances(alloc, workunit.number, &mut left)?;
+        if instances.len() > MOST_INSTANCES as usize {
+            let place = (total - left.len()) as u64;
+            return Err(NoWorld::Wrong(Wrong {
+                table: Table::Result,
+                place,
+            }));
+        }
+        workunit.instances = Instances::from_vec(instances);
+        dealt.push(workunit)?;
+    }
+    if left.is_empty() {
+        Ok(dealt)
+    } else {
+        let place = (total - left.len()) as u64 + 1;
+        Err(NoWorld::Wrong(Wrong {
+            table: Table::Result,
+            place,
+        }))
+    }
+}

@@ -1,0 +1,58 @@
+//! What is found in the tables: a world, or the first row that keeps them from being one.
+
+ghost use Rattle.std.specs.Prelude.{◌≡◌};
+ghost use Rattle.wu_loader.specs.declared.finding.NoWorld.TheVariants.{Memory};
+
+use std::alloc::{AllocError, AllocFailed};
+use wu_audit::Loaded;
+
+/// A table of a project.
+#[derive(Clone, Copy, Debug, PartialEq, Eq)]
+pub enum Table {
+    Project,
+    Workunit,
+    Result,
+    CreditGrant,
+    Host,
+    Archived,
+    Import,
+}
+
+/// A row that keeps the tables from being those of a world: its table and its place there, counted from 1, where the
+/// table is read in order of its key, the results in order of workunit and number, hosts and imports in any order. A
+/// place behind the last row tells of a row that lacks.
+#[derive(Clone, Copy, Debug, PartialEq, Eq)]
+pub struct Wrong {
+    pub table: Table,
+    pub place: u64,
+}
+
+/// What the tables are.
+#[derive(Drop)]
+pub enum Found {
+    World(Loaded),
+    Wrong(Wrong),
+}
+
+/// Why no world was made of rows.
+#[derive(Clone, Copy, Debug, PartialEq, Eq)]
+pub enum NoWorld {
+    Memory,
+    Wrong(Wrong),
+}
+
+impl From<AllocError> for NoWorld {
+    ghost from_gives = { λ _ reason. reason ≡ Memory };
+
+    fn from(_error: AllocError) -> NoWorld {
+        NoWorld::Memory
+    }
+}
+
+impl<T: Drop> From<AllocFailed<T>> for NoWorld {
+    ghost from_gives = { λ _ reason. reason ≡ Memory };
+
+    fn from(_error: AllocFailed<T>) -> NoWorld {
+        NoWorld::Memory
+    }
+}

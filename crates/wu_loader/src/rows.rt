@@ -1,0 +1,340 @@
+//! Rows of the tables as values.
+
+ghost use Rattle.std.specs.Prelude.{◌≡◌, ◌≤◌, ⊤, ℕ, length};
+ghost use Rattle.std.specs.Bool.{Decides};
+ghost use Rattle.sqlite.specs.Order.{Row};
+ghost use Rattle.wu_core.specs.Formed.{IsInstance};
+ghost use Rattle.wu_core.specs.Storable.{IsStoredArchived, IsStoredWorkunit, MayBeInstance};
+ghost use Rattle.wu_schema.specs.Restoring.{Restores};
+ghost use Rattle.wu_schema.specs.Stored.{import_cells, instance_row, workunit_row};
+ghost use Rattle.wu_store.specs.Reading.{columns};
+ghost use Rattle.wu_loader.specs.Cells.{moment_cells, progress_cells, state_cells, HasMoments, IsProgress};
+ghost use Rattle.wu_loader.specs.Rows.{archived_row, grant_row, host_row, placed_row, project_row, IsStoredGrant, IsStoredHost, IsStoredImport, IsStoredPlaced, IsStoredProject};
+
+use crate::columns::{
+    assimilate_at, bytes_at, deadline_at, file_delete_at, host_at, input_at, instance_number_at,
+    kind_at, mask_at, moment_at, name_at, outcome_at, output_at, params_from, place_at,
+    server_state_at, stamp_at, validate_state_at, verdicts_at,
+};
+use sqlite::Row;
+use std::alloc::Global;
+use wu_audit::Imported;
+use wu_core::{
+    Archived, Assimilate, Deadline, ErrorMask, Fault, FileDelete, Grant, Instance, Instances,
+    MOST_WORKUNITS, Moment, Name, Outcome, ServerState, ValidateState, Workunit,
+};
+use wu_schema::number_at;
+
+/// What a row of a table stands for.
+pub trait FromRow: Sized {
+    /// The row of a value at a place among the rows, counted from 1.
+    ghost cells: { ℕ → Self → Row };
+
+    /// The values that rows may stand for.
+    ghost is_value: { Self → Type 0 };
+
+    /// The value that the row at this place stands for, or `NotAProject` where there is none.
+    fn from_row(alloc: Global, place: u64, row: &Row) -> Result<Self, Fault>
+        ensures { Restores (cells place) is_value row.now result };
+}
+
+/// The one row of a project, whose key is 1.
+#[derive(Clone, Copy)]
+pub struct ProjectRow {
+    pub version: u64,
+    pub next_number: u64,
+}
+
+impl FromRow for ProjectRow {
+    ghost cells = { λ _. project_row };
+
+    ghost is_value = { IsStoredProject };
+
+    fn from_row(alloc: Global, place: u64, row: &Row) -> Result<Self, Fault> {
+        if row.column_count() != 3 {
+            return Err(Fault::NotAProject);
+        }
+        let one = number_at(row, 0)?;
+        let version = number_at(row, 1)?;
+        let next_number = number_at(row, 2)?;
+        if one == 1 && version >= 1 && 1 <= next_number && next_number <= MOST_WORKUNITS + 1 {
+            Ok(ProjectRow {
+                version,
+                next_number,
+            })
+        } else {
+            Err(Fault::NotAProject)
+        }
+    }
+}
+
+impl FromRow for Grant {
+    ghost cells = { grant_row };
+
+    ghost is_value = { IsStoredGrant };
+
+    fn from_row(alloc: Global, place: u64, row: &Row) -> Result<Self, Fault> {
+        if row.column_count() != 5 {
+            return Err(Fault::NotAProject);
+        }
+        if number_at(row, 0)? != place {
+            return Err(Fault::NotAProject);
+        }
+        let workunit = number_at(row, 1)?;
+        let n = instance_number_at(row, 2)?;
+        let credit = number_at(row, 4)?;
+        let host = name_at(alloc, row, 3)?;
+        Ok(Grant {
+            workunit,
+            n,
+            host,
+            credit,
+        })
+    }
+}
+
+impl FromRow for Archived {
+    ghost cells = { archived_row };
+
+    ghost is_value = { IsStoredArchived };
+
+    fn from_row(alloc: Global, place: u64, row: &Row) -> Result<Self, Fault> {
+        if row.column_count() != 7 {
+            return Err(Fault::NotAProject);
+        }
+        if number_at(row, 0)? != place {
+            return Err(Fault::NotAProject);
+        }
+        let number = number_at(row, 1)?;
+        let error_mask = mask_at(row, 3)?;
+        let canonical = place_at(row, 4)?;
+        let done_at = stamp_at(row, 6)?;
+        let output = output_at(row, 5)?;
+        let name = name_at(alloc, row, 2)?;
+        Ok(Archived {
+            number,
+            name,
+            error_mask,
+            canonical,
+            output,
+            done_at,
+        })
+    }
+}
+
+/// What a host was granted.
+#[derive(Drop)]
+pub struct Host {
+    pub name: Name,
+    pub total: u64,
+    pub grants: u64,
+}
+
+impl FromRow for Host {
+    ghost cells = { λ _. host_row };
+
+    ghost is_value = { IsStoredHost };
+
+    fn from_row(alloc: Global, place: u64, row: &Row) -> Result<Self, Fault> {
+        if row.column_count() != 3 {
+            return Err(Fault::NotAProject);
+        }
+        let total = number_at(row, 1)?;
+        let grants = number_at(row, 2)?;
+        let name = name_at(alloc, row, 0)?;
+        Ok(Host {
+            name,
+            total,
+            grants,
+        })
+    }
+}
+
+impl FromRow for Imported {
+    ghost cells = { λ _. import_cells };
+
+    ghost is_value = { IsStoredImport };
+
+    fn from_row(alloc: Global, place: u64, row: &Row) -> Result<Self, Fault> {
+        if row.column_count() != 6 {
+            return Err(Fault::NotAProject);
+        }
+        let kind = kind_at(row, 0)?;
+        let first_number = number_at(row, 4)?;
+        let template = bytes_at(row, 2)?;
+        let content = bytes_at(row, 3)?;
+        let name = name_at(alloc, row, 1)?;
+        let verdicts = verdicts_at(alloc, kind, row, 5)?;
+        Ok(Imported::new(kind, name, template, content, first_number, verdicts))
+    }
+}
+
+/// How far a workunit is, but for its instances.
+#[derive(Clone, Copy)]
+struct Progress {
+    error_mask: ErrorMask,
+    canonical: Option<u32>,
+    assimilate: Assimilate,
+    file_delete: FileDelete,
+    done_at: Option<Moment>,
+}
+
+/// The progress in the five columns from the eleventh on: a workunit is assimilated exactly where it has its moment.
+fn progress_from(row: &Row) -> Result<Progress, Fault>
+    requires { 15 ≤ length row.now }
+    ensures { Restores progress_cells IsProgress (columns row.now 10 5) result }
+{
+    let progress = Progress {
+        error_mask: mask_at(row, 10)?,
+        canonical: place_at(row, 11)?,
+        assimilate: assimilate_at(row, 12)?,
+        file_delete: file_delete_at(row, 13)?,
+        done_at: moment_at(row, 14)?,
+    };
+    let is_done = progress.assimilate == Assimilate::Done;
+    if is_done != progress.done_at.is_some() {
+        return Err(Fault::NotAProject);
+    }
+    Ok(progress)
+}
+
+impl FromRow for Workunit {
+    ghost cells = { λ _. workunit_row };
+
+    ghost is_value = { IsStoredWorkunit };
+
+    /// The workunit of the row, with no instances.
+    fn from_row(alloc: Global, place: u64, row: &Row) -> Result<Self, Fault> {
+        if row.column_count() != 15 {
+            return Err(Fault::NotAProject);
+        }
+        let number = number_at(row, 0)?;
+        let params = params_from(row)?;
+        let progress = progress_from(row)?;
+        let input = input_at(row, 9)?;
+        let name = name_at(alloc, row, 1)?;
+        Ok(Workunit {
+            number,
+            name,
+            params,
+            input,
+            error_mask: progress.error_mask,
+            canonical: progress.canonical,
+            assimilate: progress.assimilate,
+            file_delete: progress.file_delete,
+            done_at: progress.done_at,
+            instances: Instances::new(alloc),
+        })
+    }
+}
+
+/// How an instance stands.
+#[derive(Clone, Copy)]
+struct States {
+    server_state: ServerState,
+    outcome: Outcome,
+    validate_state: ValidateState,
+    file_delete: FileDelete,
+}
+
+/// When an instance was sent, is due and was reported.
+#[derive(Clone, Copy)]
+struct Moments {
+    sent_at: Option<Moment>,
+    deadline: Option<Deadline>,
+    received_at: Option<Moment>,
+}
+
+/// The states in the four columns from the third on.
+fn states_from(row: &Row) -> Result<States, Fault>
+    ensures { Restores state_cells (λ _. ⊤) (columns row.now 2 4) result }
+{
+    Ok(States {
+        server_state: server_state_at(row, 2)?,
+        outcome: outcome_at(row, 3)?,
+        validate_state: validate_state_at(row, 4)?,
+        file_delete: file_delete_at(row, 5)?,
+    })
+}
+
+/// The moments in the three columns from the eighth on.
+fn moments_from(row: &Row) -> Result<Moments, Fault>
+    requires { 11 ≤ length row.now }
+    ensures { Restores moment_cells HasMoments (columns row.now 7 3) result }
+{
+    Ok(Moments {
+        sent_at: moment_at(row, 7)?,
+        deadline: deadline_at(row, 8)?,
+        received_at: moment_at(row, 9)?,
+    })
+}
+
+/// Whether host, sending and deadline are there together, and as the states want it.
+fn is_formed(instance: &Instance) -> bool
+    ensures { Decides result (IsInstance instance.now) }
+{
+    let has_host = instance.host.is_some();
+    let is_unsent = instance.server_state == ServerState::Unsent;
+    let is_in_progress = instance.server_state == ServerState::InProgress;
+    let is_success = instance.server_state == ServerState::Over
+        && instance.outcome == Outcome::Success;
+    instance.sent_at.is_some() == has_host
+        && instance.deadline.is_some() == has_host
+        && !(is_unsent && has_host)
+        && !(is_in_progress && !has_host)
+        && !(is_success && !has_host)
+}
+
+/// The instance in the nine columns from the third on, well formed or not.
+fn instance_from(alloc: Global, row: &Row) -> Result<Instance, Fault>
+    requires { length row.now ≡ 11 }
+    ensures { Restores instance_row MayBeInstance (columns row.now 2 9) result }
+{
+    let states = states_from(row)?;
+    let moments = moments_from(row)?;
+    let output = output_at(row, 10)?;
+    let host = host_at(alloc, row, 6)?;
+    Ok(Instance {
+        server_state: states.server_state,
+        outcome: states.outcome,
+        validate_state: states.validate_state,
+        file_delete: states.file_delete,
+        host,
+        sent_at: moments.sent_at,
+        deadline: moments.deadline,
+        received_at: moments.received_at,
+        output,
+    })
+}
+
+/// An instance, with the number of its workunit and its own.
+#[derive(Drop)]
+pub struct Placed {
+    pub workunit: u64,
+    pub n: u64,
+    pub instance: Instance,
+}
+
+impl FromRow for Placed {
+    ghost cells = { λ _. placed_row };
+
+    ghost is_value = { IsStoredPlaced };
+
+    fn from_row(alloc: Global, place: u64, row: &Row) -> Result<Self, Fault> {
+        if row.column_count() != 11 {
+            return Err(Fault::NotAProject);
+        }
+        let workunit = number_at(row, 0)?;
+        let n = number_at(row, 1)?;
+        let instance = instance_from(alloc, row)?;
+        if is_formed(&instance) {
+            Ok(Placed {
+                workunit,
+                n,
+                instance,
+            })
+        } else {
+            Err(Fault::NotAProject)
+        }
+    }
+}

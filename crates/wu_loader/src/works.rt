@@ -1,0 +1,31 @@
+//! The workunits of a project, each with its instances.
+
+ghost use Rattle.std.specs.Prelude.{◌≡◌, All, IfErr, IfOk, List};
+ghost use Rattle.wu_core.specs.Storable.{IsStorable};
+ghost use Rattle.wu_core.specs.declared.workunit.Workunit.{Workunit};
+ghost use Rattle.wu_loader.specs.Whole.{UnlessMemory};
+ghost use Rattle.wu_loader.specs.Worlds.{AreRowsOfWorks, IsOrdered};
+
+use crate::dealing::{deal, queue_of, sort};
+use crate::finding::{NoWorld, Table};
+use crate::rows::Placed;
+use crate::whole::all_from;
+use sqlite::Row;
+use std::alloc::Global;
+use wu_core::Workunit;
+
+/// The workunits of these rows, with the instances of those.
+pub(crate) fn works_from(
+    alloc: Global,
+    rows: &[Row],
+    instances: &[Row],
+) -> Result<Vec<Workunit>, NoWorld>
+    ensures works { IfOk result (λ works. AreRowsOfWorks rows.now instances.now works.items) }
+    ensures none { IfErr result (λ reason. UnlessMemory reason (λ _. (works : List Workunit) → IsOrdered works → All IsStorable works → ¬ AreRowsOfWorks rows.now instances.now works)) }
+{
+    let workunits = all_from::<Workunit>(alloc, Table::Workunit, rows)?;
+    let mut placed = all_from::<Placed>(alloc, Table::Result, instances)?;
+    sort(&mut placed)?;
+    let placed = queue_of(alloc, placed)?;
+    deal(alloc, workunits, placed)
+}

@@ -1,0 +1,4 @@
+mod MapLemmas
+mod TermLemmas
+mod FoundLemmas
+mod AgainstLemmas

@@ -1,0 +1,54 @@
+-- What is found in a schema, or stands against it.
+use Rattle.std.specs.Prelude.{◌≡◌, ◌^◌, ℕ, true, false, nat_le, List, [], ◌∷◌, codes, Option, Some, None, IsSome}
+use Rattle.std.specs.List.{AllByRecursion}
+use Rattle.sqlite.specs.Collation.TheVariants.{Binary}
+use Rattle.sqlite.specs.Schema.{Schema}
+use Rattle.sqlite.specs.Table.{Table}
+use Rattle.sqlite_rules.specs.Lists.{Has}
+use Rattle.sqlite_schema.specs.Names.{table_named}
+use Rattle.sqlite_schema.specs.Rules.{guards}
+use Rattle.sqlite_schema.specs.declared.schema.Index.{Index}
+use Rattle.sqlite_value.specs.Keys.{first_key}
+use Rattle.wu_schema.specs.Indexes.{IsIndexed, queue_indexes}
+use Rattle.wu_schema.specs.Tables.{HasNamed, OwnsTree, host_at, queue_at}
+use Rattle.wu_tables.specs.Forms.{table_of}
+use Rattle.wu_tables.specs.Known.{name_of, table_at}
+use Rattle.wu_tables.specs.declared.forms.TableForm.{TableForm}
+use Rattle.wu_tables.specs.declared.project.Misfit.{Misfit}
+use Rattle.wu_tables.specs.declared.project.Misfit.TheVariants.{Missing, Altered, HostNames}
+
+-- P of the number that is found, and of no number where none is
+abbrev pub Finds : (ℕ → Type 0) → Option ℕ → Type 0
+Finds P None = (n : ℕ) → P n → ⊥
+Finds P (Some n) = P n
+
+-- the name finds a table that is like this in its tree
+abbrev pub IsIn : Schema → List ℕ → (ℕ → Table) → ℕ → Type 0
+IsIn schema name made tree = HasNamed schema name (made tree)
+
+-- the table has the form, in a stored tree that no other table has
+pub record Stands (schema : Schema) (table : Table) (form : TableForm) : Type 0 where
+  pub like : table ≡ table_of form table.tree
+  pub low : nat_le (2 ^ 31) table.tree ≡ false
+  pub owns : OwnsTree schema (table_of form table.tree)
+
+-- where the index is a unique one on the names of the hosts in this tree, it compares their bytes
+abbrev pub IsByBytes : ℕ → Index → Type 0
+IsByBytes tree i = guards i (host_at tree) ≡ true → i.columns ≡ 1 ∷ [] → (first_key i.order).collation ≡ Binary
+
+-- each index does so
+abbrev pub AreByBytes : Schema → ℕ → Type 0
+AreByBytes schema tree = (i : Index) → Has schema.indexes i → IsByBytes tree i
+
+-- the queue is there with its five indexes
+pub record HasQueueIn (schema : Schema) (tree : ℕ) : Type 0 where
+  pub table : HasNamed schema (codes "queue") (queue_at tree)
+  pub indexes : AllByRecursion (IsIndexed schema tree) queue_indexes
+
+-- no table has the name; or one has it, and is nowhere as the program makes it; or an index does not compare the bytes of
+-- the names of hosts
+abbrev pub StandsAgainst : Schema → Misfit → Type 0
+StandsAgainst schema (Missing which) = table_named schema (name_of which) ≡ None
+StandsAgainst schema (Altered which) =
+    IsSome (table_named schema (name_of which)) × ((tree : ℕ) → IsIn schema (name_of which) (table_at which) tree → ⊥)
+StandsAgainst schema HostNames = (tree : ℕ) × HasNamed schema (codes "host") (host_at tree) × (AreByBytes schema tree → ⊥)

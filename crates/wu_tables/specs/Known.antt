@@ -1,0 +1,26 @@
+-- The tables of a project of version 1.
+use Rattle.std.specs.Prelude.{ℕ, List, codes}
+use Rattle.sqlite.specs.Table.{Table}
+use Rattle.wu_schema.specs.Tables.{archived_at, grant_at, host_at, import_at, project_at, result_at, workunit_at}
+use Rattle.wu_tables.specs.declared.known.ProjectTable.{ProjectTable}
+use Rattle.wu_tables.specs.declared.known.ProjectTable.TheVariants.{Project, Workunit, Result, Grant, Host, Archived, Import}
+
+-- its name
+abbrev pub name_of : ProjectTable → List ℕ
+name_of Project = codes "project"
+name_of Workunit = codes "workunit"
+name_of Result = codes "result"
+name_of Grant = codes "credit_grant"
+name_of Host = codes "host"
+name_of Archived = codes "archived"
+name_of Import = codes "import"
+
+-- it in any tree
+abbrev pub table_at : ProjectTable → ℕ → Table
+table_at Project = project_at
+table_at Workunit = workunit_at
+table_at Result = result_at
+table_at Grant = grant_at
+table_at Host = host_at
+table_at Archived = archived_at
+table_at Import = import_at
