@@ -29,7 +29,8 @@ enum Basis {
 
 /// What is found, or that the project is of a later version, which may have other tables and rows.
 fn unless_later<S: Alter>(conn: &mut Connection<S>, finding: Finding) -> Result<Finding, Fault>
-    ensures examines { Examines S.Store conn.old conn.new result (λ db found. Tells db finding → Tells db found) }
+    ensures examines { Examines S.Store conn.old conn.new result (λ db found. Tells db finding
+        → Tells db found) }
     ensures opens { ServesUnlessFailed S.Store conn.new result }
 {
     match version_of(conn) {

@@ -60,7 +60,8 @@ pub fn judge<S: Alter>(
     alloc: Global,
     loaded: &Loaded,
 ) -> Result<Option<Finding>, Fault>
-    ensures examines { Examines S.Store conn.old conn.new result (λ db found. Refines db loaded.now → Judges db loaded.now found) }
+    ensures examines { Examines S.Store conn.old conn.new result
+        (λ db found. Refines db loaded.now → Judges db loaded.now found) }
     ensures stays { StaysUnlessFailed S.Store conn.old conn.new result }
     ensures sound { IfOk result (λ found. IsNone found → IsSound loaded.now) }
 {

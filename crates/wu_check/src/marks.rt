@@ -91,7 +91,8 @@ fn first_other(rows: &[Row], workunits: &[Workunit]) -> Option<u64>
 
 /// The rows of the queue, in order of their workunits' numbers.
 fn queue_rows<S: Alter>(conn: &mut Connection<S>) -> Result<Vec<Row>, Fault>
-    ensures { LooksInQueue S.Store conn.old conn.new result (λ rows shown. shown.items ≡ map (keyed 6) rows) }
+    ensures { LooksInQueue S.Store conn.old conn.new result (λ rows shown. shown.items ≡ map
+        (keyed 6) rows) }
 {
     query(
         conn,

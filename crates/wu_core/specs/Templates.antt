@@ -1,5 +1,5 @@
 -- The values of a template, and the first of its keys that is at fault.
-use Rattle.std.specs.Prelude.{ℕ, Bool, false, not, ◌&&◌, ℤ, pos, unsigned_abs, List, [], ◌∷◌, get_or, find, Option, Some, None, Result, Ok, Err}
+use Rattle.std.specs.Prelude.{ℕ, Bool, false, not, ℤ, pos, unsigned_abs, List, [], ◌∷◌, get_or, find, Option, Some, None, Result, Ok, Err}
 use Rattle.wu_core.specs.declared.fault.Fault.{Fault}
 use Rattle.wu_core.specs.declared.fault.Fault.TheVariants.{BadTemplate}
 use Rattle.wu_core.specs.declared.fault.TemplateKey.{TemplateKey}
@@ -17,18 +17,22 @@ abbrev pub number_of : Option ℤ → ℕ
 number_of (Some value) = unsigned_abs value
 number_of None = 0
 
--- each key with whether its value is in the range of a template, in the order of the fields; the target is at least the
--- quorum
-abbrev pub range_tests : (TemplateKey → Option ℤ) → List (TemplateKey × Bool)
-range_tests value =
+-- each key with whether its value is in its range, in the order of the fields; the target is at least the quorum and at
+-- most this
+abbrev pub range_tests_to : ℕ → (TemplateKey → Option ℤ) → List (TemplateKey × Bool)
+range_tests_to most value =
     (key.MinQuorum, is_whole_between 1 highest_quorum (value key.MinQuorum))
-    ∷ (key.TargetNresults, is_whole_between 1 highest_quorum (value key.TargetNresults) && is_whole_between (number_of (value key.MinQuorum)) highest_quorum (value key.TargetNresults))
+    ∷ (key.TargetNresults, is_whole_between (number_of (value key.MinQuorum)) most (value key.TargetNresults))
     ∷ (key.MaxErrorResults, is_whole_between 0 most_instances (value key.MaxErrorResults))
     ∷ (key.MaxTotalResults, is_whole_between 1 most_instances (value key.MaxTotalResults))
     ∷ (key.MaxSuccessResults, is_whole_between 0 most_instances (value key.MaxSuccessResults))
     ∷ (key.DelayBound, is_whole_between 1 longest_delay (value key.DelayBound))
     ∷ (key.Credit, is_whole_between 0 most_credit (value key.Credit))
     ∷ []
+
+-- in the range of a template
+abbrev pub range_tests : (TemplateKey → Option ℤ) → List (TemplateKey × Bool)
+range_tests value = range_tests_to highest_quorum value
 
 -- the parameters with these values
 abbrev pub parameters_of : (TemplateKey → Option ℤ) → Parameters
@@ -47,9 +51,14 @@ abbrev pub unless_failed : Option (TemplateKey × Bool) → Parameters → Resul
 unless_failed (Some failed) p = Err (BadTemplate failed.0)
 unless_failed None p = Ok p
 
--- the parameters with a template's values, or the first key whose value is out of range or no whole number
+-- the parameters with these values, or the first key whose value is out of range or no whole number; the target is at most
+-- this
+abbrev pub parameters_to : ℕ → (TemplateKey → Option ℤ) → Result Parameters Fault
+parameters_to most value = unless_failed (find (λ test. not test.1) (range_tests_to most value)) (parameters_of value)
+
+-- those of a template
 abbrev pub template_parameters : (TemplateKey → Option ℤ) → Result Parameters Fault
-template_parameters value = unless_failed (find (λ test. not test.1) (range_tests value)) (parameters_of value)
+template_parameters value = parameters_to highest_quorum value
 
 -- values in the order of the fields, by their keys
 abbrev pub listed : List ℤ → TemplateKey → Option ℤ

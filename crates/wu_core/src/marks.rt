@@ -3,7 +3,7 @@
 use crate::moment::Moment;
 
 /// The marks of a workunit: for each pass, whether or from when it has something to do.
-#[derive(Clone, Copy, PartialEq, Eq)]
+#[derive(Clone, Copy)]
 pub struct Marks {
     /// The first moment at which the transitioner has something to do, in seconds; None where it waits for nothing.
     pub wake: Option<u64>,

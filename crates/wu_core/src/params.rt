@@ -3,7 +3,7 @@
 ghost use Rattle.std.specs.Prelude.{◌≡◌, ◌≤◌, false, pos, IfSome, IfNone, IfOk, IfErr, OnErr};
 ghost use Rattle.wu_core.specs.Limits.{highest_quorum, highest_target, longest_delay, most_credit, most_instances};
 ghost use Rattle.wu_core.specs.Parameters.{default_parameters, is_between, IsParameters, Parameters, values_of};
-ghost use Rattle.wu_core.specs.Templates.{is_whole_between, listed, template_parameters, whole_at};
+ghost use Rattle.wu_core.specs.Templates.{is_whole_between, listed, parameters_to, template_parameters, whole_at};
 ghost use Rattle.wu_core.specs.declared.fault.Fault.TheVariants.{BadTemplate};
 
 use crate::fault::TemplateKey::{
@@ -17,7 +17,7 @@ use std::marker::Model;
 /// How many results a workunit wants, how many it bears, how long each may take and what it is worth.
 ///
 /// Each value is in the range of a template, but for the target, which the validator may raise to 101.
-#[derive(Clone, Copy, PartialEq, Eq)]
+#[derive(Clone, Copy)]
 pub struct Params {
     min_quorum: u32,
     target_nresults: u32,
@@ -87,39 +87,36 @@ fn template_value(key: TemplateKey, value: Option<i64>, low: u32, high: u32) -> 
     }
 }
 
+/// Whole numbers as values that may be none.
+fn each_whole(values: [i64; 7]) -> [Option<i64>; 7]
+    ensures { whole_at result ≡ listed values }
+{
+    let [quorum, target, errors, total, successes, delay, credit] = values;
+    [
+        Some(quorum),
+        Some(target),
+        Some(errors),
+        Some(total),
+        Some(successes),
+        Some(delay),
+        Some(credit),
+    ]
+}
+
 impl Params {
     /// The parameters with a template's values, in the order of the fields. The first value that is out of its range
     /// is `BadTemplate` with its key; the target is at most 20 here, and at least the quorum.
     pub fn checked(values: [i64; 7]) -> Result<Self, Fault>
         ensures { result ≡ template_parameters (listed values) }
     {
-        let [quorum, target, errors, total, successes, delay, credit] = values;
-        Params::from_template([
-            Some(quorum),
-            Some(target),
-            Some(errors),
-            Some(total),
-            Some(successes),
-            Some(delay),
-            Some(credit),
-        ])
+        Params::from_template(each_whole(values))
     }
 
     /// The same of values that may be no whole numbers: `None` is one, and at fault as one that is out of its range.
     pub fn from_template(values: [Option<i64>; 7]) -> Result<Self, Fault>
         ensures { result ≡ template_parameters (whole_at values) }
     {
-        let [quorum, target, errors, total, successes, delay, credit] = values;
-        let min_quorum = template_value(MinQuorum, quorum, 1, HIGHEST_QUORUM)?;
-        Ok(Params {
-            min_quorum,
-            target_nresults: template_value(TargetNresults, target, min_quorum, HIGHEST_QUORUM)?,
-            max_error_results: template_value(MaxErrorResults, errors, 0, MOST_INSTANCES)?,
-            max_total_results: template_value(MaxTotalResults, total, 1, MOST_INSTANCES)?,
-            max_success_results: template_value(MaxSuccessResults, successes, 0, MOST_INSTANCES)?,
-            delay_bound: template_value(DelayBound, delay, 1, LONGEST_DELAY)?,
-            credit: template_value(Credit, credit, 0, MOST_CREDIT)?,
-        })
+        Params::within(values, HIGHEST_QUORUM)
     }
 
     /// The parameters of a workunit with these values, in the order of the fields, if each is in its range; the
@@ -128,16 +125,25 @@ impl Params {
         ensures found { (p : Parameters) → IsParameters p → values_of p ≡ values → result ≡ Some p }
         ensures valued { IfSome result (λ p. values_of p ≡ values) }
     {
+        Params::within(each_whole(values), HIGHEST_TARGET).ok()
+    }
+
+    /// The parameters with these values, in the order of the fields, where each is a whole number in its range and
+    /// the target at least the quorum and at most this; else the first key at fault.
+    fn within(values: [Option<i64>; 7], most_target: u32) -> Result<Self, Fault>
+        requires { most_target ≤ highest_target }
+        ensures { result ≡ parameters_to most_target (whole_at values) }
+    {
         let [quorum, target, errors, total, successes, delay, credit] = values;
-        let min_quorum = in_range(quorum, 1, HIGHEST_QUORUM)?;
-        Some(Params {
+        let min_quorum = template_value(MinQuorum, quorum, 1, HIGHEST_QUORUM)?;
+        Ok(Params {
             min_quorum,
-            target_nresults: in_range(target, min_quorum, HIGHEST_TARGET)?,
-            max_error_results: in_range(errors, 0, MOST_INSTANCES)?,
-            max_total_results: in_range(total, 1, MOST_INSTANCES)?,
-            max_success_results: in_range(successes, 0, MOST_INSTANCES)?,
-            delay_bound: in_range(delay, 1, LONGEST_DELAY)?,
-            credit: in_range(credit, 0, MOST_CREDIT)?,
+            target_nresults: template_value(TargetNresults, target, min_quorum, most_target)?,
+            max_error_results: template_value(MaxErrorResults, errors, 0, MOST_INSTANCES)?,
+            max_total_results: template_value(MaxTotalResults, total, 1, MOST_INSTANCES)?,
+            max_success_results: template_value(MaxSuccessResults, successes, 0, MOST_INSTANCES)?,
+            delay_bound: template_value(DelayBound, delay, 1, LONGEST_DELAY)?,
+            credit: template_value(Credit, credit, 0, MOST_CREDIT)?,
         })
     }
 

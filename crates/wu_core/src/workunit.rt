@@ -191,7 +191,7 @@ pub struct Workunit {
 }
 
 /// Credit for one valid result.
-#[derive(Drop, PartialEq, Eq)]
+#[derive(Drop)]
 pub struct Grant {
     pub workunit: u64,
     pub n: u32,

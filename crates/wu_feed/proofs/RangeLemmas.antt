@@ -218,8 +218,7 @@ raisable target low = omega (arith, low)
 tested : (value : TemplateKey → Option ℤ) → find (λ test. not test.1) (range_tests value) ≡ None → IsParameters (parameters_of value)
 tested value none =
     let passed = all_passed (range_tests value) none in
-    let target = and_parts (is_whole_between 1 highest_quorum (value key.TargetNresults)) (is_whole_between (number_of (value key.MinQuorum)) highest_quorum (value key.TargetNresults)) passed.1.0 in
-    let between = whole_within (number_of (value key.MinQuorum)) highest_quorum (value key.TargetNresults) target.1 in
+    let between = whole_within (number_of (value key.MinQuorum)) highest_quorum (value key.TargetNresults) passed.1.0 in
     record {
       min_quorum = whole_within 1 highest_quorum (value key.MinQuorum) passed.0;
       target_nresults = (between.0, raisable (number_of (value key.TargetNresults)) between.1);

@@ -15,10 +15,9 @@ use Rattle.wu_core.specs.Formed.{IsInstance}
 use Rattle.wu_core.specs.Parameters.{IsParameters}
 use Rattle.wu_store.proofs.ReadingLemmas.{as_columns, not_ok, same_verdicts}
 use Rattle.wu_store.proofs.SameWorld.{mask_again, maybe_again, read_blob, read_maybe, read_number, read_text, same_instances, same_workunit}
-use Rattle.wu_loader.specs.Cells.{kind_cell, moment_cells, progress_cells, state_cells, HasMoments, IsProgress}
+use Rattle.wu_loader.specs.Cells.{kind_cell, moment_cells, state_cells, HasMoments}
 use Rattle.wu_loader.specs.declared.rows.Moments.{Moments}
 use Rattle.wu_loader.specs.declared.rows.Placed.{Placed}
-use Rattle.wu_loader.specs.declared.rows.Progress.{Progress}
 use Rattle.wu_loader.specs.declared.rows.States.{States}
 use Rattle.wu_loader.specs.Rows.{archived_row, grant_row, placed_row, IsStoredImport, IsStoredPlaced}
 
@@ -97,26 +96,6 @@ part_unread part row from count stored_as cells IsValue IsPart are shown f unrea
   found = λ t is same. not_ok f (part t) t (unread.found (part t) (are t is) (ap (λ r. columns r from count) same ∙ shown t));
   refused = unread.refused;
 }
-
--- ---- workunits
-
--- the progress of a workunit
-abbrev progress_of : Workunit → Progress
-progress_of w = record { error_mask = w.error_mask; canonical = w.canonical; assimilate = w.assimilate; file_delete = w.file_delete; done_at = w.done_at }
-
-pub workunit_unread : (row : Row) (f : Fault) → Restores progress_cells IsProgress (columns row 10 5) (Err f) → Restores workunit_row IsStoredWorkunit row (Err f)
-workunit_unread row = part_unread progress_of row 10 5 workunit_row progress_cells IsStoredWorkunit IsProgress (λ w is. record { canonical = is.canonical; stamped = is.stamped }) (λ w. refl)
-
-one_workunit : (v w : Workunit) → IsStoredWorkunit v → IsStoredWorkunit w → workunit_row v ≡ workunit_row w → v ≡ w
-one_workunit v w is_v is_w same = same_workunit v w same ∙ (λ i. record w { instances = (is_v.bare ∙ sym is_w.bare) i })
-
-pub workunit_reads : (row : Row) (w : Workunit) → length row ≡ 15 → w.instances ≡ [] → Restores number (λ _. ⊤) (column row 0) (Ok w.number) → Restores Text IsName (column row 1) (Ok w.name) → Restores parameter_cells IsParameters (columns row 2 7) (Ok w.params)
-    → Restores Blob IsInput (column row 9) (Ok w.input) → Restores progress_cells IsProgress (columns row 10 5) (Ok (progress_of w)) → Restores workunit_row IsStoredWorkunit row (Ok w)
-workunit_reads row w long bare number_is name_is params_are input_is progress_is =
-    let whole : row ≡ column row 0 ∷ column row 1 ∷ columns row 2 7 ++ (column row 9 ∷ columns row 10 5) = columns_of row 15 long in
-    reads_as workunit_row IsStoredWorkunit row w
-    (whole ∙ (λ i. number_is.value.0 i ∷ name_is.value.0 i ∷ params_are.value.0 i ++ (input_is.value.0 i ∷ progress_is.value.0 i)))
-    (record { name = name_is.value.1; parameters = params_are.value.1; input = input_is.value.1; canonical = progress_is.value.1.canonical; stamped = progress_is.value.1.stamped; bare = bare }) one_workunit
 
 -- ---- instances
 

@@ -3,26 +3,14 @@ use Rattle.std.specs.Prelude.{[], ◌∷◌}
 use Rattle.sqlite.specs.Order.{Row}
 use Rattle.sqlite.specs.declared.types.Value.{Value}
 use Rattle.wu_core.specs.declared.import.ImportKind.{ImportKind}
-use Rattle.wu_core.specs.Codes.{assimilate_code, file_delete_code, import_kind_code, outcome_code, server_state_code, validate_state_code}
-use Rattle.wu_core.specs.Mask.{error_mask_code}
-use Rattle.wu_core.specs.Storable.{AreMoments, IsPlace, IsStamped}
+use Rattle.wu_core.specs.Codes.{file_delete_code, import_kind_code, outcome_code, server_state_code, validate_state_code}
+use Rattle.wu_core.specs.Storable.{AreMoments}
 use Rattle.wu_schema.specs.Stored.{number, number_or_null}
 use Rattle.wu_loader.specs.declared.rows.Moments.{Moments}
-use Rattle.wu_loader.specs.declared.rows.Progress.{Progress}
 use Rattle.wu_loader.specs.declared.rows.States.{States}
 
 abbrev pub kind_cell : ImportKind → Value
 kind_cell kind = number (import_kind_code kind)
-
--- the columns of how far a workunit is
-abbrev pub progress_cells : Progress → Row
-progress_cells p =
-    number (error_mask_code p.error_mask) ∷ number_or_null p.canonical ∷ number (assimilate_code p.assimilate)
-    ∷ number (file_delete_code p.file_delete) ∷ number_or_null p.done_at ∷ []
-
-pub record IsProgress (p : Progress) : Type 0 where
-  pub canonical : IsPlace p.canonical
-  pub stamped : IsStamped p.assimilate p.done_at
 
 -- the columns of an instance's states, and those of its moments
 abbrev pub state_cells : States → Row

@@ -48,8 +48,10 @@ fn take_instances(
     workunit: u64,
     left: &mut VecDeque<Placed>,
 ) -> Result<Vec<Instance>, AllocError>
-    ensures taken { IfOk result (λ instances. left.old.items ≡ placed_from workunit instances.items ++ left.new.items) }
-    ensures all { IfOk result (λ instances. ¬ IsNext workunit (length instances.items) left.new.items) }
+    ensures taken { IfOk result
+        (λ instances. left.old.items ≡ placed_from workunit instances.items ++ left.new.items) }
+    ensures all { IfOk result (λ instances. ¬ IsNext workunit
+        (length instances.items) left.new.items) }
 {
     let mut instances = Vec::new(alloc);
     'each: while is_next(left, workunit, instances.len()) {
@@ -68,7 +70,8 @@ pub(crate) fn deal(
     placed: VecDeque<Placed>,
 ) -> Result<Vec<Workunit>, NoWorld>
     ensures dealt { IfOk result (λ dealt. AreDealt workunits.items placed.items dealt.items) }
-    ensures none { IfErr result (λ reason. UnlessMemory reason (λ _. (dealt : List Workunit) → IsOrdered dealt → ¬ AreDealt workunits.items placed.items dealt)) }
+    ensures none { IfErr result (λ reason. UnlessMemory reason (λ _. (dealt : List Workunit)
+        → IsOrdered dealt → ¬ AreDealt workunits.items placed.items dealt)) }
 {
     let total = placed.len();
     let mut left = placed;

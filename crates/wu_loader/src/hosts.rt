@@ -64,7 +64,8 @@ fn first_out_of_order(hosts: &[Host]) -> Option<usize>
 
 /// The first host that has not what it was granted.
 fn first_ungranted(hosts: &[Host], grants: &[Grant]) -> Option<usize>
-    ensures granted { MatchOption result (All (IsGranted grants.now) hosts.now) (λ _. ¬ All (IsGranted grants.now) hosts.now) }
+    ensures granted { MatchOption result (All (IsGranted grants.now) hosts.now) (λ _. ¬ All
+        (IsGranted grants.now) hosts.now) }
     ensures within { IfSome result (λ place. place < length hosts.now) }
 {
     for (place, host) in hosts.iter().enumerate() {
@@ -101,7 +102,8 @@ fn are_listed(hosts: &[Host], grants: &[Grant]) -> bool
 
 /// The first of these hosts that keeps them from being those of the grants, or the place behind them where one lacks.
 fn first_wrong(hosts: &[Host], grants: &[Grant]) -> Option<usize>
-    ensures hosts { MatchOption result (AreHosts grants.now hosts.now) (λ _. ¬ AreHosts grants.now hosts.now) }
+    ensures hosts { MatchOption result (AreHosts grants.now hosts.now)
+        (λ _. ¬ AreHosts grants.now hosts.now) }
     ensures within { IfSome result (λ place. place ≤ length hosts.now) }
 {
     if let Some(place) = first_out_of_order(hosts) {
@@ -119,8 +121,10 @@ fn first_wrong(hosts: &[Host], grants: &[Grant]) -> Option<usize>
 
 /// Whether the rows are those of the hosts of these grants. Where one lacks, the place behind the last row is told.
 pub(crate) fn know_hosts(alloc: Global, rows: &[Row], grants: &[Grant]) -> Result<(), NoWorld>
-    ensures hosts { OnOk result (IsPermutation (map (host_of grants.now) (hosts_of grants.now)) rows.now) }
-    ensures none { IfErr result (λ reason. UnlessMemory reason (λ _. All IsStoredGrant grants.now → ¬ IsPermutation (map (host_of grants.now) (hosts_of grants.now)) rows.now)) }
+    ensures hosts { OnOk result (IsPermutation (map (host_of grants.now)
+        (hosts_of grants.now)) rows.now) }
+    ensures none { IfErr result (λ reason. UnlessMemory reason (λ _. All IsStoredGrant grants.now
+        → ¬ IsPermutation (map (host_of grants.now) (hosts_of grants.now)) rows.now)) }
 {
     let mut hosts = all_from::<Host>(alloc, Table::Host, rows)?;
     sort(&mut hosts)?;

@@ -1,29 +1,28 @@
 //! Rows of the tables as values.
 
 ghost use Rattle.std.specs.Prelude.{◌≡◌, ◌≤◌, ⊤, ℕ, length};
-ghost use Rattle.std.specs.Bool.{Decides};
 ghost use Rattle.sqlite.specs.Order.{Row};
-ghost use Rattle.wu_core.specs.Formed.{IsInstance};
 ghost use Rattle.wu_core.specs.Storable.{IsStoredArchived, IsStoredWorkunit, MayBeInstance};
 ghost use Rattle.wu_schema.specs.Restoring.{Restores};
 ghost use Rattle.wu_schema.specs.Stored.{import_cells, instance_row, workunit_row};
 ghost use Rattle.wu_store.specs.Reading.{columns};
-ghost use Rattle.wu_loader.specs.Cells.{moment_cells, progress_cells, state_cells, HasMoments, IsProgress};
+ghost use Rattle.wu_loader.specs.Cells.{moment_cells, state_cells, HasMoments};
 ghost use Rattle.wu_loader.specs.Rows.{archived_row, grant_row, host_row, placed_row, project_row, IsStoredGrant, IsStoredHost, IsStoredImport, IsStoredPlaced, IsStoredProject};
 
-use crate::columns::{
-    assimilate_at, bytes_at, deadline_at, file_delete_at, host_at, input_at, instance_number_at,
-    kind_at, mask_at, moment_at, name_at, outcome_at, output_at, params_from, place_at,
-    server_state_at, stamp_at, validate_state_at, verdicts_at,
-};
+use crate::columns::{instance_number_at, kind_at};
 use sqlite::Row;
 use std::alloc::Global;
 use wu_audit::Imported;
 use wu_core::{
-    Archived, Assimilate, Deadline, ErrorMask, Fault, FileDelete, Grant, Instance, Instances,
-    MOST_WORKUNITS, Moment, Name, Outcome, ServerState, ValidateState, Workunit,
+    Archived, Deadline, Fault, FileDelete, Grant, Instance, MOST_WORKUNITS, Moment, Name, Outcome,
+    ServerState, ValidateState, Workunit,
 };
 use wu_schema::number_at;
+use wu_store::rows::{
+    bytes_at, deadline_at, file_delete_at, host_at, is_formed, mask_at, moment_at, name_at,
+    outcome_at, output_at, place_at, server_state_at, stamp_at, validate_state_at, verdicts_at,
+    workunit_from,
+};
 
 /// What a row of a table stands for.
 pub trait FromRow: Sized {
@@ -169,35 +168,6 @@ impl FromRow for Imported {
     }
 }
 
-/// How far a workunit is, but for its instances.
-#[derive(Clone, Copy)]
-struct Progress {
-    error_mask: ErrorMask,
-    canonical: Option<u32>,
-    assimilate: Assimilate,
-    file_delete: FileDelete,
-    done_at: Option<Moment>,
-}
-
-/// The progress in the five columns from the eleventh on: a workunit is assimilated exactly where it has its moment.
-fn progress_from(row: &Row) -> Result<Progress, Fault>
-    requires { 15 ≤ length row.now }
-    ensures { Restores progress_cells IsProgress (columns row.now 10 5) result }
-{
-    let progress = Progress {
-        error_mask: mask_at(row, 10)?,
-        canonical: place_at(row, 11)?,
-        assimilate: assimilate_at(row, 12)?,
-        file_delete: file_delete_at(row, 13)?,
-        done_at: moment_at(row, 14)?,
-    };
-    let is_done = progress.assimilate == Assimilate::Done;
-    if is_done != progress.done_at.is_some() {
-        return Err(Fault::NotAProject);
-    }
-    Ok(progress)
-}
-
 impl FromRow for Workunit {
     ghost cells = { λ _. workunit_row };
 
@@ -205,26 +175,7 @@ impl FromRow for Workunit {
 
     /// The workunit of the row, with no instances.
     fn from_row(alloc: Global, place: u64, row: &Row) -> Result<Self, Fault> {
-        if row.column_count() != 15 {
-            return Err(Fault::NotAProject);
-        }
-        let number = number_at(row, 0)?;
-        let params = params_from(row)?;
-        let progress = progress_from(row)?;
-        let input = input_at(row, 9)?;
-        let name = name_at(alloc, row, 1)?;
-        Ok(Workunit {
-            number,
-            name,
-            params,
-            input,
-            error_mask: progress.error_mask,
-            canonical: progress.canonical,
-            assimilate: progress.assimilate,
-            file_delete: progress.file_delete,
-            done_at: progress.done_at,
-            instances: Instances::new(alloc),
-        })
+        workunit_from(alloc, row)
     }
 }
 
@@ -267,22 +218,6 @@ fn moments_from(row: &Row) -> Result<Moments, Fault>
         deadline: deadline_at(row, 8)?,
         received_at: moment_at(row, 9)?,
     })
-}
-
-/// Whether host, sending and deadline are there together, and as the states want it.
-fn is_formed(instance: &Instance) -> bool
-    ensures { Decides result (IsInstance instance.now) }
-{
-    let has_host = instance.host.is_some();
-    let is_unsent = instance.server_state == ServerState::Unsent;
-    let is_in_progress = instance.server_state == ServerState::InProgress;
-    let is_success = instance.server_state == ServerState::Over
-        && instance.outcome == Outcome::Success;
-    instance.sent_at.is_some() == has_host
-        && instance.deadline.is_some() == has_host
-        && !(is_unsent && has_host)
-        && !(is_in_progress && !has_host)
-        && !(is_success && !has_host)
 }
 
 /// The instance in the nine columns from the third on, well formed or not.

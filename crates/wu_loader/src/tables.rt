@@ -24,7 +24,8 @@ pub struct TableRows {
 
 /// The rows of the project: its key, its version and its next number.
 fn project_rows<S: Alter>(conn: &mut Connection<S>) -> Result<Vec<Row>, Fault>
-    ensures { Looks S.Store conn.old conn.new result (λ db trees rows. rows.items ≡ map (keyed 3) (db.trees trees.project)) }
+    ensures { Looks S.Store conn.old conn.new result (λ db trees rows. rows.items ≡ map (keyed 3)
+        (db.trees trees.project)) }
 {
     query(
         conn,
@@ -35,7 +36,8 @@ fn project_rows<S: Alter>(conn: &mut Connection<S>) -> Result<Vec<Row>, Fault>
 
 /// The rows of all workunits, in order of number.
 fn workunit_rows<S: Alter>(conn: &mut Connection<S>) -> Result<Vec<Row>, Fault>
-    ensures { Looks S.Store conn.old conn.new result (λ db trees rows. rows.items ≡ map (keyed 15) (db.trees trees.workunit)) }
+    ensures { Looks S.Store conn.old conn.new result (λ db trees rows. rows.items ≡ map (keyed 15)
+        (db.trees trees.workunit)) }
 {
     query(
         conn,
@@ -46,7 +48,8 @@ fn workunit_rows<S: Alter>(conn: &mut Connection<S>) -> Result<Vec<Row>, Fault>
 
 /// The rows of all instances, in any order.
 fn instance_rows<S: Alter>(conn: &mut Connection<S>) -> Result<Vec<Row>, Fault>
-    ensures { Looks S.Store conn.old conn.new result (λ db trees rows. IsPermutation (map (unkeyed 11) (db.trees trees.result)) rows.items) }
+    ensures { Looks S.Store conn.old conn.new result (λ db trees rows. IsPermutation (map
+        (unkeyed 11) (db.trees trees.result)) rows.items) }
 {
     query(
         conn,
@@ -57,7 +60,8 @@ fn instance_rows<S: Alter>(conn: &mut Connection<S>) -> Result<Vec<Row>, Fault>
 
 /// The rows of all grants, in order of their making.
 fn grant_rows<S: Alter>(conn: &mut Connection<S>) -> Result<Vec<Row>, Fault>
-    ensures { Looks S.Store conn.old conn.new result (λ db trees rows. rows.items ≡ map (keyed 5) (db.trees trees.grant)) }
+    ensures { Looks S.Store conn.old conn.new result (λ db trees rows. rows.items ≡ map (keyed 5)
+        (db.trees trees.grant)) }
 {
     query(
         conn,
@@ -68,14 +72,16 @@ fn grant_rows<S: Alter>(conn: &mut Connection<S>) -> Result<Vec<Row>, Fault>
 
 /// The rows of all hosts, in any order.
 fn host_rows<S: Alter>(conn: &mut Connection<S>) -> Result<Vec<Row>, Fault>
-    ensures { Looks S.Store conn.old conn.new result (λ db trees rows. IsPermutation (map (unkeyed 3) (db.trees trees.host)) rows.items) }
+    ensures { Looks S.Store conn.old conn.new result (λ db trees rows. IsPermutation (map
+        (unkeyed 3) (db.trees trees.host)) rows.items) }
 {
     query(conn, "SELECT name, total, grants FROM host", &[])
 }
 
 /// The rows of all archived workunits, in order of their archiving.
 fn archived_rows<S: Alter>(conn: &mut Connection<S>) -> Result<Vec<Row>, Fault>
-    ensures { Looks S.Store conn.old conn.new result (λ db trees rows. rows.items ≡ map (keyed 7) (db.trees trees.archived)) }
+    ensures { Looks S.Store conn.old conn.new result (λ db trees rows. rows.items ≡ map (keyed 7)
+        (db.trees trees.archived)) }
 {
     query(
         conn,
@@ -86,7 +92,8 @@ fn archived_rows<S: Alter>(conn: &mut Connection<S>) -> Result<Vec<Row>, Fault>
 
 /// The rows of all imports, in any order.
 fn import_rows<S: Alter>(conn: &mut Connection<S>) -> Result<Vec<Row>, Fault>
-    ensures { Looks S.Store conn.old conn.new result (λ db trees rows. IsPermutation (map (unkeyed 6) (db.trees trees.import)) rows.items) }
+    ensures { Looks S.Store conn.old conn.new result (λ db trees rows. IsPermutation (map
+        (unkeyed 6) (db.trees trees.import)) rows.items) }
 {
     query(
         conn,

@@ -17,7 +17,8 @@ pub(crate) fn all_from<T: FromRow + Drop>(
 ) -> Result<Vec<T>, NoWorld>
     ensures same { IfOk result (λ values. rows.now ≡ rows_of T.cells values.items) }
     ensures each { IfOk result (λ values. All T.is_value values.items) }
-    ensures none { IfErr result (λ reason. UnlessMemory reason (IsNoRow T.cells T.is_value rows.now)) }
+    ensures none { IfErr result (λ reason. UnlessMemory reason
+        (IsNoRow T.cells T.is_value rows.now)) }
 {
     let mut values = Vec::new(alloc);
     for (before, row) in rows.iter().enumerate() {

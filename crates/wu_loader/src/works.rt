@@ -21,7 +21,8 @@ pub(crate) fn works_from(
     instances: &[Row],
 ) -> Result<Vec<Workunit>, NoWorld>
     ensures works { IfOk result (λ works. AreRowsOfWorks rows.now instances.now works.items) }
-    ensures none { IfErr result (λ reason. UnlessMemory reason (λ _. (works : List Workunit) → IsOrdered works → All IsStorable works → ¬ AreRowsOfWorks rows.now instances.now works)) }
+    ensures none { IfErr result (λ reason. UnlessMemory reason (λ _. (works : List Workunit)
+        → IsOrdered works → All IsStorable works → ¬ AreRowsOfWorks rows.now instances.now works)) }
 {
     let workunits = all_from::<Workunit>(alloc, Table::Workunit, rows)?;
     let mut placed = all_from::<Placed>(alloc, Table::Result, instances)?;

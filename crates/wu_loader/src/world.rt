@@ -21,7 +21,8 @@ use wu_core::{Archived, Grant};
 /// The one row of the project. Where there is none, the first place is told, and where there are more, the second.
 fn project_from(alloc: Global, rows: &[Row]) -> Result<ProjectRow, NoWorld>
     ensures project { IfOk result (λ project. rows.now ≡ project_row project ∷ []) }
-    ensures none { IfErr result (λ reason. UnlessMemory reason (λ _. (project : ProjectRow) → IsStoredProject project → rows.now ≢ project_row project ∷ [])) }
+    ensures none { IfErr result (λ reason. UnlessMemory reason (λ _. (project : ProjectRow)
+        → IsStoredProject project → rows.now ≢ project_row project ∷ [])) }
 {
     let projects = all_from::<ProjectRow>(alloc, Table::Project, rows)?;
     if projects.len() == 1 {
@@ -37,7 +38,8 @@ fn project_from(alloc: Global, rows: &[Row]) -> Result<ProjectRow, NoWorld>
 /// The world of these rows, or the first row found that keeps them from being those of one.
 pub fn world_from(alloc: Global, rows: &TableRows) -> Result<Loaded, NoWorld>
     ensures world { IfOk result (AreRowsOf rows.now) }
-    ensures none { IfErr result (λ reason. UnlessMemory reason (λ _. (world : World) → IsReadable world → IsOrdered world.workunits → ¬ AreRowsOf rows.now world)) }
+    ensures none { IfErr result (λ reason. UnlessMemory reason (λ _. (world : World)
+        → IsReadable world → IsOrdered world.workunits → ¬ AreRowsOf rows.now world)) }
 {
     let project = project_from(alloc, &rows.project)?;
     let workunits = works_from(alloc, &rows.workunits, &rows.instances)?;

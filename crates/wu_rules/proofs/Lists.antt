@@ -1,5 +1,5 @@
 -- Counts and tests over a list whose elements were changed.
-use Rattle.std.proofs.Common.{◌≡◌, ℕ, suc, ◌+◌, ◌<◌, ◌≤◌, Bool, true, false, cond, List, [], ◌∷◌, ◌++◌, map, length, filter, take, drop, get_or, set, refl, sym, ap, ◌∙◌, add-zero, zero-add, Option, Some, None, arith}
+use Rattle.std.proofs.Common.{◌≡◌, ℕ, suc, ◌+◌, ◌<◌, ◌≤◌, Bool, true, false, cond, ◌&&◌, List, [], ◌∷◌, ◌++◌, map, length, filter, take, drop, get_or, set, refl, sym, ap, ◌∙◌, add-zero, zero-add, Option, Some, None, arith}
 use Rattle.std.proofs.lemmas.List.{length-map, length-take-le, drop_more, get_or_at, set_at, take_more, map-append, append_assoc, take_all, drop_all, append-nil}
 use Rattle.std.specs.Option.{option_to_list}
 use Rattle.std.proofs.lemmas.List.Elements.{filter_map-append}
@@ -85,3 +85,14 @@ kept_more h xs n d made o lt before here =
     alone : {B : Type 0} (o : Option B) → option_to_list o ≡ cons_option o []
     alone None = refl
     alone (Some x) = refl
+
+-- ---- two tests of one list
+
+-- what passes one test and then another passes both
+pub filter_both : {X : Type 0} (one two : X → Bool) (xs : List X) → filter two (filter one xs) ≡ filter (λ x. one x && two x) xs
+filter_both one two [] = refl
+filter_both one two (x ∷ xs) = by_case (one x) (filter_both one two xs)
+  where
+    by_case : (a : Bool) → filter two (filter one xs) ≡ filter (λ y. one y && two y) xs → filter two (cond a (x ∷ filter one xs) (filter one xs)) ≡ cond (a && two x) (x ∷ filter (λ y. one y && two y) xs) (filter (λ y. one y && two y) xs)
+    by_case true same = ap (λ ys. cond (two x) (x ∷ ys) ys) same
+    by_case false same = same

@@ -2,7 +2,7 @@
 use Rattle.std.proofs.Common.{◌≡◌, ℕ, ◌<◌, ◌≤◌, List, length, get_or, set, Some, None, ◌⊎◌, inl, inr, refl}
 use Rattle.std.specs.List.{slice_get}
 use Rattle.std.specs.Option.{option_map_or}
-use Rattle.std.proofs.lemmas.Option.{slice_get_cases, slice_get-get_or}
+use Rattle.std.proofs.lemmas.Option.{slice_get_cases, slice_get-get_or, slice_get_past}
 use Rattle.std.proofs.lemmas.List.{length-set}
 use Rattle.wu_core.specs.declared.workunit.Instance.{Instance}
 use Rattle.wu_core.specs.declared.workunit.Workunit.{Workunit}
@@ -24,3 +24,11 @@ placed w items n f d new lt same made =
     let here : slice_get w.instances n ≡ Some (get_or w.instances n d) = slice_get-get_or w.instances n d lt in
     let whole : overwritten w.instances (set w.instances n new) ≡ set w.instances n new = overwritten-all w.instances (set w.instances n new) (length-set w.instances n new) in
     rw (here, same, whole, made, same) refl
+
+-- ---- one instance that is looked up
+
+pub missing_at : {X V : Type 0} (f : X → V) (d : V) (xs : List X) (n : ℕ) → length xs ≤ n → d ≡ option_map_or f (slice_get xs n) d
+missing_at f d xs n past = rw (slice_get_past xs n past) refl
+
+pub found_at : {X V : Type 0} (f : X → V) (d : V) (xs : List X) (n : ℕ) (x : X) → n < length xs → x ≡ get_or xs n x → (v : V) → v ≡ f x → v ≡ option_map_or f (slice_get xs n) d
+found_at f d xs n x within is v value = rw (slice_get-get_or xs n x within, ← is) value

@@ -1,12 +1,13 @@
 -- What is left once what is no result is refused.
-use Rattle.std.proofs.Common.{◌≡◌, ℕ, ◌+◌, ◌/◌, nat_le, Bool, true, false, not, cond, ◌&&◌, List, [], ◌∷◌, map, length, filter, bytes_eq, Option, Some, None, is_none, is_some, refl, sym, ap, ◌∙◌}
-use Rattle.std.specs.List.{cons_option, enumerate_from, filter_map, position_from}
+use Rattle.std.proofs.Common.{◌≡◌, ℕ, ◌+◌, ◌/◌, nat_le, Bool, true, false, not, cond, ◌&&◌, List, [], ◌∷◌, zero, suc, map, length, filter, bytes_eq, Option, Some, None, is_none, is_some, refl, sym, ap, ◌∙◌}
+use Rattle.std.specs.List.{cons_option, enumerate_from, filter_map, position_from, slice_get}
+use Rattle.std.specs.Option.{option_map_or}
 use Rattle.wu_core.specs.declared.workunit.Instance.{Instance}
 use Rattle.wu_core.specs.declared.workunit.Workunit.{Workunit}
 use Rattle.wu_rules.specs.Counts.{agreeing, is_agreed}
-use Rattle.wu_rules.specs.Instances.{is_over_state, is_viable}
-use Rattle.wu_rules.specs.Validation.{granted_to, grants_by, is_empty, is_judged_where, is_no_result, refused, refused_where, with_refused}
-use Rattle.wu_rules.proofs.Lists.{count_step}
+use Rattle.wu_rules.specs.Instances.{is_deleted_file, is_over_state, is_viable}
+use Rattle.wu_rules.specs.Validation.{granted_to, grants_by, is_deleted_at, is_empty, is_judged_where, is_no_result, output_at, refused, refused_where, with_refused}
+use Rattle.wu_rules.proofs.Lists.{count_step, filter_both}
 
 -- ---- one instance
 
@@ -93,14 +94,15 @@ kept-map h f s (x ∷ xs) = ap (λ zs. cons_option (h s (f x)) zs) (kept-map h f
 
 -- and enough do where the count of those is enough
 pub agreed_of_left : (w : Workunit) (i : Instance) (quorum count : ℕ) → true ≡ is_viable (refused_where true i) → quorum ≡ w.params.min_quorum
-    → count ≡ length (agreeing i.output (filter (λ j. is_viable (refused_where true j)) w.instances))
+    → count ≡ length (filter (λ j. is_viable (refused_where true j) && bytes_eq j.output i.output) w.instances)
     → nat_le (quorum / 2 + 1) count ≡ is_agreed (with_refused true w) (refused_where true i)
 agreed_of_left w i quorum count viable same counted =
     let output = (refused_where true i).output in
     let total : count ≡ length (agreeing output (filter is_viable (map (refused_where true) w.instances))) =
     counted
+    ∙ (ap length (sym (filter_both (λ (j : Instance). is_viable (refused_where true j)) (λ j. bytes_eq j.output i.output) w.instances))
     ∙ (sym (ap (λ bytes. length (agreeing bytes (filter (λ j. is_viable (refused_where true j)) w.instances))) (output-refused true i))
-    ∙ sym (count_agreeing-refused output w.instances)) in
+    ∙ sym (count_agreeing-refused output w.instances))) in
     ap (λ n. nat_le (n / 2 + 1) count) same
     ∙ (ap (λ n. nat_le (w.params.min_quorum / 2 + 1) n) total
     ∙ ap (λ b. b && nat_le (w.params.min_quorum / 2 + 1) (length (agreeing output (filter is_viable (map (refused_where true) w.instances))))) viable)
@@ -128,3 +130,24 @@ left_now w undecided xs e is =
 pub grants_by-refused : (undecided : Bool) (w : Workunit) (output : List ℕ)
     → grants_by (with_refused undecided w) output ≡ filter_map (λ p. granted_to w output p.0 (refused_where undecided p.1)) (enumerate_from 0 w.instances)
 grants_by-refused undecided w output = kept-map (granted_to w output) (refused_where undecided) 0 w.instances
+
+-- ---- what is looked up of one instance
+
+file_delete-refused : (undecided : Bool) (i : Instance) → (refused_where undecided i).file_delete ≡ i.file_delete
+file_delete-refused undecided i = by_case (is_no_result undecided i)
+  where
+    by_case : (b : Bool) → (cond b (refused i) i).file_delete ≡ i.file_delete
+    by_case true = refl
+    by_case false = refl
+
+looked_up : {V : Type 0} (look : Instance → V) (none : V) (f : Instance → Instance) → ((i : Instance) → look (f i) ≡ look i) → (xs : List Instance) (n : ℕ) → option_map_or look (slice_get (map f xs) n) none ≡ option_map_or look (slice_get xs n) none
+looked_up look none f same [] n = refl
+looked_up look none f same (x ∷ xs) zero = same x
+looked_up look none f same (x ∷ xs) (suc n) = looked_up look none f same xs n
+
+-- once what is no result is refused, deletions and outputs are what they were
+pub is_deleted_at-refused : (undecided : Bool) (xs : List Instance) (n : ℕ) → is_deleted_at (map (refused_where undecided) xs) n ≡ is_deleted_at xs n
+is_deleted_at-refused undecided xs n = looked_up (λ i. is_deleted_file i.file_delete) false (refused_where undecided) (λ i. ap is_deleted_file (file_delete-refused undecided i)) xs n
+
+pub output_at-refused : (undecided : Bool) (xs : List Instance) (n : ℕ) → output_at (map (refused_where undecided) xs) n ≡ output_at xs n
+output_at-refused undecided xs n = looked_up (λ i. i.output) [] (refused_where undecided) (output-refused undecided) xs n

@@ -115,7 +115,7 @@ pub fn in_progress_count(workunit: &Workunit, now: Moment) -> usize
 pub fn has_new_success(workunit: &Workunit) -> bool
     ensures { result ≡ has_new_success workunit.now }
 {
-    workunit.instances.iter().any(|instance| is_new(instance))
+    workunit.instances.iter().any(is_new)
 }
 
 /// Whether the validator looks at the workunit: its error mask is clear, it has a new success, and it has a canonical

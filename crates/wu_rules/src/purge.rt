@@ -19,7 +19,7 @@ fn is_spent(instance: &Instance) -> bool
 pub fn is_all_spent(instances: &Instances) -> bool
     ensures { result ≡ list_all is_spent instances.now }
 {
-    instances.iter().all(|instance| is_spent(instance))
+    instances.iter().all(is_spent)
 }
 
 /// Whether a moment so many seconds after this one has come.

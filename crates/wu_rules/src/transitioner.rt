@@ -159,14 +159,14 @@ fn ready_output(instance: &mut Instance, may_go: bool)
 pub fn is_all_finished(instances: &Instances) -> bool
     ensures { result ≡ list_all is_finished instances.now }
 {
-    instances.iter().all(|instance| is_finished(instance))
+    instances.iter().all(is_finished)
 }
 
 /// Whether all instances are over.
 pub fn is_all_over(instances: &Instances) -> bool
     ensures { result ≡ list_all is_over instances.now }
 {
-    instances.iter().all(|instance| is_over(instance))
+    instances.iter().all(is_over)
 }
 
 /// Names the outputs that may go for deletion.

@@ -1,6 +1,6 @@
 //! The validator.
 
-ghost use Rattle.std.specs.Prelude.{◌≡◌, ◌≤◌, ◌<◌, ◌++◌, length, filter, bytes_eq, is_none, map, true, IfOk, IfSome, OnOk, OnErr};
+ghost use Rattle.std.specs.Prelude.{◌≡◌, ◌≤◌, ◌<◌, ◌++◌, ◌&&◌, length, filter, bytes_eq, is_none, map, true, IfOk, IfSome, OnOk, OnErr};
 ghost use Rattle.std.specs.List.{position_from};
 ghost use Rattle.std.specs.Option.{option_to_list};
 ghost use Rattle.wu_core.specs.Limits.{most_instances};
@@ -72,15 +72,23 @@ fn agrees(instance: &Instance, output: &[u8]) -> bool
     instance.output.as_slice() == output
 }
 
+/// Whether the validator judges the instance before the decision, once what is no result is refused, and finds this
+/// output.
+fn is_result_with(instance: &Instance, output: &[u8]) -> bool
+    ensures { result ≡ (is_viable (refused_where true instance.now)
+        && bytes_eq instance.now.output output.now) }
+{
+    is_result(instance, true) && agrees(instance, output)
+}
+
 /// How many viable results have this output, once what is no result is refused.
 fn agreeing_count(instances: &[Instance], output: &[u8]) -> usize
-    ensures { let left = filter (λ i. is_viable (refused_where true i)) instances.now in
-        result ≡ length (agreeing output.now left) }
+    ensures { result ≡ length (filter (λ i. is_viable (refused_where true i)
+        && bytes_eq i.output output.now) instances.now) }
 {
     instances
         .iter()
-        .filter(|instance| is_result(instance, true))
-        .filter(|instance| agrees(instance, output))
+        .filter(|instance| is_result_with(instance, output))
         .count()
 }
 

@@ -13,13 +13,13 @@ use wu_core::{Assimilate, FileDelete, Instance, Instances, Workunit};
 fn has_unsent(instances: &Instances) -> bool
     ensures { result ≡ list_any is_unsent instances.now }
 {
-    instances.iter().any(|instance| is_unsent(instance))
+    instances.iter().any(is_unsent)
 }
 
 fn has_viable(instances: &Instances) -> bool
     ensures { result ≡ list_any is_viable instances.now }
 {
-    instances.iter().any(|instance| is_viable(instance))
+    instances.iter().any(is_viable)
 }
 
 /// Whether something is not settled yet under a mask.

@@ -109,16 +109,16 @@ as_before_open g old new (inr same) is_open = same
 pub asks_unchanged : {S T : Type 0} (g : Ghosts S) (old new : Held S) (x : T) → Asks g old new (Ok x) → ServesUnlessFailed g new (Ok x) → HasCleanDisk (state g new) → IsUnchanged (state g old) (state g new)
 asks_unchanged g old new x it opens clean = as_before_open g old new (it.answered clean) (opens clean)
 
+pub never_failed : (fault : Fault) → fault ≡ NotAProject → ¬ IsFailure fault
+never_failed fault is (inl memory) = absurd (let no = sym is ∙ memory in cc)
+never_failed fault is (inr broken) = absurd (let no = sym is ∙ broken in cc)
+
 pub asks_refused : {S T : Type 0} (g : Ghosts S) (old new : Held S) (fault : Fault) → Asks {T = T} g old new (Err fault) → (HasCleanDisk (state g new) → IsFailure fault ⊎ IsTrue (state g new).is_open) → HasCleanDisk (state g new)
     → fault ≡ NotAProject → IsUnchanged (state g old) (state g new)
 asks_refused g old new fault it opens clean is = elim (it.refused clean) [
   | inl failed ↦ absurd (never_failed fault is failed)
   | inr same ↦ as_before_open g old new same (elim (opens clean) [ inl failed ↦ absurd (never_failed fault is failed) | inr still ↦ still ])
 ]
-  where
-    never_failed : (fault : Fault) → fault ≡ NotAProject → ¬ IsFailure fault
-    never_failed fault is (inl memory) = absurd (let no = sym is ∙ memory in cc)
-    never_failed fault is (inr broken) = absurd (let no = sym is ∙ broken in cc)
 
 module _ {S T U : Type 0} (g : Ghosts S) (a b : Held S) where
   -- a fault that is handed on
@@ -239,3 +239,38 @@ module _ {S : Type 0} (g : Ghosts S) (text : List ℕ) (it : IsSelect text) (par
 
   pub opens_failed : (e : Error) (fault : Fault) → fault ≡ fault_of e → (HasCleanDisk (state g new) → FailsToQuery text params (state g old) (state g new) e) → HasCleanDisk (state g new) → IsFailure fault ⊎ IsTrue (state g new).is_open
   opens_failed e fault same err clean = unless_failed fault (subst IsStoreFault (sym same) (fault_told e)) _ (λ refused. (query_serves text it params (state g old) (state g new) e (err clean) (sym same ∙ refused)).0.is_open)
+
+-- ---- what is made of one question's answer, or of its error
+
+module _ {S T : Type 0} (g : Ghosts S) (old new : Held S) (mode : old.in_transaction ≡ false → new.in_transaction ≡ false) (crash : Survives (state g old) (state g new) (λ _. ⊥)) where
+  module _ (same : HasCleanDisk (state g new) → IsUnchanged (state g old) (state g new)) where
+    -- with no further question, but for a failure of the disk
+    pub asks_read : (r : Result T Fault) → r ≢ Err Broken → Asks g old new r
+    asks_read (Ok x) other = record { mode = mode; crash = crash; answered = λ clean. inr (same clean); refused = λ clean. tt; back = λ clean. back_unchanged (state g old) (state g new) (same clean); broken = λ clean is. absurd (other is) }
+    asks_read (Err fault) other = record { mode = mode; crash = crash; answered = λ clean. tt; refused = λ clean. inr (inr (same clean)); back = λ clean. back_unchanged (state g old) (state g new) (same clean); broken = λ clean is. absurd (other is) }
+
+    pub opens_read : (r : Result T Fault) → ServesUnlessFailed g new r
+    opens_read (Ok x) clean = (same clean).0.is_open
+    opens_read (Err fault) clean = inr (same clean).0.is_open
+
+  module _ (e : Error) (serves : HasCleanDisk (state g new) → fault_of e ≡ NotAProject → IsUnchanged (state g old) (state g new)) where
+    -- an answer is made of a refusal alone, and a fault is the error's own
+    pub asks_error : (HasCleanDisk (state g new) → IsBack (state g old) (state g new)) → (HasCleanDisk (state g new) → fault_of e ≡ Broken → HasBroken g old new) → (r : Result T Fault) → OnOk r (fault_of e ≡ NotAProject) → IfErr r (λ fault. fault ≡ fault_of e)
+        → Asks g old new r
+    asks_error back breaks (Ok x) refused told = record { mode = mode; crash = crash; answered = λ clean. inr (serves clean refused); refused = λ clean. tt; back = back; broken = λ clean is. absurd cc }
+    asks_error back breaks (Err fault) refused told = record {
+      mode = mode;
+      crash = crash;
+      answered = λ clean. tt;
+      refused = λ clean. unless_failed fault (subst IsStoreFault (sym told) (fault_told e)) _ (λ is. inr (serves clean (sym told ∙ is)));
+      back = back;
+      broken = λ clean is. breaks clean (sym told ∙ (let broke = is in cc));
+    }
+
+    pub opens_error : (r : Result T Fault) → OnOk r (fault_of e ≡ NotAProject) → IfErr r (λ fault. fault ≡ fault_of e) → ServesUnlessFailed g new r
+    opens_error (Ok x) refused told clean = (serves clean refused).0.is_open
+    opens_error (Err fault) refused told clean = unless_failed fault (subst IsStoreFault (sym told) (fault_told e)) _ (λ is. (serves clean (sym told ∙ is)).0.is_open)
+
+pub error_told : {T : Type 0} (r : Result T Fault) (e : Error) → IfErr r (λ fault. fault ≡ fault_of e) → IfErr r IsStoreFault
+error_told (Ok x) e told = tt
+error_told (Err fault) e told = subst IsStoreFault (sym told) (fault_told e)

@@ -54,6 +54,10 @@ module _ {S : Type 0} (g : Ghosts S) (old new : Transaction S) (one : new.conn.g
     pub has_run : HasCleanDisk (state g new.conn.now) → HasRun sql given (state g old.conn.now) (state g new.conn.now)
     has_run clean = (count, (ran clean).0)
 
+pub never_ok : {T E : Type 0} (r : Result T E) (P : Type 0) (Q : E → Type 0) → IsErrAnd r Q → OnOk r P
+never_ok (Ok x) P Q is = absurd is
+never_ok (Err e) P Q is = tt
+
 -- a transaction begins with the state as it was
 pub begun_part : {S : Type 0} (g : Ghosts S) (h : Held S) (new : State) → IsPart (state g (record h { in_transaction = true })) new → IsPart (state g h) new
 begun_part g h new part = record {
@@ -111,10 +115,6 @@ ok_on (Err e) P Q f h = tt
 pub ok_both : {T E : Type 0} (r : Result T E) (P Q R : Type 0) → (P → Q → R) → OnOk r P → OnOk r Q → OnOk r R
 ok_both (Ok x) P Q R f h k = f h k
 ok_both (Err e) P Q R f h k = tt
-
-pub never_ok : {T E : Type 0} (r : Result T E) (P : Type 0) (Q : E → Type 0) → IsErrAnd r Q → OnOk r P
-never_ok (Ok x) P Q is = absurd is
-never_ok (Err e) P Q is = tt
 
 -- with these parameters
 pub ran_as : {T E P : Type 0} (old new : State) (sql : List ℕ) (given params : Row) → given ≡ params → (r : Result T E) → OnOk r (HasRun sql given old new) → ((count : ℕ) → Executes sql params old new (Ok count) → P) → OnOk r P

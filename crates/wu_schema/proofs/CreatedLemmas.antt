@@ -1,10 +1,8 @@
 -- A project that is made in one transaction.
-use Rattle.wu_schema.proofs.Words.{Error, Executes, Ghosts, HasCleanDisk, HasMade, HasRun, HasTable, Held, Int, IsPart, IsTrue, IsUndone, List, Null, Ok, OnOk, PutsOne, Result, Row, State, Survives, Table, Transaction, Trees, [], cast_row, codes, inl, inr, map, pos, project_at, refl, state, value_rows, ℕ, ℤ, ◌∷◌, ◌≡◌}
-use Rattle.std.proofs.lemmas.Bool.{both_ways}
-use Rattle.sqlite.specs.Steps.{FailsToCommit}
+use Rattle.wu_schema.proofs.Words.{Executes, Ghosts, HasMade, HasRun, HasTable, Int, List, Null, Ok, OnOk, PutsOne, Result, Row, State, Table, Transaction, [], cast_row, codes, map, pos, project_at, refl, state, value_rows, ℕ, ℤ, ◌∷◌, ◌≡◌}
 use Rattle.wu_schema.proofs.InsertTexts.{project_put, project_fits}
 use Rattle.wu_schema.proofs.InsertEffect.{cast_null, cast_int, puts_one}
-use Rattle.wu_schema.proofs.CallLemmas.{ok_on, undone_after}
+use Rattle.wu_schema.proofs.CallLemmas.{ok_on}
 use Rattle.wu_schema.proofs.CreateEffect.{Defines, creates}
 
 abbrev pub project_row : ℤ → Row
@@ -20,9 +18,3 @@ puts_project old new version count at tree has h = puts_one (codes "project") pr
 pub makes_table : {S T E : Type 0} (g : Ghosts S) (old new : Transaction S) {text name : List ℕ} {table : ℕ → Table} → Defines text name table → (r : Result T E) → OnOk r (HasRun text [] (state g old.conn.now) (state g new.conn.now))
     → OnOk r (HasMade (state g old.conn.now).now (state g new.conn.now).now (name, table))
 makes_table g old new {text} {name} {table} d r ran = ok_on r _ _ (λ it. creates (state g old.conn.now) (state g new.conn.now) text name table d it.0 it.1) ran
-
-module _ {S : Type 0} (g : Ghosts S) (settled : (s : S) (db : Trees) → IsTrue (g.view s).is_open → g.recovers s db → db ≡ (g.view s).committed) (stays : (s : S) → IsTrue (g.view s).is_open → g.recovers s (g.view s).committed) where
-  module _ (old mid end : Held S) (clean : HasCleanDisk (state g end)) (part : IsPart (state g old) (state g mid)) (survives : Survives (state g mid) (state g end) (λ db. db ≡ (state g mid).now.trees)) where
-    pub commit_undone : IsTrue (state g mid).in_transaction → (e : Error) → FailsToCommit (state g mid) (state g end) e → IsUndone (state g old) (state g end)
-    commit_undone inside e (inl failed) = undone_after g settled stays (state g old) (state g mid) end _ clean part survives failed.3
-    commit_undone inside e (inr ended) = absurd (both_ways _ ended.1 inside)

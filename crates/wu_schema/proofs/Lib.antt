@@ -20,7 +20,9 @@ pub mod CreateEffect
 pub mod CreateTexts
 pub mod MadeLemmas
 pub mod CallLemmas
+pub mod CommitLemmas
 pub mod CreatedLemmas
+pub mod StepLemmas
 pub mod VersionTexts
 pub mod VersionLemmas
 pub mod StandsOver

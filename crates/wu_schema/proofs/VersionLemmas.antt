@@ -5,6 +5,9 @@ use Rattle.sqlite.specs.Effect.{RefusesToRead}
 use Rattle.sqlite_trees.specs.declared.error.StoreError.TheVariants as kind
 use Rattle.sqlite.specs.declared.error.Error.TheVariants.{SqlInputError, InvalidQuery}
 use Rattle.sqlite.specs.Clock.{timed}
+use Rattle.wu_core.specs.declared.fault.Fault.TheVariants.{Broken, Memory}
+use Rattle.wu_schema.specs.Faults.{IsStoreFault}
+use Rattle.std.specs.Prelude.{◌≢◌}
 use Rattle.wu_schema.specs.Versions.{IsMissing, project_cells, rows_of_project, AreOfVersion, TellsMissing, LacksProject}
 use Rattle.wu_schema.proofs.AnswerLemmas.{answers_are, meeting, showing}
 use Rattle.wu_schema.proofs.CallLemmas.{serves_after}
@@ -167,3 +170,18 @@ stored_is db world s found (version, at, (positive, of)) = at ∙ ap Some (one_v
 pub each_fault : {T E : Type 0} (r : Result T E) (P : E → Type 0) → ((fault : E) → r ≡ Err fault → P fault) → IfErr r P
 each_fault (Ok found) P holds = tt
 each_fault (Err fault) P holds = holds fault refl
+
+-- ---- what the answer and the error are told as
+
+pub fault_of_missing : (e : Error) → TellsMissing e → fault_of e ≡ NotAProject
+fault_of_missing e (fault, is, inl table) = rw (is, table) refl
+fault_of_missing e (fault, is, inr column) = rw (is, column) refl
+
+pub row_fault : (fault : Fault) → (fault ≡ Memory) ⊎ (fault ≡ NotAProject) → IsStoreFault fault
+row_fault fault (inl memory) = inl memory
+row_fault fault (inr refused) = inr (inr refused)
+
+pub row_never_broken : {T : Type 0} (r : Result T Fault) → IfErr r (λ fault. (fault ≡ Memory) ⊎ (fault ≡ NotAProject)) → r ≢ Err Broken
+row_never_broken (Ok x) h is = absurd cc
+row_never_broken (Err fault) (inl memory) is = absurd cc
+row_never_broken (Err fault) (inr refused) is = absurd cc

@@ -1,9 +1,8 @@
 //! The creation of a project, in one transaction.
 
-ghost use Rattle.std.specs.Prelude.{◌≡◌, false, codes, IfErr};
-ghost use Rattle.wu_schema.specs.Tables.{project_at, workunit_at, result_at, grant_at, host_at, archived_at, import_at};
+ghost use Rattle.std.specs.Prelude.{◌≡◌, false, IfErr};
 ghost use Rattle.wu_schema.specs.Fresh.{MakesProject};
-ghost use Rattle.wu_schema.specs.Made.{MakesEmpty, MakesTable, MakesTables, PutsProject, work_tables, record_tables};
+ghost use Rattle.wu_schema.specs.Made.{MakesEmpty, MakesTables, PutsProject, work_tables, record_tables};
 ghost use Rattle.wu_schema.specs.Calls.{StatementFrame, Does, Commits, CrashAllows, Refuses, Undoes};
 ghost use Rattle.wu_schema.specs.Faults.{IsStoreFault};
 
@@ -17,56 +16,6 @@ use crate::version::PRESENT_VERSION;
 use sqlite::{Alter, Connection, Error, Transaction, params};
 use wu_core::Fault;
 
-fn create_project<S: Alter>(tx: &mut Transaction<'_, S>) -> Result<(), Error>
-    ensures writes { StatementFrame S.Store tx.old tx.new result }
-    ensures makes { Does S.Store tx.old tx.new result (MakesTable (codes "project", project_at)) }
-{
-    execute(tx, CREATE_PROJECT, &[])
-}
-
-fn create_workunit<S: Alter>(tx: &mut Transaction<'_, S>) -> Result<(), Error>
-    ensures writes { StatementFrame S.Store tx.old tx.new result }
-    ensures makes { Does S.Store tx.old tx.new result (MakesTable (codes "workunit", workunit_at)) }
-{
-    execute(tx, CREATE_WORKUNIT, &[])
-}
-
-fn create_result<S: Alter>(tx: &mut Transaction<'_, S>) -> Result<(), Error>
-    ensures writes { StatementFrame S.Store tx.old tx.new result }
-    ensures makes { Does S.Store tx.old tx.new result (MakesTable (codes "result", result_at)) }
-{
-    execute(tx, CREATE_RESULT, &[])
-}
-
-fn create_credit_grant<S: Alter>(tx: &mut Transaction<'_, S>) -> Result<(), Error>
-    ensures writes { StatementFrame S.Store tx.old tx.new result }
-    ensures makes { Does S.Store tx.old tx.new result
-        (MakesTable (codes "credit_grant", grant_at)) }
-{
-    execute(tx, CREATE_CREDIT_GRANT, &[])
-}
-
-fn create_host<S: Alter>(tx: &mut Transaction<'_, S>) -> Result<(), Error>
-    ensures writes { StatementFrame S.Store tx.old tx.new result }
-    ensures makes { Does S.Store tx.old tx.new result (MakesTable (codes "host", host_at)) }
-{
-    execute(tx, CREATE_HOST, &[])
-}
-
-fn create_archived<S: Alter>(tx: &mut Transaction<'_, S>) -> Result<(), Error>
-    ensures writes { StatementFrame S.Store tx.old tx.new result }
-    ensures makes { Does S.Store tx.old tx.new result (MakesTable (codes "archived", archived_at)) }
-{
-    execute(tx, CREATE_ARCHIVED, &[])
-}
-
-fn create_import<S: Alter>(tx: &mut Transaction<'_, S>) -> Result<(), Error>
-    ensures writes { StatementFrame S.Store tx.old tx.new result }
-    ensures makes { Does S.Store tx.old tx.new result (MakesTable (codes "import", import_at)) }
-{
-    execute(tx, CREATE_IMPORT, &[])
-}
-
 fn insert_project<S: Alter>(tx: &mut Transaction<'_, S>, version: i64) -> Result<(), Error>
     ensures writes { StatementFrame S.Store tx.old tx.new result }
     ensures puts { Does S.Store tx.old tx.new result (PutsProject version) }
@@ -79,9 +28,9 @@ fn create_work<S: Alter>(tx: &mut Transaction<'_, S>) -> Result<(), Error>
     ensures writes { StatementFrame S.Store tx.old tx.new result }
     ensures makes { Does S.Store tx.old tx.new result (MakesTables work_tables) }
 {
-    create_project(tx)?;
-    create_workunit(tx)?;
-    create_result(tx)
+    execute(tx, CREATE_PROJECT, &[])?;
+    execute(tx, CREATE_WORKUNIT, &[])?;
+    execute(tx, CREATE_RESULT, &[])
 }
 
 /// The tables of what is kept for good.
@@ -89,10 +38,10 @@ fn create_records<S: Alter>(tx: &mut Transaction<'_, S>) -> Result<(), Error>
     ensures writes { StatementFrame S.Store tx.old tx.new result }
     ensures makes { Does S.Store tx.old tx.new result (MakesTables record_tables) }
 {
-    create_credit_grant(tx)?;
-    create_host(tx)?;
-    create_archived(tx)?;
-    create_import(tx)
+    execute(tx, CREATE_CREDIT_GRANT, &[])?;
+    execute(tx, CREATE_HOST, &[])?;
+    execute(tx, CREATE_ARCHIVED, &[])?;
+    execute(tx, CREATE_IMPORT, &[])
 }
 
 /// The tables that every version has, with the row of a fresh project of the present one.

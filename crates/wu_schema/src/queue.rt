@@ -1,9 +1,8 @@
 //! The queue of schema version 2: its table and its indexes.
 
 ghost use Rattle.wu_schema.specs.Calls.{Does, StatementFrame};
-ghost use Rattle.wu_schema.specs.Indexes.{mark_indexes, moment_indexes, queue_assimilate, queue_delete, queue_purge, queue_validate, queue_wake};
-ghost use Rattle.wu_schema.specs.Made.{MakesTable};
-ghost use Rattle.wu_schema.specs.Queue.{MakesIndex, MakesIndexes, MakesQueue, queue_table};
+ghost use Rattle.wu_schema.specs.Indexes.{mark_indexes, moment_indexes};
+ghost use Rattle.wu_schema.specs.Queue.{MakesIndexes, MakesQueue, queue_table};
 
 use crate::texts::{
     CREATE_QUEUE, CREATE_QUEUE_ASSIMILATE, CREATE_QUEUE_DELETE, CREATE_QUEUE_PURGE,
@@ -12,56 +11,14 @@ use crate::texts::{
 use crate::transaction::execute;
 use sqlite::{Alter, Error, Transaction};
 
-fn create_queue<S: Alter>(tx: &mut Transaction<'_, S>) -> Result<(), Error>
-    ensures writes { StatementFrame S.Store tx.old tx.new result }
-    ensures makes { Does S.Store tx.old tx.new result (MakesTable queue_table) }
-{
-    execute(tx, CREATE_QUEUE, &[])
-}
-
-fn create_queue_wake<S: Alter>(tx: &mut Transaction<'_, S>) -> Result<(), Error>
-    ensures writes { StatementFrame S.Store tx.old tx.new result }
-    ensures makes { Does S.Store tx.old tx.new result (MakesIndex queue_table queue_wake) }
-{
-    execute(tx, CREATE_QUEUE_WAKE, &[])
-}
-
-fn create_queue_validate<S: Alter>(tx: &mut Transaction<'_, S>) -> Result<(), Error>
-    ensures writes { StatementFrame S.Store tx.old tx.new result }
-    ensures makes { Does S.Store tx.old tx.new result (MakesIndex queue_table queue_validate) }
-{
-    execute(tx, CREATE_QUEUE_VALIDATE, &[])
-}
-
-fn create_queue_assimilate<S: Alter>(tx: &mut Transaction<'_, S>) -> Result<(), Error>
-    ensures writes { StatementFrame S.Store tx.old tx.new result }
-    ensures makes { Does S.Store tx.old tx.new result (MakesIndex queue_table queue_assimilate) }
-{
-    execute(tx, CREATE_QUEUE_ASSIMILATE, &[])
-}
-
-fn create_queue_delete<S: Alter>(tx: &mut Transaction<'_, S>) -> Result<(), Error>
-    ensures writes { StatementFrame S.Store tx.old tx.new result }
-    ensures makes { Does S.Store tx.old tx.new result (MakesIndex queue_table queue_delete) }
-{
-    execute(tx, CREATE_QUEUE_DELETE, &[])
-}
-
-fn create_queue_purge<S: Alter>(tx: &mut Transaction<'_, S>) -> Result<(), Error>
-    ensures writes { StatementFrame S.Store tx.old tx.new result }
-    ensures makes { Does S.Store tx.old tx.new result (MakesIndex queue_table queue_purge) }
-{
-    execute(tx, CREATE_QUEUE_PURGE, &[])
-}
-
 /// The indexes by which a pass finds the workunits with its mark, in order of number.
 fn create_mark_indexes<S: Alter>(tx: &mut Transaction<'_, S>) -> Result<(), Error>
     ensures writes { StatementFrame S.Store tx.old tx.new result }
     ensures makes { Does S.Store tx.old tx.new result (MakesIndexes queue_table mark_indexes) }
 {
-    create_queue_validate(tx)?;
-    create_queue_assimilate(tx)?;
-    create_queue_delete(tx)
+    execute(tx, CREATE_QUEUE_VALIDATE, &[])?;
+    execute(tx, CREATE_QUEUE_ASSIMILATE, &[])?;
+    execute(tx, CREATE_QUEUE_DELETE, &[])
 }
 
 /// The indexes by which a pass finds the workunits that a moment makes due.
@@ -69,8 +26,8 @@ fn create_moment_indexes<S: Alter>(tx: &mut Transaction<'_, S>) -> Result<(), Er
     ensures writes { StatementFrame S.Store tx.old tx.new result }
     ensures makes { Does S.Store tx.old tx.new result (MakesIndexes queue_table moment_indexes) }
 {
-    create_queue_wake(tx)?;
-    create_queue_purge(tx)
+    execute(tx, CREATE_QUEUE_WAKE, &[])?;
+    execute(tx, CREATE_QUEUE_PURGE, &[])
 }
 
 /// Makes the queue, with its indexes and no row, inside a transaction.
@@ -80,7 +37,7 @@ pub fn make_queue<S: Alter>(tx: &mut Transaction<'_, S>) -> Result<(), Error>
     ensures writes { StatementFrame S.Store tx.old tx.new result }
     ensures makes { Does S.Store tx.old tx.new result MakesQueue }
 {
-    create_queue(tx)?;
+    execute(tx, CREATE_QUEUE, &[])?;
     create_mark_indexes(tx)?;
     create_moment_indexes(tx)
 }

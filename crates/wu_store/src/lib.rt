@@ -8,7 +8,7 @@ pub mod laws;
 mod lines;
 mod listing;
 mod loading;
-mod rows;
+pub mod rows;
 mod statements;
 mod verdicts;
 

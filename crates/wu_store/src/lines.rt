@@ -211,7 +211,7 @@ pub(crate) fn archived_lines_from(alloc: Global, rows: &[Row]) -> Result<Vec<Arc
 }
 
 /// How much a project holds.
-#[derive(Clone, Copy, PartialEq, Eq)]
+#[derive(Clone, Copy)]
 pub struct Summary {
     /// Of the schema.
     pub version: u64,

@@ -24,7 +24,7 @@ use wu_core::{
 };
 use wu_schema::{number_at, read_column};
 
-pub(crate) fn name_at(alloc: Global, row: &Row, at: usize) -> Result<Name, Fault>
+pub fn name_at(alloc: Global, row: &Row, at: usize) -> Result<Name, Fault>
     ensures { Restores Text IsName (column row.now at) result }
 {
     let Ok(ValueRef::Text(text)) = row.get_ref(at) else {
@@ -47,7 +47,7 @@ fn input_at(row: &Row, at: usize) -> Result<Bytes, Fault>
     Ok(Bytes::from_vec(input))
 }
 
-fn mask_at(row: &Row, at: usize) -> Result<ErrorMask, Fault>
+pub fn mask_at(row: &Row, at: usize) -> Result<ErrorMask, Fault>
     ensures { Restores mask_cell (λ _. ⊤) (column row.now at) result }
 {
     let code: u32 = read_column(row, at)?;
@@ -61,21 +61,21 @@ fn assimilate_at(row: &Row, at: usize) -> Result<Assimilate, Fault>
     Assimilate::from_code(code).ok_or(Fault::NotAProject)
 }
 
-fn file_delete_at(row: &Row, at: usize) -> Result<FileDelete, Fault>
+pub fn file_delete_at(row: &Row, at: usize) -> Result<FileDelete, Fault>
     ensures { Restores file_delete_cell (λ _. ⊤) (column row.now at) result }
 {
     let code: u32 = read_column(row, at)?;
     FileDelete::from_code(code).ok_or(Fault::NotAProject)
 }
 
-fn place_at(row: &Row, at: usize) -> Result<Option<u32>, Fault>
+pub fn place_at(row: &Row, at: usize) -> Result<Option<u32>, Fault>
     requires { at < length row.now }
     ensures { Restores number_or_null IsPlace (column row.now at) result }
 {
     read_column(row, at)
 }
 
-fn moment_at(row: &Row, at: usize) -> Result<Option<Moment>, Fault>
+pub fn moment_at(row: &Row, at: usize) -> Result<Option<Moment>, Fault>
     requires { at < length row.now }
     ensures { Restores number_or_null IsMoment (column row.now at) result }
 {
@@ -183,21 +183,21 @@ struct Moments {
     received_at: Option<Moment>,
 }
 
-fn server_state_at(row: &Row, at: usize) -> Result<ServerState, Fault>
+pub fn server_state_at(row: &Row, at: usize) -> Result<ServerState, Fault>
     ensures { Restores server_state_cell (λ _. ⊤) (column row.now at) result }
 {
     let code: u32 = read_column(row, at)?;
     ServerState::from_code(code).ok_or(Fault::NotAProject)
 }
 
-fn outcome_at(row: &Row, at: usize) -> Result<Outcome, Fault>
+pub fn outcome_at(row: &Row, at: usize) -> Result<Outcome, Fault>
     ensures { Restores outcome_cell (λ _. ⊤) (column row.now at) result }
 {
     let code: u32 = read_column(row, at)?;
     Outcome::from_code(code).ok_or(Fault::NotAProject)
 }
 
-fn validate_state_at(row: &Row, at: usize) -> Result<ValidateState, Fault>
+pub fn validate_state_at(row: &Row, at: usize) -> Result<ValidateState, Fault>
     ensures { Restores validate_state_cell (λ _. ⊤) (column row.now at) result }
 {
     let code: u32 = read_column(row, at)?;
@@ -216,7 +216,7 @@ fn states_from(row: &Row) -> Result<States, Fault>
     })
 }
 
-fn deadline_at(row: &Row, at: usize) -> Result<Option<Deadline>, Fault>
+pub fn deadline_at(row: &Row, at: usize) -> Result<Option<Deadline>, Fault>
     requires { at < length row.now }
     ensures { Restores number_or_null IsDeadline (column row.now at) result }
 {
@@ -242,7 +242,7 @@ fn moments_from(row: &Row) -> Result<Moments, Fault>
     })
 }
 
-fn host_at(alloc: Global, row: &Row, at: usize) -> Result<Option<Name>, Fault>
+pub fn host_at(alloc: Global, row: &Row, at: usize) -> Result<Option<Name>, Fault>
     requires { at < length row.now }
     ensures { Restores text_or_null IsHost (column row.now at) result }
 {
@@ -252,7 +252,7 @@ fn host_at(alloc: Global, row: &Row, at: usize) -> Result<Option<Name>, Fault>
     }
 }
 
-fn output_at(row: &Row, at: usize) -> Result<Bytes, Fault>
+pub fn output_at(row: &Row, at: usize) -> Result<Bytes, Fault>
     ensures { Restores Blob IsOutput (column row.now at) result }
 {
     let output: Vec<u8> = read_column(row, at)?;
@@ -263,7 +263,7 @@ fn output_at(row: &Row, at: usize) -> Result<Bytes, Fault>
 }
 
 /// Whether host, sending and deadline are there together, and as the states want it.
-fn is_formed(instance: &Instance) -> bool
+pub fn is_formed(instance: &Instance) -> bool
     ensures { Decides result (IsInstance instance.now) }
 {
     let has_host = instance.host.is_some();
@@ -328,7 +328,7 @@ pub(crate) fn instances_from(alloc: Global, rows: &[Row]) -> Result<Instances, F
     Ok(Instances::from_vec(instances))
 }
 
-fn stamp_at(row: &Row, at: usize) -> Result<Moment, Fault>
+pub fn stamp_at(row: &Row, at: usize) -> Result<Moment, Fault>
     ensures { Restores number (λ seconds. seconds ≤ last_moment) (column row.now at) result }
 {
     let seconds = number_at(row, at)?;
@@ -358,7 +358,7 @@ pub(crate) fn archived_from(alloc: Global, row: &Row) -> Result<Archived, Fault>
     })
 }
 
-fn bytes_at(row: &Row, at: usize) -> Result<Bytes, Fault>
+pub fn bytes_at(row: &Row, at: usize) -> Result<Bytes, Fault>
     ensures { Restores Blob (λ _. ⊤) (column row.now at) result }
 {
     let bytes: Vec<u8> = read_column(row, at)?;
@@ -400,7 +400,7 @@ fn verdicts_from(alloc: Global, kind: ImportKind, digits: &[u8]) -> Result<Bytes
     Ok(Bytes::from_vec(verdicts))
 }
 
-fn verdicts_at(alloc: Global, kind: ImportKind, row: &Row, at: usize) -> Result<Bytes, Fault>
+pub fn verdicts_at(alloc: Global, kind: ImportKind, row: &Row, at: usize) -> Result<Bytes, Fault>
     ensures { Restores verdicts_cell (AreVerdicts kind) (column row.now at) result }
 {
     let Ok(ValueRef::Text(digits)) = row.get_ref(at) else {

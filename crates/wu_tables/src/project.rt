@@ -27,7 +27,15 @@ impl Model for Trees {
 
     ghost Value = { ProjectTrees };
 
-    ghost view = { λ trees. record { project = trees.project; workunit = trees.workunit; result = trees.result; grant = trees.grant; host = trees.host; archived = trees.archived; import = trees.import } };
+    ghost view = { λ trees. record {
+      project = trees.project;
+      workunit = trees.workunit;
+      result = trees.result;
+      grant = trees.grant;
+      host = trees.host;
+      archived = trees.archived;
+      import = trees.import;
+    } };
 }
 
 /// What stands against the tables of a project in a schema.

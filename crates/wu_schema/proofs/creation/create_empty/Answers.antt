@@ -1,6 +1,7 @@
 use Rattle.wu_schema.proofs.Words.{arith, state}
-use Rattle.wu_schema.proofs.CallLemmas.{ok_on}
+use Rattle.wu_schema.proofs.CallLemmas.{never_ok, ok_on}
 use Rattle.wu_schema.proofs.MadeLemmas.{all_made}
+use Rattle.wu_schema.proofs.StepLemmas.{frame_refused, frame_then}
 use Rattle.wu_schema.proofs.creation.create_empty.Goals as goal
 
 pub returns-clause-makes : goal.returns-clause-makes
@@ -11,3 +12,36 @@ returns-clause-makes g c clean =
     ok_on c.insert_project.result _ _ (λ puts.
     all_made (state g.S.Store c.args.tx.now.conn.now).now (state g.S.Store c.create_work.new.tx.conn.now).now (state g.S.Store c.create_records.new.tx.conn.now).now (state g.S.Store c.insert_project.new.tx.conn.now).now
     (work.makes (omega (arith, clean, last.writes.part.survives.clean, records.writes.part.survives.clean))) (records.makes (omega (arith, clean, last.writes.part.survives.clean))) puts) (last.puts clean)
+
+pub returns-in_err-create_work : goal.returns-in_err-create_work
+returns-in_err-create_work g c =
+    let s = g.S.Store in
+    let start = c.args.tx.now in
+    let at_one = c.create_work.new.tx in
+    let r = c.from_residual.result in
+    let is = c.from_residual.ensures.1 in
+    record { writes = frame_refused s start at_one c.in_err-create_work.field-0.0 c.in_err-create_work.ensures.writes r _ is; makes = λ clean. never_ok r _ _ is }
+
+pub returns-in_err-create_records : goal.returns-in_err-create_records
+returns-in_err-create_records g c =
+    let s = g.S.Store in
+    let start = c.args.tx.now in
+    let at_one = c.create_work.new.tx in
+    let at_two = c.create_records.new.tx in
+    let r = c.from_residual-in_err-create_records.result in
+    let is = c.from_residual-in_err-create_records.ensures.1 in
+    record { writes = frame_then s start at_one at_two c.in_ok-create_work.field-0 c.in_ok-create_work.ensures.writes r (frame_refused s at_one at_two c.in_err-create_records.field-0.0 c.in_err-create_records.ensures.writes r _ is); makes = λ clean. never_ok r _ _ is }
+
+pub returns-clause-writes : goal.returns-clause-writes
+returns-clause-writes g c =
+    let s = g.S.Store in
+    let start = c.args.tx.now in
+    let at_one = c.create_work.new.tx in
+    let at_two = c.create_records.new.tx in
+    let at_three = c.insert_project.new.tx in
+    let r = c.insert_project.result in
+    let one = c.in_ok-create_work.ensures in
+    let two = c.in_ok-create_records.ensures in
+    let last = c.insert_project.ensures in
+    let after_two = frame_then s at_one at_two at_three c.in_ok-create_records.field-0 two.writes r last.writes in
+    frame_then s start at_one at_three c.in_ok-create_work.field-0 one.writes r after_two

@@ -1,19 +1,44 @@
-use Rattle.wu_schema.proofs.Words.{[], arith, state, ◌∷◌}
-use Rattle.wu_schema.specs.Indexes.{queue_assimilate, queue_delete, queue_validate}
-use Rattle.wu_schema.specs.Queue.{queue_table}
-use Rattle.wu_schema.proofs.CallLemmas.{ok_on}
-use Rattle.wu_schema.proofs.IndexEffect.{index_then, last_index}
+use Rattle.wu_schema.proofs.Words.{[], ◌∷◌}
+use Rattle.wu_schema.specs.Indexes.{queue_assimilate, queue_delete}
+use Rattle.wu_schema.proofs.CallLemmas.{never_ok}
+use Rattle.wu_schema.proofs.CreateTexts.{assimilate_made, delete_made, validate_made}
+use Rattle.wu_schema.proofs.StepLemmas.{frame_refused, frame_then, indexes_last, indexes_then}
 use Rattle.wu_schema.proofs.queue.create_mark_indexes.Goals as goal
 
-pub returns-clause-makes : goal.returns-clause-makes
-returns-clause-makes g c clean =
-    let last = c.create_queue_delete.ensures in
-    let assimilate = c.in_ok-create_queue_assimilate.ensures in
-    let assimilate_made = assimilate.makes (omega (arith, clean, last.writes.part.survives.clean)) in
-    let validate = c.in_ok-create_queue_validate.ensures in
-    let validate_made = validate.makes (omega (arith, clean, last.writes.part.survives.clean, assimilate.writes.part.survives.clean)) in
-    let old = (state g.S.Store c.args.tx.now.conn.now).now in
-    let at_validate = (state g.S.Store c.create_queue_validate.new.tx.conn.now).now in
-    let at_assimilate = (state g.S.Store c.create_queue_assimilate.new.tx.conn.now).now in
-    let at_delete = (state g.S.Store c.create_queue_delete.new.tx.conn.now).now in
-    ok_on c.create_queue_delete.result _ _ (λ made. index_then queue_table queue_validate (queue_assimilate ∷ queue_delete ∷ []) old at_validate at_delete validate_made (index_then queue_table queue_assimilate (queue_delete ∷ []) at_validate at_assimilate at_delete assimilate_made (last_index queue_table queue_delete at_assimilate at_delete made))) (last.makes clean)
+pub returns-in_err-execute : goal.returns-in_err-execute
+returns-in_err-execute g c =
+    let s = g.S.Store in
+    let start = c.args.tx.now in
+    let at_one = c.execute.new.tx in
+    let r = c.from_residual.result in
+    let is = c.from_residual.ensures.1 in
+    record { writes = frame_refused s start at_one c.in_err-execute.field-0.0 c.in_err-execute.ensures.writes r _ is; makes = λ clean. never_ok r _ _ is }
+
+pub returns-in_err-execute-2 : goal.returns-in_err-execute-2
+returns-in_err-execute-2 g c =
+    let s = g.S.Store in
+    let start = c.args.tx.now in
+    let at_one = c.execute.new.tx in
+    let at_two = c.execute-2.new.tx in
+    let r = c.from_residual-in_err-execute-2.result in
+    let is = c.from_residual-in_err-execute-2.ensures.1 in
+    record { writes = frame_then s start at_one at_two c.in_ok-execute.field-0 c.in_ok-execute.ensures.writes r (frame_refused s at_one at_two c.in_err-execute-2.field-0.0 c.in_err-execute-2.ensures.writes r _ is); makes = λ clean. never_ok r _ _ is }
+
+pub returns : goal.returns
+returns g c =
+    let s = g.S.Store in
+    let start = c.args.tx.now in
+    let at_one = c.execute.new.tx in
+    let at_two = c.execute-2.new.tx in
+    let at_three = c.execute-3.new.tx in
+    let r = c.execute-3.result in
+    let one = c.in_ok-execute.ensures in
+    let two = c.in_ok-execute-2.ensures in
+    let last = c.execute-3.ensures in
+    let after_two = frame_then s at_one at_two at_three c.in_ok-execute-2.field-0 two.writes r last.writes in
+    record {
+      writes = frame_then s start at_one at_three c.in_ok-execute.field-0 one.writes r after_two;
+      makes = indexes_then s start at_one at_three (queue_assimilate ∷ queue_delete ∷ []) validate_made c.in_ok-execute.field-0 one.ran r after_two
+          (indexes_then s at_one at_two at_three (queue_delete ∷ []) assimilate_made c.in_ok-execute-2.field-0 two.ran r last.writes
+          (indexes_last s at_two at_three delete_made r last.ran));
+    }

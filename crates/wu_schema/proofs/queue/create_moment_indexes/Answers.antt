@@ -1,16 +1,30 @@
-use Rattle.wu_schema.proofs.Words.{[], arith, state, ◌∷◌}
-use Rattle.wu_schema.specs.Indexes.{queue_purge, queue_wake}
-use Rattle.wu_schema.specs.Queue.{queue_table}
-use Rattle.wu_schema.proofs.CallLemmas.{ok_on}
-use Rattle.wu_schema.proofs.IndexEffect.{index_then, last_index}
+use Rattle.wu_schema.proofs.Words.{[], ◌∷◌}
+use Rattle.wu_schema.specs.Indexes.{queue_purge}
+use Rattle.wu_schema.proofs.CallLemmas.{never_ok}
+use Rattle.wu_schema.proofs.CreateTexts.{purge_made, wake_made}
+use Rattle.wu_schema.proofs.StepLemmas.{frame_refused, frame_then, indexes_last, indexes_then}
 use Rattle.wu_schema.proofs.queue.create_moment_indexes.Goals as goal
 
-pub returns-clause-makes : goal.returns-clause-makes
-returns-clause-makes g c clean =
-    let last = c.create_queue_purge.ensures in
-    let wake = c.in_ok-create_queue_wake.ensures in
-    let wake_made = wake.makes (omega (arith, clean, last.writes.part.survives.clean)) in
-    let old = (state g.S.Store c.args.tx.now.conn.now).now in
-    let at_wake = (state g.S.Store c.create_queue_wake.new.tx.conn.now).now in
-    let at_purge = (state g.S.Store c.create_queue_purge.new.tx.conn.now).now in
-    ok_on c.create_queue_purge.result _ _ (λ made. index_then queue_table queue_wake (queue_purge ∷ []) old at_wake at_purge wake_made (last_index queue_table queue_purge at_wake at_purge made)) (last.makes clean)
+pub returns-in_err-execute : goal.returns-in_err-execute
+returns-in_err-execute g c =
+    let s = g.S.Store in
+    let start = c.args.tx.now in
+    let at_one = c.execute.new.tx in
+    let r = c.from_residual.result in
+    let is = c.from_residual.ensures.1 in
+    record { writes = frame_refused s start at_one c.in_err-execute.field-0.0 c.in_err-execute.ensures.writes r _ is; makes = λ clean. never_ok r _ _ is }
+
+pub returns : goal.returns
+returns g c =
+    let s = g.S.Store in
+    let start = c.args.tx.now in
+    let at_one = c.execute.new.tx in
+    let at_two = c.execute-2.new.tx in
+    let r = c.execute-2.result in
+    let one = c.in_ok-execute.ensures in
+    let last = c.execute-2.ensures in
+    record {
+      writes = frame_then s start at_one at_two c.in_ok-execute.field-0 one.writes r last.writes;
+      makes = indexes_then s start at_one at_two (queue_purge ∷ []) wake_made c.in_ok-execute.field-0 one.ran r last.writes
+          (indexes_last s at_one at_two purge_made r last.ran);
+    }

@@ -1,7 +1,46 @@
+use Rattle.std.specs.Option.{IfSome}
+use Rattle.std.specs.Prelude.{◌≤◌}
 use Rattle.wu_schema.proofs.Words.{HasProject, HasVersion, IsFailure, Some, inl, inr, state, subst, sym, ℕ, ◌∙◌, ◌≡◌}
-use Rattle.wu_schema.proofs.ReadLemmas.{if_ok, if_err}
-use Rattle.wu_schema.proofs.VersionLemmas.{each_fault, has_understood, project_of, project_row, rows_refused, rows_stored, stored_is}
+use Rattle.wu_schema.proofs.AskingLemmas.{asks_error, asks_read, error_told, opens_error, opens_read}
+use Rattle.wu_schema.proofs.ReadLemmas.{if_ok, if_err, on_ok}
+use Rattle.wu_schema.proofs.VersionLemmas.{each_fault, fault_of_missing, has_understood, project_of, project_row, row_fault, row_never_broken, rows_refused, rows_stored, stored_is}
 use Rattle.wu_schema.proofs.version.version_of.Goals as goal
+
+pub returns-in-Ok-clause-asks : goal.returns-in-Ok-clause-asks
+returns-in-Ok-clause-asks g c =
+    let reads = c.in-Ok.ensures.reads in
+    asks_read g.S.Store c.args.conn.now c.project_rows.new.conn reads.mode reads.crash reads.unchanged c.version_in.result (row_never_broken c.version_in.result c.version_in.ensures.refused)
+
+pub returns-in-Ok-clause-opens : goal.returns-in-Ok-clause-opens
+returns-in-Ok-clause-opens g c =
+    let reads = c.in-Ok.ensures.reads in
+    opens_read g.S.Store c.args.conn.now c.project_rows.new.conn reads.mode reads.crash reads.unchanged c.version_in.result
+
+pub returns-in-Ok-clause-told : goal.returns-in-Ok-clause-told
+returns-in-Ok-clause-told g c = if_err c.version_in.result _ _ row_fault c.version_in.ensures.refused
+
+pub returns-in-Ok-clause-positive : goal.returns-in-Ok-clause-positive
+returns-in-Ok-clause-positive g c = if_ok c.version_in.result _ _ (λ found h. subst (λ o. IfSome o (λ version. 1 ≤ version)) (sym h.1) h.2) c.version_in.ensures.value
+
+pub returns-in-Err-clause-asks : goal.returns-in-Err-clause-asks
+returns-in-Err-clause-asks g c =
+    let q = c.in-Err.ensures in
+    let after = c.version_after.ensures in
+    asks_error g.S.Store c.args.conn.now c.project_rows.new.conn q.reads.mode q.reads.crash c.in-Err.error q.serves q.reads.back q.breaks c.version_after.result
+    (on_ok c.version_after.result _ _ (λ found h. fault_of_missing c.in-Err.error h.1) after.none) (if_err c.version_after.result _ _ (λ fault h. h.0) after.fault)
+
+pub returns-in-Err-clause-opens : goal.returns-in-Err-clause-opens
+returns-in-Err-clause-opens g c =
+    let q = c.in-Err.ensures in
+    let after = c.version_after.ensures in
+    opens_error g.S.Store c.args.conn.now c.project_rows.new.conn q.reads.mode q.reads.crash c.in-Err.error q.serves c.version_after.result
+    (on_ok c.version_after.result _ _ (λ found h. fault_of_missing c.in-Err.error h.1) after.none) (if_err c.version_after.result _ _ (λ fault h. h.0) after.fault)
+
+pub returns-in-Err-clause-told : goal.returns-in-Err-clause-told
+returns-in-Err-clause-told g c = error_told c.version_after.result c.in-Err.error (if_err c.version_after.result _ _ (λ fault h. h.0) c.version_after.ensures.fault)
+
+pub returns-in-Err-clause-positive : goal.returns-in-Err-clause-positive
+returns-in-Err-clause-positive g c = if_ok c.version_after.result _ _ (λ found h. subst (λ o. IfSome o (λ version. 1 ≤ version)) (sym h.0) tt) c.version_after.ensures.none
 
 pub returns-in-Ok-clause-answers : goal.returns-in-Ok-clause-answers
 returns-in-Ok-clause-answers g c clean =

@@ -1,6 +1,0 @@
-use Rattle.wu_schema.proofs.CreatedLemmas.{makes_table}
-use Rattle.wu_schema.proofs.CreateTexts.{project_made}
-use Rattle.wu_schema.proofs.creation.create_project.Goals as goal
-
-pub returns-clause-makes : goal.returns-clause-makes
-returns-clause-makes g c clean = makes_table g.S.Store c.args.tx.now c.execute.new.tx project_made c.execute.result (c.execute.ensures.ran clean)

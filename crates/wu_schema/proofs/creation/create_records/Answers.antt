@@ -1,0 +1,58 @@
+use Rattle.wu_schema.proofs.Words.{[], archived_at, codes, host_at, import_at, ◌∷◌}
+use Rattle.wu_schema.proofs.CallLemmas.{never_ok}
+use Rattle.wu_schema.proofs.CreateTexts.{archived_made, grant_made, host_made, import_made}
+use Rattle.wu_schema.proofs.StepLemmas.{frame_refused, frame_then, tables_last, tables_then}
+use Rattle.wu_schema.proofs.creation.create_records.Goals as goal
+
+pub returns-in_err-execute : goal.returns-in_err-execute
+returns-in_err-execute g c =
+    let s = g.S.Store in
+    let start = c.args.tx.now in
+    let at_one = c.execute.new.tx in
+    let r = c.from_residual.result in
+    let is = c.from_residual.ensures.1 in
+    record { writes = frame_refused s start at_one c.in_err-execute.field-0.0 c.in_err-execute.ensures.writes r _ is; makes = λ clean. never_ok r _ _ is }
+
+pub returns-in_err-execute-2 : goal.returns-in_err-execute-2
+returns-in_err-execute-2 g c =
+    let s = g.S.Store in
+    let start = c.args.tx.now in
+    let at_one = c.execute.new.tx in
+    let at_two = c.execute-2.new.tx in
+    let r = c.from_residual-in_err-execute-2.result in
+    let is = c.from_residual-in_err-execute-2.ensures.1 in
+    record { writes = frame_then s start at_one at_two c.in_ok-execute.field-0 c.in_ok-execute.ensures.writes r (frame_refused s at_one at_two c.in_err-execute-2.field-0.0 c.in_err-execute-2.ensures.writes r _ is); makes = λ clean. never_ok r _ _ is }
+
+pub returns-in_err-execute-3 : goal.returns-in_err-execute-3
+returns-in_err-execute-3 g c =
+    let s = g.S.Store in
+    let start = c.args.tx.now in
+    let at_one = c.execute.new.tx in
+    let at_two = c.execute-2.new.tx in
+    let at_three = c.execute-3.new.tx in
+    let r = c.from_residual-in_err-execute-3.result in
+    let is = c.from_residual-in_err-execute-3.ensures.1 in
+    record { writes = frame_then s start at_one at_three c.in_ok-execute.field-0 c.in_ok-execute.ensures.writes r (frame_then s at_one at_two at_three c.in_ok-execute-2.field-0 c.in_ok-execute-2.ensures.writes r (frame_refused s at_two at_three c.in_err-execute-3.field-0.0 c.in_err-execute-3.ensures.writes r _ is)); makes = λ clean. never_ok r _ _ is }
+
+pub returns : goal.returns
+returns g c =
+    let s = g.S.Store in
+    let start = c.args.tx.now in
+    let at_one = c.execute.new.tx in
+    let at_two = c.execute-2.new.tx in
+    let at_three = c.execute-3.new.tx in
+    let at_four = c.execute-4.new.tx in
+    let r = c.execute-4.result in
+    let one = c.in_ok-execute.ensures in
+    let two = c.in_ok-execute-2.ensures in
+    let three = c.in_ok-execute-3.ensures in
+    let last = c.execute-4.ensures in
+    let after_three = frame_then s at_two at_three at_four c.in_ok-execute-3.field-0 three.writes r last.writes in
+    let after_two = frame_then s at_one at_two at_four c.in_ok-execute-2.field-0 two.writes r after_three in
+    record {
+      writes = frame_then s start at_one at_four c.in_ok-execute.field-0 one.writes r after_two;
+      makes = tables_then s start at_one at_four ((codes "host", host_at) ∷ (codes "archived", archived_at) ∷ (codes "import", import_at) ∷ []) grant_made c.in_ok-execute.field-0 one.ran r after_two
+          (tables_then s at_one at_two at_four ((codes "archived", archived_at) ∷ (codes "import", import_at) ∷ []) host_made c.in_ok-execute-2.field-0 two.ran r after_three
+          (tables_then s at_two at_three at_four ((codes "import", import_at) ∷ []) archived_made c.in_ok-execute-3.field-0 three.ran r last.writes
+          (tables_last s at_three at_four import_made r last.ran)));
+    }
