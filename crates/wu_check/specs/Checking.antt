@@ -25,13 +25,19 @@ pub record IsSoundProject (db : Database) : Type 0 where
   pub sound : IsSound world
   pub known : IsKnown world.version
 
--- What no question tells of a database. The rows of each table stand in order of their rowids, as every store keeps
--- them, and no row of a workunit or of the queue ends before its last column, as none does that was inserted into the
--- table as it is: one that does is shown as one with an empty cell there.
-pub record IsKept (db : Database) : Type 0 where
-  pub ordered : (table : Table) → Has db.schema.tables table → IsShaped shape.Table (db.trees table.tree)
+-- What no question tells of a database: that no row of a workunit or of the queue ends before its last column, as none
+-- does that was inserted into the table as it is. One that does is shown as one with an empty cell there.
+pub record HasWholeRows (db : Database) : Type 0 where
   pub workunits : (tree : ℕ) → HasNamed db.schema (codes "workunit") (workunit_at tree) → AreWhole 15 (db.trees tree)
   pub queue : (tree : ℕ) → HasNamed db.schema (codes "queue") (queue_at tree) → AreWhole 6 (db.trees tree)
+
+-- the rows of each table stand in order of their rowids, as every store keeps them
+abbrev pub IsInOrder : Database → Type 0
+IsInOrder db = (table : Table) → Has db.schema.tables table → IsShaped shape.Table (db.trees table.tree)
+
+pub record IsKept (db : Database) : Type 0 where
+  pub ordered : IsInOrder db
+  pub whole : HasWholeRows db
 
 -- a world is of this version, and has so many workunits and instances
 abbrev pub IsCounted : World → (version workunits results : ℕ) → Type 0

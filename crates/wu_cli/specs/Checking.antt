@@ -1,8 +1,9 @@
 -- What a check of an open database says, and how it is told.
-use Rattle.std.specs.Prelude.{◌≡◌, ℕ, List, MatchResult, IfErr, Option, Result, Ok, Err}
+use Rattle.std.specs.Prelude.{◌≡◌, ℕ, List, MatchResult, IsOkUnless, Option, Result, Ok, Err}
 use Rattle.sqlite.specs.Held.{Held}
 use Rattle.sqlite.specs.Store.{Ghosts}
 use Rattle.wu_core.specs.declared.fault.Fault.{Fault}
+use Rattle.wu_core.specs.declared.fault.Fault.TheVariants.{Output}
 use Rattle.wu_check.specs.Examining.{AnswersUnlessFailed, OnKept}
 use Rattle.wu_check.specs.Findings.{SaysSound, SaysUnsound, SaysWhy}
 use Rattle.wu_check.specs.declared.finding.Verdict.{Verdict}
@@ -14,14 +15,10 @@ use Rattle.wu_cli.specs.Checks.{sound_line}
 use Rattle.wu_cli.specs.declared.trouble.Trouble.{Trouble}
 use Rattle.wu_cli.specs.declared.trouble.Trouble.TheVariants as trouble
 
--- it is a fault
-abbrev pub IsFaultOf : Trouble → Type 0
-IsFaultOf told = (fault : Fault) × (told ≡ trouble.Fault fault)
-
 -- a sound project is told on the writer, or where that fails a beginning of its line; an unsound one as the trouble
 abbrev pub TellsVerdict : {W : Type 0} → (W → Option (List ℕ)) → W → W → Verdict → Result (Unit {0}) Trouble → Type 0
 TellsVerdict contents old new (verdict.Sound version workunits results) done =
-    WritesTo contents old new (sound_line version workunits results) done × IfErr done IsFaultOf
+    WritesTo contents old new (sound_line version workunits results) done × IsOkUnless done (trouble.Fault Output)
 TellsVerdict contents old new (verdict.Unsound finding) done = (done ≡ Err (trouble.Unsound finding)) × (new ≡ old)
 
 -- without a verdict the fault is told, and nothing is written

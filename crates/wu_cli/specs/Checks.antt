@@ -1,6 +1,8 @@
 -- What a check tells: a line on the outcome, or what keeps the database from holding a sound project.
 use Rattle.std.specs.Prelude.{◌≡◌, ℕ, List, ◌++◌, codes, Option, Result, Ok, Err}
 use Rattle.std.specs.Fmt.{decimal}
+use Rattle.std.specs.declared.io.ErrorKind.{ErrorKind}
+use Rattle.std.specs.declared.io.ErrorKind.TheVariants.{NotFound, OutOfMemory, WouldBlock}
 use Rattle.sqlite.specs.Held.{Held, state}
 use Rattle.sqlite.specs.Store.{Ghosts}
 use Rattle.sqlite.specs.declared.error.Error.{Error}
@@ -101,3 +103,15 @@ reason_of (SqliteFailure code.DatabaseCorrupt) = reason.Damaged
 reason_of (SqliteFailure code.SystemIoFailure) = reason.FailingDisk
 reason_of (SqliteFailure code.DiskFull) = reason.FullDisk
 reason_of _ = reason.Refused
+
+-- that of an error of the system, on opening a file
+abbrev pub reason_of_file : ErrorKind → Reason
+reason_of_file NotFound = reason.NoFile
+reason_of_file WouldBlock = reason.InUse
+reason_of_file OutOfMemory = reason.Memory
+reason_of_file _ = reason.Refused
+
+-- and on reading one
+abbrev pub reason_of_reading : ErrorKind → Reason
+reason_of_reading OutOfMemory = reason.Memory
+reason_of_reading _ = reason.FailingDisk

@@ -1,7 +1,8 @@
 //! The lines that a check writes.
 
-ghost use Rattle.std.specs.Prelude.{◌≡◌, ◌++◌, codes};
+ghost use Rattle.std.specs.Prelude.{◌≡◌, ◌++◌, codes, IsOkUnless};
 ghost use Rattle.std.specs.Fmt.{decimal};
+ghost use Rattle.wu_core.specs.declared.fault.Fault.TheVariants.{Output};
 ghost use Rattle.wu_report.specs.Texts.{line_end};
 ghost use Rattle.wu_report.specs.Writing.{WritesTo};
 ghost use Rattle.wu_cli.specs.Checks.{finding_line, key_text, kind_word, misfit_line, reason_line, row_front, sound_line};
@@ -167,8 +168,9 @@ pub fn write_sound<W: Write>(
     workunits: u64,
     results: u64,
 ) -> Result<(), Fault>
-    ensures { WritesTo W.contents out.old out.new
+    ensures bytes { WritesTo W.contents out.old out.new
         (sound_line version workunits results) result }
+    ensures fault { IsOkUnless result Output }
 {
     write_flushed(
         out,

@@ -1,9 +1,11 @@
 //! Why a database that is to be checked can't be opened.
 
 ghost use Rattle.std.specs.Prelude.{◌≡◌};
-ghost use Rattle.wu_cli.specs.Checks.{reason_line, reason_of, reason_status};
+ghost use Rattle.std.specs.IoError.{error_kind};
+ghost use Rattle.wu_cli.specs.Checks.{reason_line, reason_of, reason_of_file, reason_of_reading, reason_status};
 
 use sqlite::{Error, ErrorCode};
+use std::io::{self, ErrorKind};
 
 /// Why a database can't be opened.
 #[derive(Clone, Copy, PartialEq, Eq)]
@@ -36,6 +38,28 @@ impl Reason {
             Error::SqliteFailure(ErrorCode::SystemIoFailure) => Reason::FailingDisk,
             Error::SqliteFailure(ErrorCode::DiskFull) => Reason::FullDisk,
             _ => Reason::Refused,
+        }
+    }
+
+    /// The reason why the system does not open a file.
+    pub fn of_file(error: &io::Error) -> Reason
+        ensures { result ≡ reason_of_file (error_kind error.now) }
+    {
+        match error.kind() {
+            ErrorKind::NotFound => Reason::NoFile,
+            ErrorKind::WouldBlock => Reason::InUse,
+            ErrorKind::OutOfMemory => Reason::Memory,
+            _ => Reason::Refused,
+        }
+    }
+
+    /// The reason why the system does not read a file that is open.
+    pub fn of_reading(error: &io::Error) -> Reason
+        ensures { result ≡ reason_of_reading (error_kind error.now) }
+    {
+        match error.kind() {
+            ErrorKind::OutOfMemory => Reason::Memory,
+            _ => Reason::FailingDisk,
         }
     }
 

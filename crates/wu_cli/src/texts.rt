@@ -15,7 +15,8 @@ use wu_words::{BadLine, LineFault, Refusal, Usage};
 
 /// Writes the pieces in turn, and flushes.
 pub(crate) fn write_flushed<W: Write>(out: &mut W, pieces: &[Piece<'_>]) -> Result<(), Fault>
-    ensures { WritesTo W.contents out.old out.new (flat_map piece_text pieces.now) result }
+    ensures bytes { WritesTo W.contents out.old out.new (flat_map piece_text pieces.now) result }
+    ensures fault { IsOkUnless result Output }
 {
     write_pieces(out, pieces)?;
     flush(out)

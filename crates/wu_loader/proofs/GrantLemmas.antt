@@ -1,8 +1,7 @@
 -- What hosts were granted, and whether they are those of the grants.
-use Rattle.wu_schema.proofs.Words.{AllByRecursion, IsAscending, IsPermutation, IsSorted, Row, column, length-map, map-map, Equal, Greater, Less, Has, all_from, all_has, cases_Bool, has_mapped, hosts_of, is_eq, map, mapped_has, ordering_reverse, Bool, Grant, List, Ordering, [], ap, arith, bytes_eq, bytes_eq-Decides, cond, false, filter, get_or, length, on_total, refl, subst, suc, sum_by, sym, take, true, zero, ℕ, ◌++◌, ◌+◌, ◌<◌, ◌∙◌, ◌∷◌, ◌≡◌, ◌≤◌, ◌⊎◌, if◌then◌else◌, inl, inr}
+use Rattle.wu_schema.proofs.Words.{AllByRecursion, IsAscending, IsPermutation, IsSorted, Row, column, length-map, map-map, Equal, Greater, Less, Has, all_from, all_has, cases_Bool, has_mapped, hosts_of, is_eq, map, mapped_has, ordering_reverse, Grant, List, Ordering, [], ap, arith, bytes_eq, bytes_eq-Decides, cond, get_or, length, on_total, refl, subst, suc, sym, true, zero, ℕ, ◌+◌, ◌<◌, ◌∙◌, ◌∷◌, ◌≡◌, inl, inr}
 use Rattle.std.specs.Cmp.{IsTotalOrder}
 use Rattle.std.proofs.lemmas.Cmp.{nat_list_cmp_total}
-use Rattle.std.proofs.lemmas.List.{take_more}
 use Rattle.std.proofs.lemmas.List.Sums.{sum_by-cons}
 use Rattle.wu_core.specs.Hosts.{credit_of, grants_of, is_to, with_host}
 use Rattle.std.specs.Cmp.Lexicographic.{slice_cmp, texts_ties}
@@ -20,71 +19,14 @@ use Rattle.std.proofs.lemmas.List.Elements.{All-from_recursion, recursion_from_A
 use Rattle.wu_schema.specs.Refines.{host_of}
 use Rattle.wu_schema.specs.Stored.{host_cells}
 use Rattle.wu_loader.specs.Rows.{host_row, IsStoredGrant, IsStoredHost}
-use Rattle.wu_core.proofs.HostLemmas.{Ascends, credit_more, grants_more, is_among, no_grants, once}
+use Rattle.wu_core.proofs.HostLemmas.{Ascends, is_among, no_grants, once}
 use Rattle.wu_loader.specs.Granting.{by_name, AreHosts, IsGranted, IsListed, Rise}
 use Rattle.wu_loader.specs.declared.rows.Host.{Host}
 
 pub by_name_total : IsTotalOrder by_name
 by_name_total = on_total (λ (h : Host). h.name) nat_list_cmp_total
 
--- ---- what one host was granted
-
--- with more grants no host has less
-credit_rises : (k : ℕ) (grants : List Grant) (name : List ℕ) → credit_of (take k grants) name ≤ credit_of grants name
-credit_rises zero grants name = omega arith
-credit_rises (suc k) [] name = omega arith
-credit_rises (suc k) (g ∷ grants) name = go (is_to name g) (credit_rises k grants name)
-  where
-    go : (b : Bool) → credit_of (take k grants) name ≤ credit_of grants name → sum_by (λ (x : Grant). x.credit) (cond b (g ∷ filter (is_to name) (take k grants)) (filter (is_to name) (take k grants))) ≤ sum_by (λ (x : Grant). x.credit) (cond b (g ∷ filter (is_to name) grants) (filter (is_to name) grants))
-    go true low = let a = sum_by-cons (λ (x : Grant). x.credit) g (filter (is_to name) (take k grants)) in let b = sum_by-cons (λ (x : Grant). x.credit) g (filter (is_to name) grants) in omega (arith, a, b, low)
-    go false low = low
-
-count_rises : (k : ℕ) (grants : List Grant) (name : List ℕ) → grants_of (take k grants) name ≤ grants_of grants name
-count_rises zero grants name = omega arith
-count_rises (suc k) [] name = omega arith
-count_rises (suc k) (g ∷ grants) name =
-    let a = sum_by-cons (λ x. cond (is_to name x) 1 0) g (take k grants) in
-    let b = sum_by-cons (λ x. cond (is_to name x) 1 0) g grants in
-    let low = count_rises k grants name in
-    omega (arith, a, b, low)
-
-module _ (host : Host) (grants : List Grant) (credit count i : ℕ) (g : Grant) (total : host.total ≡ credit + credit_of (take i grants) host.name) (so_many : host.grants ≡ count + grants_of (take i grants) host.name)
-    (low : i < length grants) (at : get_or grants i g ≡ g) (same : g.host ≡ host.name) where
-  itself : bytes_eq g.host host.name ≡ true
-  itself = (bytes_eq-Decides g.host host.name).1 same
-
-  more : take (i + 1) grants ≡ take i grants ++ g ∷ []
-  more = take_more grants i g low ∙ ap (λ x. take i grants ++ x ∷ []) at
-
-  pub credit_there : credit_of (take (i + 1) grants) host.name ≡ credit_of (take i grants) host.name + g.credit
-  credit_there = ap (λ gs. credit_of gs host.name) more ∙ credit_more (take i grants) g host.name ∙ rw itself refl
-
-  pub count_there : grants_of (take (i + 1) grants) host.name ≡ grants_of (take i grants) host.name + 1
-  count_there = ap (λ gs. grants_of gs host.name) more ∙ grants_more (take i grants) g host.name ∙ rw itself refl
-
-  -- what has less left than one grant more brings was not granted so
-  pub never_granted : (credit < g.credit) ⊎ (count ≡ 0) → ¬ IsGranted grants host
-  never_granted (inl less) is =
-      let a = credit_there in
-      let b = credit_rises (i + 1) grants host.name in
-      let c = is.total in
-      omega (arith, total, a, b, c, less)
-  never_granted (inr none) is =
-      let a = count_there in
-      let b = count_rises (i + 1) grants host.name in
-      let c = is.count in
-      omega (arith, so_many, a, b, c, none)
-
 -- ---- the hosts of the grants
-
--- whatever stands behind the end
-same_default : (grants : List Grant) (i : ℕ) (d e : Grant) → i < length grants → get_or grants i d ≡ get_or grants i e
-same_default [] i d e low = absurd (omega (arith, low))
-same_default (g ∷ grants) zero d e low = refl
-same_default (g ∷ grants) (suc i) d e low = same_default grants i d e (omega (arith, low))
-
-pub listed_at : (hosts : List Host) (grants : List Grant) (i : ℕ) (g : Grant) → i < length grants → get_or grants i g ≡ g → IsListed hosts g.host → (d : Grant) → IsListed hosts (get_or grants i d).host
-listed_at hosts grants i g low at on d = subst (λ (x : Grant). IsListed hosts x.host) (sym (same_default grants i d g low ∙ at)) on
 
 -- names in the order of their bytes
 abbrev Below : List ℕ → List ℕ → Type 0

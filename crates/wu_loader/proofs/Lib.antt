@@ -7,3 +7,5 @@ pub mod StandLemmas
 pub mod DealLemmas
 pub mod WorkLemmas
 pub mod GrantLemmas
+pub mod RunLemmas
+pub mod ListedLemmas

@@ -1,5 +1,6 @@
 -- What hosts were granted, as the grants say.
-use Rattle.std.specs.Prelude.{◌≡◌, ℕ, ◌+◌, ◌<◌, All, List, length, slice_index_or}
+use Rattle.std.specs.Prelude.{◌≡◌, ℕ, ◌+◌, ◌<◌, All, List, length, map, slice_index_or}
+use Rattle.std.specs.Borrow.{Bor}
 use Rattle.std.specs.Cmp.Lexicographic.{slice_cmp}
 use Rattle.std.specs.Ordering.{nat_cmp}
 use Rattle.std.specs.declared.cmp.Ordering.{Ordering}
@@ -11,6 +12,14 @@ use Rattle.wu_loader.specs.declared.rows.Host.{Host}
 -- by the bytes of their names
 abbrev pub by_name : Host → Host → Ordering
 by_name one other = slice_cmp nat_cmp one.name other.name
+
+-- the grants that these refer to
+abbrev pub referred : List (Bor Grant) → List Grant
+referred grants = map (λ grant. grant.now) grants
+
+-- by the bytes of their hosts' names
+abbrev pub by_host : Bor Grant → Bor Grant → Ordering
+by_host one other = slice_cmp nat_cmp one.now.host other.now.host
 
 -- the host has grants, and its sums are theirs
 pub record IsGranted (grants : List Grant) (host : Host) : Type 0 where

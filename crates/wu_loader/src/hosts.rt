@@ -1,11 +1,11 @@
 //! Whether the hosts are those of the grants.
 
-ghost use Rattle.std.specs.Prelude.{◌≡◌, ◌↔◌, ◌<◌, ◌≤◌, All, IfErr, IfSome, IsTrue, MatchOption, OnOk, length, map};
+ghost use Rattle.std.specs.Prelude.{◌≡◌, ◌↔◌, ◌<◌, ◌≤◌, All, IfErr, IfOk, IfSome, IsTrue, MatchOption, OnOk, filter, length, map, sum_by};
 ghost use Rattle.std.specs.List.Sorted.{IsPermutation, IsSorted};
 ghost use Rattle.std.specs.declared.cmp.Ordering.TheVariants.{Less};
-ghost use Rattle.wu_core.specs.Hosts.{hosts_of};
+ghost use Rattle.wu_core.specs.Hosts.{hosts_of, is_to};
 ghost use Rattle.wu_schema.specs.Refines.{host_of};
-ghost use Rattle.wu_loader.specs.Granting.{by_name, AreHosts, IsGranted, IsListed, Rise};
+ghost use Rattle.wu_loader.specs.Granting.{by_host, by_name, referred, AreHosts, IsGranted, IsListed, Rise};
 ghost use Rattle.wu_loader.specs.Rows.{IsStoredGrant};
 ghost use Rattle.wu_loader.specs.Whole.{UnlessMemory};
 
@@ -31,22 +31,61 @@ fn is_below(one: &Host, other: &Host) -> bool
     one.name.as_str().cmp(other.name.as_str()).is_lt()
 }
 
-/// Whether the host has grants, and its sums are theirs: one grant after another is taken from them.
-fn is_granted(host: &Host, grants: &[Grant]) -> bool
-    ensures { IsTrue result ↔ IsGranted grants.now host.now }
+/// References to the grants, in their order.
+fn references_to<'a>(alloc: Global, grants: &'a [Grant]) -> Result<Vec<&'a Grant>, AllocError>
+    ensures { IfOk result (λ all. referred all.items ≡ grants.now) }
 {
-    let mut credit = host.total;
-    let mut count = host.grants;
+    grants.iter().collect(alloc)
+}
+
+/// The grants in order of their hosts' names.
+fn by_hosts<'a>(alloc: Global, grants: &'a [Grant]) -> Result<Vec<&'a Grant>, AllocError>
+    ensures same { IfOk result (λ sorted. IsPermutation grants.now (referred sorted.items)) }
+    ensures sorted { IfOk result (λ sorted. IsSorted by_host sorted.items) }
+{
+    let mut sorted = references_to(alloc, grants)?;
+    sorted.sort_by(|one, other| one.host.as_str().cmp(other.host.as_str()))?;
+    Ok(sorted)
+}
+
+/// The grants to the host of this name. They stand together, since the grants are in order of their hosts' names.
+fn run_of<'a>(grants: &'a [&'a Grant], name: &Name) -> &'a [&'a Grant]
+    requires { IsSorted by_host grants.now }
+    ensures { referred result.now ≡ filter (is_to name.now) (referred grants.now) }
+{
+    let start = grants.partition_point(|grant| grant.host.as_str().cmp(name.as_str()).is_lt());
+    let end = grants.partition_point(|grant| grant.host.as_str().cmp(name.as_str()).is_le());
+    &grants[start..end]
+}
+
+/// Whether this is the credit of all the grants: one after another is taken from it.
+fn is_credit(total: u64, grants: &[&Grant]) -> bool
+    ensures { IsTrue result ↔ (total ≡ sum_by (λ grant. grant.now.credit) grants.now) }
+{
+    let mut left = total;
     for grant in grants {
-        if grant.host.as_str() == host.name.as_str() {
-            if grant.credit > credit || count == 0 {
-                return false;
-            }
-            credit -= grant.credit;
-            count -= 1;
+        if grant.credit > left {
+            return false;
         }
+        left -= grant.credit;
     }
-    host.grants > 0 && credit == 0 && count == 0
+    left == 0
+}
+
+/// Whether the host has grants, and as many as these.
+fn is_counted(host: &Host, grants: &[&Grant]) -> bool
+    ensures { IsTrue result ↔ ((0 < host.now.grants) × (host.now.grants ≡ length grants.now)) }
+{
+    host.grants > 0 && host.grants == grants.len() as u64
+}
+
+/// Whether the host has grants, and its sums are theirs.
+fn is_granted(host: &Host, grants: &[&Grant]) -> bool
+    requires { IsSorted by_host grants.now }
+    ensures { IsTrue result ↔ IsGranted (referred grants.now) host.now }
+{
+    let run = run_of(grants, &host.name);
+    is_counted(host, run) && is_credit(host.total, run)
 }
 
 /// The first host whose name is not above that of the one before it.
@@ -63,9 +102,10 @@ fn first_out_of_order(hosts: &[Host]) -> Option<usize>
 }
 
 /// The first host that has not what it was granted.
-fn first_ungranted(hosts: &[Host], grants: &[Grant]) -> Option<usize>
-    ensures granted { MatchOption result (All (IsGranted grants.now) hosts.now) (λ _. ¬ All
-        (IsGranted grants.now) hosts.now) }
+fn first_ungranted(hosts: &[Host], grants: &[&Grant]) -> Option<usize>
+    requires { IsSorted by_host grants.now }
+    ensures granted { MatchOption result (All (IsGranted (referred grants.now)) hosts.now)
+        (λ _. ¬ All (IsGranted (referred grants.now)) hosts.now) }
     ensures within { IfSome result (λ place. place < length hosts.now) }
 {
     for (place, host) in hosts.iter().enumerate() {
@@ -76,21 +116,20 @@ fn first_ungranted(hosts: &[Host], grants: &[Grant]) -> Option<usize>
     None
 }
 
-/// Whether one of the hosts has the name.
+/// Whether one of the hosts, which are in order, has the name.
 fn is_listed(hosts: &[Host], name: &Name) -> bool
+    requires { Rise hosts.now }
     ensures { IsTrue result ↔ IsListed hosts.now name.now }
 {
-    for host in hosts {
-        if host.name.as_str() == name.as_str() {
-            return true;
-        }
-    }
-    false
+    hosts
+        .binary_search_by(|host| host.name.as_str().cmp(name.as_str()))
+        .is_ok()
 }
 
-/// Whether the host of each grant is among these.
-fn are_listed(hosts: &[Host], grants: &[Grant]) -> bool
-    ensures { IsTrue result ↔ All (λ grant. IsListed hosts.now grant.host) grants.now }
+/// Whether the host of each grant is among these, which are in order.
+fn are_listed(hosts: &[Host], grants: &[&Grant]) -> bool
+    requires { Rise hosts.now }
+    ensures { IsTrue result ↔ All (λ grant. IsListed hosts.now grant.host) (referred grants.now) }
 {
     for grant in grants {
         if !is_listed(hosts, &grant.host) {
@@ -101,9 +140,10 @@ fn are_listed(hosts: &[Host], grants: &[Grant]) -> bool
 }
 
 /// The first of these hosts that keeps them from being those of the grants, or the place behind them where one lacks.
-fn first_wrong(hosts: &[Host], grants: &[Grant]) -> Option<usize>
-    ensures hosts { MatchOption result (AreHosts grants.now hosts.now)
-        (λ _. ¬ AreHosts grants.now hosts.now) }
+fn first_wrong(hosts: &[Host], grants: &[&Grant]) -> Option<usize>
+    requires { IsSorted by_host grants.now }
+    ensures hosts { MatchOption result (AreHosts (referred grants.now) hosts.now)
+        (λ _. ¬ AreHosts (referred grants.now) hosts.now) }
     ensures within { IfSome result (λ place. place ≤ length hosts.now) }
 {
     if let Some(place) = first_out_of_order(hosts) {
@@ -128,7 +168,8 @@ pub(crate) fn know_hosts(alloc: Global, rows: &[Row], grants: &[Grant]) -> Resul
 {
     let mut hosts = all_from::<Host>(alloc, Table::Host, rows)?;
     sort(&mut hosts)?;
-    match first_wrong(&hosts, grants) {
+    let sorted = by_hosts(alloc, grants)?;
+    match first_wrong(&hosts, &sorted) {
         Some(wrong) => {
             let place = wrong as u64 + 1;
             Err(NoWorld::Wrong(Wrong {

@@ -13,7 +13,9 @@ mod touched;
 mod upgrade;
 mod version;
 
-pub use project::{ArchiveWalk, HostWalk, LineWalk, Project, ResultWalk, Walk, WorkunitWalk};
+pub use project::{
+    ArchiveWalk, HostWalk, LineWalk, LinesLeft, Project, ResultWalk, Walk, WorkunitWalk,
+};
 pub use wu_machine::{Answer, Batch, Command, RowsFile};
 pub use wu_rules::Pass;
 pub use wu_store::{HostLine, ResultLine, Summary, WorkunitLine};

@@ -1,2 +1,3 @@
 pub mod ContentLemmas
+pub mod CopyLemmas
 pub mod RunLemmas

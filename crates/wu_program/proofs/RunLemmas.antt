@@ -11,7 +11,6 @@ use Rattle.sqlite_disk.specs.declared.modelled.Modelled.{Modelled}
 use Rattle.sqlite_disk.specs.declared.start.Start as start
 use Rattle.sqlite_std_file.specs.declared.host.Host.{Host}
 use Rattle.wu_cli.specs.declared.work.Work.{Work}
-use Rattle.wu_program.specs.Checks.{ChecksOpened, OpensAndChecks}
 use Rattle.wu_program.specs.Processes.{RunsStarted, TellsCheck}
 use Rattle.wu_program.specs.declared.End.{End}
 use Rattle.wu_program.specs.Running.{DoesOpened, OpensAndDoes}
@@ -24,13 +23,6 @@ pub does_opened : {S W : Type 0} {c : calls.Ghosts Host} {s : start.Ghosts S} {g
 does_opened contents path work old new done (left.Unopened error rest) does = absurd does.does.closed
 does_opened contents path work old new done (left.Closed files) does = does
 does_opened contents path work old new done (left.Unclosed error store) does = does
-
--- so is one that was opened for a check
-pub checks_opened : {S W : Type 0} {c : calls.Ghosts Host} {s : start.Ghosts S} {g : Ghosts (Modelled Host S c s)} (contents : W → Option (List ℕ)) (path : List ℕ) (old new : W)
-    (done : Result (Unit {0}) Trouble) (left : Left (Modelled Host S c s) g) → ChecksOpened contents path old new done left → OpensAndChecks contents path old new done left
-checks_opened contents path old new done (left.Unopened error rest) checks = absurd checks.checks.closed
-checks_opened contents path old new done (left.Closed files) checks = checks
-checks_opened contents path old new done (left.Unclosed error store) checks = checks
 
 -- a run that starts with a check runs so
 pub starts_check : {S W E : Type 0} {c : calls.Ghosts Host} {s : start.Ghosts S} {g : Ghosts (Modelled Host S c s)} (contents : W → Option (List ℕ)) (told_of : E → Option (List ℕ)) (old new : W) (err_old err_new : E)

@@ -1,79 +1,77 @@
-//! A check of the database that words name: it is opened, looked at, and closed.
+//! A check of the database that words name: its files are copied into memory, and the copy is opened and looked at.
 
-ghost use Rattle.std.specs.Prelude.{◌≡◌, map, string_bytes};
-ghost use Rattle.wu_program.specs.Checks.{ChecksAndCloses, OpensAndChecks, RunsCheck};
+ghost use Rattle.std.specs.Prelude.{IsTrue, map, string_bytes};
+ghost use Rattle.wu_cli.specs.Checking.{ChecksOver};
+ghost use Rattle.wu_program.specs.Checks.{ChecksFiles, ChecksPath, DropsChecked, RunsCheck};
 
-use crate::database::{Left, close};
-use sqlite::{Connection, FileFrom, FileStore, Start};
+use crate::copy::{copies_of, read_database};
+use sqlite::{Connection, FileStore, Files, Options};
 use sqlite_disk::Disk;
 use std::alloc::Global;
-use std::fs::File;
-use std::io::{ErrorKind, Write};
+use std::hash::{BuildHasher, RandomState};
+use std::io::Write;
 use wu_cli::{Reason, Trouble, check_over};
 use wu_words::read_check;
 
-/// Checks an open database, as `check_over`, and closes it.
-fn check_and_close<D: Disk + Drop, O: Write>(
+/// Checks an open database, as `check_over`, and lets go of it. Nothing is written to its files.
+fn check_and_drop<D: Disk + Drop, O: Write>(
     alloc: Global,
     conn: Connection<FileStore<D>>,
     out: &mut O,
-) -> (Result<(), Trouble>, Left<D>)
-    ensures { ChecksAndCloses O.contents conn out.old out.new result.0 result.1 }
+) -> Result<(), Trouble>
+    ensures { DropsChecked O.contents conn out.old out.new result }
 {
     let mut conn = conn;
-    let done = check_over(alloc, &mut conn, out);
-    (done, close(conn))
+    check_over(alloc, &mut conn, out)
 }
 
-/// Opens the database, checks it, and closes it. Where it can't be opened, why is the trouble, and nothing is written.
-fn open_and_check<S: Start, O: Write>(
-    rt: &HostRuntime,
-    database: &str,
-    start: S,
+/// Opens the database in two files, and checks it. Where it can't be opened, why is the trouble, and nothing goes out.
+fn check_files<D: Disk + Drop, O: Write>(
+    alloc: Global,
+    files: Files<D>,
+    options: Options,
     out: &mut O,
-) -> (Result<(), Trouble>, Left<FileFrom<S>>)
-    ensures { OpensAndChecks O.contents database.now out.old out.new result.0 result.1 }
+) -> Result<(), Trouble>
+    requires log { IsTrue (D.Disk.is_usable files.log) }
+    requires db { IsTrue (D.Disk.is_usable files.db) }
+    ensures { ChecksFiles D.Disk O.contents files out.old out.new result }
 {
-    match Connection::open_from(rt, database, false, start) {
-        Ok(conn) => check_and_close(rt.alloc(), conn, out),
-        Err((error, left)) => {
-            let trouble = Trouble::Unchecked(Reason::of(&error));
-            (Err(trouble), Left::Unopened(error, left))
-        }
+    match Connection::open_files(alloc, files, options) {
+        Ok(conn) => check_and_drop(alloc, conn, out),
+        Err((error, _left)) => Err(Trouble::Unchecked(Reason::of(&error))),
     }
 }
 
-/// Why the file at the path can't be read, if it can't. An opening would make one where there is none, so this is asked
-/// before.
-fn unreadable(rt: &HostRuntime, path: &str) -> Option<Reason> {
-    match File::open(rt, path) {
-        Ok(_) => None,
-        Err(error) => match error.kind() {
-            ErrorKind::NotFound => Some(Reason::NoFile),
-            ErrorKind::OutOfMemory => Some(Reason::Memory),
-            _ => Some(Reason::Refused),
-        },
-    }
-}
-
-/// Checks the database that the words name, of which the first is the program's name and the second `check`. A database
-/// is opened only where the words ask for a check, and the file is there.
-pub fn check_words<S: Start, O: Write>(
-    rt: &HostRuntime,
-    words: &[String],
-    start: S,
-    out: &mut O,
-) -> (Result<(), Trouble>, Option<Left<FileFrom<S>>>)
-    ensures { RunsCheck O.contents (map string_bytes words.now)
-        out.old out.new result.0 result.1 }
-{
-    let path = match read_check(rt.alloc(), words) {
-        Ok(path) => path,
-        Err(usage) => return (Err(Trouble::Usage(usage)), None),
+/// Options with a seed of this run.
+fn options(rt: &HostRuntime) -> Options {
+    let seed = match RandomState::new(rt) {
+        Ok(state) => state.hash_one(&0u8),
+        Err(_) => 0,
     };
-    if let Some(reason) = unreadable(rt, path.as_str()) {
-        return (Err(Trouble::Unchecked(reason)), None);
+    Options::new(seed)
+}
+
+/// Checks a copy of the database at the path. Where its files can't be read, or not be copied, why is the trouble, and
+/// nothing goes out.
+fn check_path<O: Write>(rt: &HostRuntime, path: &str, out: &mut O) -> Result<(), Trouble>
+    ensures { ChecksPath O.contents path.now out.old out.new result }
+{
+    let bytes = match read_database(rt, path) {
+        Ok(bytes) => bytes,
+        Err(reason) => return Err(Trouble::Unchecked(reason)),
+    };
+    match copies_of(rt.alloc(), &bytes) {
+        Ok(files) => check_files(rt.alloc(), files, options(rt), out),
+        Err(reason) => Err(Trouble::Unchecked(reason)),
     }
-    let (done, left) = open_and_check(rt, path.as_str(), start, out);
-    (done, Some(left))
+}
+
+/// Checks the database that the words name, of which the first is the program's name and the second `check`.
+pub fn check_words<O: Write>(rt: &HostRuntime, words: &[String], out: &mut O) -> Result<(), Trouble>
+    ensures { RunsCheck O.contents (map string_bytes words.now) out.old out.new result }
+{
+    match read_check(rt.alloc(), words) {
+        Ok(path) => check_path(rt, path.as_str(), out),
+        Err(usage) => Err(Trouble::Usage(usage)),
+    }
 }

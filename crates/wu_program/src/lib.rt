@@ -10,6 +10,7 @@ ghost use Rattle.wu_program.specs.Processes.{Demonstrates, RunsProcess, TellsChe
 
 mod check;
 mod contents;
+mod copy;
 mod database;
 mod signs;
 mod work;
@@ -92,27 +93,7 @@ pub fn obey<S: sqlite::Start, O: Write, E: Write>(
     }
 }
 
-/// Checks the database that the words name, as `check_words`, and tells of the trouble that ended it, if one did.
-fn check_and_tell<S: sqlite::Start, O: Write, E: Write>(
-    rt: &HostRuntime,
-    words: &[String],
-    start: S,
-    out: &mut O,
-    err: &mut E,
-) -> End<FileFrom<S>>
-    ensures { TellsCheck O.contents E.contents out.old out.new err.old err.new result
-        (map string_bytes words.now) }
-{
-    let (checked, left) = check_words(rt, words, start, out);
-    let (status, is_told) = tell(checked, err);
-    End {
-        status,
-        is_told,
-        left,
-    }
-}
-
-/// The end of a run that opens no database.
+/// The end of a run that leaves no database open or closed.
 fn unopened_end<D: Disk>(status: u8, is_told: bool) -> End<D>
     ensures status { result.status ≡ status }
     ensures told { result.is_told ≡ is_told }
@@ -123,6 +104,22 @@ fn unopened_end<D: Disk>(status: u8, is_told: bool) -> End<D>
         is_told,
         left: None,
     }
+}
+
+/// Checks the database that the words name, as `check_words`, and tells of the trouble that ended it, if one did. No file
+/// of it is left open, made or changed.
+fn check_and_tell<D: Disk, O: Write, E: Write>(
+    rt: &HostRuntime,
+    words: &[String],
+    out: &mut O,
+    err: &mut E,
+) -> End<D>
+    ensures { TellsCheck O.contents E.contents out.old out.new err.old err.new result
+        (map string_bytes words.now) }
+{
+    let checked = check_words(rt, words, out);
+    let (status, is_told) = tell(checked, err);
+    unopened_end(status, is_told)
 }
 
 /// The demonstration, and the status to end with: 0, or 1 on a fault, which is not told.
@@ -136,8 +133,8 @@ fn demonstrate<O: Write>(alloc: Global, out: &mut O) -> u8
 }
 
 /// Does what the words of a process ask for, of which the first is the program's name: with no other it is the
-/// demonstration, behind `explain` a topic is explained, behind `check` a database is checked, and else it is as of `obey`. Words that could not be had are
-/// told as such.
+/// demonstration, behind `explain` a topic is explained, behind `check` a database is checked, and else it is as of
+/// `obey`. Words that could not be had are told as such.
 pub fn run_with<S: sqlite::Start, O: Write, E: Write>(
     rt: &HostRuntime,
     words: io::Result<Vec<String>>,
@@ -154,7 +151,7 @@ pub fn run_with<S: sqlite::Start, O: Write, E: Write>(
             let (status, is_told) = tell(explain(alloc, words.as_slice(), out), err);
             unopened_end(status, is_told)
         }
-        Ok(Start::Check(words)) => check_and_tell(rt, words.as_slice(), start, out, err),
+        Ok(Start::Check(words)) => check_and_tell(rt, words.as_slice(), out, err),
         Ok(Start::Words(words)) => obey(rt, words.as_slice(), start, out, err),
         Err(trouble) => {
             let (status, is_told) = tell(Err(trouble), err);

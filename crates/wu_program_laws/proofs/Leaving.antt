@@ -204,7 +204,7 @@ module _ {D W : Type 0} {g : Ghosts D} (contents : W → Option (List ℕ)) (con
 
 -- ---- what a run begins with
 
-none_beside : {A B : Type 0} (R : A → B → Type 0) (xs : List A) (ys : List B) → xs ≡ [] → AllZip R xs ys → ys ≡ []
+pub none_beside : {A B : Type 0} (R : A → B → Type 0) (xs : List A) (ys : List B) → xs ≡ [] → AllZip R xs ys → ys ≡ []
 none_beside R [] [] none all = refl
 none_beside R [] (y ∷ ys) none all = absurd all
 none_beside R (x ∷ xs) ys none all = absurd cc

@@ -1,1 +1,2 @@
+mod Checked
 mod Leaving

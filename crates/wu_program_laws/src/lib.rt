@@ -2,6 +2,7 @@
 #![tactic(auto)]
 
 ghost use Rattle.std.specs.Prelude.{map, string_bytes};
+ghost use Rattle.wu_program_laws.specs.Checked.{EachCheckIsTrue};
 ghost use Rattle.wu_program_laws.specs.Runs.{BeginsWhereOneEnded, BeginsWhereOneStopped, LeavesItsWork, LeavesItsWorkUnclosed, LeavesWhereClosed};
 
 use sqlite::{FileFrom, Start};
@@ -50,3 +51,9 @@ pub fn obey_and_leave<S: Start, O: Write, E: Write>(
     a_run_leaves_a_beginning::<S, O, E>(&end);
     end
 }
+
+/// What a check tells is true of the files that it read: `ok` of a sound project, which they hold, and else what is told to
+/// be wrong; and of a sound one nothing is told to be wrong.
+pub fn a_check_is_true<O: Write>()
+    ensures { EachCheckIsTrue O.contents }
+{}

@@ -1,58 +1,76 @@
 -- The lines that a walk hands out are written one after another.
-use Rattle.std.proofs.Common.{◌≡◌, ℕ, List, [], ◌∷◌, ◌++◌, flat_map, Option, Some, None, arith, sym, ap, subst, ◌∙◌, append_assoc, append-nil}
+use Rattle.std.proofs.Common.{◌≡◌, ℕ, ◌≤◌, Bool, false, List, [], ◌∷◌, ◌++◌, flat_map, Option, Some, None, Result, Ok, Err, arith, inl, inr, sym, ap, subst, ◌∙◌, append_assoc, append-nil}
 use Rattle.std.proofs.KnownBytes.{Appends-trans}
+use Rattle.std.proofs.lemmas.Bool.{cases_Bool}
 use Rattle.std.proofs.lemmas.List.Concat.{flat_map-append}
-use Rattle.std.specs.Prelude.{IsTrue}
+use Rattle.std.specs.Prelude.{◌⊎◌, IsErrAnd, IsTrue}
 use Rattle.std.specs.Io.KnownBytes.{Appends}
-use Rattle.std.specs.declared.vec.IntoIter.{IntoIter}
 use Rattle.sqlite.specs.State.{HasCleanDisk}
 use Rattle.sqlite_trees.specs.declared.store.Store.{Ghosts}
+use Rattle.wu_core.specs.World.{World}
+use Rattle.wu_core.specs.declared.fault.Fault.{Fault}
+use Rattle.wu_core.specs.declared.fault.Fault.TheVariants.{Broken}
+use Rattle.wu_store.specs.declared.pages.Pages.{Ghosts as PageGhosts}
 use Rattle.wu_passes.proofs.WalkLemmas.{reads_then}
+use Rattle.wu_passes.specs.declared.project.Project.{Project}
 use Rattle.wu_passes.specs.declared.project.walk.LineWalk.{LineWalk}
-use Rattle.wu_passes.specs.Projects.{state_of}
-use Rattle.wu_passes.specs.Walks.{HandsFirst, HasLeft, OnlyReads, walked}
+use Rattle.wu_passes.specs.declared.project.walk.LinesLeft.{LinesLeft}
+use Rattle.wu_passes.specs.Projects.{Broke, IsPresentSession, state_of}
+use Rattle.wu_passes.specs.Walks.{HandsFirst, HasLeft, OnlyReads, page_of, walked}
 use Rattle.wu_report.proofs.WritingLemmas.{AppendsFront-after, AppendsFront-longer, AppendsFront-part}
 use Rattle.wu_report.specs.Writing.{AppendsFront}
 
 -- the lines that were there are those that were written, and then those that the walk has left
-abbrev pub HasShown : {S A T : Type 0} {g : Ghosts S} → (T → List ℕ) → LineWalk S (IntoIter T A) g → Option (List ℕ) → Option (List ℕ) → List T → Type 0
-HasShown {S} {A} {T} text walk a b lines =
-    (done : List T) × (rest : List T) × (lines ≡ done ++ rest) × HasLeft walk rest × Appends a b (flat_map text done)
+abbrev pub HasShown : {S P T : Type 0} {g : Ghosts S} → PageGhosts P T → (T → List ℕ) → World → LineWalk S (LinesLeft P) g → Option (List ℕ) → Option (List ℕ) → List T → Type 0
+HasShown {S} {P} {T} p text world walk a b lines =
+    (done : List T) × (rest : List T) × (lines ≡ done ++ rest) × HasLeft p world walk rest × Appends a b (flat_map text done)
 
-module _ {S A T W : Type 0} {g : Ghosts S} (text : T → List ℕ) (contents : W → Option (List ℕ)) where
+-- the first of the lines that a walk had left is handed out
+abbrev pub Hands : {S P T : Type 0} {g : Ghosts S} → PageGhosts P T → World → LineWalk S (LinesLeft P) g → LineWalk S (LinesLeft P) g → Option T → Type 0
+Hands {S} {P} {T} p world old new item = (lines : List T) → HasLeft p world old lines → HandsFirst p world (state_of (walked new)) new.lines lines item
+
+-- the connection is open, or the page has no row left
+abbrev pub IsReady : {S P : Type 0} {g : Ghosts S} → LineWalk S (LinesLeft P) g → Type 0
+IsReady walk = IsTrue (state_of (walked walk)).is_open ⊎ (page_of walk.lines ≡ [])
+
+module _ {S P T W : Type 0} {g : Ghosts S} (p : PageGhosts P T) (text : T → List ℕ) (contents : W → Option (List ℕ)) where
   -- a walk, and what was written of it
-  pub record IsUnderWay (old new : LineWalk S (IntoIter T A) g) (out_old out_new : W) : Type 0 where
+  pub record IsUnderWay (old new : LineWalk S (LinesLeft P) g) (out_old out_new : W) : Type 0 where
     pub same_reference : new.project.ghost_name ≡ old.project.ghost_name
     pub reads : OnlyReads (walked old) (walked new)
+    pub present : IsPresentSession (walked new)
     pub open_still : HasCleanDisk (state_of (walked new)) → IsTrue (state_of (walked old)).is_open → IsTrue (state_of (walked new)).is_open
-    pub shown : HasCleanDisk (state_of (walked new)) → (lines : List T) → HasLeft old lines → HasShown text new (contents out_old) (contents out_new) lines
+    pub ready : HasCleanDisk (state_of (walked new)) → IsReady old → IsReady new
+    pub shown : HasCleanDisk (state_of (walked new)) → (world : World) (lines : List T) → HasLeft p world old lines → HasShown p text world new (contents out_old) (contents out_new) lines
 
   -- one step further
-  pub under_way : (old mid new : LineWalk S (IntoIter T A) g) (a b c : W) → IsUnderWay old mid a b → OnlyReads (walked mid) (walked new)
+  pub under_way : (old mid new : LineWalk S (LinesLeft P) g) (a b c : W) → IsUnderWay old mid a b → OnlyReads (walked mid) (walked new)
       → new.project.ghost_name ≡ mid.project.ghost_name
-      → (HasCleanDisk (state_of (walked new)) → IsTrue (state_of (walked mid)).is_open → IsTrue (state_of (walked new)).is_open)
-      → (HasCleanDisk (state_of (walked new)) → (lines : List T) → HasLeft old lines → HasShown text new (contents a) (contents c) lines)
+      → (IsReady mid → HasCleanDisk (state_of (walked new)) → IsTrue (state_of (walked new)).is_open)
+      → (HasCleanDisk (state_of (walked new)) → (world : World) (lines : List T) → HasLeft p world old lines → HasShown p text world new (contents a) (contents c) lines)
       → IsUnderWay old new a c
   under_way old mid new a b c before reads same opens shown =
       record {
         same_reference = same ∙ before.same_reference;
         reads = reads_then (walked old) (walked mid) (walked new) before.reads reads;
-        open_still = λ clean was. opens clean (before.open_still (omega (arith, reads.read.survives.clean, clean)) was);
+        present = reads.version ∙ before.present;
+        open_still = λ clean was. opens (inl (before.open_still (omega (arith, reads.read.survives.clean, clean)) was)) clean;
+        ready = λ clean was. inl (opens (before.ready (omega (arith, reads.read.survives.clean, clean)) was) clean);
         shown = shown;
       }
 
-module _ {S A T : Type 0} {g : Ghosts S} (text : T → List ℕ) (walk new : LineWalk S (IntoIter T A) g) where
+module _ {S P T : Type 0} {g : Ghosts S} (p : PageGhosts P T) (text : T → List ℕ) (world : World) (walk new : LineWalk S (LinesLeft P) g) where
   text_of : (lines done rest : List T) → lines ≡ done ++ rest → flat_map text lines ≡ flat_map text done ++ flat_map text rest
   text_of lines done rest is = ap (flat_map text) is ∙ flat_map-append text done rest
 
   -- what was written is a beginning
-  pub shown_front : (a b : Option (List ℕ)) (lines : List T) → HasShown text walk a b lines → AppendsFront a b (flat_map text lines)
+  pub shown_front : (a b : Option (List ℕ)) (lines : List T) → HasShown p text world walk a b lines → AppendsFront a b (flat_map text lines)
   shown_front a b lines (done, rest, is, has, shown) =
       subst (AppendsFront a b) (sym (text_of lines done rest is)) (AppendsFront-part a b (flat_map text done) (flat_map text rest) shown)
 
   -- and so it is where the next line was cut
-  pub shown_cut : (a b c : Option (List ℕ)) (lines : List T) (line : T) → HasShown text walk a b lines
-      → ((rest : List T) → HasLeft walk rest → HandsFirst rest (Some line) new) → AppendsFront b c (text line) → AppendsFront a c (flat_map text lines)
+  pub shown_cut : (a b c : Option (List ℕ)) (lines : List T) (line : T) → HasShown p text world walk a b lines
+      → Hands p world walk new (Some line) → AppendsFront b c (text line) → AppendsFront a c (flat_map text lines)
   shown_cut a b c lines line (done, rest, is, has, shown) hands cut =
       let first = hands rest has in
       let whole = text_of lines done rest is ∙ ap (λ l. flat_map text done ++ flat_map text l) first.1
@@ -61,8 +79,8 @@ module _ {S A T : Type 0} {g : Ghosts S} (text : T → List ℕ) (walk new : Lin
       subst (AppendsFront a c) (sym whole) (AppendsFront-longer a c (flat_map text done ++ text line) (flat_map text first.0) part)
 
   -- one line more
-  pub shown_next : (a b c : Option (List ℕ)) (lines : List T) (line : T) → HasShown text walk a b lines
-      → ((rest : List T) → HasLeft walk rest → HandsFirst rest (Some line) new) → Appends b c (text line) → HasShown text new a c lines
+  pub shown_next : (a b c : Option (List ℕ)) (lines : List T) (line : T) → HasShown p text world walk a b lines
+      → Hands p world walk new (Some line) → Appends b c (text line) → HasShown p text world new a c lines
   shown_next a b c lines line (done, rest, is, has, shown) hands next =
       let first = hands rest has in
       let whole : flat_map text (done ++ line ∷ []) ≡ flat_map text done ++ text line =
@@ -75,8 +93,27 @@ module _ {S A T : Type 0} {g : Ghosts S} (text : T → List ℕ) (walk new : Lin
       )
 
   -- and at the end all is written
-  pub shown_whole : (a b : Option (List ℕ)) (lines : List T) → HasShown text walk a b lines
-      → ((rest : List T) → HasLeft walk rest → HandsFirst rest None new) → Appends a b (flat_map text lines)
+  pub shown_whole : (a b : Option (List ℕ)) (lines : List T) → HasShown p text world walk a b lines
+      → Hands p world walk new None → Appends a b (flat_map text lines)
   shown_whole a b lines (done, rest, is, has, shown) hands =
       let all : lines ≡ done = is ∙ ap (λ l. done ++ l) (hands rest has) ∙ append-nil done in
       subst (λ l. Appends a b (flat_map text l)) (sym all) shown
+
+-- ---- what broke
+
+module _ {S : Type 0} {g : Ghosts S} (old mid new : Project S g) where
+  shut : (mid_open old_open : Bool) → (IsTrue old_open → IsTrue mid_open) → mid_open ≡ false → old_open ≡ false
+  shut mid_open old_open still closed = elim (cases_Bool old_open) [
+    | inl is ↦ absurd (let still_is = still is in cc)
+    | inr not ↦ not
+  ]
+
+  -- what broke on the way broke over what was before it
+  pub broke_on : (state_of old).faults ≤ (state_of mid).faults → (IsTrue (state_of old).is_open → IsTrue (state_of mid).is_open) → Broke mid new → Broke old new
+  broke_on rises still (inl more) = inl (omega (arith, rises, more))
+  broke_on rises still (inr closed) = inr (shut (state_of mid).is_open (state_of old).is_open still closed)
+
+-- what `?` hands on is `Broken` where the fault is
+pub handed_broken : {U : Type 0} (r : Result U Fault) (fault : Fault) → IsErrAnd r (λ other. other ≡ fault) → r ≡ Err Broken → fault ≡ Broken
+handed_broken (Ok y) fault same is = absurd same
+handed_broken (Err other) fault same is = let broke : other ≡ Broken = cc in sym same ∙ broke

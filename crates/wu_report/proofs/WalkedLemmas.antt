@@ -1,20 +1,16 @@
--- When a walk is refused, and when its lines are.
-use Rattle.std.proofs.Common.{◌≡◌, ℕ, IfErr, IfSome, IsTrue, None, Some, Option, Result, Ok, Err, refl, sym, subst, ◌∙◌}
-use Rattle.std.specs.Prelude.{◌≢◌, IsOkUnless, List}
+-- When a walk or a question is refused, and what a walk that begins shows.
+use Rattle.std.proofs.Common.{◌≡◌, ℕ, IfSome, None, Some, Option, Result, Ok, Err, inl, inr, refl, sym, ◌∙◌}
+use Rattle.std.proofs.lemmas.Bool.{cases_Bool}
+use Rattle.std.specs.Prelude.{◌≢◌, ◌⊎◌, IsErrAnd, IsOk}
 use Rattle.std.specs.Result.{OnErr}
-use Rattle.std.specs.declared.vec.IntoIter.{IntoIter}
-use Rattle.sqlite.specs.State.{HasCleanDisk}
 use Rattle.sqlite_trees.specs.declared.store.Store.{Ghosts}
 use Rattle.wu_core.specs.declared.fault.Fault.{Fault}
-use Rattle.wu_core.specs.declared.fault.Fault.TheVariants.{NotAProject, OldSchema, Output}
+use Rattle.wu_core.specs.declared.fault.Fault.TheVariants.{Broken, Ended, NotAProject, OldSchema}
 use Rattle.wu_core.specs.World.{World}
-use Rattle.wu_passes.proofs.StandingLemmas.{refused_open}
 use Rattle.wu_passes.specs.declared.project.Project.{Project}
-use Rattle.wu_passes.specs.declared.project.walk.LineWalk.{LineWalk}
-use Rattle.wu_passes.specs.Projects.{AnswersFirst, IsPresentSession, IsSessionOpen, IsUnlimited, older_version, state_of}
+use Rattle.wu_passes.specs.Projects.{AnswersFirst, has_ended, IsPresentSession, IsSessionOpen, older_version, ServesOn, state_of}
 use Rattle.wu_passes.specs.Standing.{GoesOn}
-use Rattle.wu_passes.specs.Walks.{RefusesFirst, RefusesWalk, walked, WalksOver}
-use Rattle.wu_report.specs.Views.{FailsToWrite}
+use Rattle.wu_passes.specs.Walks.{RefusesFirst, ShowsTables}
 
 module _ {S : Type 0} {g : Ghosts S} (old new : Project S g) where
   present_with : {T : Type 0} (answer : T) (older : Option ℕ) → older_version old ≡ older → IfSome older (λ version. ◌≡◌ {A = Result T Fault} (Ok answer) (Err (OldSchema version)) × (new ≡ old)) → IsPresentSession old
@@ -31,13 +27,6 @@ module _ {S : Type 0} {g : Ghosts S} (old new : Project S g) (fault : Fault) whe
   present_at None told older is = told
   present_at (Some version) told older is = absurd (let no = sym older ∙ is in cc)
 
-  of_fault : (T : Type 0) (older : Option ℕ) → IfSome older (λ version. ◌≡◌ {A = Result T Fault} (Err fault) (Err (OldSchema version))) → IfSome older (λ version. fault ≡ OldSchema version)
-  of_fault T None it = it
-  of_fault T (Some version) it = (let same : ◌≡◌ {A = Result T Fault} (Err fault) (Err (OldSchema version)) = it in cc)
-
-  pub present_walk : {T : Type 0} → IsSessionOpen old → RefusesFirst {T = T} old (Err fault) → fault ≡ NotAProject → IsPresentSession old
-  present_walk {T} going early is = present_at (older_version old) refl (of_fault T (older_version old) (early.older going)) is
-
   of_both : (T : Type 0) (older : Option ℕ) → IfSome older (λ version. ◌≡◌ {A = Result T Fault} (Err fault) (Err (OldSchema version)) × (new ≡ old)) → IfSome older (λ version. fault ≡ OldSchema version)
   of_both T None it = it
   of_both T (Some version) it = (let same : ◌≡◌ {A = Result T Fault} (Err fault) (Err (OldSchema version)) = it.0 in cc)
@@ -45,20 +34,47 @@ module _ {S : Type 0} {g : Ghosts S} (old new : Project S g) (fault : Fault) whe
   pub present_answer : {T : Type 0} → IsSessionOpen old → AnswersFirst {T = T} old new (Err fault) → fault ≡ NotAProject → IsPresentSession old
   present_answer {T} going early is = present_at (older_version old) refl (of_both T (older_version old) (early.older going)) is
 
-  -- over a world whose values can be read no walk is refused
-  pub walk_unrefused : {T U : Type 0} (IsReadable : World → Type 0) (result : Result U Fault) → result ≡ Err fault → IsSessionOpen old → RefusesFirst {T = T} old (Err fault)
-      → OnErr result (RefusesWalk IsReadable old result new) → HasCleanDisk (state_of new) → IsUnlimited old → (world : World) → IsReadable world → GoesOn (state_of old) world → fault ≢ NotAProject
-  walk_unrefused {T} {U} IsReadable result told going early why clean unlimited world can goes is =
-      let refused : RefusesWalk {T = U} IsReadable old (Err fault) new = subst (λ r. OnErr r (RefusesWalk IsReadable old r new)) told why in
-      let is_open = refused_open (state_of new) fault is (refused.serves going (present_walk {T = T} going early is) clean) in
-      refused.unrefused clean world (goes.stands ((refused.reads.read.back clean).was_open is_open)).0.refines can unlimited is
+-- the session had ended, or it is over an older version
+abbrev pub IsRefusal : Fault → Type 0
+IsRefusal fault = (fault ≡ Ended) ⊎ ((version : ℕ) × (fault ≡ OldSchema version))
 
-module _ {S A T : Type 0} {g : Ghosts S} (lines_of : World → List T) (old : Project S g) (walk new : LineWalk S (IntoIter T A) g) where
-  fails_alone : {R : Type 0} (result : Result R Fault) → IsOkUnless result Output → IfErr result (λ fault. fault ≢ NotAProject)
-  fails_alone (Ok x) it = it
-  fails_alone (Err fault) it = λ is. let no = sym it ∙ is in cc
+module _ {S T : Type 0} {g : Ghosts S} (old : Project S g) (fault : Fault) (early : RefusesFirst {T = T} old (Err fault)) (begins : IsSessionOpen old → IsPresentSession old → IsOk {T = T} {E = Fault} (Err fault)) where
+  in_session : IsSessionOpen old → (older : Option ℕ) → older_version old ≡ older → IfSome older (λ version. ◌≡◌ {A = Result T Fault} (Err fault) (Err (OldSchema version))) → (version : ℕ) × (older_version old ≡ Some version) × (fault ≡ OldSchema version)
+  in_session going None told it = absurd (let no = begins going told in cc)
+  in_session going (Some version) told it =
+      let same : ◌≡◌ {A = Result T Fault} (Err fault) (Err (OldSchema version)) = it in
+      let is : fault ≡ OldSchema version = cc in
+      (version, told, is)
 
-  -- and of its lines only the writing fails
-  pub lines_unrefused : {R : Type 0} (result : Result R Fault) → WalksOver lines_of old walk → FailsToWrite walk new result → HasCleanDisk (state_of (walked walk)) → HasCleanDisk (state_of (walked new))
-      → (world : World) → IsTrue (state_of old).is_open → GoesOn (state_of old) world → IfErr result (λ fault. fault ≢ NotAProject)
-  lines_unrefused result over fails before clean world is_open goes = fails_alone result (fails clean (lines_of world) (over before world (goes.stands is_open).0.refines))
+  -- no walk begins over an older version alone
+  pub old_alone : IsSessionOpen old → (version : ℕ) × (older_version old ≡ Some version) × (fault ≡ OldSchema version)
+  old_alone going = in_session going (older_version old) refl (early.older going)
+
+  -- or after the end of a session
+  pub refusal_told : IsRefusal fault
+  refusal_told = elim (cases_Bool (has_ended old)) [
+    | inl over ↦ inl (let same : ◌≡◌ {A = Result T Fault} (Err fault) (Err Ended) = early.ended over in cc)
+    | inr going ↦ let it = old_alone going in inr (it.0, it.2)
+  ]
+
+  -- an older version is known of an open connection
+  pub still_serves : {U : Type 0} (r : Result U Fault) → IsErrAnd r (λ other. other ≡ fault) → IsSessionOpen old → ServesOn old r
+  still_serves (Ok y) same going = absurd same
+  still_serves (Err other) same going = λ clean. let it = old_alone going in inr ((old.knows it.0 it.1).1 going clean).0
+
+pub never_refused_so : (fault : Fault) → IsRefusal fault → fault ≢ NotAProject
+never_refused_so fault (inl ended) is = absurd (let no = sym ended ∙ is in cc)
+never_refused_so fault (inr (version, older)) is = absurd (let no = sym older ∙ is in cc)
+
+pub never_broken_so : (fault : Fault) → IsRefusal fault → fault ≢ Broken
+never_broken_so fault (inl ended) is = absurd (let no = sym ended ∙ is in cc)
+never_broken_so fault (inr (version, older)) is = absurd (let no = sym older ∙ is in cc)
+
+-- while the connection is open, the tables of a session that goes on stand for its world
+pub tables_shown : {S : Type 0} {g : Ghosts S} (old : Project S g) (world : World) → GoesOn (state_of old) world → ShowsTables (state_of old) world
+tables_shown old world goes is_open = (goes.stands is_open).0.refines
+
+-- where no walk begins, nothing is touched
+pub untouched : {S U : Type 0} {g : Ghosts S} (old new : Project S g) (r : Result U Fault) (fault : Fault) → r ≡ Err fault → OnErr r (new ≡ old) → new ≡ old
+untouched old new (Ok y) fault told same = absurd cc
+untouched old new (Err other) fault told same = same

@@ -1,11 +1,11 @@
 -- What is shown of a project.
-use Rattle.std.specs.Prelude.{◌≡◌, ◌≢◌, ◌⊎◌, ℕ, List, flat_map, Option, Result, Err, IfErr, IfSome, IsOkUnless}
-use Rattle.std.specs.declared.vec.IntoIter.{IntoIter}
+use Rattle.std.specs.Prelude.{◌≡◌, ◌≢◌, ◌⊎◌, ℕ, List, flat_map, Option, Result, Err, IfErr, IfSome}
 use Rattle.sqlite.specs.State.{HasCleanDisk}
 use Rattle.sqlite_trees.specs.declared.store.Store.{Ghosts}
 use Rattle.wu_core.specs.declared.fault.Fault.{Fault}
 use Rattle.wu_core.specs.declared.fault.Fault.TheVariants.{Ended, NotAProject, OldSchema, Output}
 use Rattle.wu_core.specs.World.{World}
+use Rattle.wu_store.specs.declared.pages.Pages.{Ghosts as PageGhosts}
 use Rattle.wu_store.specs.Lines.{AreHostsNamed}
 use Rattle.wu_store.specs.Loading.{IsStoreFault}
 use Rattle.wu_core.specs.Storable.{AreStorable, IsArchiveStorable}
@@ -13,6 +13,7 @@ use Rattle.wu_store.specs.Summaries.{IsCountable}
 use Rattle.wu_passes.specs.Standing.{GoesOn}
 use Rattle.wu_passes.specs.declared.project.Project.{Project}
 use Rattle.wu_passes.specs.declared.project.walk.LineWalk.{LineWalk}
+use Rattle.wu_passes.specs.declared.project.walk.LinesLeft.{LinesLeft}
 use Rattle.wu_passes.specs.Projects.{IsPresentSession, IsSessionOpen, IsSessionEnded, IsUnlimited, older_version, state_of}
 use Rattle.wu_passes.specs.Walks.{HasLeft, walked}
 use Rattle.wu_machine.specs.declared.view.View.{View}
@@ -26,15 +27,11 @@ IsViewFault fault = (fault ≡ Output) ⊎ IsStoreFault fault
 
 -- ---- the lines of a walk
 
--- those that it had left are written, each by its text
-abbrev pub WritesLeft : {S A T W R : Type 0} {store : Ghosts S} → (T → List ℕ) → (W → Option (List ℕ)) → LineWalk S (IntoIter T A) store → LineWalk S (IntoIter T A) store → W → W → Result R Fault → Type 0
-WritesLeft {S} {A} {T} text contents old new out_old out_new result =
-    HasCleanDisk (state_of (walked new)) → (lines : List T) → HasLeft old lines
+-- those that it had left are written, each by its text, up to the first fault
+abbrev pub WritesLeft : {S P T W R : Type 0} {store : Ghosts S} → PageGhosts P T → (T → List ℕ) → (W → Option (List ℕ)) → LineWalk S (LinesLeft P) store → LineWalk S (LinesLeft P) store → W → W → Result R Fault → Type 0
+WritesLeft {S} {P} {T} p text contents old new out_old out_new result =
+    HasCleanDisk (state_of (walked new)) → (world : World) (lines : List T) → HasLeft p world old lines
     → WritesTo contents out_old out_new (flat_map text lines) result
-
--- of these only the writing may fail
-abbrev pub FailsToWrite : {S A T R : Type 0} {store : Ghosts S} → LineWalk S (IntoIter T A) store → LineWalk S (IntoIter T A) store → Result R Fault → Type 0
-FailsToWrite {S} {A} {T} old new result = HasCleanDisk (state_of (walked new)) → (lines : List T) → HasLeft old lines → IsOkUnless result Output
 
 -- ---- a view
 

@@ -3,9 +3,9 @@
 ghost use Rattle.std.specs.Prelude.{◌≡◌, IfErr};
 ghost use Rattle.wu_report.specs.Projects.{ReadsSession};
 ghost use Rattle.wu_report.specs.Seeing.{Sees};
-ghost use Rattle.wu_report.specs.Views.{FailsToWrite, IsViewFault, RefusesView, Shows, ShowsOrFails, ShowsUnrefused, WritesLeft};
-ghost use Rattle.wu_passes.specs.Projects.{BreaksOn, IsSessionOpen, ServesOn};
-ghost use Rattle.wu_passes.specs.Walks.{OnlyReads, StaysServing, walked};
+ghost use Rattle.wu_report.specs.Views.{IsViewFault, RefusesView, Shows, ShowsOrFails, ShowsUnrefused, WritesLeft};
+ghost use Rattle.wu_passes.specs.Projects.{BreaksOn, IsPresentSession, IsSessionOpen, ServesOn};
+ghost use Rattle.wu_passes.specs.Walks.{HandsUnrefused, OnlyReads, ReadsOn, StaysServing, walked};
 
 use crate::lines::{Line, write_summary};
 use crate::output::flush;
@@ -15,18 +15,23 @@ use std::io::Write;
 use wu_core::Fault;
 use wu_machine::View;
 use wu_passes::{Project, Walk};
+use wu_store::Pages;
 
-/// Writes the lines that a walk has left.
-fn write_lines<S: Alter, T: Line, W: Write>(
-    walk: &mut Walk<'_, S, T>,
+/// Writes the lines that a walk has left. A fault of the walk comes after the lines before it.
+fn write_lines<S: Alter, P: Pages, W: Write>(
+    walk: &mut Walk<'_, S, P>,
     out: &mut W,
 ) -> Result<(), Fault>
+where
+    P::Line: Line,
+    requires { IsPresentSession (walked walk.old) }
     ensures same_reference { walk.new.project.ghost_name ≡ walk.old.project.ghost_name }
-    ensures reads { OnlyReads (walked walk.old) (walked walk.new) }
-    ensures opens { StaysServing (walked walk.old) (walked walk.new) result }
-    ensures text { WritesLeft T.text W.contents walk.old walk.new out.old out.new result }
+    ensures reads { ReadsOn (walked walk.old) (walked walk.new) result }
+    ensures opens { StaysServing walk.old walk.new result }
+    ensures text { WritesLeft P.Pages P.Line.text W.contents walk.old walk.new out.old out.new
+        result }
     ensures fault { IfErr result IsViewFault }
-    ensures unrefused { FailsToWrite walk.old walk.new result }
+    ensures unrefused { HandsUnrefused walk.old walk.new P.Pages result }
 {
     while let Some(line) = walk.next()? {
         line.write(out)?;

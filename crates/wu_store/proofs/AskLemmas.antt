@@ -145,7 +145,7 @@ stays_asked g old new (Err fault) it was clean = elim (it.refused clean) [
   | inr (inr same) ↦ inr same.0.is_open
 ]
 
-never_err : {T : Type 0} (x : T) → ◌≢◌ {A = Result T Fault} (Ok x) (Err Broken)
+pub never_err : {T : Type 0} (x : T) → ◌≢◌ {A = Result T Fault} (Ok x) (Err Broken)
 never_err x is = absurd cc
 
 -- what was asked so far was answered

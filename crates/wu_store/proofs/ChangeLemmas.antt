@@ -2,6 +2,7 @@
 use Rattle.wu_schema.proofs.Words.{Archived, ap, Executes, Grant, Import, Instance, Int, Integer, List, None, Null, Ok, Option, Some, Refines, PutsOne, State, Text, Workunit, World, [], archived_at, archived_cells, arith, bound_value, cast, cast_row, codes, grant_at, grant_cells, import_at, import_cells, instance_cells, map, next_rowid, number, number_or_null, of_z, option_map, pos, refl, result_at, stored_archived, stored_grant, stored_workunit, text_or_null, to_z, to_z-of_z, Value, value_rows, w64, workunit_at, workunit_row, ℕ, ℤ, ◌<◌, ◌^◌, ◌∙◌, ◌∷◌, ◌≡◌}
 use Rattle.wu_store.specs.Changes.{HasInstances, IsNextPlace, LacksNumber, PutsGrant, with_archived, with_import, with_instance, with_next, with_placed, with_version}
 use Rattle.wu_core.specs.Storable.{bare}
+use Rattle.std.specs.Prelude.{FitsSigned}
 use Rattle.std.proofs.lemmas.Int.{fits_signed_from_abs}
 use Rattle.sqlite.specs.Values as values
 use Rattle.sqlite.specs.Kind.TheVariants.{Text as KindText}
@@ -45,6 +46,10 @@ sent n m is low = rw is (to_z-of_z w64 (pos m) (fits_signed_from_abs w64 (pos m)
 -- a number that fits is bound as it is
 pub sent_number : {v : Value} {n : ℤ} (m : ℕ) → v ≡ Int (to_z w64 (of_z w64 n)) → n ≡ pos m → m < 2 ^ 63 → bound_value v ≡ number m
 sent_number {v} {n} m given is low = ap bound_value given ∙ ap (λ z. Int z) (sent n m is low)
+
+-- so is an integer of its type
+pub sent_integer : {v : Value} {n : ℤ} → v ≡ Int (to_z w64 (of_z w64 n)) → FitsSigned w64 n → bound_value v ≡ Int n
+sent_integer {v} {n} given fits = ap bound_value given ∙ ap (λ z. Int z) (to_z-of_z w64 n fits)
 
 pub bound_number_or_null : (o : Option ℕ) → bound_value (number_or_null o) ≡ number_or_null o
 bound_number_or_null None = refl

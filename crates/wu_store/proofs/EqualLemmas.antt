@@ -1,6 +1,8 @@
 -- When SQL finds two values equal.
-use Rattle.wu_schema.proofs.Words.{Binary, Bool, Equal, Greater, Int, Less, List, Ordering, Some, Text, ap, arith, binary, bytes_eq, equal, false, int_cmp, is_eq, is_true, nat_le, nat_lt, nat_tests, pos, refl, true, value_cmp, value_cmp-Int, ℕ, ℤ, ◌==◌, ◌∙◌, ◌≡◌}
-use Rattle.std.specs.Ordering.{is_gt, is_le}
+use Rattle.wu_schema.proofs.Words.{Binary, Bool, Equal, Greater, Int, Less, List, Ordering, Some, Text, ap, arith, binary, bytes_eq, cond, equal, false, int_cmp, is_eq, is_true, nat_le, nat_lt, nat_tests, negsuc, pos, refl, sym, true, value_cmp, value_cmp-Int, ℕ, ℤ, ◌==◌, ◌∙◌, ◌≡◌}
+use Rattle.std.specs.Prelude.{int_lt}
+use Rattle.std.specs.Cmp.Lexicographic.{slice_cmp}
+use Rattle.std.specs.Ordering.{is_gt, is_le, nat_cmp}
 use Rattle.std.proofs.lemmas.Map.Text.{is_eq-slice_cmp}
 use Rattle.sqlite_value.proofs.OrderLemmas.{value_cmp-Text}
 use Rattle.sqlite_sql.specs.Ops.{test}
@@ -28,17 +30,38 @@ int_equal m n = true_if (is_eq (value_cmp (Int m) (Int n)))
 pub number_equal : (a b : ℕ) → equal Binary (Int (pos a)) (Int (pos b)) ≡ (a == b)
 number_equal a b = int_equal (pos a) (pos b) ∙ number_tied a b
 
-pub number_above : (a b : ℕ) → is_true (binary (by.Compare compare.Gt Binary) (Int (pos a)) (Int (pos b))) ≡ nat_lt b a
-unfolding binary
-number_above a b = true_if (test compare.Gt (value_cmp (Int (pos a)) (Int (pos b)))) ∙ ap (test compare.Gt) (value_cmp-Int (pos a) (pos b)) ∙ tested (int_cmp (pos a) (pos b)) ∙ tests
-  where
-    tested : (o : Ordering) → test compare.Gt o ≡ is_gt o
-    tested Less = refl
-    tested Equal = refl
-    tested Greater = refl
+is_more : (o : Ordering) → test compare.Gt o ≡ is_gt o
+is_more Less = refl
+is_more Equal = refl
+is_more Greater = refl
 
-    tests : is_gt (int_cmp (pos a) (pos b)) ≡ nat_lt b a
-    tests = grind (arith, nat_tests)
+-- one text is above another by its bytes
+pub text_above : (a b : List ℕ) → is_true (binary (by.Compare compare.Gt Binary) (Text a) (Text b)) ≡ is_gt (slice_cmp nat_cmp a b)
+unfolding binary
+text_above a b = true_if (test compare.Gt (value_cmp (Text a) (Text b))) ∙ ap (test compare.Gt) (value_cmp-Text a b) ∙ is_more (slice_cmp nat_cmp a b)
+
+-- one number is above another
+pub int_above : (a b : ℤ) → is_true (binary (by.Compare compare.Gt Binary) (Int a) (Int b)) ≡ int_lt b a
+unfolding binary
+int_above a b = true_if (test compare.Gt (value_cmp (Int a) (Int b))) ∙ ap (test compare.Gt) (value_cmp-Int a b) ∙ is_more (int_cmp a b) ∙ greater (int_lt a b) refl
+  where
+    -- what is lower is not higher
+    lower : (a b : ℤ) → int_lt a b ≡ true → int_lt b a ≡ false
+    lower (pos m) (pos n) low = grind (arith, nat_tests)
+    lower (pos m) (negsuc n) low = absurd (cc)
+    lower (negsuc m) (pos n) low = refl
+    lower (negsuc m) (negsuc n) low = grind (arith, nat_tests)
+
+    chosen : (c : Bool) → is_gt (cond c Greater Equal) ≡ c
+    chosen true = refl
+    chosen false = refl
+
+    greater : (c : Bool) → int_lt a b ≡ c → is_gt (cond c Less (cond (int_lt b a) Greater Equal)) ≡ int_lt b a
+    greater true low = sym (lower a b low)
+    greater false high = chosen (int_lt b a)
+
+pub number_above : (a b : ℕ) → is_true (binary (by.Compare compare.Gt Binary) (Int (pos a)) (Int (pos b))) ≡ nat_lt b a
+number_above a b = int_above (pos a) (pos b)
 
 pub number_at_most : (a b : ℕ) → is_true (binary (by.Compare compare.Le Binary) (Int (pos a)) (Int (pos b))) ≡ nat_le a b
 unfolding binary

@@ -42,4 +42,10 @@ mod VerdictLemmas
 mod LineLemmas
 mod ListingLemmas
 mod ViewAnswers
+mod PageLemmas
+mod PageAnswers
+mod PageLines
+mod HostPageAnswers
+mod PageHosts
+mod PageResults
 mod CountLemmas

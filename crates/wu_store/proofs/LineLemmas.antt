@@ -20,8 +20,7 @@ use Rattle.wu_core.specs.World.{World}
 use Rattle.wu_schema.specs.Stored.{number_or_null, workunit_row}
 use Rattle.wu_schema.specs.Restoring.{Restores}
 use Rattle.wu_store.proofs.LoadLemmas.{never_unread}
-use Rattle.wu_store.specs.Answers.{all_rows}
-use Rattle.wu_store.specs.Lines.{FindsLines, line_of, ReadsLine, ReadsLines, workunit_lines}
+use Rattle.wu_store.specs.Lines.{line_of, ReadsLine}
 use Rattle.wu_core.specs.Storable.{IsStoredWorkunit, AreStorable, bare}
 use Rattle.wu_store.specs.declared.lines.WorkunitLine.{WorkunitLine}
 
@@ -83,16 +82,6 @@ same_line v w is =
     let done = same_number v.done_at w.done_at cc in
     rw (number, name, quorum, target, errors, total, successes, delay, credit, input, mask, canonical, assimilated, deleted, done) refl
 
--- nor do lines
-pub same_lines : (vs ws : List Workunit) → map workunit_row vs ≡ map workunit_row ws → map line_of vs ≡ map line_of ws
-same_lines [] [] is = refl
-same_lines [] (w ∷ ws) is = absurd cc
-same_lines (v ∷ vs) [] is = absurd cc
-same_lines (v ∷ vs) (w ∷ ws) is =
-    let row : workunit_row v ≡ workunit_row w = cc in
-    let rows : map workunit_row vs ≡ map workunit_row ws = cc in
-    rw (same_line v w row, same_lines vs ws rows) refl
-
 -- ---- the lines of rows
 
 -- a row that can't be read is that of no workunit that can be
@@ -102,29 +91,3 @@ line_unread row f reads = record {
   found = λ w can is. never_unread workunit_row IsStoredWorkunit row (Err f) (bare w) reads can is;
   refused = reads.refused;
 }
-
--- one more row is one more workunit
-pub rows_more : (ws : List Workunit) (rows : List Row) (i : ℕ) (w : Workunit) (d : Row) → map workunit_row ws ≡ take i rows → i < length rows → get_or rows i d ≡ workunit_row w → map workunit_row (ws ++ w ∷ []) ≡ take (i + 1) rows
-rows_more ws rows i w d so_far low at =
-    map-append workunit_row ws (w ∷ []) ∙ ap (λ rs. rs ++ workunit_row w ∷ []) so_far ∙ ap (λ r. take i rows ++ r ∷ []) (sym at) ∙ sym (take_more rows i d low)
-
-module _ (rows : List Row) (i : ℕ) (d row : Row) (f : Fault) (low : i < length rows) (at : get_or rows i d ≡ row) (unread : ReadsLine row (Err f)) where
-  -- rows with one that can't be read are those of no workunits that can all be
-  pub lines_unread : ReadsLines {A = Global} rows (Err f)
-  lines_unread = record { value = tt; found = found; refused = unread.refused }
-    where
-      found : (ws : List Workunit) → All (λ w. IsStoredWorkunit (bare w)) ws → rows ≡ map workunit_row ws → f ≢ NotAProject
-      found [] all same = absurd (let none : length rows ≡ 0 = ap (λ rs. length rs) same in omega (arith, none, low))
-      found (w ∷ ws) all same =
-          let within : i < length (w ∷ ws) = subst (λ n. i < n) (ap (λ rs. length rs) same ∙ length-map (w ∷ ws) workunit_row) low in
-          unread.found (get_or (w ∷ ws) i w) (all i w within) (sym at ∙ ap (λ rs. get_or rs i d) same ∙ get_or-map workunit_row (w ∷ ws) i w d within)
-
-module _ (world : World) (rows : List Row) (are : rows ≡ all_rows world) where
-  -- the lines that rows of a world are read as are that world's
-  pub lines_found : (r : Result (Vec WorkunitLine Global) Fault) → ReadsLines rows r → FindsLines workunit_lines r world
-  lines_found (Ok lines) reads = reads.value.2 ∙ same_lines reads.value.0 world.workunits (sym reads.value.1 ∙ are)
-  lines_found (Err f) reads = tt
-
-  -- and they can be read where its workunits can
-  pub lines_read : (r : Result (Vec WorkunitLine Global) Fault) → ReadsLines rows r → AreStorable world → IfErr r (λ fault. fault ≢ NotAProject)
-  lines_read r reads storable = reads.found world.workunits (λ i d low. (storable i d low).row) are

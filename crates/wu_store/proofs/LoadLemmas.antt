@@ -79,7 +79,7 @@ found_none p (x ∷ xs) none = elim (cases_Bool (p x)) [
   | inr not ↦ rw not (found_none p xs (subst (λ b. (if b then x ∷ filter p xs else filter p xs) ≡ []) not none))
 ]
 
-found_first : {X : Type 0} (p : X → Bool) (xs : List X) (one : X) (more : List X) → filter p xs ≡ one ∷ more → find p xs ≡ Some one
+pub found_first : {X : Type 0} (p : X → Bool) (xs : List X) (one : X) (more : List X) → filter p xs ≡ one ∷ more → find p xs ≡ Some one
 found_first p [] one more some = absurd cc
 found_first p (x ∷ xs) one more some = elim (cases_Bool (p x)) [
   | inl is ↦ rw is (let same : x ∷ filter p xs ≡ one ∷ more = subst (λ b. (if b then x ∷ filter p xs else filter p xs) ≡ one ∷ more) is some in cc)

@@ -57,6 +57,9 @@ pub as_columns : (row : Row) → map (column row) (range_with_len 0 (length row)
 as_columns [] = refl
 as_columns (v ∷ row) = ap (λ rest. v ∷ rest) (shifted v row 0 (length row) ∙ as_columns row)
 
+pub whole_row : (n : ℕ) (row : Row) → length row ≡ n → columns row 0 n ≡ row
+whole_row n row long = subst (λ k. map (column row) (range_with_len 0 k) ≡ row) long (as_columns row)
+
 -- the progress of a workunit
 abbrev progress_of : Workunit → Progress
 progress_of w = record { error_mask = w.error_mask; canonical = w.canonical; assimilate = w.assimilate; file_delete = w.file_delete; done_at = w.done_at }
@@ -186,23 +189,20 @@ module _ (row : Row) (states : States) (host : Option (List ℕ)) (moments : Mom
     output = output;
   }
 
-  -- a row whose columns read as these is that of this instance alone
-  pub instance_read : length row ≡ 9 → Restores state_cells (λ _. ⊤) (columns row 0 4) (Ok states) → Restores text_or_null IsHost (column row 4) (Ok host)
+  -- nine columns that read as these are those of this instance alone
+  pub instance_read : Restores state_cells (λ _. ⊤) (columns row 0 4) (Ok states) → Restores text_or_null IsHost (column row 4) (Ok host)
       → Restores moment_cells HasMoments (columns row 5 3) (Ok moments) → Restores Blob (λ o. length o ≤ longest_output) (column row 8) (Ok output)
-      → Restores instance_row MayBeInstance row (Ok read_instance)
-  instance_read long states_are host_is moments_are output_is = record {
+      → Restores instance_row MayBeInstance (columns row 0 9) (Ok read_instance)
+  instance_read states_are host_is moments_are output_is = record {
     value = (stored, record { host = host_is.value.1; moments = moments_are.value.1; output = output_is.value.1 });
     found = λ i is same. inl (ap (λ i. Ok i) (only i is same));
     refused = tt;
   }
     where
-      whole : columns row 0 4 ++ (column row 4 ∷ columns row 5 3 ++ (column row 8 ∷ [])) ≡ row
-      whole = subst (λ k. map (column row) (range_with_len 0 k) ≡ row) long (as_columns row)
+      stored : columns row 0 9 ≡ instance_row read_instance
+      stored = joined_four _ _ _ _ _ _ _ _ states_are.value.0 host_is.value.0 moments_are.value.0 output_is.value.0
 
-      stored : row ≡ instance_row read_instance
-      stored = sym whole ∙ joined_four _ _ _ _ _ _ _ _ states_are.value.0 host_is.value.0 moments_are.value.0 output_is.value.0
-
-      only : (i : Instance) → MayBeInstance i → row ≡ instance_row i → read_instance ≡ i
+      only : (i : Instance) → MayBeInstance i → columns row 0 9 ≡ instance_row i → read_instance ≡ i
       only i is same =
           let a = ok_is states (states_of i) (states_are.found (states_of i) tt (ap (λ r. columns r 0 4) same)) in
           let b = ok_is host i.host (host_is.found i.host is.host (ap (λ r. column r 4) same)) in
@@ -237,28 +237,24 @@ module _ (row : Row) (name : List ℕ) (total grants : ℕ) where
           let d = ok_is grants h.grants (grants_are.found h.grants tt (ap (λ r. column r 2) same)) in
           rw (a, b, d) refl
 
-module _ (row : Row) (n : ℕ) (name : List ℕ) (mask : ErrorMask) (canonical : Option ℕ) (output : List ℕ) (done_at : ℕ) where
+module _ (n : ℕ) (name : List ℕ) (mask : ErrorMask) (canonical : Option ℕ) (output : List ℕ) (done_at : ℕ) where
   abbrev read_archived : Archived
   read_archived = record { number = n; name = name; error_mask = mask; canonical = canonical; output = output; done_at = done_at }
 
-  -- a row whose columns read as these is that of this archived workunit alone
-  pub archived_read : length row ≡ 6 → Restores number (λ _. ⊤) (column row 0) (Ok n) → Restores Text IsName (column row 1) (Ok name)
-      → Restores mask_cell (λ _. ⊤) (column row 2) (Ok mask) → Restores number_or_null IsPlace (column row 3) (Ok canonical)
-      → Restores Blob IsOutput (column row 4) (Ok output) → Restores number (λ seconds. seconds ≤ last_moment) (column row 5) (Ok done_at)
-      → Restores archived_cells IsStoredArchived row (Ok read_archived)
-  archived_read long number_is name_is mask_is canonical_is output_is done_is = record {
+  -- cells that read as these are those of this archived workunit alone
+  pub archived_cells_read : (u v w x y z : Value) → Restores number (λ _. ⊤) u (Ok n) → Restores Text IsName v (Ok name) → Restores mask_cell (λ _. ⊤) w (Ok mask) → Restores number_or_null IsPlace x (Ok canonical)
+      → Restores Blob IsOutput y (Ok output) → Restores number (λ seconds. seconds ≤ last_moment) z (Ok done_at)
+      → Restores archived_cells IsStoredArchived (u ∷ v ∷ w ∷ x ∷ y ∷ z ∷ []) (Ok read_archived)
+  archived_cells_read u v w x y z number_is name_is mask_is canonical_is output_is done_is = record {
     value = (stored, record { name = name_is.value.1; canonical = canonical_is.value.1; output = output_is.value.1; done_at = done_is.value.1 });
     found = λ a is same. inl (ap (λ a. Ok a) (only a is same));
     refused = tt;
   }
     where
-      whole : column row 0 ∷ column row 1 ∷ column row 2 ∷ column row 3 ∷ column row 4 ∷ column row 5 ∷ [] ≡ row
-      whole = subst (λ k. map (column row) (range_with_len 0 k) ≡ row) long (as_columns row)
+      stored : u ∷ v ∷ w ∷ x ∷ y ∷ z ∷ [] ≡ archived_cells read_archived
+      stored = λ i. number_is.value.0 i ∷ name_is.value.0 i ∷ mask_is.value.0 i ∷ canonical_is.value.0 i ∷ output_is.value.0 i ∷ done_is.value.0 i ∷ []
 
-      stored : row ≡ archived_cells read_archived
-      stored = sym whole ∙ (λ i. number_is.value.0 i ∷ name_is.value.0 i ∷ mask_is.value.0 i ∷ canonical_is.value.0 i ∷ output_is.value.0 i ∷ done_is.value.0 i ∷ [])
-
-      only : (a : Archived) → IsStoredArchived a → row ≡ archived_cells a → read_archived ≡ a
+      only : (a : Archived) → IsStoredArchived a → u ∷ v ∷ w ∷ x ∷ y ∷ z ∷ [] ≡ archived_cells a → read_archived ≡ a
       only a is same =
           let b = ok_is n a.number (number_is.found a.number tt (ap (λ r. column r 0) same)) in
           let d = ok_is name a.name (name_is.found a.name is.name (ap (λ r. column r 1) same)) in
@@ -267,3 +263,12 @@ module _ (row : Row) (n : ℕ) (name : List ℕ) (mask : ErrorMask) (canonical :
           let h = ok_is output a.output (output_is.found a.output is.output (ap (λ r. column r 4) same)) in
           let k = ok_is done_at a.done_at (done_is.found a.done_at is.done_at (ap (λ r. column r 5) same)) in
           rw (b, d, e, g, h, k) refl
+
+  -- so is a row whose columns read so
+  pub archived_read : (row : Row) → length row ≡ 6 → Restores number (λ _. ⊤) (column row 0) (Ok n) → Restores Text IsName (column row 1) (Ok name)
+      → Restores mask_cell (λ _. ⊤) (column row 2) (Ok mask) → Restores number_or_null IsPlace (column row 3) (Ok canonical)
+      → Restores Blob IsOutput (column row 4) (Ok output) → Restores number (λ seconds. seconds ≤ last_moment) (column row 5) (Ok done_at)
+      → Restores archived_cells IsStoredArchived row (Ok read_archived)
+  archived_read row long number_is name_is mask_is canonical_is output_is done_is =
+      let whole : column row 0 ∷ column row 1 ∷ column row 2 ∷ column row 3 ∷ column row 4 ∷ column row 5 ∷ [] ≡ row = subst (λ k. map (column row) (range_with_len 0 k) ≡ row) long (as_columns row) in
+      subst (λ r. Restores archived_cells IsStoredArchived r (Ok read_archived)) whole (archived_cells_read _ _ _ _ _ _ number_is name_is mask_is canonical_is output_is done_is)

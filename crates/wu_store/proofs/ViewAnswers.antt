@@ -15,7 +15,7 @@ use Rattle.wu_schema.proofs.AnswerLemmas.{meeting, showing}
 use Rattle.wu_schema.proofs.Parts.{Archive, Grants, Hosts, Imports, Instances, Workunits}
 use Rattle.wu_schema.proofs.RowLemmas.{filter_same, no_test, one_test}
 use Rattle.wu_schema.proofs.SelectLemmas.{Asked, Fits}
-use Rattle.wu_store.specs.Answers.{all_archived, all_credit, all_hosts, all_instances, count_in, import_count, result_count, workunit_count}
+use Rattle.wu_store.specs.Answers.{all_credit, all_instances, count_in, import_count, result_count, workunit_count}
 use Rattle.wu_store.proofs.EqualLemmas.{number_equal}
 use Rattle.wu_schema.proofs.ExprLemmas.{same}
 use Rattle.wu_store.proofs.OrderAnswers.{by_key, pair, sure_in_order, sure_sorted}
@@ -23,83 +23,28 @@ use Rattle.wu_store.proofs.ReadAnswers.{asked_answers, asked_rows}
 
 -- ---- all hosts, in order of their names
 
-abbrev pub hosts_asked : Asked
-hosts_asked = record { text = codes "SELECT name, total, grants FROM host ORDER BY name"; parameters = []; shown = 0 ∷ 1 ∷ 2 ∷ []; tests = []; order = Some 0; limit = None; upto = lit (Int (negsuc 0)) }
-
-pub hosts_fits : (tree : ℕ) → Fits (codes "host") (host_at tree) hosts_asked
-unfolding everything
-hosts_fits tree = record { shown = refl; tests = refl; strict = refl; order = refl; height = (0, tt); few = omega arith; limit = λ schema. refl; read = refl; typed = refl }
-
-abbrev host_shows : List Term
+abbrev pub host_shows : List Term
 host_shows = col 1 1 ∷ col 1 2 ∷ col 1 3 ∷ []
 
 -- of the cells of a host its name, and what is shown
-abbrev host_pair : Row → Output
+abbrev pub host_pair : Row → Output
 host_pair c = (column c 0 ∷ [], column c 0 ∷ column c 1 ∷ column c 2 ∷ [])
 
 module _ (grants : List Grant) where
-  abbrev name_pair : List ℕ → Output
+  abbrev pub name_pair : List ℕ → Output
   name_pair name = host_pair (host_of grants name)
 
   below_all : (name : List ℕ) (hosts : List (List ℕ)) → AllByRecursion (below name) hosts → AllByRecursion (λ b. by_key (name_pair name) b ≡ Less) (map name_pair hosts)
   below_all name [] low = tt
   below_all name (h ∷ hosts) low = (value_cmp-Text name h ∙ low.0, below_all name hosts low.1)
 
-  names_rise : (hosts : List (List ℕ)) → Ascends below hosts → IsAscending (λ a b. by_key a b ≡ Less) (map name_pair hosts)
+  pub names_rise : (hosts : List (List ℕ)) → Ascends below hosts → IsAscending (λ a b. by_key a b ≡ Less) (map name_pair hosts)
   names_rise [] up = tt
   names_rise (h ∷ hosts) up = (below_all h hosts up.0, names_rise hosts up.1)
 
-  names_shown : (hosts : List (List ℕ)) → map (λ (o : Output). o.1) (map name_pair hosts) ≡ map (host_of grants) hosts
+  pub names_shown : (hosts : List (List ℕ)) → map (λ (o : Output). o.1) (map name_pair hosts) ≡ map (host_of grants) hosts
   names_shown [] = refl
   names_shown (h ∷ hosts) = ap (λ rows. host_of grants h ∷ rows) (names_shown hosts)
-
-module _ (tree : ℕ) where
-  abbrev host_row_pair : Row → Output
-  host_row_pair = pair tree [] host_shows 1 false (lit (Int (negsuc 0))) []
-
-  host_pair_is : (r : Row) → host_row_pair r ≡ host_pair (drop 1 r)
-  host_pair_is [] = refl
-  host_pair_is (v ∷ r) = refl
-
-  host_pairs : (rows : List Row) → map host_row_pair rows ≡ map host_pair (map (drop 1) rows)
-  host_pairs rows = (λ i. map (λ r. host_pair_is r i) rows) ∙ sym (map-map host_pair (drop 1) rows)
-
-module _ (old new : State) (world : World) (s : Refines old.now world) where
-  pub hosts_found : (rows : List Row) → Shown hosts_asked.text [] old new rows → rows ≡ all_hosts world
-  hosts_found rows h =
-      let tree = s.trees.host in
-      let grants = world.grants in
-      let stored = old.now.trees tree in
-      let read = asked_answers Hosts hosts_asked hosts_fits old new world s tt [] rows h in
-      let cells = IsPermutation-map host_pair _ _ s.rows.hosts.same in
-      let named : IsPermutation (map (name_pair grants) (hosts_of grants)) (map host_pair (map (drop 1) stored)) =
-      subst (λ xs. IsPermutation xs (map host_pair (map (drop 1) stored))) (map-map host_pair (host_of grants) (hosts_of grants)) cells in
-      let same = subst (IsPermutation (map (name_pair grants) (hosts_of grants))) (sym (ap (map (host_row_pair tree)) (no_test stored) ∙ host_pairs tree stored)) named in
-      sure_sorted tree [] host_shows 1 false (lit (Int (negsuc 0))) [] old.now rows (map (name_pair grants) (hosts_of grants)) s.tables.host.1.low (names_rise grants (hosts_of grants) (once grants)) same read.answer ∙ names_shown grants (hosts_of grants)
-
--- ---- all archived workunits, in order of their archiving
-
-abbrev pub archive_asked : Asked
-archive_asked = record { text = codes "SELECT number, name, error_mask, canonical, output, done_at FROM archived ORDER BY seq"; parameters = []; shown = 1 ∷ 2 ∷ 3 ∷ 4 ∷ 5 ∷ 6 ∷ []; tests = []; order = Some 0; limit = None; upto = lit (Int (negsuc 0)) }
-
-pub archive_fits : (tree : ℕ) → Fits (codes "archived") (archived_at tree) archive_asked
-unfolding everything
-archive_fits tree = record { shown = refl; tests = refl; strict = refl; order = refl; height = (0, tt); few = omega arith; limit = λ schema. refl; read = refl; typed = refl }
-
-abbrev archive_shows : List Term
-archive_shows = col 1 2 ∷ col 1 3 ∷ col 1 4 ∷ col 1 5 ∷ col 1 6 ∷ col 1 7 ∷ []
-
-archive_shown : (k : ℕ) (xs : List Archived) → map (λ r. eval_all archive_shows ([] ∷ r ∷ [])) (map stored_archived (enumerate_from k xs)) ≡ map archived_cells xs
-archive_shown k [] = refl
-archive_shown k (x ∷ xs) = ap (λ rows. archived_cells x ∷ rows) (archive_shown (k + 1) xs)
-
-module _ (old new : State) (world : World) (s : Refines old.now world) where
-  pub archive_found : (rows : List Row) → Shown archive_asked.text [] old new rows → rows ≡ all_archived world
-  archive_found rows h =
-      let tree = s.trees.archived in
-      let read = asked_answers Archive archive_asked archive_fits old new world s tt [] rows h in
-      sure_in_order tree [] archive_shows (lit (Int (negsuc 0))) [] old.now rows s.tables.archived.1.low s.rows.archived.shaped.0 read.answer ∙ ap (map (λ r. eval_all archive_shows ([] ∷ r ∷ []))) (no_test (old.now.trees tree) ∙ s.rows.archived.same)
-      ∙ archive_shown 1 world.archived
 
 -- ---- the credit of all grants, in order of their making
 

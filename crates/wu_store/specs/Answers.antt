@@ -35,10 +35,6 @@ kept_of kind name world = map kept_cells (filter (is_import kind name) world.imp
 abbrev pub next_row : World → Row
 next_row world = number world.next_number ∷ []
 
--- the rows of all workunits, in order of number
-abbrev pub all_rows : World → List Row
-all_rows world = map workunit_row world.workunits
-
 -- the workunit of this number, if it is present, and its row
 abbrev pub numbered : ℕ → World → Option Workunit
 numbered number world = find (λ (w : Workunit). w.number == number) world.workunits
@@ -85,14 +81,6 @@ last_grant world = last_place world.grants
 -- and that of the last archived row
 abbrev pub last_archived : World → Option Row
 last_archived world = last_place world.archived
-
--- the rows of all hosts, in order of their names' bytes
-abbrev pub all_hosts : World → List Row
-all_hosts world = map (host_of world.grants) (hosts_of world.grants)
-
--- those of all archived workunits, in order of their archiving
-abbrev pub all_archived : World → List Row
-all_archived world = map archived_cells world.archived
 
 -- the credit of grants
 abbrev pub credits_of : List Grant → List Row

@@ -8,5 +8,6 @@ pub mod StandsFor
 pub mod Changing
 pub mod Due
 pub mod Lines
+pub mod Pages
 pub mod Summaries
 pub mod Queues

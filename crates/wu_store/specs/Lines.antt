@@ -112,24 +112,6 @@ pub record ReadsLine (row : Row) (result : Result WorkunitLine Fault) : Type 0 w
   pub found : (w : Workunit) → IsStoredWorkunit (bare w) → row ≡ workunit_row w → IfErr result (λ fault. fault ≢ NotAProject)
   pub refused : IfErr result IsReadFault
 
--- rows are read as the lines of the workunits that they stand for, in their order
-pub record ReadsLines {A : Type 0} (rows : List Row) (result : Result (Vec WorkunitLine A) Fault) : Type 0 where
-  pub value : IfOk result (λ lines. (workunits : List Workunit) × (rows ≡ map workunit_row workunits) × (lines.items ≡ map line_of workunits))
-  -- those of workunits that can be read are, want of memory aside
-  pub found : (workunits : List Workunit) → All (λ w. IsStoredWorkunit (bare w)) workunits → rows ≡ map workunit_row workunits → IfErr result (λ fault. fault ≢ NotAProject)
-  pub refused : IfErr result IsReadFault
-
--- these lines of this world are found
-abbrev pub FindsLines : {T A : Type 0} → (World → List T) → Result (Vec T A) Fault → World → Type 0
-FindsLines lines_of result world = IfOk result (λ lines. lines.items ≡ lines_of world)
-
--- rows are read as the values that are stored so, in their order
-pub record ReadsAll {T A : Type 0} (stored_as : T → Row) (IsValue : T → Type 0) (rows : List Row) (result : Result (Vec T A) Fault) : Type 0 where
-  pub value : IfOk result (λ values. rows ≡ map stored_as values.items)
-  -- those of values that can be read are, want of memory aside
-  pub found : (values : List T) → All IsValue values → rows ≡ map stored_as values → IfErr result (λ fault. fault ≢ NotAProject)
-  pub refused : IfErr result IsReadFault
-
 -- ---- what can be read
 
 -- the hosts of grants have names

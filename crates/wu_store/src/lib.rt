@@ -6,8 +6,8 @@ mod counts;
 mod due;
 pub mod laws;
 mod lines;
-mod listing;
 mod loading;
+mod pages;
 pub mod rows;
 mod statements;
 mod verdicts;
@@ -16,10 +16,10 @@ pub use changes::{Change, Import, apply};
 pub use counts::summary;
 pub use due::{load_due, load_marks};
 pub use lines::{HostLine, ResultLine, Summary, WorkunitLine};
-pub use listing::{archived_lines, host_lines, result_lines, workunit_lines};
 pub use loading::{
     import_of, load, load_named, next_archived_place, next_grant_place, next_number,
 };
+pub use pages::{ArchivePages, HostPages, Pages, ResultPages, WorkunitPages};
 pub use rows::StoredImport;
 pub use statements::{has_archived, has_workunit};
 pub use verdicts::Verdicts;

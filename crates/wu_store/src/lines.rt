@@ -1,19 +1,15 @@
 //! The values that the lines of the views show, and those of the summary.
 
-ghost use Rattle.std.specs.Prelude.{◌≡◌, ◌++◌, IfErr, IfOk};
-ghost use Rattle.wu_core.specs.declared.fault.Fault.TheVariants.{Memory};
+ghost use Rattle.std.specs.Prelude.{◌≡◌};
 ghost use Rattle.wu_schema.specs.Restoring.{Restores};
-ghost use Rattle.wu_schema.specs.Stored.{archived_cells};
-ghost use Rattle.wu_store.specs.Lines.{ReadsAll, ReadsLines, result_lines_of};
 ghost use Rattle.wu_store.specs.Reading.{host_row, IsStoredHost};
-ghost use Rattle.wu_core.specs.Storable.{IsStoredArchived};
 
-use crate::rows::{archived_from, name_at, workunit_from};
+use crate::rows::{first_instance_from, instance_number_at, name_at, workunit_from};
 use sqlite::Row;
 use std::alloc::Global;
 use wu_core::{
-    Archived, Assimilate, Deadline, ErrorMask, Fault, FileDelete, Instance, Moment, Name, Outcome,
-    Params, ServerState, ValidateState, Workunit,
+    Assimilate, Deadline, ErrorMask, Fault, FileDelete, Instance, Moment, Name, Outcome, Params,
+    ServerState, ValidateState, Workunit,
 };
 use wu_schema::number_at;
 
@@ -67,23 +63,12 @@ impl WorkunitLine {
     }
 
     /// The line of the workunit that a row stands for. A row that stands for none is `NotAProject`.
-    fn read(alloc: Global, row: &Row) -> Result<Self, Fault>
+    pub(crate) fn read(alloc: Global, row: &Row) -> Result<Self, Fault>
         ensures { ReadsLine row.now result }
     {
         let workunit = workunit_from(alloc, row)?;
         Ok(WorkunitLine::of(workunit))
     }
-}
-
-/// The lines of the workunits that rows stand for, in their order. `NotAProject` where one stands for none.
-pub(crate) fn workunit_lines_from(alloc: Global, rows: &[Row]) -> Result<Vec<WorkunitLine>, Fault>
-    ensures { ReadsLines rows.now result }
-{
-    let mut lines = Vec::new(alloc);
-    for row in rows {
-        lines.push(WorkunitLine::read(alloc, row)?)?;
-    }
-    Ok(lines)
 }
 
 /// What the view of results shows of an instance.
@@ -110,6 +95,7 @@ pub struct ResultLine {
 
 impl ResultLine {
     ghost use Rattle.wu_store.specs.Lines.{result_line_of};
+    ghost use Rattle.wu_store.specs.Pages.{ReadsResult};
 
     /// The line of an instance, by its number among those of the workunit of this name.
     fn of(workunit: Name, n: u32, instance: Instance) -> Self
@@ -140,25 +126,19 @@ impl ResultLine {
             output: output.len() as u64,
         }
     }
-}
 
-/// Adds the lines of a workunit's instances, in order of their numbers.
-pub(crate) fn add_result_lines(lines: &mut Vec<ResultLine>, workunit: Workunit) -> Result<(), Fault>
-    ensures added { IfOk result
-        (λ _. lines.new.items ≡ lines.old.items ++ result_lines_of workunit) }
-    ensures fault { IfErr result (λ fault. fault ≡ Memory) }
-{
-    let Workunit {
-        name,
-        instances,
-        ..
-    } = workunit;
-    let mut n = 0;
-    for instance in instances.into_vec() {
-        lines.push(ResultLine::of(name.copy()?, n, instance))?;
-        n += 1;
+    /// The line of an instance of the workunit of this name, by a row with its columns from the third on and then its
+    /// number. A row that is that of none is `NotAProject`.
+    pub(crate) fn read(alloc: Global, workunit: &Name, row: &Row) -> Result<Self, Fault>
+        ensures { ReadsResult workunit.now row.now result }
+    {
+        if row.column_count() != 10 {
+            return Err(Fault::NotAProject);
+        }
+        let n = instance_number_at(row, 9)?;
+        let instance = first_instance_from(alloc, row)?;
+        Ok(ResultLine::of(workunit.copy()?, n, instance))
     }
-    Ok(())
 }
 
 /// What the view of hosts shows of one.
@@ -172,7 +152,7 @@ pub struct HostLine {
 }
 
 /// The line of the host of a row of the table `host` with its columns in their order.
-fn host_from(alloc: Global, row: &Row) -> Result<HostLine, Fault>
+pub(crate) fn host_from(alloc: Global, row: &Row) -> Result<HostLine, Fault>
     ensures { Restores host_row IsStoredHost row.now result }
 {
     if row.column_count() != 3 {
@@ -186,28 +166,6 @@ fn host_from(alloc: Global, row: &Row) -> Result<HostLine, Fault>
         total,
         grants,
     })
-}
-
-/// The lines of the hosts that rows stand for, in their order. `NotAProject` where one stands for none.
-pub(crate) fn host_lines_from(alloc: Global, rows: &[Row]) -> Result<Vec<HostLine>, Fault>
-    ensures { ReadsAll host_row IsStoredHost rows.now result }
-{
-    let mut lines = Vec::new(alloc);
-    for row in rows {
-        lines.push(host_from(alloc, row)?)?;
-    }
-    Ok(lines)
-}
-
-/// The archived workunits that rows stand for, in their order. `NotAProject` where one stands for none.
-pub(crate) fn archived_lines_from(alloc: Global, rows: &[Row]) -> Result<Vec<Archived>, Fault>
-    ensures { ReadsAll archived_cells IsStoredArchived rows.now result }
-{
-    let mut lines = Vec::new(alloc);
-    for row in rows {
-        lines.push(archived_from(alloc, row)?)?;
-    }
-    Ok(lines)
 }
 
 /// How much a project holds.

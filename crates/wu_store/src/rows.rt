@@ -1,6 +1,6 @@
 //! What a stored row means: a value, or `NotAProject` where it is no value of its type.
 
-ghost use Rattle.std.specs.Prelude.{◌≡◌, ◌⊎◌, ◌<◌, ◌≤◌, ℕ, ⊤, [], ◌∷◌, ◌-◌, length, map, IfOk, IfErr, SomeIff};
+ghost use Rattle.std.specs.Prelude.{◌≡◌, ◌⊎◌, ◌<◌, ◌≤◌, ◌^◌, ℕ, ⊤, [], ◌∷◌, ◌-◌, length, map, IfOk, IfErr, SomeIff};
 ghost use Rattle.std.specs.Bool.{Decides};
 ghost use Rattle.sqlite.specs.Order.{column};
 ghost use Rattle.sqlite.specs.declared.types.Value.TheVariants.{Int, Text, Blob};
@@ -118,7 +118,7 @@ fn progress_from(row: &Row) -> Result<Progress, Fault>
     Ok(progress)
 }
 
-fn value_at(row: &Row, at: usize) -> Result<i64, Fault>
+pub(crate) fn value_at(row: &Row, at: usize) -> Result<i64, Fault>
     ensures { Restores Int (λ _. ⊤) (column row.now at) result }
 {
     read_column(row, at)
@@ -278,13 +278,11 @@ pub fn is_formed(instance: &Instance) -> bool
         && !(is_success && !has_host)
 }
 
-/// The instance with these columns, well formed or not.
+/// The instance in the first nine columns, well formed or not.
 fn any_instance_from(alloc: Global, row: &Row) -> Result<Instance, Fault>
-    ensures { Restores instance_row MayBeInstance row.now result }
+    requires { 9 ≤ length row.now }
+    ensures { Restores instance_row MayBeInstance (columns row.now 0 9) result }
 {
-    if row.column_count() != 9 {
-        return Err(Fault::NotAProject);
-    }
     let states = states_from(row)?;
     let moments = moments_from(row)?;
     let output = output_at(row, 8)?;
@@ -302,9 +300,10 @@ fn any_instance_from(alloc: Global, row: &Row) -> Result<Instance, Fault>
     })
 }
 
-/// The instance of a row of the table `result` with its columns from the third on, in their order.
-pub fn instance_from(alloc: Global, row: &Row) -> Result<Instance, Fault>
-    ensures { Restores instance_row IsStoredInstance row.now result }
+/// The instance in the first nine columns: those of the table `result` from the third on, in their order.
+pub(crate) fn first_instance_from(alloc: Global, row: &Row) -> Result<Instance, Fault>
+    requires { 9 ≤ length row.now }
+    ensures { Restores instance_row IsStoredInstance (columns row.now 0 9) result }
 {
     let instance = any_instance_from(alloc, row)?;
     if is_formed(&instance) {
@@ -312,6 +311,23 @@ pub fn instance_from(alloc: Global, row: &Row) -> Result<Instance, Fault>
     } else {
         Err(Fault::NotAProject)
     }
+}
+
+/// The instance of a row of the table `result` with its columns from the third on, in their order.
+pub fn instance_from(alloc: Global, row: &Row) -> Result<Instance, Fault>
+    ensures { Restores instance_row IsStoredInstance row.now result }
+{
+    if row.column_count() != 9 {
+        return Err(Fault::NotAProject);
+    }
+    first_instance_from(alloc, row)
+}
+
+/// The number of an instance.
+pub fn instance_number_at(row: &Row, at: usize) -> Result<u32, Fault>
+    ensures { Restores number (λ n. n < 2 ^ 32) (column row.now at) result }
+{
+    read_column(row, at)
 }
 
 /// The instances of such rows, in their order: those of one workunit, which has at most 100.
@@ -348,6 +364,27 @@ pub(crate) fn archived_from(alloc: Global, row: &Row) -> Result<Archived, Fault>
     let done_at = stamp_at(row, 5)?;
     let output = output_at(row, 4)?;
     let name = name_at(alloc, row, 1)?;
+    Ok(Archived {
+        number,
+        name,
+        error_mask,
+        canonical,
+        output,
+        done_at,
+    })
+}
+
+/// The archived workunit in the six columns from the second on, behind its place.
+pub(crate) fn placed_archived_from(alloc: Global, row: &Row) -> Result<Archived, Fault>
+    requires { length row.now ≡ 7 }
+    ensures { Restores archived_cells IsStoredArchived (columns row.now 1 6) result }
+{
+    let number = number_at(row, 1)?;
+    let error_mask = mask_at(row, 3)?;
+    let canonical = place_at(row, 4)?;
+    let done_at = stamp_at(row, 6)?;
+    let output = output_at(row, 5)?;
+    let name = name_at(alloc, row, 2)?;
     Ok(Archived {
         number,
         name,

@@ -1,6 +1,6 @@
 //! The statements, each text in one function.
 
-ghost use Rattle.std.specs.Prelude.{◌≡◌, ◌<◌, ◌≤◌, ◌^◌, ⊤, [], Some, pos, option_map, IfOk, IfErr, OnOk};
+ghost use Rattle.std.specs.Prelude.{ℕ, ◌≡◌, ◌<◌, ◌≤◌, ◌^◌, ⊤, [], None, Some, pos, option_map, IfOk, IfErr, OnOk};
 ghost use Rattle.wu_store.specs.Changing.{import_of_change};
 ghost use Rattle.wu_store.specs.Changes.{with_placed, without_workunit, with_import, with_next, with_version, AddsArchived, AddsGrant, AddsInstance, Credits, PutsGrant, WasFree};
 ghost use Rattle.wu_core.specs.Storable.{bare};
@@ -9,7 +9,8 @@ ghost use Rattle.wu_schema.specs.Asking.{Asks};
 ghost use Rattle.wu_schema.specs.Calls.{Answers, AnswersRows, StatementFrame, Does, Changes};
 ghost use Rattle.wu_store.specs.Loading.{IsStoreFault, NotRefusedIn, ServesUnlessFailed};
 ghost use Rattle.wu_store.specs.Queues.{AnswersQueue, ChangesQueue, first_marked, KeepsQueue, KeepsWorld, NotRefusedQueue, waits_since, wakes_by, with_marks, without_marks};
-ghost use Rattle.wu_store.specs.Answers.{all_archived, all_credit, all_hosts, all_rows, AnswersSoMany, count_in, has_name, import_count, instance_rows_of, kept_of, last_archived, last_grant, next_row, result_count, row_above, row_named, row_numbered, was_archived, workunit_count};
+ghost use Rattle.wu_store.specs.Pages.{archive_page, host_page_behind, name_row_above, result_page, workunit_page};
+ghost use Rattle.wu_store.specs.Answers.{all_credit, AnswersSoMany, count_in, has_name, import_count, instance_rows_of, kept_of, last_archived, last_grant, next_row, result_count, row_above, row_named, row_numbered, was_archived, workunit_count};
 
 use crate::changes::Import;
 use sqlite::{Alter, Connection, Error, Row, Transaction, params};
@@ -149,21 +150,6 @@ pub fn next_number_row<S: Alter>(conn: &mut Connection<S>) -> Result<Option<Row>
     Ok(rows.pop())
 }
 
-/// The rows of all workunits, in order of number.
-pub fn workunit_rows<S: Alter>(conn: &mut Connection<S>) -> Result<Vec<Row>, Fault>
-    ensures asks { Asks S.Store conn.old conn.new result }
-    ensures opens { ServesUnlessFailed S.Store conn.new result }
-    ensures answers { AnswersRows S.Store conn.old conn.new result all_rows }
-    ensures fault { IfErr result IsStoreFault }
-    ensures unrefused { NotRefusedIn S.Store conn.old conn.new result (λ _. ⊤) }
-{
-    query(
-        conn,
-        "SELECT number, name, min_quorum, target_nresults, max_error_results, max_total_results, max_success_results, delay_bound, credit, input, error_mask, canonical, assimilate, file_delete, done_at FROM workunit ORDER BY number",
-        &[],
-    )
-}
-
 /// The row of the workunit of this number, or none. A number from 2^63 on is `NotAProject`.
 pub fn workunit_row<S: Alter>(conn: &mut Connection<S>, number: u64) -> Result<Option<Row>, Fault>
     ensures asks { Asks S.Store conn.old conn.new result }
@@ -220,6 +206,21 @@ pub fn workunit_row_above<S: Alter>(
     Ok(rows.pop())
 }
 
+/// The rows of the first workunits above a key, in order of number, as many as a page has.
+pub fn workunit_page<S: Alter>(conn: &mut Connection<S>, key: i64) -> Result<Vec<Row>, Fault>
+    ensures asks { Asks S.Store conn.old conn.new result }
+    ensures opens { ServesUnlessFailed S.Store conn.new result }
+    ensures answers { AnswersRows S.Store conn.old conn.new result (workunit_page key) }
+    ensures fault { IfErr result IsStoreFault }
+    ensures unrefused { NotRefusedIn S.Store conn.old conn.new result (λ _. ⊤) }
+{
+    query(
+        conn,
+        "SELECT number, name, min_quorum, target_nresults, max_error_results, max_total_results, max_success_results, delay_bound, credit, input, error_mask, canonical, assimilate, file_delete, done_at FROM workunit WHERE number > ?1 ORDER BY number LIMIT 100",
+        params![key],
+    )
+}
+
 /// The rows of the instances of the workunit of this number, in order of theirs, from the third column on.
 /// A number from 2^63 on is `NotAProject`.
 pub fn instance_rows<S: Alter>(conn: &mut Connection<S>, workunit: u64) -> Result<Vec<Row>, Fault>
@@ -269,33 +270,85 @@ pub fn last_archived_row<S: Alter>(conn: &mut Connection<S>) -> Result<Option<Ro
     Ok(found.pop())
 }
 
-/// The rows of all hosts, in order of their names' bytes.
-pub fn host_rows<S: Alter>(conn: &mut Connection<S>) -> Result<Vec<Row>, Fault>
+/// The rows of the first hosts, in order of their names' bytes, as many as a page has.
+pub fn first_host_page<S: Alter>(conn: &mut Connection<S>) -> Result<Vec<Row>, Fault>
     ensures asks { Asks S.Store conn.old conn.new result }
     ensures opens { ServesUnlessFailed S.Store conn.new result }
-    ensures answers { AnswersRows S.Store conn.old conn.new result all_hosts }
+    ensures answers { AnswersRows S.Store conn.old conn.new result (host_page_behind None) }
     ensures fault { IfErr result IsStoreFault }
     ensures unrefused { NotRefusedIn S.Store conn.old conn.new result (λ _. ⊤) }
 {
     query(
         conn,
-        "SELECT name, total, grants FROM host ORDER BY name",
+        "SELECT name, total, grants FROM host ORDER BY name LIMIT 100",
         &[],
     )
 }
 
-/// The rows of all archived workunits, in order of their archiving, from the third column on.
-pub fn archived_rows<S: Alter>(conn: &mut Connection<S>) -> Result<Vec<Row>, Fault>
+/// The rows of the first hosts behind this name, in order of their names' bytes, as many as a page has.
+pub fn host_page<S: Alter>(conn: &mut Connection<S>, name: &Name) -> Result<Vec<Row>, Fault>
     ensures asks { Asks S.Store conn.old conn.new result }
     ensures opens { ServesUnlessFailed S.Store conn.new result }
-    ensures answers { AnswersRows S.Store conn.old conn.new result all_archived }
+    ensures answers { AnswersRows S.Store conn.old conn.new result
+        (host_page_behind (Some name.now)) }
     ensures fault { IfErr result IsStoreFault }
     ensures unrefused { NotRefusedIn S.Store conn.old conn.new result (λ _. ⊤) }
 {
     query(
         conn,
-        "SELECT number, name, error_mask, canonical, output, done_at FROM archived ORDER BY seq",
-        &[],
+        "SELECT name, total, grants FROM host WHERE name > ?1 ORDER BY name LIMIT 100",
+        params![name.as_str()],
+    )
+}
+
+/// The row of the number and the name of the first workunit above a key, or none.
+pub fn workunit_name_above<S: Alter>(
+    conn: &mut Connection<S>,
+    key: i64,
+) -> Result<Option<Row>, Fault>
+    ensures asks { Asks S.Store conn.old conn.new result }
+    ensures opens { ServesUnlessFailed S.Store conn.new result }
+    ensures answers { Answers S.Store conn.old conn.new result (name_row_above key) }
+    ensures fault { IfErr result IsStoreFault }
+    ensures unrefused { NotRefusedIn S.Store conn.old conn.new result (λ _. ⊤) }
+{
+    let mut rows = query(
+        conn,
+        "SELECT number, name FROM workunit WHERE number > ?1 ORDER BY number LIMIT 1",
+        params![key],
+    )?;
+    Ok(rows.pop())
+}
+
+/// The rows of the instances of the workunit of this number, in order of theirs: from the third column on, and then
+/// their numbers.
+pub fn result_page<S: Alter>(conn: &mut Connection<S>, workunit: i64) -> Result<Vec<Row>, Fault>
+    ensures asks { Asks S.Store conn.old conn.new result }
+    ensures opens { ServesUnlessFailed S.Store conn.new result }
+    ensures answers { (number : ℕ) → workunit ≡ pos number
+        → AnswersRows S.Store conn.old conn.new result (result_page number) }
+    ensures fault { IfErr result IsStoreFault }
+    ensures unrefused { NotRefusedIn S.Store conn.old conn.new result (λ _. ⊤) }
+{
+    query(
+        conn,
+        "SELECT server_state, outcome, validate_state, file_delete, host, sent_at, deadline, received_at, output, n FROM result WHERE workunit = ?1 ORDER BY n",
+        params![workunit],
+    )
+}
+
+/// The rows of the first archived workunits above a key, in order of their archiving, as many as a page has.
+pub fn archive_page<S: Alter>(conn: &mut Connection<S>, key: i64) -> Result<Vec<Row>, Fault>
+    ensures asks { Asks S.Store conn.old conn.new result }
+    ensures opens { ServesUnlessFailed S.Store conn.new result }
+    ensures answers { AnswersRows S.Store conn.old conn.new result (archive_page key) }
+    ensures fault { IfErr result IsStoreFault }
+    ensures unrefused { NotRefusedIn S.Store conn.old conn.new result (λ _. ⊤) }
+{
+    query(
+        conn,
+        "SELECT seq, number, name, error_mask, canonical, output, done_at FROM archived WHERE seq > ?1 ORDER BY seq LIMIT 100",
+        params![key],
     )
 }
 

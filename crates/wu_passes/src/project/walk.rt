@@ -1,19 +1,82 @@
 //! Walks over a project: what a view shows, one line after another.
 
-ghost use Rattle.std.specs.Prelude.{◌≡◌, ◌<◌, IfErr, IfOk, IfSome};
+ghost use Rattle.std.specs.Prelude.{◌≡◌, [], IfErr, IfOk, IsOk};
 ghost use Rattle.std.specs.Vec.Iter.{into_iter_items};
-ghost use Rattle.wu_store.specs.Lines.{archived_lines, AreHostsNamed, host_lines, result_lines, workunit_lines};
-ghost use Rattle.wu_store.specs.Loading.{IsStoreFault};
-ghost use Rattle.wu_core.specs.Storable.{AreStorable, IsArchiveStorable};
+ghost use Rattle.wu_store.specs.Lines.{archived_lines, host_lines, result_lines, workunit_lines};
+ghost use Rattle.wu_store.specs.Loading.{Asks, IsStoreFault};
 
 use crate::project::Project;
-use sqlite::Alter;
+use sqlite::{Alter, Connection, Row};
 use std::alloc::Global;
 use std::vec::IntoIter;
-use wu_core::{Archived, Fault};
-use wu_store::{
-    HostLine, ResultLine, WorkunitLine, archived_lines, host_lines, result_lines, workunit_lines,
-};
+use wu_core::Fault;
+use wu_store::{ArchivePages, HostPages, Pages, ResultPages, WorkunitPages};
+
+/// What is left of a view: the rows of the present page that are not handed out, and the pages behind it.
+#[derive(Drop)]
+pub struct LinesLeft<P> {
+    alloc: Global,
+    pages: P,
+    rows: IntoIter<Row, Global>,
+    /// How many pages may be turned: no memory holds the rows of so many.
+    turns_left: u64,
+}
+
+impl<P: Pages> LinesLeft<P> {
+    ghost use Rattle.wu_passes.specs.Walks.{HandsLine, HandsRow, NeverRefused, ServesFrom, Shrinks};
+
+    /// All lines of these pages.
+    fn new(alloc: Global, pages: P) -> Self
+        ensures same { result.pages ≡ pages }
+        ensures none { into_iter_items result.rows ≡ [] }
+    {
+        LinesLeft {
+            alloc,
+            pages,
+            rows: Vec::new(alloc).into_iter(),
+            turns_left: u64::MAX,
+        }
+    }
+
+    /// The next row: of the present page, or else the first of the next one. None behind the last.
+    fn next_row<S: Alter>(&mut self, conn: &mut Connection<S>) -> Result<Option<Row>, Fault>
+        ensures asks { Asks S.Store conn.old conn.new result }
+        ensures opens { ServesFrom S.Store self.old self.new conn.old conn.new result }
+        ensures fault { IfErr result IsStoreFault }
+        ensures unrefused { NeverRefused S.Store self.old self.new conn.old conn.new
+            P.Pages result }
+        ensures row { HandsRow S.Store self.old self.new conn.old conn.new P.Pages result }
+        ensures shrinks { Shrinks self.old self.new result }
+    {
+        if let Some(row) = self.rows.next() {
+            return Ok(Some(row));
+        }
+        if self.turns_left == 0 {
+            return Err(Fault::Memory);
+        }
+        self.turns_left -= 1;
+        let rows = self.pages.turn(conn, self.alloc)?;
+        self.rows = rows.into_iter();
+        Ok(self.rows.next())
+    }
+
+    /// The next line, or none behind the last.
+    fn next<S: Alter>(&mut self, conn: &mut Connection<S>) -> Result<Option<P::Line>, Fault>
+        ensures asks { Asks S.Store conn.old conn.new result }
+        ensures opens { ServesFrom S.Store self.old self.new conn.old conn.new result }
+        ensures fault { IfErr result IsStoreFault }
+        ensures unrefused { NeverRefused S.Store self.old self.new conn.old conn.new
+            P.Pages result }
+        ensures lines { HandsLine S.Store self.old self.new conn.old conn.new P.Pages result }
+        ensures shrinks { Shrinks self.old self.new result }
+    {
+        let Some(row) = self.next_row(conn)? else {
+            return Ok(None);
+        };
+        let line = self.pages.line(self.alloc, &row)?;
+        Ok(Some(line))
+    }
+}
 
 /// A walk over lines of a project. Once it is dropped, the project is as it left it.
 ///
@@ -24,47 +87,53 @@ pub struct LineWalk<'a, S: Alter, L: Drop> {
     lines: L,
 }
 
-/// A walk over lines of one type.
-pub type Walk<'a, S, T> = LineWalk<'a, S, IntoIter<T, Global>>;
+/// A walk over the lines of such pages: it holds the rows of one page, and reads each line once it is asked for.
+pub type Walk<'a, S, P> = LineWalk<'a, S, LinesLeft<P>>;
 
 /// A walk over the workunits, in order of number.
-pub type WorkunitWalk<'a, S> = Walk<'a, S, WorkunitLine>;
+pub type WorkunitWalk<'a, S> = Walk<'a, S, WorkunitPages>;
 
 /// A walk over the instances, in order of their workunits and then of their own numbers.
-pub type ResultWalk<'a, S> = Walk<'a, S, ResultLine>;
+pub type ResultWalk<'a, S> = Walk<'a, S, ResultPages>;
 
 /// A walk over the hosts that have grants, in order of their names' bytes.
-pub type HostWalk<'a, S> = Walk<'a, S, HostLine>;
+pub type HostWalk<'a, S> = Walk<'a, S, HostPages>;
 
 /// A walk over the archived workunits, in order of their archiving.
-pub type ArchiveWalk<'a, S> = Walk<'a, S, Archived>;
+pub type ArchiveWalk<'a, S> = Walk<'a, S, ArchivePages>;
 
-impl<'a, S: Alter, T: Drop> Walk<'a, S, T> {
-    ghost use Rattle.wu_passes.specs.Walks.{HandsOut, HandsUnrefused, left, OnlyReads, StaysServing, walked};
+impl<'a, S: Alter, P: Pages> Walk<'a, S, P> {
+    ghost use Rattle.wu_passes.specs.Projects.{IsPresentSession};
+    ghost use Rattle.wu_passes.specs.Walks.{HandsOut, HandsUnrefused, page_of, ReadsOn, Shrinks, StaysServing, walked};
 
-    /// A walk over these lines.
-    fn new(project: &'a mut Project<S>, lines: Vec<T>) -> Self
+    /// A walk over all lines of these pages.
+    fn new(project: &'a mut Project<S>, alloc: Global, pages: P) -> Self
         ensures same_reference { result.project.ghost_name ≡ project.entry.ghost_name }
         ensures same { result.project.now ≡ project.old }
-        ensures lines { into_iter_items result.lines ≡ lines.items }
+        ensures pages { result.lines.pages ≡ pages }
+        ensures none { page_of result.lines ≡ [] }
     {
         LineWalk {
             project,
-            lines: lines.into_iter(),
+            lines: LinesLeft::new(alloc, pages),
         }
     }
 
-    /// The next line, or none after the last. It isn't called again after a fault.
-    pub fn next(&mut self) -> Result<Option<T>, Fault>
+    /// The next line, or none after the last: it is read now, from the page or from the next one. It isn't called again
+    /// after a fault.
+    ///
+    /// `NotAProject` where a row is no value.
+    pub fn next(&mut self) -> Result<Option<P::Line>, Fault>
+        requires { IsPresentSession (walked self.old) }
         ensures same_reference { self.new.project.ghost_name ≡ self.old.project.ghost_name }
-        ensures reads { OnlyReads (walked self.old) (walked self.new) }
-        ensures opens { StaysServing (walked self.old) (walked self.new) result }
+        ensures reads { ReadsOn (walked self.old) (walked self.new) result }
+        ensures opens { StaysServing self.old self.new result }
         ensures fault { IfErr result IsStoreFault }
-        ensures unrefused { HandsUnrefused self.old result }
-        ensures lines { HandsOut self.old self.new result }
-        ensures shrinks { IfOk result (λ item. IfSome item (λ _. left self.new < left self.old)) }
+        ensures unrefused { HandsUnrefused self.old self.new P.Pages result }
+        ensures lines { HandsOut self.old self.new P.Pages result }
+        ensures shrinks { Shrinks self.old.lines self.new.lines result }
     {
-        Ok(self.lines.next())
+        self.project.next_line(&mut self.lines)
     }
 }
 
@@ -80,25 +149,42 @@ impl<S: Alter, L: Drop> Drop for LineWalk<'_, S, L> {
 }
 
 impl<S: Alter> Project<S> {
+    ghost use Rattle.wu_passes.specs.Projects.{connection_of, IsPresentSession};
+    ghost use Rattle.wu_passes.specs.Walks.{HandsLine, NeverRefused, ReadsOn, ServesFrom, Shrinks};
+
+    /// The next of the lines that are left, or none behind the last. It ends no session.
+    fn next_line<P: Pages>(&mut self, left: &mut LinesLeft<P>) -> Result<Option<P::Line>, Fault>
+        requires { IsPresentSession self.old }
+        ensures reads { ReadsOn self.old self.new result }
+        ensures opens { ServesFrom S.Store left.old left.new
+            (connection_of self.old) (connection_of self.new) result }
+        ensures fault { IfErr result IsStoreFault }
+        ensures unrefused { NeverRefused S.Store left.old left.new
+            (connection_of self.old) (connection_of self.new) P.Pages result }
+        ensures lines { HandsLine S.Store left.old left.new
+            (connection_of self.old) (connection_of self.new) P.Pages result }
+        ensures shrinks { Shrinks left.old left.new result }
+    {
+        left.next(&mut self.conn)
+    }
+}
+
+impl<S: Alter> Project<S> {
     ghost use Rattle.std.specs.Borrow.{sem};
-    ghost use Rattle.wu_passes.specs.Projects.{IsPresentSession, IsSessionOpen, IsOpen, WasOpenBefore};
-    ghost use Rattle.wu_passes.specs.Walks.{OnlyReads, RefusesFirst, RestsIfRefused, walked, WalksOver};
+    ghost use Rattle.wu_passes.specs.Projects.{IsPresentSession, IsSessionOpen};
+    ghost use Rattle.wu_passes.specs.Walks.{Begins, RefusesFirst, RestsIfRefused, WalksOver};
 
     /// Begins a walk over all workunits, in order of number.
     ///
-    /// Their lines are all read before the first is handed out: `NotAProject` where a row is no value. Over an older
-    /// version it is `OldSchema`, and nothing is read.
+    /// Nothing is read yet. Over an older version it is `OldSchema`.
     pub fn walk_workunits(&mut self, alloc: Global) -> Result<WorkunitWalk<'_, S>, Fault>
-        ensures* refused { sem 𝓛 (RestsIfRefused S.row S.Store AreStorable self.entry result) }
+        ensures* refused { sem 𝓛 (RestsIfRefused S.row S.Store self.entry result) }
         ensures same_reference { IfOk result
             (λ walk. walk.project.ghost_name ≡ self.entry.ghost_name) }
         ensures early { RefusesFirst self.old result }
-        ensures reads { IfOk result (λ walk. OnlyReads self.old (walked walk)) }
-        ensures open { IfOk result (λ walk. WasOpenBefore self.old (walked walk) result) }
-        ensures opens { IfOk result (λ walk. IsOpen (walked walk)) }
-        ensures fault { IsSessionOpen self.old → IsPresentSession self.old
-            → IfErr result IsStoreFault }
-        ensures lines { IfOk result (WalksOver workunit_lines self.old) }
+        ensures begins { IfOk result (Begins self.old) }
+        ensures fault { IsSessionOpen self.old → IsPresentSession self.old → IsOk result }
+        ensures lines { IfOk result (WalksOver ⟦<WorkunitPages as Pages>⟧ workunit_lines self.old) }
     {
         if self.has_ended {
             return Err(Fault::Ended);
@@ -106,25 +192,20 @@ impl<S: Alter> Project<S> {
         if let Some(version) = self.older {
             return Err(Fault::OldSchema(version));
         }
-        let lines = workunit_lines(&mut self.conn, alloc)?;
-        Ok(Walk::new(self, lines))
+        Ok(Walk::new(self, alloc, WorkunitPages::new()))
     }
 
     /// Begins a walk over all instances, in order of their workunits and then of their own numbers.
     ///
-    /// Their lines are all read before the first is handed out: `NotAProject` where a row is no value. Over an older
-    /// version it is `OldSchema`, and nothing is read.
+    /// Nothing is read yet. Over an older version it is `OldSchema`.
     pub fn walk_results(&mut self, alloc: Global) -> Result<ResultWalk<'_, S>, Fault>
-        ensures* refused { sem 𝓛 (RestsIfRefused S.row S.Store AreStorable self.entry result) }
+        ensures* refused { sem 𝓛 (RestsIfRefused S.row S.Store self.entry result) }
         ensures same_reference { IfOk result
             (λ walk. walk.project.ghost_name ≡ self.entry.ghost_name) }
         ensures early { RefusesFirst self.old result }
-        ensures reads { IfOk result (λ walk. OnlyReads self.old (walked walk)) }
-        ensures open { IfOk result (λ walk. WasOpenBefore self.old (walked walk) result) }
-        ensures opens { IfOk result (λ walk. IsOpen (walked walk)) }
-        ensures fault { IsSessionOpen self.old → IsPresentSession self.old
-            → IfErr result IsStoreFault }
-        ensures lines { IfOk result (WalksOver result_lines self.old) }
+        ensures begins { IfOk result (Begins self.old) }
+        ensures fault { IsSessionOpen self.old → IsPresentSession self.old → IsOk result }
+        ensures lines { IfOk result (WalksOver ⟦<ResultPages as Pages>⟧ result_lines self.old) }
     {
         if self.has_ended {
             return Err(Fault::Ended);
@@ -132,25 +213,20 @@ impl<S: Alter> Project<S> {
         if let Some(version) = self.older {
             return Err(Fault::OldSchema(version));
         }
-        let lines = result_lines(&mut self.conn, alloc)?;
-        Ok(Walk::new(self, lines))
+        Ok(Walk::new(self, alloc, ResultPages::new()))
     }
 
     /// Begins a walk over all hosts that have grants, in order of their names' bytes.
     ///
-    /// Their lines are all read before the first is handed out: `NotAProject` where a row is no value. Over an older
-    /// version it is `OldSchema`, and nothing is read.
+    /// Nothing is read yet. Over an older version it is `OldSchema`.
     pub fn walk_hosts(&mut self, alloc: Global) -> Result<HostWalk<'_, S>, Fault>
-        ensures* refused { sem 𝓛 (RestsIfRefused S.row S.Store AreHostsNamed self.entry result) }
+        ensures* refused { sem 𝓛 (RestsIfRefused S.row S.Store self.entry result) }
         ensures same_reference { IfOk result
             (λ walk. walk.project.ghost_name ≡ self.entry.ghost_name) }
         ensures early { RefusesFirst self.old result }
-        ensures reads { IfOk result (λ walk. OnlyReads self.old (walked walk)) }
-        ensures open { IfOk result (λ walk. WasOpenBefore self.old (walked walk) result) }
-        ensures opens { IfOk result (λ walk. IsOpen (walked walk)) }
-        ensures fault { IsSessionOpen self.old → IsPresentSession self.old
-            → IfErr result IsStoreFault }
-        ensures lines { IfOk result (WalksOver host_lines self.old) }
+        ensures begins { IfOk result (Begins self.old) }
+        ensures fault { IsSessionOpen self.old → IsPresentSession self.old → IsOk result }
+        ensures lines { IfOk result (WalksOver ⟦<HostPages as Pages>⟧ host_lines self.old) }
     {
         if self.has_ended {
             return Err(Fault::Ended);
@@ -158,26 +234,20 @@ impl<S: Alter> Project<S> {
         if let Some(version) = self.older {
             return Err(Fault::OldSchema(version));
         }
-        let lines = host_lines(&mut self.conn, alloc)?;
-        Ok(Walk::new(self, lines))
+        Ok(Walk::new(self, alloc, HostPages::new()))
     }
 
     /// Begins a walk over all archived workunits, in order of their archiving.
     ///
-    /// Their lines are all read before the first is handed out: `NotAProject` where a row is no value. Over an older
-    /// version it is `OldSchema`, and nothing is read.
+    /// Nothing is read yet. Over an older version it is `OldSchema`.
     pub fn walk_archive(&mut self, alloc: Global) -> Result<ArchiveWalk<'_, S>, Fault>
-        ensures* refused { sem 𝓛
-            (RestsIfRefused S.row S.Store IsArchiveStorable self.entry result) }
+        ensures* refused { sem 𝓛 (RestsIfRefused S.row S.Store self.entry result) }
         ensures same_reference { IfOk result
             (λ walk. walk.project.ghost_name ≡ self.entry.ghost_name) }
         ensures early { RefusesFirst self.old result }
-        ensures reads { IfOk result (λ walk. OnlyReads self.old (walked walk)) }
-        ensures open { IfOk result (λ walk. WasOpenBefore self.old (walked walk) result) }
-        ensures opens { IfOk result (λ walk. IsOpen (walked walk)) }
-        ensures fault { IsSessionOpen self.old → IsPresentSession self.old
-            → IfErr result IsStoreFault }
-        ensures lines { IfOk result (WalksOver archived_lines self.old) }
+        ensures begins { IfOk result (Begins self.old) }
+        ensures fault { IsSessionOpen self.old → IsPresentSession self.old → IsOk result }
+        ensures lines { IfOk result (WalksOver ⟦<ArchivePages as Pages>⟧ archived_lines self.old) }
     {
         if self.has_ended {
             return Err(Fault::Ended);
@@ -185,7 +255,6 @@ impl<S: Alter> Project<S> {
         if let Some(version) = self.older {
             return Err(Fault::OldSchema(version));
         }
-        let lines = archived_lines(&mut self.conn, alloc)?;
-        Ok(Walk::new(self, lines))
+        Ok(Walk::new(self, alloc, ArchivePages::new()))
     }
 }

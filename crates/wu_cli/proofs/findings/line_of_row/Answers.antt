@@ -6,7 +6,7 @@ use Rattle.wu_cli.proofs.findings.line_of_row.Goals as goal
 
 pub returns : goal.returns
 returns g c =
-    Writes-after _ (g.W.Write.contents c.write_key.new.out) _ (key_text c.args.key.now) (codes " " ++ c.args.what.now ++ line_end) _ c.in_ok-write_key.ensures c.write_flushed.ensures
+    Writes-after _ (g.W.Write.contents c.write_key.new.out) _ (key_text c.args.key.now) (codes " " ++ c.args.what.now ++ line_end) _ c.in_ok-write_key.ensures c.write_flushed.ensures.bytes
 
 pub returns-in_err-write_key : goal.returns-in_err-write_key
 returns-in_err-write_key g c =

@@ -1,10 +1,18 @@
-use Rattle.wu_schema.proofs.Words.{inl, inr, rules, sym}
-use Rattle.wu_loader.proofs.GrantLemmas.{never_granted}
+use Rattle.wu_loader.proofs.RunLemmas.{granted_by, counted_by, credit_by}
 use Rattle.wu_loader.proofs.hosts.is_granted.Goals as goal
 
-pub returns-then-grant-credit : goal.returns-then-grant-credit
-returns-then-grant-credit c = (
+pub returns-then-is_counted : goal.returns-then-is_counted
+returns-then-is_counted c =
+    let counted = c.is_counted.ensures.0 c.if-is_counted.true in (
+      λ is. granted_by c.args.grants.now c.run_of-run.result.now c.args.host.now c.run_of-run.ensures (c.is_credit.ensures.0 is) counted.1 counted.0,
+      λ granted. c.is_credit.ensures.1 (credit_by c.args.grants.now c.run_of-run.result.now c.args.host.now c.run_of-run.ensures granted),
+    )
+
+pub returns-else-is_counted : goal.returns-else-is_counted
+returns-else-is_counted c = (
   λ is. absurd cc,
-  λ is. absurd (never_granted c.args.host.now c.args.grants.now c.loop-grant.credit c.loop-grant.count c.loop-grant.grant-index c.grant-item.result c.loop-grant.invariant.total c.loop-grant.invariant.grants c.loop-grant-test.true (sym c.grant-item.is) (search rules)
-      (elim c.then-grant-credit.either [ inl less ↦ inl less | inr none ↦ inr none.1 ]) is),
+  λ granted.
+      let on = c.is_counted.ensures.1 (granted.some, counted_by c.args.grants.now c.run_of-run.result.now c.args.host.now c.run_of-run.ensures granted) in
+      let off = c.if-is_counted.false in
+      cc,
 )

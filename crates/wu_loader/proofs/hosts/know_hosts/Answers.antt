@@ -1,8 +1,10 @@
-use Rattle.wu_schema.proofs.Words.{IsPermutation, IsPermutation-map, IsPermutation-sym, IsPermutation-trans, List, Row, map, rules, subst, sym, ◌∙◌, ◌≡◌}
+use Rattle.wu_schema.proofs.Words.{IsPermutation, IsPermutation-map, IsPermutation-sym, IsPermutation-trans, map, subst, sym, ◌∙◌}
 use Rattle.wu_core.specs.Hosts.{hosts_of}
 use Rattle.wu_schema.specs.Refines.{host_of}
+use Rattle.wu_loader.specs.Granting.{referred, AreHosts}
 use Rattle.wu_loader.specs.Rows.{host_row}
 use Rattle.wu_loader.proofs.GrantLemmas.{hosts_are, hosts_must, never_hosts}
+use Rattle.wu_loader.proofs.RunLemmas.{hosts_moved}
 use Rattle.wu_loader.proofs.WholeLemmas.{handed, rows_plain}
 use Rattle.wu_loader.proofs.hosts.know_hosts.Goals as goal
 
@@ -15,12 +17,16 @@ returns-in-Some-clause-none c stored same =
     let rows = c.in_ok-hosts.ensures.same ∙ rows_plain host_row c.in_ok-hosts.hosts.items in
     let moved = IsPermutation-map host_row c.in_ok-hosts.hosts.items c.sort.new.hosts.items c.in_ok-sort.ensures.same in
     let all = IsPermutation-trans _ _ _ (subst (IsPermutation (map (host_of c.args.grants.now) (hosts_of c.args.grants.now))) rows same) moved in
-    let never = rw c.deref.ensures.value at c.in-Some.ensures.hosts in
-    never (hosts_must c.args.grants.now c.sort.new.hosts.items c.in_ok-sort.ensures.sorted all)
+    let grants = c.in_ok-sorted.sorted.items in
+    let never : ¬ AreHosts (referred grants) c.sort.new.hosts.items = rw (c.deref.ensures.value, c.deref-2.ensures.value) at c.in-Some.ensures.hosts in
+    let turned = IsPermutation-sym _ _ c.in_ok-sorted.ensures.same in
+    never (hosts_moved (referred grants) c.args.grants.now turned c.sort.new.hosts.items (hosts_must c.args.grants.now c.sort.new.hosts.items c.in_ok-sort.ensures.sorted all))
 
 pub returns-clause-hosts : goal.returns-clause-hosts
 returns-clause-hosts c =
     let rows = c.in_ok-hosts.ensures.same ∙ rows_plain host_row c.in_ok-hosts.hosts.items in
     let moved = IsPermutation-map host_row c.in_ok-hosts.hosts.items c.sort.new.hosts.items c.in_ok-sort.ensures.same in
-    let are = hosts_are c.args.grants.now c.sort.new.hosts.items (rw c.deref.ensures.value at c.in-None.ensures.hosts) in
+    let grants = c.in_ok-sorted.sorted.items in
+    let these : AreHosts (referred grants) c.sort.new.hosts.items = rw (c.deref.ensures.value, c.deref-2.ensures.value) at c.in-None.ensures.hosts in
+    let are = hosts_are c.args.grants.now c.sort.new.hosts.items (hosts_moved c.args.grants.now (referred grants) c.in_ok-sorted.ensures.same c.sort.new.hosts.items these) in
     subst (λ rs. IsPermutation rs c.args.rows.now) are (subst (IsPermutation (map host_row c.sort.new.hosts.items)) (sym rows) (IsPermutation-sym _ _ moved))

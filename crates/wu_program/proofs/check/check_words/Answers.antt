@@ -1,8 +1,5 @@
+use Rattle.std.proofs.Common.{inl}
 use Rattle.wu_program.proofs.check.check_words.Goals as goal
 
-pub returns : goal.returns
-returns g c = record {
-  path = c.in-Ok.path;
-  asked = c.in-Ok.ensures.path;
-  runs = rw c.as_str-2.ensures at c.open_and_check-done.ensures;
-}
+pub returns-in-Ok : goal.returns-in-Ok
+returns-in-Ok g c = inl (c.in-Ok.path, c.in-Ok.ensures.path, rw c.as_str.ensures at c.check_path.ensures)

@@ -1,12 +1,18 @@
-use Rattle.std.proofs.Common.{refl, rules}
-use Rattle.wu_passes.specs.Projects.{IsPresentSession}
-use Rattle.wu_passes.proofs.AskLemmas.{handed_is}
-use Rattle.wu_passes.proofs.WalkLemmas.{lines_refused}
+use Rattle.std.proofs.Common.{refl, rules, subst, sym}
+use Rattle.wu_passes.specs.Projects.{state_of}
+use Rattle.wu_passes.specs.Walks.{ShowsTables}
+use Rattle.wu_passes.proofs.WalkLemmas.{all_left}
 use Rattle.wu_passes.proofs.project.Project.walk_hosts.Goals as goal
 
-pub returns-in_err-lines : goal.returns-in_err-lines
-returns-in_err-lines g c =
-    let fault = c.in_err-lines.field-0.0 in
-    let present : IsPresentSession c.args.self.now = search rules in
-    let refused = lines_refused _ _ _ fault c.if-self.false present refl refl c.in_err-lines.ensures.asks c.in_err-lines.ensures.opens c.in_err-lines.ensures.unrefused in
-    rw (handed_is c.from_residual.result fault c.from_residual.ensures.1) ((refl, λ w. tt, refused), search rules)
+pub returns : goal.returns
+returns g c = (
+  (let e = c.new-2.ensures.same_reference in cc, λ w. refl, tt),
+  record {
+    refused = tt;
+    same_reference = c.new-2.ensures.same_reference;
+    early = search rules;
+    begins = record { same = c.new-2.ensures.same; present = search rules; none = c.new-2.ensures.none };
+    fault = λ still present. refl;
+    lines = λ world shows. all_left _ world _ c.new.result _ _ _ (subst (λ project. ShowsTables (state_of project) world) (sym c.new-2.ensures.same) shows) c.new-2.ensures.none c.new-2.ensures.pages (c.new.ensures.all world);
+  },
+)

@@ -1,0 +1,71 @@
+-- A row of a page is read as the line that it stands for.
+use Rattle.std.proofs.Common.{◌≡◌, ◌≢◌, ◌∙◌, ℕ, ◌+◌, List, [], ◌∷◌, length, map, Result, Ok, Err, IfOk, IfErr, IsErrAnd, ap, inl, inr, refl, subst, sym}
+use Rattle.std.specs.Prelude.{All}
+use Rattle.std.specs.List.{AllByRecursion, Contains, enumerate_from}
+use Rattle.std.proofs.lemmas.List.Elements.{recursion_from_All}
+use Rattle.sqlite.specs.Order.{Row}
+use Rattle.sqlite_rules.specs.Lists.{Has}
+use Rattle.sqlite_rules.proofs.ListLemmas.{has_contained}
+use Rattle.wu_core.specs.Storable.{AreStorable, IsArchiveStorable, IsStorable, IsStoredArchived}
+use Rattle.wu_core.specs.World.{World}
+use Rattle.wu_core.specs.declared.fault.Fault.{Fault}
+use Rattle.wu_core.specs.declared.fault.Fault.TheVariants.{NotAProject}
+use Rattle.wu_core.specs.declared.workunit.Archived.{Archived}
+use Rattle.wu_schema.specs.Restoring.{Restores}
+use Rattle.wu_schema.specs.Stored.{archived_cells}
+use Rattle.wu_store.specs.Lines.{ReadsLine}
+use Rattle.wu_store.specs.Pages.{IsRowOfArchived, IsRowOfWorkunit, archive_of}
+use Rattle.wu_store.specs.Reading.{columns}
+use Rattle.wu_store.specs.declared.lines.WorkunitLine.{WorkunitLine}
+use Rattle.wu_store.proofs.LineLemmas.{same_line}
+use Rattle.wu_store.proofs.ListingLemmas.{archived_again, archived_of}
+use Rattle.wu_store.proofs.LoadLemmas.{never_unread}
+
+-- what holds of all holds of one of them
+pub held : {X : Type 0} (P : X → Type 0) (xs : List X) (x : X) → All P xs → Contains xs x → P x
+held P xs x all has = subst P has.2 (all has.0 x has.1)
+
+-- ---- places
+
+-- without their places they are as before
+pub unplaced : {X : Type 0} (k : ℕ) (xs : List X) → map (λ (p : ℕ × X). p.1) (enumerate_from k xs) ≡ xs
+unplaced k [] = refl
+unplaced k (x ∷ xs) = ap (λ l. x ∷ l) (unplaced (k + 1) xs)
+
+placed_has : {X : Type 0} (P : X → Type 0) (k : ℕ) (xs : List X) (p : ℕ × X) → AllByRecursion P xs → Has (enumerate_from k xs) p → P p.1
+placed_has P k [] p all has = absurd has
+placed_has P k (x ∷ xs) p all (inl same) = subst (λ q. P q.1) (sym same) all.0
+placed_has P k (x ∷ xs) p all (inr later) = placed_has P (k + 1) xs p all.1 later
+
+-- what holds of all holds of one of them with its place
+pub placed_held : {X : Type 0} (P : X → Type 0) (k : ℕ) (xs : List X) (p : ℕ × X) → All P xs → Contains (enumerate_from k xs) p → P p.1
+placed_held P k xs p all has = placed_has P k xs p (recursion_from_All P xs all) (has_contained (enumerate_from k xs) p has)
+
+-- ---- workunits
+
+module _ (world : World) (row : Row) (line : WorkunitLine) (is : IsRowOfWorkunit world row line) where
+  -- the row is read as its line,
+  pub workunit_line : (r : Result WorkunitLine Fault) → ReadsLine row r → IfOk r (λ read. read ≡ line)
+  workunit_line (Ok read) reads = reads.value.2 ∙ same_line reads.value.0 is.shown (sym reads.value.1 ∙ is.row_is) ∙ sym is.line_is
+  workunit_line (Err f) reads = tt
+
+  -- where its workunit can be read
+  pub workunit_unrefused : (r : Result WorkunitLine Fault) → ReadsLine row r → AreStorable world → IfErr r (λ fault. fault ≢ NotAProject)
+  workunit_unrefused r reads can = reads.found is.shown (held IsStorable world.workunits is.shown can is.there).row is.row_is
+
+-- ---- the archive
+
+module _ (world : World) (row : Row) (line : Archived) (is : IsRowOfArchived world row line) where
+  shown_is : columns row 1 6 ≡ archived_cells line
+  shown_is = ap (λ r. columns r 1 6) is.row_is ∙ ap archived_cells (sym is.line_is)
+
+  pub archived_long : length row ≡ 7
+  archived_long = ap (λ r. length r) is.row_is
+
+  pub archived_line : (r : Result Archived Fault) → Restores archived_cells IsStoredArchived (columns row 1 6) r → IfOk r (λ read. read ≡ line)
+  archived_line (Ok read) reads = sym (archived_again read) ∙ ap archived_of (sym reads.value.0 ∙ shown_is) ∙ archived_again line
+  archived_line (Err f) reads = tt
+
+  pub archived_unrefused : (r : Result Archived Fault) → Restores archived_cells IsStoredArchived (columns row 1 6) r → IsArchiveStorable world → IfErr r (λ fault. fault ≢ NotAProject)
+  archived_unrefused r reads can =
+      never_unread archived_cells IsStoredArchived (columns row 1 6) r line reads (subst IsStoredArchived (sym is.line_is) (placed_held IsStoredArchived 1 world.archived is.shown can is.there)) shown_is
