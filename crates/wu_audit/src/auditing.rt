@@ -36,10 +36,11 @@ fn wrong_row(loaded: &Loaded) -> Option<Wrong>
     if !is_next_number(loaded.next_number()) {
         return Some(Wrong::NextNumber);
     }
-    if let Some(place) = first_unformed(loaded.workunits()) {
+    let workunits = loaded.workunits();
+    if let Some(place) = first_unformed(workunits) {
         return Some(Wrong::WorkunitForm(place));
     }
-    if let Some(place) = first_unstorable(loaded.workunits()) {
+    if let Some(place) = first_unstorable(workunits) {
         return Some(Wrong::WorkunitValues(place));
     }
     if let Some(place) = first_unstorable_archived(loaded.archived()) {
@@ -48,7 +49,7 @@ fn wrong_row(loaded: &Loaded) -> Option<Wrong>
     if let Some(place) = first_wrong_import(loaded.imports()) {
         return Some(Wrong::ImportVerdicts(place));
     }
-    if let Some(place) = first_inconsistent(loaded.workunits()) {
+    if let Some(place) = first_inconsistent(workunits) {
         return Some(Wrong::WorkunitStates(place));
     }
     None
@@ -62,10 +63,11 @@ fn wrong_workunit_key(alloc: Global, loaded: &Loaded) -> Result<Option<Wrong>, A
     if let Some(place) = first_ungiven(loaded) {
         return Ok(Some(Wrong::WorkunitNumber(place)));
     }
-    if let Some(place) = first_out_of_order(loaded.workunits()) {
+    let workunits = loaded.workunits();
+    if let Some(place) = first_out_of_order(workunits) {
         return Ok(Some(Wrong::WorkunitOrder(place)));
     }
-    if let Some(place) = first_repeated_name(alloc, loaded.workunits())? {
+    if let Some(place) = first_repeated_name(alloc, workunits)? {
         return Ok(Some(Wrong::WorkunitTwice(place)));
     }
     Ok(None)
@@ -79,10 +81,11 @@ fn wrong_archived_key(alloc: Global, loaded: &Loaded) -> Result<Option<Wrong>, A
     if let Some(place) = first_ungiven_archived(loaded) {
         return Ok(Some(Wrong::ArchivedNumber(place)));
     }
-    if let Some(place) = first_repeated_number(alloc, loaded.archived())? {
+    let archived = loaded.archived();
+    if let Some(place) = first_repeated_number(alloc, archived)? {
         return Ok(Some(Wrong::ArchivedTwice(place)));
     }
-    if let Some(place) = first_repeated_archived_name(alloc, loaded.archived())? {
+    if let Some(place) = first_repeated_archived_name(alloc, archived)? {
         return Ok(Some(Wrong::ArchivedNameTwice(place)));
     }
     Ok(None)
@@ -122,10 +125,12 @@ fn wrong_credit(alloc: Global, loaded: &Loaded) -> Result<Option<Wrong>, AllocEr
     requires order { IsInOrder loaded.now }
     ensures { IfOk result (FindsWrong ToArchivedAstray loaded.now) }
 {
-    if let Some(place) = first_unbacked_grant(loaded.workunits(), loaded.grants()) {
+    let workunits = loaded.workunits();
+    let grants = loaded.grants();
+    if let Some(place) = first_unbacked_grant(workunits, grants) {
         return Ok(Some(Wrong::GrantAstray(place)));
     }
-    if let Some(place) = first_ungranted(alloc, loaded.workunits(), loaded.grants())? {
+    if let Some(place) = first_ungranted(alloc, workunits, grants)? {
         return Ok(Some(Wrong::GrantMissing(place)));
     }
     Ok(None)
@@ -137,13 +142,15 @@ fn wrong_archive(alloc: Global, loaded: &Loaded) -> Result<Option<Wrong>, AllocE
     requires order { IsInOrder loaded.now }
     ensures { IfOk result (FindsWrong ToEnd loaded.now) }
 {
-    if let Some(place) = first_unbacked_row(loaded.workunits(), loaded.archived()) {
+    let workunits = loaded.workunits();
+    let archived = loaded.archived();
+    if let Some(place) = first_unbacked_row(workunits, archived) {
         return Ok(Some(Wrong::ArchivedAstray(place)));
     }
-    if let Some(place) = first_unkept(alloc, loaded.workunits(), loaded.archived())? {
+    if let Some(place) = first_unkept(alloc, workunits, archived)? {
         return Ok(Some(Wrong::ArchivedMissing(place)));
     }
-    if let Some(place) = first_taken(alloc, loaded.workunits(), loaded.archived())? {
+    if let Some(place) = first_taken(alloc, workunits, archived)? {
         return Ok(Some(Wrong::NameTaken(place)));
     }
     Ok(None)

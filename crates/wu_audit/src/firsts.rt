@@ -17,9 +17,12 @@ use wu_core::{Archived, Grant, Workunit};
 pub fn first_unformed(workunits: &[Workunit]) -> Option<usize>
     ensures { FirstAgainst IsWorkunit workunits.now result }
 {
-    workunits
-        .iter()
-        .position(|workunit| !is_formed_workunit(workunit))
+    for (place, workunit) in workunits.iter().enumerate() {
+        if !is_formed_workunit(workunit) {
+            return Some(place);
+        }
+    }
+    None
 }
 
 /// The first workunit that cannot be stored.
@@ -47,14 +50,24 @@ pub fn know_hosts(grants: &[Grant])
 pub fn first_unstorable_archived(archived: &[Archived]) -> Option<usize>
     ensures { FirstAgainst IsStoredArchived archived.now result }
 {
-    archived.iter().position(|row| !is_storable_archived(row))
+    for (place, row) in archived.iter().enumerate() {
+        if !is_storable_archived(row) {
+            return Some(place);
+        }
+    }
+    None
 }
 
 /// The first import with a verdict that no such file has.
 pub fn first_wrong_import(imports: &[Imported]) -> Option<usize>
     ensures { FirstAgainst IsRightImport imports.now result }
 {
-    imports.iter().position(|import| !is_right_import(import))
+    for (place, import) in imports.iter().enumerate() {
+        if !is_right_import(import) {
+            return Some(place);
+        }
+    }
+    None
 }
 
 /// The first workunit whose states and verdicts do not agree.
@@ -73,28 +86,37 @@ pub fn first_inconsistent(workunits: &[Workunit]) -> Option<usize>
 pub fn first_ungiven(loaded: &Loaded) -> Option<usize>
     ensures { FirstAgainst (λ w. IsGiven loaded.now w.number) loaded.now.workunits result }
 {
-    loaded
-        .workunits()
-        .iter()
-        .position(|workunit| !is_given(loaded, workunit.number))
+    let workunits = loaded.workunits();
+    for (place, workunit) in workunits.iter().enumerate() {
+        if !is_given(loaded, workunit.number) {
+            return Some(place);
+        }
+    }
+    None
 }
 
 /// The first archived row with a number that was not given.
 pub fn first_ungiven_archived(loaded: &Loaded) -> Option<usize>
     ensures { FirstAgainst (λ row. IsGiven loaded.now row.number) loaded.now.archived result }
 {
-    loaded
-        .archived()
-        .iter()
-        .position(|row| !is_given(loaded, row.number))
+    let archived = loaded.archived();
+    for (place, row) in archived.iter().enumerate() {
+        if !is_given(loaded, row.number) {
+            return Some(place);
+        }
+    }
+    None
 }
 
 /// The first grant for a number that was not given, or with a number or a credit out of its range.
 pub fn first_wrong_grant(loaded: &Loaded) -> Option<usize>
     ensures { FirstAgainst (IsRightGrant loaded.now) loaded.now.grants result }
 {
-    loaded
-        .grants()
-        .iter()
-        .position(|grant| !is_right_grant(loaded, grant))
+    let grants = loaded.grants();
+    for (place, grant) in grants.iter().enumerate() {
+        if !is_right_grant(loaded, grant) {
+            return Some(place);
+        }
+    }
+    None
 }

@@ -81,9 +81,12 @@ fn is_held_if_done(numbers: &HashSet<u64>, workunit: &Workunit) -> bool
 fn first_done_unheld(numbers: &HashSet<u64>, workunits: &[Workunit]) -> Option<usize>
     ensures { FirstAgainst (IsHeldIfDone numbers.now) workunits.now result }
 {
-    workunits
-        .iter()
-        .position(|workunit| !is_held_if_done(numbers, workunit))
+    for (place, workunit) in workunits.iter().enumerate() {
+        if !is_held_if_done(numbers, workunit) {
+            return Some(place);
+        }
+    }
+    None
 }
 
 /// The first assimilated workunit without an archived row.
@@ -110,9 +113,12 @@ fn is_not_held_unless_done(names: &HashSet<&str>, workunit: &Workunit) -> bool
 fn first_held(names: &HashSet<&str>, workunits: &[Workunit]) -> Option<usize>
     ensures { FirstAgainst (IsNotHeldUnlessDone names.now) workunits.now result }
 {
-    workunits
-        .iter()
-        .position(|workunit| !is_not_held_unless_done(names, workunit))
+    for (place, workunit) in workunits.iter().enumerate() {
+        if !is_not_held_unless_done(names, workunit) {
+            return Some(place);
+        }
+    }
+    None
 }
 
 /// The first workunit that is not assimilated and whose name is an archived workunit's.

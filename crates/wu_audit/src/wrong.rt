@@ -4,7 +4,7 @@ ghost use Rattle.std.specs.Prelude.{◌≡◌};
 ghost use Rattle.wu_audit.specs.Words.{place_of_wrong, table_of, table_word, wrong_word};
 
 /// A table of which a row is wrong.
-#[derive(Clone, Copy, PartialEq, Eq)]
+#[derive(Clone, Copy)]
 pub enum Table {
     Project,
     Workunit,
@@ -30,7 +30,7 @@ impl Table {
 
 /// What is wrong with a world: one thing that a sound world has not. Each but the first tells a row by its place in its
 /// table, from 0.
-#[derive(Clone, Copy, PartialEq, Eq)]
+#[derive(Clone, Copy)]
 pub enum Wrong {
     /// The next number is 0, or more than one above the greatest that there may be.
     NextNumber,

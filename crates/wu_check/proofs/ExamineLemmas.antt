@@ -1,5 +1,5 @@
 -- From question to question.
-use Rattle.wu_schema.proofs.Words.{Database, Err, Fault, Ghosts, HasCleanDisk, HasTables, Held, IfErr, IfOk, IsErrAnd, Ok, Option, ProjectTrees, Refines, Result, World, arith, state, subst, sym, ℕ, ◌∙◌, ◌≡◌, ◌≢◌}
+use Rattle.wu_schema.proofs.Words.{Database, Err, Fault, Ghosts, HasCleanDisk, HasTables, Held, IfErr, IfOk, IsErrAnd, Ok, Option, ProjectTrees, Refines, Result, World, arith, inl, inr, refl, state, subst, sym, ℕ, ◌∙◌, ◌≡◌, ◌≢◌}
 use Rattle.sqlite.specs.State.{IsLive}
 use Rattle.std.proofs.lemmas.Result.{IfOk-weaker}
 use Rattle.wu_core.specs.declared.fault.Fault.TheVariants.{Broken, Memory}
@@ -35,6 +35,21 @@ module _ {S : Type 0} (g : Ghosts S) (h : Held S) where
     fault = tt;
     answered = λ clean unlimited. tt;
   }
+
+  -- want of memory, with no question
+  pub examines_memory : {T : Type 0} (Is : Database → T → Type 0) (fault : Fault) → fault ≡ Memory → (r : Result T Fault) → IsErrAnd r (λ other. other ≡ fault) → Examines g h h r Is
+  examines_memory Is fault is (Ok y) same = absurd same
+  examines_memory {T} Is fault is (Err other) same = subst (λ (f : Fault). Examines {T = T} g h h (Err f) Is) (sym (same ∙ is)) (record {
+    asks = asks_none g h (Err Memory) memory_other;
+    says = λ clean legible. tt;
+    fault = inl refl;
+    answered = λ clean unlimited. inl refl;
+  })
+
+  -- a connection that nothing is asked of stays as it is
+  pub stays_none : {T : Type 0} (r : Result T Fault) → StaysUnlessFailed g h h r
+  stays_none (Ok x) was clean = was
+  stays_none (Err fault) was clean = inr was
 
 module _ {S T : Type 0} (g : Ghosts S) (a b : Held S) (Is : Database → T → Type 0) where
   -- what is made of an answer

@@ -4,3 +4,4 @@ pub mod VerdictLemmas
 pub mod SizeLemmas
 pub mod RowLemmas
 pub mod QueueLemmas
+mod KeyLemmas

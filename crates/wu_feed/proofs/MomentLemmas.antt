@@ -4,7 +4,7 @@ use Rattle.std.proofs.lemmas.Bool.{and_parts}
 use Rattle.std.proofs.lemmas.Bool.Decides.{nat_tests}
 use Rattle.std.proofs.lemmas.List.{drop_more, drop_all}
 use Rattle.std.specs.List.{list_all, zip}
-use Rattle.wu_feed.specs.Moments.{fits, has_shape, shape_of_moment}
+use Rattle.wu_feed.specs.Moments.{fits, four_at, has_shape, moment_at, moment_of, shape_of_moment, two_at}
 
 -- the bytes of two lists fit, place by place
 abbrev pub fit_all : List ℕ → List ℕ → Bool
@@ -49,3 +49,9 @@ pub all_fit : (text : List ℕ) (i : ℕ) → length text ≡ 20 → length text
 all_fit text i long past so_far =
     let none : drop i shape_of_moment ≡ [] = drop_all i shape_of_moment (omega arith) in
     has_shape-of text long ∙ sym so_far ∙ rw none refl
+
+-- a text of the shape is the moment at its numbers
+pub moment_of_parts : (text : List ℕ) (year month day hour minute second : ℕ) → has_shape text ≡ true → year ≡ four_at text 0
+    → month ≡ two_at text 5 → day ≡ two_at text 8 → hour ≡ two_at text 11 → minute ≡ two_at text 14 → second ≡ two_at text 17
+    → moment_at year month day hour minute second ≡ moment_of text
+moment_of_parts text year month day hour minute second shaped y m d h min s = rw (shaped, y, m, d, h, min, s) refl

@@ -1,7 +1,7 @@
 -- Which rows of a tree a question shows as they are.
-use Rattle.wu_schema.proofs.Words.{Column, Database, Has, IsDatabase, List, Null, Option, Row, Some, Table, Value, [], all_has, and_parts, ap, arith, column, drop, false, if◌then◌else◌, length, map, passes, refl, subst, suc, sym, true, zero, ℕ, ◌&&◌, ◌+◌, ◌-◌, ◌<◌, ◌∙◌, ◌∷◌, ◌≡◌, ◌≢◌, ◌≤◌, add-one}
+use Rattle.wu_schema.proofs.Words.{Column, Database, Has, IsDatabase, List, Null, Option, Row, Some, Table, Value, [], all_has, and_parts, ap, arith, column, drop, length, map, refl, suc, sym, true, zero, ℕ, ◌+◌, ◌-◌, ◌<◌, ◌∙◌, ◌∷◌, ◌≡◌, ◌≢◌, ◌≤◌, add-one}
 use Rattle.std.specs.List.{range_with_len}
-use Rattle.sqlite_schema.specs.Rules.{are_typed, has_computed}
+use Rattle.sqlite_schema.specs.Rules.{are_typed}
 use Rattle.sqlite_schema.specs.declared.schema.Constraint.TheVariants.{Datatype}
 use Rattle.sqlite_sql.specs.Ops.{is_null}
 use Rattle.sqlite.specs.declared.types.Value.TheVariants.{Int, Real, Text, Blob}

@@ -1,5 +1,5 @@
 -- The order of instances, and which of them are a workunit's.
-use Rattle.wu_schema.proofs.Words.{AllByRecursion, Err, Ok, OnOk, Result, Instance, List, Workunit, all_has, drop, flat_map, has_right, inl, length-map, map-append, ◌≢◌, ◌≤◌, Ordering, [], ap, arith, enumerate_from, length, map, nat_le, on_total, refl, sym, subst, suc, zero, ℕ, ◌++◌, ◌+◌, ◌<◌, ◌∙◌, ◌∷◌, ◌≡◌, append-nil}
+use Rattle.wu_schema.proofs.Words.{AllByRecursion, Err, Ok, OnOk, Result, Instance, List, Workunit, all_has, drop, flat_map, has_right, inl, length-map, map-append, ◌≢◌, ◌≤◌, [], ap, arith, enumerate_from, length, map, on_total, refl, sym, subst, suc, ℕ, ◌++◌, ◌+◌, ◌<◌, ◌∙◌, ◌∷◌, ◌≡◌, append-nil}
 use Rattle.std.specs.Prelude.{All}
 use Rattle.std.proofs.lemmas.List.{append_assoc, length-append}
 use Rattle.std.proofs.lemmas.List.Elements.{All-nil, All-push, recursion_from_All}

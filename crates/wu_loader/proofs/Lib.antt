@@ -2,6 +2,7 @@ pub mod CellLemmas
 pub mod RowLemmas
 pub mod WholeLemmas
 pub mod SelectLemmas
+mod QuestionLemmas
 pub mod LookLemmas
 pub mod StandLemmas
 pub mod DealLemmas

@@ -1,7 +1,6 @@
 -- From question to question about the tables.
-use Rattle.wu_schema.proofs.Words.{Database, Err, Fault, Ghosts, HasCleanDisk, HasTables, Held, IfErr, IfOk, IsErrAnd, IsFailure, None, Ok, ProjectTrees, Result, arith, state, subst, sym, ap, ◌∙◌, ◌≡◌, ◌≢◌}
+use Rattle.wu_schema.proofs.Words.{Database, Err, Fault, Ghosts, HasCleanDisk, HasTables, Held, IfErr, IsErrAnd, IsFailure, Ok, ProjectTrees, Result, arith, state, subst, sym, ◌∙◌, ◌≡◌, ◌≢◌}
 use Rattle.wu_core.specs.declared.fault.Fault.TheVariants.{Broken}
-use Rattle.wu_schema.specs.Asking.{Asks}
 use Rattle.wu_schema.proofs.AskingLemmas.{asks_fault, asks_made, asks_now, asks_then}
 use Rattle.wu_loader.specs.Asked.{HasArranged, Looks}
 
@@ -12,7 +11,7 @@ Known = Database → ProjectTrees → Type 0
 abbrev pub HasLooked : {S : Type 0} → Ghosts S → Held S → Held S → Known → Type 0
 HasLooked g old new Is = Looks {T = Unit {0}} g old new (Ok tt) (λ db trees _. Is db trees)
 
-never_broken : {T : Type 0} (x : T) → ◌≢◌ {A = Result T Fault} (Ok x) (Err Broken)
+pub never_broken : {T : Type 0} (x : T) → ◌≢◌ {A = Result T Fault} (Ok x) (Err Broken)
 never_broken x is = absurd cc
 
 module _ {S : Type 0} (g : Ghosts S) (a b : Held S) where

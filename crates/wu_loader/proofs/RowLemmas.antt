@@ -1,20 +1,16 @@
 -- How rows read as values.
-use Rattle.wu_schema.proofs.Words.{Archived, Grant, Err, Fault, Import, ImportKind, Instance, List, None, Ok, Option, Result, Row, Value, Workunit, [], ap, column, drop, import_cells, import_kind_code, inl, instance_row, length, map, number, number_or_null, refl, text_or_null, subst, sym, verdict_digits, workunit_row, ℕ, ⊤, ◌++◌, ◌+◌, ◌<◌, ◌^◌, ◌∙◌, ◌∷◌, ◌≡◌, ◌≢◌, ◌≤◌, ◌==◌, if◌then◌else◌}
+use Rattle.wu_schema.proofs.Words.{Archived, Err, Fault, Grant, Import, ImportKind, Instance, IsErrAnd, NotAProject, Ok, Result, Row, Value, [], ap, column, drop, if◌then◌else◌, import_cells, import_kind_code, inl, inr, instance_row, length, map, number, number_or_null, refl, subst, sym, text_or_null, ℕ, ⊤, ◌++◌, ◌==◌, ◌∙◌, ◌∷◌, ◌≡◌, ◌≢◌, ◌≤◌}
 use Rattle.std.specs.List.{range_with_len}
 use Rattle.sqlite.specs.declared.types.Value.TheVariants.{Text, Blob}
 use Rattle.wu_core.specs.Limits.{last_moment}
-use Rattle.wu_core.specs.Storable.{AreVerdicts, IsHost, IsInput, IsName, IsOutput, IsPlace, IsStoredArchived, IsStoredWorkunit, MayBeInstance}
+use Rattle.wu_core.specs.Storable.{AreVerdicts, IsHost, IsName, IsOutput, IsPlace, IsStoredArchived, MayBeInstance}
 use Rattle.wu_core.specs.declared.import.ImportKind.TheVariants as kind
-use Rattle.wu_core.specs.declared.mask.ErrorMask.{ErrorMask}
 use Rattle.wu_core.proofs.MaskLemmas.{flags_of}
 use Rattle.wu_schema.specs.Restoring.{Restores}
-use Rattle.wu_schema.specs.Stored.{archived_cells}
-use Rattle.wu_schema.specs.Stored.{parameter_cells}
 use Rattle.wu_store.specs.Reading.{columns, mask_cell, verdicts_cell}
 use Rattle.wu_core.specs.Formed.{IsInstance}
-use Rattle.wu_core.specs.Parameters.{IsParameters}
 use Rattle.wu_store.proofs.ReadingLemmas.{as_columns, not_ok, same_verdicts}
-use Rattle.wu_store.proofs.SameWorld.{mask_again, maybe_again, read_blob, read_maybe, read_number, read_text, same_instances, same_workunit}
+use Rattle.wu_store.proofs.SameWorld.{mask_again, maybe_again, read_blob, read_maybe, read_number, read_text, same_instances}
 use Rattle.wu_loader.specs.Cells.{kind_cell, moment_cells, state_cells, HasMoments}
 use Rattle.wu_loader.specs.declared.rows.Moments.{Moments}
 use Rattle.wu_loader.specs.declared.rows.Placed.{Placed}
@@ -96,6 +92,20 @@ part_unread part row from count stored_as cells IsValue IsPart are shown f unrea
   found = λ t is same. not_ok f (part t) t (unread.found (part t) (are t is) (ap (λ r. columns r from count) same ∙ shown t));
   refused = unread.refused;
 }
+
+-- a row with a column that can't be read is stored of nothing
+pub column_unread : {T U : Type 0} (part : T → U) (row : Row) (at : ℕ) {stored_as : T → Row} {cell : U → Value} {IsValue : T → Type 0} {IsPart : U → Type 0}
+    → ((t : T) → IsValue t → IsPart (part t)) → ((t : T) → column (stored_as t) at ≡ cell (part t)) → {f : Fault} → Restores cell IsPart (column row at) (Err f) → (r : Result T Fault) → IsErrAnd r (λ other. other ≡ f) → Restores stored_as IsValue row r
+column_unread part row at are shown unread (Ok y) same = absurd same
+column_unread part row at {stored_as} {cell} {IsValue} {IsPart} are shown {f} unread (Err other) same = subst (λ (g : Fault). Restores stored_as IsValue row (Err g)) (sym same) (record {
+  value = tt;
+  found = λ t is stored. not_ok f (part t) t (unread.found (part t) (are t is) (ap (λ r. column r at) stored ∙ shown t));
+  refused = unread.refused;
+})
+
+-- so is one with another number of columns
+pub miscounted : {T : Type 0} (row : Row) (count : ℕ) {stored_as : T → Row} {IsValue : T → Type 0} → ((t : T) → length (stored_as t) ≡ count) → length row ≢ count → Restores stored_as IsValue row (Err NotAProject)
+miscounted row count long other = record { value = tt; found = λ t is stored. absurd (other (ap (λ r. length r) stored ∙ long t)); refused = inr refl }
 
 -- ---- instances
 

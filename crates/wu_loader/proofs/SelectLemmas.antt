@@ -1,7 +1,7 @@
 -- The questions about whole tables: each text, what it asks for, and what its answer shows of any rows.
-use Rattle.wu_schema.proofs.Words.{Answers, Database, Error, FailsToQuery, Fault, Ghosts, HasCleanDisk, HasTables, Held, IfErr, IsFailure, Ok, ProjectTrees, Result, Vec, HasNamed, fault_of, false, length, state, HasTable, Int, IsPermutation, IsTable, List, None, Query, Row, Shown, Some, State, Table, Term, Name, [], ap, archived_at, arith, codes, eval_all, everything, grant_at, host_at, import_at, lit, map, negsuc, project_at, refl, result_at, subst, sym, workunit_at, ℕ, ◌++◌, ◌∙◌, ◌∷◌, ◌≡◌}
-use Rattle.wu_schema.proofs.AnswerLemmas.{answers_are, meeting, showing, shown_answers}
-use Rattle.wu_schema.proofs.Parts.{Part, in_all, name_of, parts_in, table_in, tree_in}
+use Rattle.wu_schema.proofs.Words.{Answers, Database, Error, FailsToQuery, Fault, Ghosts, HasTables, Held, IfErr, IsFailure, ProjectTrees, Result, Vec, fault_of, false, length, state, HasTable, Int, IsPermutation, IsTable, List, None, Row, Shown, Some, State, Table, Name, [], ap, archived_at, arith, codes, eval_all, everything, grant_at, host_at, import_at, lit, map, negsuc, project_at, refl, result_at, subst, sym, workunit_at, ℕ, ◌++◌, ◌∙◌, ◌∷◌, ◌≡◌}
+use Rattle.wu_schema.proofs.AnswerLemmas.{answers_are, shown_answers}
+use Rattle.wu_schema.proofs.Parts.{Part, in_all, name_of, parts_in, table_in}
 use Rattle.wu_schema.proofs.QueryLemmas.{alone, plain_query}
 use Rattle.wu_schema.proofs.ReadLemmas.{if_err, if_ok}
 use Rattle.wu_schema.proofs.RowLemmas.{no_test}
@@ -12,7 +12,6 @@ use Rattle.wu_schema.specs.Faults.{IsStoreFault}
 use Rattle.wu_store.proofs.OrderAnswers.{sorted, sure_in_order}
 use Rattle.wu_store.proofs.SelectTexts.{workunit_columns, instance_columns}
 use Rattle.wu_loader.specs.Asked.{HasArranged, Looks}
-use Rattle.wu_loader.specs.Shown.{keyed, unkeyed}
 
 -- ---- the law of a question about a whole table
 

@@ -1,8 +1,6 @@
 -- When the rows that tables show are those of a world, the tables are what it holds, and the other way round.
-use Rattle.wu_schema.proofs.Words.{Archived, Bool, Column, Contains-permutation, Database, Grant, Has, HasNamed, HoldsAll, Import, ImportKind, Int, IsAscending, IsDatabase, IsPermutation, IsPermutation-filter, IsPermutation-map, IsPermutation-sym, IsPermutation-trans, IsTable, List, ListsAll, Null, Option, ProjectTrees, Row, Schema, Some, Table, Text, Trees, Workunit, World, [], all_has, ap, archived_at, arith, bytes_eq, column, contains_had, drop, enumerate_from, false, flat_map, grant_at, has_contained, has_mapped, host_at, import_at, import_cells, inl, inr, instances_of, length, length-map, map, map-map, mapped_has, number, project_at, refl, result_at, stored_archived, stored_grant, stored_project, stored_workunit, subst, suc, sym, true, workunit_at, workunit_row, zero, ℕ, ◌+◌, ◌-◌, ◌∙◌, ◌∷◌, ◌≡◌, ◌≢◌, hosts_of, instance_cells, Instance, Binary, equal, has_either, import_kind_code, is_import, Blob, verdict_digits, Less, IsTrue, all_from, and_from, and_parts, bytes_eq-Decides, cond, eq-eqb, eqb-true, false_from_ne_true, filter, filter-map, first_key, is_eq, is_int, length_permutation, rowid, value_cmp, ℤ, ◌&&◌, ◌<◌, ◌==◌, ◌≤◌}
-use Rattle.sqlite_trees.specs.declared.store.Shape.TheVariants as shape
+use Rattle.wu_schema.proofs.Words.{Archived, Bool, Column, Contains-permutation, Database, Grant, Has, HasNamed, HoldsAll, Import, ImportKind, Int, IsAscending, IsDatabase, IsPermutation, IsPermutation-filter, IsPermutation-sym, IsPermutation-trans, List, ListsAll, Null, ProjectTrees, Row, Some, Table, Text, Workunit, World, [], all_has, ap, archived_at, arith, column, contains_had, drop, enumerate_from, false, flat_map, grant_at, has_contained, has_mapped, host_at, import_at, import_cells, inl, inr, instances_of, length, length-map, map, map-map, mapped_has, number, project_at, refl, result_at, stored_archived, stored_grant, stored_project, stored_workunit, subst, suc, sym, true, workunit_at, workunit_row, ℕ, ◌+◌, ◌∙◌, ◌∷◌, ◌≡◌, ◌≢◌, hosts_of, instance_cells, Instance, Binary, equal, has_either, import_kind_code, is_import, Blob, verdict_digits, Less, IsTrue, all_from, and_from, and_parts, bytes_eq-Decides, cond, eq-eqb, eqb-true, false_from_ne_true, filter, filter-map, first_key, is_eq, is_int, length_permutation, rowid, value_cmp, ℤ, ◌&&◌, ◌<◌, ◌==◌, ◌≤◌}
 use Rattle.sqlite_schema.specs.Rules.{are_typed}
-use Rattle.std.specs.List.{AllByRecursion}
 use Rattle.wu_core.specs.Hosts.{grants_of}
 use Rattle.wu_schema.specs.Refines.{HasRows, host_of}
 use Rattle.wu_schema.proofs.RowLemmas.{filter_same, int_value, one_test}
@@ -12,7 +10,6 @@ use Rattle.wu_store.proofs.OnceLemmas.{key_once, kind_in, one_passes}
 use Rattle.wu_loader.specs.Asked.{HasArranged}
 use Rattle.wu_loader.specs.Rows.{archived_row, grant_row, project_row}
 use Rattle.wu_loader.specs.Shown.{behind_key, keyed, unkeyed, AreArranged, AreWhole, IsArranged, Shows}
-use Rattle.wu_loader.specs.Whole.{rows_of}
 use Rattle.wu_loader.specs.Worlds.{AreRowsOf, project_of}
 use Rattle.wu_loader.specs.declared.tables.TableRows.{TableRows}
 use Rattle.wu_loader.proofs.CellLemmas.{keyed_is, row_typed, unkeyed_is, whole_last}

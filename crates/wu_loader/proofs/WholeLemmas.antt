@@ -1,8 +1,8 @@
 -- All rows of a table as values.
-use Rattle.wu_schema.proofs.Words.{IfErr, IsErrAnd, Result, Contains-permutation, Err, Fault, Has, IsPermutation, IsPermutation-sym, Option, all_has, contains_had, has_contained, has_mapped, List, NotAProject, Ok, Row, Some, [], add-one, ap, arith, enumerate_from, inl, inr, length, map, refl, slice_get, subst, suc, sym, take, take_all, ℕ, zero, ◌++◌, ◌+◌, ◌-◌, ◌<◌, ◌∙◌, ◌∷◌, ◌≡◌, ◌≢◌}
+use Rattle.wu_schema.proofs.Words.{IfErr, IsErrAnd, Result, Contains-permutation, Err, Has, IsPermutation, IsPermutation-sym, Option, all_has, contains_had, has_contained, has_mapped, List, NotAProject, Ok, Row, Some, [], ap, arith, enumerate_from, inl, inr, length, map, refl, slice_get, subst, suc, sym, take, ℕ, zero, ◌++◌, ◌+◌, ◌-◌, ◌<◌, ◌∙◌, ◌∷◌, ◌≡◌, ◌≢◌}
 use Rattle.std.specs.Prelude.{All, get_or}
 use Rattle.std.proofs.lemmas.List.{take_more}
-use Rattle.std.proofs.lemmas.List.Elements.{All-push, recursion_from_All}
+use Rattle.std.proofs.lemmas.List.Elements.{recursion_from_All}
 use Rattle.wu_schema.specs.Restoring.{Restores}
 use Rattle.wu_loader.specs.Whole.{rows_of, IsNoRow, UnlessMemory}
 use Rattle.wu_loader.specs.declared.finding.NoWorld.{NoWorld}

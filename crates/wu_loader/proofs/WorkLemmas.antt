@@ -1,7 +1,7 @@
 -- The workunits that rows are those of.
-use Rattle.wu_schema.proofs.Words.{AllByRecursion, Equal, Has, Instance, IsAscending, IsPermutation, IsPermutation-map, IsPermutation-sym, IsPermutation-trans, IsSorted, Less, List, Ordering, Row, Workunit, [], all_from, all_has, ap, arith, column, enumerate_from, flat_map, get_or, has_either, has_mapped, inl, inr, instance_cells, instances_of, is_eq, length, length-map, map, map-append, map-map, on_total, refl, subst, suc, sym, workunit_row, ℕ, ◌++◌, ◌+◌, ◌<◌, ◌∙◌, ◌∷◌, ◌≡◌, ◌≤◌}
+use Rattle.wu_schema.proofs.Words.{AllByRecursion, Equal, Has, Instance, IsAscending, IsPermutation, IsPermutation-map, IsPermutation-sym, IsPermutation-trans, IsSorted, Less, List, Ordering, Row, Workunit, [], all_from, all_has, ap, arith, column, enumerate_from, flat_map, get_or, has_mapped, inl, inr, instance_cells, instances_of, length, length-map, map, map-append, map-map, on_total, refl, subst, sym, workunit_row, ℕ, ◌++◌, ◌+◌, ◌<◌, ◌∙◌, ◌∷◌, ◌≡◌, ◌≤◌}
 use Rattle.std.specs.Prelude.{All}
-use Rattle.std.specs.Cmp.{IsTotalOrder, nat_cmp_is}
+use Rattle.std.specs.Cmp.{IsTotalOrder}
 use Rattle.std.specs.Ordering.{is_lt, nat_cmp, on, ordering_then, then_cmp}
 use Rattle.std.proofs.lemmas.Bool.Decides.{nat_tests}
 use Rattle.std.proofs.lemmas.Cmp.{nat_cmp_total, then_total}
@@ -11,7 +11,7 @@ use Rattle.wu_core.specs.Limits.{most_instances}
 use Rattle.wu_core.specs.Storable.{bare, IsStorable, IsStoredInstance, IsStoredWorkunit}
 use Rattle.wu_store.proofs.OneOrder.{one_order}
 use Rattle.wu_store.proofs.SameWorld.{read_number, same_workunit}
-use Rattle.wu_loader.specs.Dealing.{by_place, placed_from, placed_of, AreDealt}
+use Rattle.wu_loader.specs.Dealing.{by_place, placed_of, AreDealt}
 use Rattle.wu_loader.specs.Rows.{placed_row, IsStoredPlaced}
 use Rattle.wu_loader.specs.Whole.{rows_of, IsNoRow}
 use Rattle.wu_loader.specs.Worlds.{AreRowsOfWorks, IsOrdered}

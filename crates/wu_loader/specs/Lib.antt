@@ -1,4 +1,5 @@
 pub mod Shown
+pub mod Questions
 pub mod Asked
 pub mod Cells
 pub mod Rows

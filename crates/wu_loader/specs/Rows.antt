@@ -1,5 +1,5 @@
 -- The rows of the tables as questions show them, and the values that they may stand for.
-use Rattle.std.specs.Prelude.{◌≡◌, ℕ, ◌<◌, ◌≤◌, ◌^◌, List, [], ◌∷◌}
+use Rattle.std.specs.Prelude.{ℕ, ◌<◌, ◌≤◌, ◌^◌, [], ◌∷◌}
 use Rattle.sqlite.specs.Order.{Row}
 use Rattle.wu_core.specs.Storable.{AreVerdicts, IsName, IsNextNumber, IsStoredInstance}
 use Rattle.wu_core.specs.World.{Import}

@@ -7,7 +7,7 @@ use std::alloc::{AllocError, AllocFailed};
 use wu_audit::Loaded;
 
 /// A table of a project.
-#[derive(Clone, Copy, Debug, PartialEq, Eq)]
+#[derive(Clone, Copy)]
 pub enum Table {
     Project,
     Workunit,
@@ -21,7 +21,7 @@ pub enum Table {
 /// A row that keeps the tables from being those of a world: its table and its place there, counted from 1, where the
 /// table is read in order of its key, the results in order of workunit and number, hosts and imports in any order. A
 /// place behind the last row tells of a row that lacks.
-#[derive(Clone, Copy, Debug, PartialEq, Eq)]
+#[derive(Clone, Copy)]
 pub struct Wrong {
     pub table: Table,
     pub place: u64,
@@ -35,7 +35,7 @@ pub enum Found {
 }
 
 /// Why no world was made of rows.
-#[derive(Clone, Copy, Debug, PartialEq, Eq)]
+#[derive(Clone, Copy)]
 pub enum NoWorld {
     Memory,
     Wrong(Wrong),

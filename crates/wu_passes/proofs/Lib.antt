@@ -2,6 +2,7 @@ mod PlanLemmas
 mod PassPlanLemmas
 pub mod BatchLemmas
 mod AskLemmas
+mod ExitLemmas
 pub mod StandingLemmas
 pub mod AdoptingLemmas
 mod NamedLemmas

@@ -1,7 +1,7 @@
 -- One walk after another, what is left of a view, and what goes on over a world that was only read.
 use Rattle.std.proofs.Common.{◌≡◌, ◌∙◌, ℕ, List, [], ◌∷◌, ◌++◌, length, Option, Some, None, Result, Ok, Err, ap, arith, inr, refl, subst, sym}
 use Rattle.std.specs.List.{AllZip}
-use Rattle.std.specs.Prelude.{◌<◌, ◌+◌, ◌*◌, ◌^◌, ◌⊎◌, IfSome, IsErrAnd, MatchOption, MatchResult}
+use Rattle.std.specs.Prelude.{◌<◌, ◌+◌, ◌*◌, ◌^◌, ◌⊎◌, IfOk, IfSome, IsErrAnd, MatchOption, MatchResult}
 use Rattle.std.specs.declared.vec.IntoIter.{IntoIter}
 use Rattle.std.specs.Vec.Iter.{into_iter_items, into_iter_len, into_iter_steps}
 use Rattle.sqlite.specs.Order.{Row}
@@ -14,11 +14,13 @@ use Rattle.wu_store.specs.declared.pages.Pages.{Ghosts as PageGhosts}
 use Rattle.wu_store.specs.Loading.{IsReadOnly}
 use Rattle.wu_store.specs.Pages.{TurnsTo}
 use Rattle.wu_passes.specs.declared.project.Project.{Project}
+use Rattle.wu_passes.specs.declared.project.walk.LineWalk.{LineWalk}
+use Rattle.wu_passes.specs.declared.project.walk.LinesLeft.{LinesLeft}
 use Rattle.wu_store.proofs.LoadLemmas.{read_none, read_then}
 use Rattle.wu_passes.proofs.StandingLemmas.{goes_read}
 use Rattle.wu_passes.specs.Projects.{state_of}
 use Rattle.wu_passes.specs.Standing.{GoesOn}
-use Rattle.wu_passes.specs.Walks.{AreLeft, HandsRowOf, OnlyReads, ShowsTables}
+use Rattle.wu_passes.specs.Walks.{AreLeft, HandsRowOf, HasLeft, OnlyReads, ShowsTables, WalksOver}
 
 -- ---- one walk after another
 
@@ -35,7 +37,7 @@ goes_on = goes_read
 
 -- ---- the next row
 
-no_rows : {X : Type 0} (xs : List X) → length xs ≡ 0 → xs ≡ []
+pub no_rows : {X : Type 0} (xs : List X) → length xs ≡ 0 → xs ≡ []
 no_rows [] none = refl
 no_rows (x ∷ xs) none = absurd (omega (arith, none))
 
@@ -80,6 +82,12 @@ page_over old new (Some row) none steps = absurd cc
 pub all_left : {P T : Type 0} (p : PageGhosts P T) (world : World) (s : State) (first pages : P) (rows : List Row) (lines : List T) → ShowsTables s world → rows ≡ [] → pages ≡ first → p.rest first world ≡ lines → AreLeft p world s pages rows lines
 all_left p world s first pages rows lines stands none same is =
     record { stands = stands; front = []; page = subst (λ rows. AllZip (p.is_row_of pages world) rows []) (sym none) tt; all = sym (ap (λ pages. p.rest pages world) same ∙ is) }
+
+-- a walk over these lines is one over the same, differently told
+pub walks_same : {S P T : Type 0} {g : Ghosts S} (p : PageGhosts P T) (told lines : World → List T) (old : Project S g) (r : Result (LineWalk S (LinesLeft P) g) Fault) → ((world : World) → told world ≡ lines world)
+    → IfOk r (WalksOver p told old) → IfOk r (WalksOver p lines old)
+walks_same p told lines old (Ok walk) same over = λ world shows. subst (HasLeft p world walk) (same world) (over world shows)
+walks_same p told lines old (Err fault) same over = over
 
 -- ---- what shrinks
 

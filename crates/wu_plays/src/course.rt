@@ -1,11 +1,11 @@
 //! The course of a script over two files that do not stop.
 
-use crate::disks::{MOST_CALLS, Saved, Side, after_stop};
+use crate::disks::{MOST_CALLS, Saved, Side};
 use crate::files::Pages;
-use crate::runs::{Reach, run_over, views_of};
+use crate::runs::{Left, Reach, run_over, views_of};
 use crate::scripts::steps;
 use anyhow::{Context, Result, bail, ensure};
-use std::alloc::Global;
+use std::alloc::{AllocError, Global};
 use wu_cli::Action;
 
 /// What was found after a stop.
@@ -15,34 +15,91 @@ pub enum Found {
     After,
 }
 
+/// What files hold, and all views of it, no text where there is no project.
+pub struct Stage {
+    pub files: Saved,
+    pub views: Vec<u8>,
+}
+
+// It is written out, so that a caller does not prove again how each part is dropped.
+impl Drop for Stage {
+    fn drop(self) {
+        let Stage {
+            files: _files,
+            views: _views,
+        } = self;
+    }
+}
+
+impl Stage {
+    /// The stage of these files.
+    fn of(alloc: Global, files: Saved) -> Result<Stage> {
+        let views = views_of(alloc, &files)?;
+        Ok(Stage { files, views })
+    }
+
+    /// The stage of blank files.
+    fn blank(alloc: Global) -> Stage {
+        Stage {
+            files: Saved::empty(alloc),
+            views: Vec::new(alloc),
+        }
+    }
+}
+
 /// An act of a script: the adoption of blank files, or a line.
-#[derive(Drop)]
 pub struct Act {
     /// What it is called.
     pub title: String,
     /// What is asked for, nothing for the adoption.
     pub action: Option<Action>,
-    /// The files before it.
-    pub files: Saved,
-    /// All views before it, no text where there is no project.
-    pub before: Vec<u8>,
+    pub before: Stage,
     /// All views after it.
     pub after: Vec<u8>,
 }
 
+// It is written out, so that a caller does not prove again how each part is dropped.
+impl Drop for Act {
+    fn drop(self) {
+        let Act {
+            title: _title,
+            action: _action,
+            before: _before,
+            after: _after,
+        } = self;
+    }
+}
+
 impl Act {
+    /// An act of this title from a stage, which leaves these views.
+    fn new(
+        alloc: Global,
+        title: &str,
+        action: Option<Action>,
+        before: Stage,
+        after: &[u8],
+    ) -> Result<Act, AllocError> {
+        let title = String::from_str(alloc, title)?;
+        let after = Vec::from_slice(alloc, after)?;
+        Ok(Act {
+            title,
+            action,
+            before,
+            after,
+        })
+    }
+
     /// What these views are, which were found after the act was answered or not. After an answer nothing but what it
     /// leaves may be found.
     pub fn found(&self, views: &[u8], reach: Reach) -> Result<Found> {
-        if views == self.before.as_slice() && reach != Reach::Done {
+        let is_before = views == self.before.views.as_slice();
+        if is_before && !reach.is_done() {
             return Ok(Found::Before);
         }
         if views == self.after.as_slice() {
             return Ok(Found::After);
         }
-        if views == self.before.as_slice() {
-            bail!("an answered command is not there");
-        }
+        ensure!(!is_before, "an answered command is not there");
         bail!("neither the state before nor the one after")
     }
 }
@@ -56,29 +113,41 @@ pub enum Between {
     Unclosed,
 }
 
-/// What files hold, and all views of it.
-#[derive(Drop)]
-struct Stage {
-    files: Saved,
-    views: Vec<u8>,
+/// Sees that an act was answered, and its files were closed.
+fn is_closed(left: &Left) -> Result<()> {
+    ensure!(left.end.reach.is_done(), "it ends with a fault");
+    ensure!(left.is_closed, "it is not closed");
+    Ok(())
 }
 
 /// The files after an act, closed.
 fn closed_after(alloc: Global, files: &Saved, action: Option<&Action>) -> Result<Saved> {
     let left = run_over(alloc, files.files(alloc)?, action, Pages::All)?;
-    ensure!(left.end.reach == Reach::Done, "it ends with a fault");
-    ensure!(left.is_closed, "it is not closed");
-    Ok(Saved::of(alloc, &left.files)?)
+    is_closed(&left)?;
+    Ok(left.files.saved(alloc)?)
+}
+
+/// The files after an act, where so many calls of the database do not stop; None where it is not answered.
+fn answered_after(
+    alloc: Global,
+    files: &Saved,
+    action: Option<&Action>,
+    calls: u64,
+) -> Result<Option<Saved>> {
+    let files = files.stopping(alloc, Side::Database, calls)?;
+    let left = run_over(alloc, files, action, Pages::All)?;
+    if !left.end.reach.is_done() {
+        return Ok(None);
+    }
+    ensure!(!left.is_closed, "it is closed");
+    Ok(Some(left.after_stop(alloc)?))
 }
 
 /// The files after an act that was answered, where the first call of the close on the database stops.
 fn unclosed_after(alloc: Global, files: &Saved, action: Option<&Action>) -> Result<Saved> {
     for calls in 0..MOST_CALLS {
-        let files = files.stopping(alloc, Side::Database, calls)?;
-        let left = run_over(alloc, files, action, Pages::All)?;
-        if left.end.reach == Reach::Done {
-            ensure!(!left.is_closed, "it is closed");
-            return Ok(after_stop(alloc, left.files)?);
+        if let Some(files) = answered_after(alloc, files, action, calls)? {
+            return Ok(files);
         }
     }
     bail!("it is not answered")
@@ -95,8 +164,7 @@ fn stage_after(
         Between::Closed => closed_after(alloc, files, action)?,
         Between::Unclosed => unclosed_after(alloc, files, action)?,
     };
-    let views = views_of(alloc, &files)?;
-    Ok(Stage { files, views })
+    Stage::of(alloc, files)
 }
 
 /// An act from a stage, and the stage that it leads to.
@@ -107,15 +175,8 @@ fn act_from(
     action: Option<Action>,
     between: Between,
 ) -> Result<(Act, Stage)> {
-    let Stage { files, views } = stage;
-    let next = stage_after(alloc, &files, action.as_ref(), between).context(title)?;
-    let act = Act {
-        title: String::from_str(alloc, title)?,
-        action,
-        files,
-        before: views,
-        after: next.views.clone()?,
-    };
+    let next = stage_after(alloc, &stage.files, action.as_ref(), between).context(title)?;
+    let act = Act::new(alloc, title, action, stage, next.views.as_slice())?;
     Ok((act, next))
 }
 
@@ -133,11 +194,8 @@ fn line_at(text: &str, number: u64) -> &str {
 
 /// The adoption of blank files, and the stage that it leads to.
 fn adoption(alloc: Global, between: Between) -> Result<(Act, Stage)> {
-    let blank = Stage {
-        files: Saved::empty(alloc),
-        views: Vec::new(alloc),
-    };
-    act_from(alloc, blank, "(an adoption of empty files)", None, between)
+    let title = "(an adoption of empty files)";
+    act_from(alloc, Stage::blank(alloc), title, None, between)
 }
 
 /// The first stage: that of these files, or that of an adoption, which is then the first act.
@@ -148,10 +206,7 @@ fn first_stage(
     acts: &mut Vec<Act>,
 ) -> Result<Stage> {
     match start {
-        Some(files) => {
-            let views = views_of(alloc, &files)?;
-            Ok(Stage { files, views })
-        }
+        Some(files) => Stage::of(alloc, files),
         None => {
             let (act, stage) = adoption(alloc, between)?;
             acts.push(act)?;
@@ -172,7 +227,7 @@ pub fn course(
     let mut stage = first_stage(alloc, start, between, &mut acts)?;
     for step in steps(rt, text)?.into_vec() {
         let title = line_at(text, step.number);
-        let (act, next) = act_from(alloc, stage, title, Some(step.action), between)?;
+        let (act, next) = act_from(alloc, stage, title, Some(step.into_action()), between)?;
         acts.push(act)?;
         stage = next;
     }

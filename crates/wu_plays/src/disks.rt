@@ -24,22 +24,40 @@ impl fmt::Display for Side {
 /// More calls than any run makes on a file.
 pub const MOST_CALLS: u64 = 1000;
 
-/// The files of a play: they lie in memory, and their calls may stop.
-pub type PlayFiles = Files<Fuse<Memory>>;
+/// A file of a play: it lies in memory, and its calls may stop.
+pub type PlayDisk = Fuse<Memory>;
+
+/// The files of a play.
+pub struct PlayFiles {
+    files: Files<PlayDisk>,
+}
+
+// It is written out, so that a caller does not prove again how each part is dropped.
+impl Drop for PlayFiles {
+    fn drop(self) {
+        let PlayFiles { files: _files } = self;
+    }
+}
 
 /// What two files hold.
-#[derive(Drop)]
 pub struct Saved {
     log: Vec<u8>,
     db: Vec<u8>,
 }
 
-/// A synced file of these bytes.
-fn memory(alloc: Global, bytes: &[u8]) -> io::Result<Memory> {
+// It is written out, so that a caller does not prove again how each part is dropped.
+impl Drop for Saved {
+    fn drop(self) {
+        let Saved { log: _log, db: _db } = self;
+    }
+}
+
+/// A synced file of these bytes, whose calls stop after so many.
+fn file(alloc: Global, bytes: &[u8], calls: u64) -> io::Result<PlayDisk> {
     let mut file = Memory::new(alloc);
     file.write_at(0, bytes)?;
     file.sync()?;
-    Ok(file)
+    Ok(Fuse::new(file, calls))
 }
 
 impl Saved {
@@ -59,13 +77,6 @@ impl Saved {
         }
     }
 
-    pub fn of(alloc: Global, files: &PlayFiles) -> io::Result<Saved> {
-        Ok(Saved {
-            log: Vec::from_slice(alloc, files.log.inner().bytes())?,
-            db: Vec::from_slice(alloc, files.db.inner().bytes())?,
-        })
-    }
-
     pub fn is_same(&self, other: &Saved) -> bool {
         self.log.as_slice() == other.log.as_slice() && self.db.as_slice() == other.db.as_slice()
     }
@@ -81,10 +92,9 @@ impl Saved {
             Side::Log => (calls, u64::MAX),
             Side::Database => (u64::MAX, calls),
         };
-        Ok(Files {
-            log: Fuse::new(memory(alloc, self.log.as_slice())?, log_calls),
-            db: Fuse::new(memory(alloc, self.db.as_slice())?, db_calls),
-        })
+        let log = file(alloc, self.log.as_slice(), log_calls)?;
+        let db = file(alloc, self.db.as_slice(), db_calls)?;
+        Ok(PlayFiles::from_files(Files { log, db }))
     }
 
     /// Files that hold the same.
@@ -93,19 +103,38 @@ impl Saved {
     }
 }
 
-/// What the files hold when the machine comes back after a stop: what was not synced is lost.
-pub fn after_stop(alloc: Global, mut files: PlayFiles) -> io::Result<Saved> {
-    files.log.crash();
-    files.db.crash();
-    Saved::of(alloc, &files)
-}
-
 /// Whether the calls on a file have stopped.
-fn is_stopped(file: &mut Fuse<Memory>) -> bool {
+fn is_stopped(file: &mut PlayDisk) -> bool {
     !file.may_be_used() || file.len().is_err()
 }
 
-/// Whether the calls on either file have stopped.
-pub fn are_stopped(files: &mut PlayFiles) -> bool {
-    is_stopped(&mut files.log) || is_stopped(&mut files.db)
+impl PlayFiles {
+    pub fn from_files(files: Files<PlayDisk>) -> PlayFiles {
+        PlayFiles { files }
+    }
+
+    pub fn into_files(self) -> Files<PlayDisk> {
+        let PlayFiles { files } = self;
+        files
+    }
+
+    /// What they hold.
+    pub fn saved(&self, alloc: Global) -> io::Result<Saved> {
+        Ok(Saved {
+            log: Vec::from_slice(alloc, self.files.log.inner().bytes())?,
+            db: Vec::from_slice(alloc, self.files.db.inner().bytes())?,
+        })
+    }
+
+    /// What they hold when the machine comes back after a stop: what was not synced is lost.
+    pub fn after_stop(mut self, alloc: Global) -> io::Result<Saved> {
+        self.files.log.crash();
+        self.files.db.crash();
+        self.saved(alloc)
+    }
+
+    /// Whether the calls on either of them have stopped.
+    pub fn are_stopped(&mut self) -> bool {
+        is_stopped(&mut self.files.log) || is_stopped(&mut self.files.db)
+    }
 }

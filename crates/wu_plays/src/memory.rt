@@ -5,7 +5,7 @@ use crate::sessions::{adopt, do_action};
 use anyhow::Result;
 use sqlite::{Alter, Connection};
 use std::io::Write;
-use wu_cli::{Entry, fault_status, read_lines, write_fault};
+use wu_cli::{BadLine, Entry, fault_status, read_lines, write_fault};
 use wu_drive::Project;
 
 /// Does what a line asks for, writes what it answers, and answers its status.
@@ -17,7 +17,7 @@ fn answer<S: Alter>(
 ) -> u8 {
     let action = match action(rt, entry) {
         Ok(action) => action,
-        Err(why) => return write_refusal(why, transcript),
+        Err(why) => return write_refusal(&BadLine { number: 1, why }, transcript),
     };
     match do_action(rt.alloc(), project, &action, transcript) {
         None => 0,

@@ -12,7 +12,6 @@ pub enum Full {
 
 /// A writer that takes so many bytes, so many of them a call, and then no more. So many flushes go well, and then they
 /// fail.
-#[derive(Drop)]
 pub struct Narrow {
     pub taken: Vec<u8>,
     room: usize,
@@ -25,6 +24,22 @@ pub struct Narrow {
     has_failed: bool,
     /// Whether it was called again behind a call that failed.
     pub is_called_again: bool,
+}
+
+// It is written out, so that a caller does not prove again how each part is dropped.
+impl Drop for Narrow {
+    fn drop(self) {
+        let Narrow {
+            taken: _taken,
+            room: _room,
+            most: _most,
+            full: _full,
+            flushed: _flushed,
+            flushes: _flushes,
+            has_failed: _has_failed,
+            is_called_again: _is_called_again,
+        } = self;
+    }
 }
 
 impl Narrow {

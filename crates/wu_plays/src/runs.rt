@@ -1,11 +1,12 @@
 //! Runs of one act over two files: the adoption, or a line of a script.
 
 use crate::disks::{PlayFiles, Saved};
-use crate::files::{self, Pages, Visit, options, visit_files};
+use crate::files::{Pages, Visit, options, visit_play};
 use crate::sessions::{adopt, do_action, views};
 use anyhow::{Result, bail};
 use sqlite::{Alter, Connection};
 use std::alloc::Global;
+use std::io;
 use wu_cli::Action;
 use wu_core::Fault;
 use wu_drive::Project;
@@ -21,21 +22,59 @@ pub enum Reach {
     Done,
 }
 
+impl Reach {
+    /// Whether the act was answered.
+    pub fn is_done(self) -> bool {
+        matches!(self, Reach::Done)
+    }
+}
+
 /// How an act ended.
-#[derive(Drop)]
 pub struct End {
     pub reach: Reach,
     /// All views of a session that was begun again over the same database, behind a fault that ended the first.
     pub again: Option<Vec<u8>>,
 }
 
+// It is written out, so that a caller does not prove again how each part is dropped.
+impl Drop for End {
+    fn drop(self) {
+        let End {
+            reach: _reach,
+            again: _again,
+        } = self;
+    }
+}
+
 /// What a run left of its files, and how its act ended.
-#[derive(Drop)]
 pub struct Left {
     pub files: PlayFiles,
     pub end: End,
     /// Whether the close was answered too.
     pub is_closed: bool,
+}
+
+// It is written out, so that a caller does not prove again how each part is dropped.
+impl Drop for Left {
+    fn drop(self) {
+        let Left {
+            files: _files,
+            end: _end,
+            is_closed: _is_closed,
+        } = self;
+    }
+}
+
+impl Left {
+    /// What the files hold when the machine comes back after a stop.
+    pub fn after_stop(self, alloc: Global) -> io::Result<Saved> {
+        let Left {
+            files,
+            end: _end,
+            is_closed: _is_closed,
+        } = self;
+        files.after_stop(alloc)
+    }
 }
 
 /// Begins a session again, and looks at its project, as far as the files let it.
@@ -110,12 +149,8 @@ pub fn run_over(
     action: Option<&Action>,
     pages: Pages,
 ) -> Result<Left> {
-    let visited = visit_files(alloc, files, options(1, pages), Acting { action })?;
-    let files::Left {
-        files,
-        told,
-        is_closed,
-    } = visited;
+    let left = visit_play(alloc, files, options(1, pages), Acting { action })?;
+    let (files, told, is_closed) = left.into_parts();
     let end = match told {
         Some(end) => end,
         None => unbegun(),
@@ -147,15 +182,8 @@ impl Visit for Looking {
 
 /// What a visitor tells over files that do not stop.
 pub fn told_over<V: Visit>(alloc: Global, saved: &Saved, visitor: V) -> Result<V::Told> {
-    let files = saved.files(alloc)?;
-    let visited = visit_files(alloc, files, options(2, Pages::All), visitor)?;
-    let files::Left {
-        files,
-        told,
-        is_closed: _,
-    } = visited;
-    drop(files);
-    match told {
+    let left = visit_play(alloc, saved.files(alloc)?, options(2, Pages::All), visitor)?;
+    match left.into_told() {
         Some(told) => Ok(told),
         None => bail!("the files can't be opened"),
     }

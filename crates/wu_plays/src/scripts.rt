@@ -36,34 +36,41 @@ pub fn action(rt: &HostRuntime, entry: Entry) -> Result<Action, Refusal> {
         return Err(Refusal::Repeat);
     }
     let contents = contents(rt, &entry)?;
-    let line = entry.line?;
+    let line = entry.into_line()?;
     prepare(rt.alloc(), &line, contents).map_err(Refusal::Fault)
+}
+
+/// A line of a script with what its files hold.
+fn fed(rt: &HostRuntime, entry: Entry) -> Result<FedEntry, AllocError> {
+    let contents = contents(rt, &entry)?;
+    Ok(FedEntry { entry, contents })
+}
+
+/// The lines of a script with what their files hold.
+fn fed_lines(rt: &HostRuntime, text: &str) -> Result<Vec<FedEntry>> {
+    let mut lines = Vec::new(rt.alloc());
+    for entry in read_lines(rt.alloc(), DATABASE, text.as_bytes())?.into_vec() {
+        lines.push(fed(rt, entry)?)?;
+    }
+    Ok(lines)
 }
 
 /// What the lines of a script ask for. All of them can be run.
 pub fn steps(rt: &HostRuntime, text: &str) -> Result<Steps> {
-    let mut lines = Vec::new(rt.alloc());
-    for entry in read_lines(rt.alloc(), DATABASE, text.as_bytes())?.into_vec() {
-        let contents = contents(rt, &entry)?;
-        lines.push(FedEntry { entry, contents })?;
-    }
-    match prepare_script(rt.alloc(), lines) {
+    match prepare_script(rt.alloc(), fed_lines(rt, text)?) {
         Ok(steps) => Ok(steps),
         Err(bad) => bail!("line {} can't be run", bad.number),
     }
 }
 
 /// Writes why a line can't be run, and answers its status.
-pub fn write_refusal(why: Refusal, transcript: &mut Vec<u8>) -> u8 {
-    let status = why.status();
-    let _ = match why {
-        Refusal::Words(usage) => write_usage(&usage, transcript),
-        Refusal::Fault(fault) => write_fault(&fault, transcript),
-        Refusal::Text(_) | Refusal::Script | Refusal::Repeat => {
-            write_bad_line(&BadLine { number: 1, why }, transcript)
-        }
+pub fn write_refusal(bad: &BadLine, transcript: &mut Vec<u8>) -> u8 {
+    let _ = match &bad.why {
+        Refusal::Words(usage) => write_usage(usage, transcript),
+        Refusal::Fault(fault) => write_fault(fault, transcript),
+        Refusal::Text(_) | Refusal::Script | Refusal::Repeat => write_bad_line(bad, transcript),
     };
-    status
+    bad.status()
 }
 
 /// Writes the status that a line ends with, unless it is 0.

@@ -2,9 +2,9 @@
 //! opened again, looked at in every view, and the rest of the script is played on.
 
 use crate::course::{Act, Between, Found, course};
-use crate::disks::{MOST_CALLS, Saved, Side, after_stop, are_stopped};
+use crate::disks::{MOST_CALLS, Saved, Side};
 use crate::files::{Pages, Visit};
-use crate::runs::{End, Left, Reach, run_over, told_over};
+use crate::runs::{Left, Reach, run_over, told_over};
 use crate::sessions::{adopt, do_action, is_blank, views};
 use crate::tally::{Find, Finds, Tally};
 use anyhow::{Context, Result, bail, ensure};
@@ -15,8 +15,15 @@ use std::io::Write;
 use wu_core::Fault;
 use wu_drive::Project;
 
+/// Sees that a fault is no more than the refusal of an act that was done before.
+fn is_refused(act: &Act, fault: Fault, was_done: bool) -> Result<()> {
+    let is_refusal = !matches!(fault, Fault::Memory | Fault::Broken | Fault::Ended);
+    ensure!(was_done && is_refusal, "{fault} at {}", act.title);
+    Ok(())
+}
+
 /// Does an act that no call stops. It is answered, but where it was done before it may be refused.
-pub fn do_act<S: Alter>(
+fn do_act<S: Alter>(
     alloc: Global,
     project: &mut Project<S>,
     act: &Act,
@@ -25,23 +32,10 @@ pub fn do_act<S: Alter>(
     let Some(action) = &act.action else {
         return Ok(());
     };
-    if let Some(fault) = do_action(alloc, project, action, &mut Vec::new(alloc)) {
-        let is_refusal = !matches!(fault, Fault::Memory | Fault::Broken | Fault::Ended);
-        ensure!(was_done && is_refusal, "{fault} at {}", act.title);
+    match do_action(alloc, project, action, &mut Vec::new(alloc)) {
+        Some(fault) => is_refused(act, fault, was_done),
+        None => Ok(()),
     }
-    Ok(())
-}
-
-/// A session over what is left, and all views of it, none where there is no table.
-fn look<S: Alter + Drop>(alloc: Global, mut conn: Connection<S>) -> Result<(Project<S>, Vec<u8>)> {
-    let was_blank = is_blank(&mut conn)?;
-    let mut project = adopt(conn)?;
-    let seen = if was_blank {
-        Vec::new(alloc)
-    } else {
-        views(alloc, &mut project)?
-    };
-    Ok((project, seen))
 }
 
 /// An act that is stopped, and those after it.
@@ -53,21 +47,60 @@ struct Case<'a> {
     pages: Pages,
 }
 
-/// Does the act again and the rest, and sees that the end is that of the course.
+/// Does acts that no call stops.
+fn do_rest<S: Alter>(alloc: Global, project: &mut Project<S>, acts: &[Act]) -> Result<()> {
+    for act in acts {
+        do_act(alloc, project, act, false)?;
+    }
+    Ok(())
+}
+
+/// Sees that these are the views behind an act and those after it.
+fn is_end(views: &[u8], act: &Act, rest: &[Act]) -> Result<()> {
+    let end = match rest.last() {
+        Some(last) => last.after.as_slice(),
+        None => act.after.as_slice(),
+    };
+    ensure!(views == end, "another end");
+    Ok(())
+}
+
+/// Does an act again, which was done or not, and those after it, and sees that the end is that of the course.
 fn go_on<S: Alter>(
     alloc: Global,
     project: &mut Project<S>,
-    case: Case<'_>,
-    found: Found,
+    act: &Act,
+    rest: &[Act],
+    was_done: bool,
 ) -> Result<()> {
-    do_act(alloc, project, case.act, found == Found::After)?;
-    let mut end = case.act.after.as_slice();
-    for act in case.rest {
-        do_act(alloc, project, act, false)?;
-        end = act.after.as_slice();
+    do_act(alloc, project, act, was_done)?;
+    do_rest(alloc, project, rest)?;
+    let end = views(alloc, project)?;
+    is_end(end.as_slice(), act, rest)
+}
+
+/// All views of what is left, none where there was no table.
+fn look<S: Alter>(alloc: Global, project: &mut Project<S>, was_blank: bool) -> Result<Vec<u8>> {
+    if was_blank {
+        Ok(Vec::new(alloc))
+    } else {
+        views(alloc, project)
     }
-    ensure!(views(alloc, project)?.as_slice() == end, "another end");
-    Ok(())
+}
+
+/// Looks at what is left of an act that came so far, and goes on.
+fn find<S: Alter>(
+    alloc: Global,
+    project: &mut Project<S>,
+    was_blank: bool,
+    case: Case<'_>,
+    reach: Reach,
+) -> Result<Found> {
+    let seen = look(alloc, project, was_blank)?;
+    let found = case.act.found(seen.as_slice(), reach)?;
+    let was_done = matches!(found, Found::After);
+    go_on(alloc, project, case.act, case.rest, was_done)?;
+    Ok(found)
 }
 
 /// A session that goes on so.
@@ -83,11 +116,11 @@ impl<'a> Visit for GoingOn<'a> {
     fn visit<S: Alter + Drop>(
         self,
         alloc: Global,
-        conn: Connection<S>,
+        mut conn: Connection<S>,
     ) -> Result<(Connection<S>, Found)> {
-        let (mut project, seen) = look(alloc, conn)?;
-        let found = self.case.act.found(seen.as_slice(), self.reach)?;
-        go_on(alloc, &mut project, self.case, found)?;
+        let was_blank = is_blank(&mut conn)?;
+        let mut project = adopt(conn)?;
+        let found = find(alloc, &mut project, was_blank, self.case, self.reach)?;
         Ok((project.release(), found))
     }
 }
@@ -111,41 +144,82 @@ fn play_on(
     })
 }
 
-/// Sees that what was told of an act is right where calls stopped or not.
-fn is_right(case: Case<'_>, left: &Left, is_stopped: bool) -> Result<()> {
-    ensure!(
-        is_stopped || left.end.reach == Reach::Done && left.is_closed,
-        "a fault without a stop"
-    );
-    if let Reach::Cut(fault) = left.end.reach {
+/// Sees that an act which came so far ended with no other fault than that of its files.
+fn is_broken(reach: Reach) -> Result<()> {
+    if let Reach::Cut(fault) = reach {
         ensure!(fault == Fault::Broken, "{fault}");
     }
-    if let Some(seen) = &left.end.again {
+    Ok(())
+}
+
+/// Sees that a session which began again saw the state before the act.
+fn is_before(case: Case<'_>, again: Option<&Vec<u8>>) -> Result<()> {
+    if let Some(seen) = again {
         ensure!(
-            seen.as_slice() == case.act.before.as_slice(),
+            seen.as_slice() == case.act.before.views.as_slice(),
             "a session begins again over another state"
         );
     }
     Ok(())
 }
 
+/// Sees that what was told of an act is right where calls stopped or not.
+fn is_right(case: Case<'_>, left: &Left, is_stopped: bool) -> Result<()> {
+    let is_whole = left.end.reach.is_done() && left.is_closed;
+    ensure!(is_stopped || is_whole, "a fault without a stop");
+    is_broken(left.end.reach)?;
+    is_before(case, left.end.again.as_ref())
+}
+
+/// Runs an act and stops it after so many calls: what it left, and whether the calls stopped.
+fn run_stopped(alloc: Global, case: Case<'_>, calls: u64) -> Result<(Left, bool)> {
+    let files = case.act.before.files.stopping(alloc, case.side, calls)?;
+    let mut left = run_over(alloc, files, case.act.action.as_ref(), case.pages)?;
+    let is_stopped = left.files.are_stopped();
+    is_right(case, &left, is_stopped)?;
+    Ok((left, is_stopped))
+}
+
+/// Goes on from all that was written, and counts it where calls stopped.
+fn keep(
+    alloc: Global,
+    case: Case<'_>,
+    left: &Left,
+    is_stopped: bool,
+    tally: &mut Tally,
+) -> Result<()> {
+    let written = left.files.saved(alloc)?;
+    let has_bytes = written.has_database_of(&case.act.before.files);
+    let find = play_on(alloc, case, written, left.end.reach, &tally.kept)?;
+    if is_stopped {
+        tally.ends.count(&left.end, has_bytes);
+        tally.kept.count(find);
+    }
+    Ok(())
+}
+
+/// Goes on from what was synced, and counts it where calls stopped.
+fn lose(
+    alloc: Global,
+    case: Case<'_>,
+    left: Left,
+    is_stopped: bool,
+    tally: &mut Tally,
+) -> Result<()> {
+    let reach = left.end.reach;
+    let synced = left.after_stop(alloc)?;
+    let find = play_on(alloc, case, synced, reach, &tally.lost)?;
+    if is_stopped {
+        tally.lost.count(find);
+    }
+    Ok(())
+}
+
 /// Stops an act after so many calls, and goes on with either loss. Whether the calls stopped.
 fn stop(alloc: Global, case: Case<'_>, calls: u64, tally: &mut Tally) -> Result<bool> {
-    let files = case.act.files.stopping(alloc, case.side, calls)?;
-    let mut left = run_over(alloc, files, case.act.action.as_ref(), case.pages)?;
-    let is_stopped = are_stopped(&mut left.files);
-    is_right(case, &left, is_stopped)?;
-    let Left { files, end, .. } = left;
-    let written = Saved::of(alloc, &files)?;
-    let synced = after_stop(alloc, files)?;
-    let has_bytes = written.has_database_of(&case.act.files);
-    let with_all = play_on(alloc, case, written, end.reach, &tally.kept)?;
-    let without = play_on(alloc, case, synced, end.reach, &tally.lost)?;
-    if is_stopped {
-        tally.ends.count(&end, has_bytes);
-        tally.kept.count(with_all);
-        tally.lost.count(without);
-    }
+    let (left, is_stopped) = run_stopped(alloc, case, calls)?;
+    keep(alloc, case, &left, is_stopped, tally)?;
+    lose(alloc, case, left, is_stopped, tally)?;
     Ok(is_stopped)
 }
 
@@ -173,6 +247,46 @@ fn start(rt: &HostRuntime, path: Option<&str>) -> Result<Option<Saved>> {
     Ok(Some(Saved::database(rt.alloc(), bytes)))
 }
 
+/// Plays the stops of an act by the calls on one file, and tells of them.
+fn play_case(alloc: Global, case: Case<'_>, transcript: &mut Vec<u8>) -> Result<()> {
+    let tally = stop_each(alloc, case)?;
+    ensure!(tally.lost.before > 0 && tally.kept.before > 0, "no stop");
+    tally.write(case.act, case.side, transcript)?;
+    Ok(())
+}
+
+/// Plays the stops of an act.
+fn play_act(
+    alloc: Global,
+    act: &Act,
+    rest: &[Act],
+    pages: Pages,
+    transcript: &mut Vec<u8>,
+) -> Result<()> {
+    writeln!(transcript, "> {}", act.title)?;
+    for side in [Side::Log, Side::Database] {
+        let case = Case {
+            act,
+            rest,
+            side,
+            pages,
+        };
+        play_case(alloc, case, transcript)?;
+    }
+    Ok(())
+}
+
+/// Plays the stops of each act.
+fn play_acts(alloc: Global, acts: &[Act], pages: Pages, transcript: &mut Vec<u8>) -> Result<()> {
+    for at in 0..acts.len() {
+        let Some([act, rest @ ..]) = acts.get(at..) else {
+            break;
+        };
+        play_act(alloc, act, rest, pages, transcript)?;
+    }
+    Ok(())
+}
+
 /// Plays a script, from the database in a file where one is named.
 pub fn play(
     rt: &HostRuntime,
@@ -183,22 +297,5 @@ pub fn play(
     transcript: &mut Vec<u8>,
 ) -> Result<()> {
     let acts = course(rt, text, between, start(rt, path)?)?;
-    for at in 0..acts.len() {
-        let Some([act, rest @ ..]) = acts.as_slice().get(at..) else {
-            break;
-        };
-        writeln!(transcript, "> {}", act.title)?;
-        for side in [Side::Log, Side::Database] {
-            let case = Case {
-                act,
-                rest,
-                side,
-                pages,
-            };
-            let tally = stop_each(rt.alloc(), case)?;
-            ensure!(tally.lost.before > 0 && tally.kept.before > 0, "no stop");
-            tally.write(case.act, side, transcript)?;
-        }
-    }
-    Ok(())
+    play_acts(rt.alloc(), acts.as_slice(), pages, transcript)
 }

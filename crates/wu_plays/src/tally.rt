@@ -90,13 +90,23 @@ impl Ends {
 }
 
 /// What is counted over the stops of an act.
-#[derive(Drop)]
 pub struct Tally {
     pub ends: Ends,
     /// What was found where a stop lost what was not synced.
     pub lost: Finds,
     /// What was found where it kept all that was written.
     pub kept: Finds,
+}
+
+// It is written out, so that a caller does not prove again how each part is dropped.
+impl Drop for Tally {
+    fn drop(self) {
+        let Tally {
+            ends: _ends,
+            lost: _lost,
+            kept: _kept,
+        } = self;
+    }
 }
 
 impl Tally {
@@ -124,7 +134,7 @@ impl Tally {
             ", {} answered; {} before, {} after; with all that was written {} before, {} after",
             ends.answered, lost.before, lost.after, kept.before, kept.after
         )?;
-        if act.before.as_slice() == act.after.as_slice() {
+        if act.before.views.as_slice() == act.after.as_slice() {
             write!(transcript, "; {} with the same database file", ends.same)?;
         }
         writeln!(transcript)

@@ -67,7 +67,7 @@ fn refuse_journal(rt: &HostRuntime, path: &str) -> Result<(), Reason> {
     }
 }
 
-/// The bytes of both files, where no journal lies beside them.
+/// The bytes of both files, where no journal lies beside them, before and behind.
 fn read_both<'a>(
     rt: &HostRuntime,
     path: &'a str,
@@ -79,7 +79,41 @@ fn read_both<'a>(
     refuse_journal(rt, real)?;
     let log = bytes_if_any(rt, log).map_err(|error| Reason::of_reading(&error))?;
     let db = fs::read(rt, real).map_err(|error| Reason::of_reading(&error))?;
+    refuse_journal(rt, real)?;
     Ok(FileBytes { path, log, db })
+}
+
+/// The bytes of a database that nothing holds, where it has no log and was not written to since this moment.
+fn read_unheld<'a>(
+    rt: &HostRuntime,
+    path: &'a str,
+    real: &str,
+    log: &str,
+    before: SystemTime,
+) -> Result<FileBytes<'a>, Reason>
+    ensures { IfOk result (λ bytes. bytes.path.now ≡ path.now) }
+{
+    let bytes = read_both(rt, path, real, log)?;
+    if written_at(rt, real)? != before || hold(rt, real, log)?.is_some() {
+        return Err(Reason::InUse);
+    }
+    Ok(bytes)
+}
+
+/// The bytes of both files as they are at one moment: of those that are held, or that nobody wrote to meanwhile.
+fn read_at_once<'a>(
+    rt: &HostRuntime,
+    path: &'a str,
+    real: &str,
+    log: &str,
+) -> Result<FileBytes<'a>, Reason>
+    ensures { IfOk result (λ bytes. bytes.path.now ≡ path.now) }
+{
+    let before = written_at(rt, real)?;
+    match hold(rt, real, log)? {
+        Some(_held) => read_both(rt, path, real, log),
+        None => read_unheld(rt, path, real, log, before),
+    }
 }
 
 /// The bytes of the database at the path and of its log, as they are at one moment: what another program writes to
@@ -88,18 +122,8 @@ pub fn read_database<'a>(rt: &HostRuntime, path: &'a str) -> Result<FileBytes<'a
     ensures { IfOk result (λ bytes. bytes.path.now ≡ path.now) }
 {
     let real = fs::canonicalize(rt, path).map_err(|error| Reason::of_file(&error))?;
-    let real = real.as_str();
-    let log = format!(in rt.alloc(); "{real}-wal").map_err(|_| Reason::Memory)?;
-    let before = written_at(rt, real)?;
-    let held = hold(rt, real, log.as_str())?;
-    let bytes = read_both(rt, path, real, log.as_str())?;
-    refuse_journal(rt, real)?;
-    if held.is_none()
-        && (written_at(rt, real)? != before || hold(rt, real, log.as_str())?.is_some())
-    {
-        return Err(Reason::InUse);
-    }
-    Ok(bytes)
+    let log = format!(in rt.alloc(); "{}-wal", real.as_str()).map_err(|_| Reason::Memory)?;
+    read_at_once(rt, path, real.as_str(), log.as_str())
 }
 
 /// A file in memory with these bytes.

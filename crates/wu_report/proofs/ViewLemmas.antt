@@ -1,7 +1,7 @@
 -- The lines that a walk hands out are written one after another.
 use Rattle.std.proofs.Common.{◌≡◌, ℕ, ◌≤◌, Bool, false, List, [], ◌∷◌, ◌++◌, flat_map, Option, Some, None, Result, Ok, Err, arith, inl, inr, sym, ap, subst, ◌∙◌, append_assoc, append-nil}
 use Rattle.std.proofs.KnownBytes.{Appends-trans}
-use Rattle.std.proofs.lemmas.Bool.{cases_Bool}
+use Rattle.std.proofs.lemmas.Bool.{cases_Bool, true≢false}
 use Rattle.std.proofs.lemmas.List.Concat.{flat_map-append}
 use Rattle.std.specs.Prelude.{◌⊎◌, IsErrAnd, IsTrue}
 use Rattle.std.specs.Io.KnownBytes.{Appends}
@@ -17,6 +17,7 @@ use Rattle.wu_passes.specs.declared.project.walk.LineWalk.{LineWalk}
 use Rattle.wu_passes.specs.declared.project.walk.LinesLeft.{LinesLeft}
 use Rattle.wu_passes.specs.Projects.{Broke, IsPresentSession, state_of}
 use Rattle.wu_passes.specs.Walks.{HandsFirst, HasLeft, OnlyReads, page_of, walked}
+use Rattle.wu_report.specs.Projects.{ReadsSession}
 use Rattle.wu_report.proofs.WritingLemmas.{AppendsFront-after, AppendsFront-longer, AppendsFront-part}
 use Rattle.wu_report.specs.Writing.{AppendsFront}
 
@@ -117,3 +118,7 @@ module _ {S : Type 0} {g : Ghosts S} (old mid new : Project S g) where
 pub handed_broken : {U : Type 0} (r : Result U Fault) (fault : Fault) → IsErrAnd r (λ other. other ≡ fault) → r ≡ Err Broken → fault ≡ Broken
 handed_broken (Ok y) fault same is = absurd same
 handed_broken (Err other) fault same is = let broke : other ≡ Broken = cc in sym same ∙ broke
+
+-- what only reads ends no session
+pub reads_session : {S T : Type 0} {g : Ghosts S} (old new : Project S g) (r : Result T Fault) → OnlyReads old new → ReadsSession old new r
+reads_session old new r it = record { read = it.read; limit = it.limit; ends = λ going ended. absurd (true≢false (sym ended ∙ it.session ∙ going)) }

@@ -35,11 +35,15 @@ WritesLeft {S} {P} {T} p text contents old new out_old out_new result =
 
 -- ---- a view
 
--- where a session goes on over a world and the disk does not fail, a view's text of that world is written
-abbrev pub Shows : {S W T : Type 0} {store : Ghosts S} → (W → Option (List ℕ)) → Project S store → Project S store → W → W → View → Result T Fault → Type 0
-Shows contents old new out_old out_new view result =
+-- where a session goes on over a world and the disk does not fail, this text of that world is written
+abbrev pub ShowsText : {S W T : Type 0} {store : Ghosts S} → (W → Option (List ℕ)) → Project S store → Project S store → W → W → (World → List ℕ) → Result T Fault → Type 0
+ShowsText contents old new out_old out_new text_of result =
     IsSessionOpen old → HasCleanDisk (state_of new) → (world : World) → GoesOn (state_of old) world
-    → WritesTo contents out_old out_new (view_text world view) result
+    → WritesTo contents out_old out_new (text_of world) result
+
+-- a view's text is
+abbrev pub Shows : {S W T : Type 0} {store : Ghosts S} → (W → Option (List ℕ)) → Project S store → Project S store → W → W → View → Result T Fault → Type 0
+Shows contents old new out_old out_new view result = ShowsText contents old new out_old out_new (λ world. view_text world view) result
 
 -- the values of a world that a view reads can be read
 abbrev pub CanBeShown : World → View → Type 0
@@ -49,11 +53,15 @@ CanBeShown world view.Hosts = AreHostsNamed world
 CanBeShown world view.Archive = IsArchiveStorable world
 CanBeShown world view.Summary = IsCountable world
 
--- where they can, and steps have no limit, the view is not refused
-abbrev pub ShowsUnrefused : {S T : Type 0} {store : Ghosts S} → Project S store → Project S store → View → Result T Fault → Type 0
-ShowsUnrefused old new view result =
-    IsSessionOpen old → HasCleanDisk (state_of new) → IsUnlimited old → (world : World) → CanBeShown world view → GoesOn (state_of old) world
+-- over such a world, where steps have no limit, nothing is refused
+abbrev pub UnrefusedWhere : {S T : Type 0} {store : Ghosts S} → (World → Type 0) → Project S store → Project S store → Result T Fault → Type 0
+UnrefusedWhere IsReadable old new result =
+    IsSessionOpen old → HasCleanDisk (state_of new) → IsUnlimited old → (world : World) → IsReadable world → GoesOn (state_of old) world
     → IfErr result (λ fault. fault ≢ NotAProject)
+
+-- where they can, the view is not refused
+abbrev pub ShowsUnrefused : {S T : Type 0} {store : Ghosts S} → Project S store → Project S store → View → Result T Fault → Type 0
+ShowsUnrefused old new view result = UnrefusedWhere (λ world. CanBeShown world view) old new result
 
 -- over the present version only these faults come
 abbrev pub ShowsOrFails : {S T : Type 0} {store : Ghosts S} → Project S store → Result T Fault → Type 0

@@ -1,9 +1,9 @@
 //! The views of a project, as text.
 
-ghost use Rattle.std.specs.Prelude.{◌≡◌, IfErr};
+ghost use Rattle.std.specs.Prelude.{◌≡◌, IfErr, flat_map};
 ghost use Rattle.wu_report.specs.Projects.{ReadsSession};
 ghost use Rattle.wu_report.specs.Seeing.{Sees};
-ghost use Rattle.wu_report.specs.Views.{IsViewFault, RefusesView, Shows, ShowsOrFails, ShowsUnrefused, WritesLeft};
+ghost use Rattle.wu_report.specs.Views.{IsViewFault, RefusesView, Shows, ShowsOrFails, ShowsText, ShowsUnrefused, UnrefusedWhere, WritesLeft};
 ghost use Rattle.wu_passes.specs.Projects.{BreaksOn, IsPresentSession, IsSessionOpen, ServesOn};
 ghost use Rattle.wu_passes.specs.Walks.{HandsUnrefused, OnlyReads, ReadsOn, StaysServing, walked};
 
@@ -15,7 +15,7 @@ use std::io::Write;
 use wu_core::Fault;
 use wu_machine::View;
 use wu_passes::{Project, Walk};
-use wu_store::Pages;
+use wu_store::{ArchivePages, HostPages, Pages, ResultPages, WorkunitPages};
 
 /// Writes the lines that a walk has left. A fault of the walk comes after the lines before it.
 fn write_lines<S: Alter, P: Pages, W: Write>(
@@ -39,75 +39,25 @@ where
     Ok(())
 }
 
-/// Writes the lines of all workunits. It ends no session.
-fn write_workunits<S: Alter, W: Write>(
+/// Writes the lines of these pages, from the first one on. It ends no session.
+fn write_pages<S: Alter, P: Pages, W: Write>(
     alloc: Global,
     project: &mut Project<S>,
+    pages: P,
     out: &mut W,
 ) -> Result<(), Fault>
+where
+    P::Line: Line,
     ensures early { RefusesView W.contents project.old project.new out.old out.new result }
     ensures reads { OnlyReads project.old project.new }
     ensures opens { IsSessionOpen project.old → ServesOn project.new result }
-    ensures text { Shows W.contents project.old project.new out.old out.new View.Workunits result }
+    ensures text { ShowsText W.contents project.old project.new out.old out.new
+        (λ world. flat_map P.Line.text (P.Pages.rest pages world)) result }
     ensures fault { ShowsOrFails project.old result }
-    ensures unrefused { ShowsUnrefused project.old project.new View.Workunits result }
+    ensures unrefused { UnrefusedWhere P.Pages.is_readable project.old project.new result }
     ensures broke { BreaksOn project.old project.new result }
 {
-    let mut walk = project.walk_workunits(alloc)?;
-    write_lines(&mut walk, out)
-}
-
-/// Writes the lines of all instances. It ends no session.
-fn write_results<S: Alter, W: Write>(
-    alloc: Global,
-    project: &mut Project<S>,
-    out: &mut W,
-) -> Result<(), Fault>
-    ensures early { RefusesView W.contents project.old project.new out.old out.new result }
-    ensures reads { OnlyReads project.old project.new }
-    ensures opens { IsSessionOpen project.old → ServesOn project.new result }
-    ensures text { Shows W.contents project.old project.new out.old out.new View.Results result }
-    ensures fault { ShowsOrFails project.old result }
-    ensures unrefused { ShowsUnrefused project.old project.new View.Results result }
-    ensures broke { BreaksOn project.old project.new result }
-{
-    let mut walk = project.walk_results(alloc)?;
-    write_lines(&mut walk, out)
-}
-
-/// Writes the lines of all hosts. It ends no session.
-fn write_hosts<S: Alter, W: Write>(
-    alloc: Global,
-    project: &mut Project<S>,
-    out: &mut W,
-) -> Result<(), Fault>
-    ensures early { RefusesView W.contents project.old project.new out.old out.new result }
-    ensures reads { OnlyReads project.old project.new }
-    ensures opens { IsSessionOpen project.old → ServesOn project.new result }
-    ensures text { Shows W.contents project.old project.new out.old out.new View.Hosts result }
-    ensures fault { ShowsOrFails project.old result }
-    ensures unrefused { ShowsUnrefused project.old project.new View.Hosts result }
-    ensures broke { BreaksOn project.old project.new result }
-{
-    let mut walk = project.walk_hosts(alloc)?;
-    write_lines(&mut walk, out)
-}
-
-/// Writes the lines of all archived workunits. It ends no session.
-fn write_archive<S: Alter, W: Write>(
-    alloc: Global,
-    project: &mut Project<S>,
-    out: &mut W,
-) -> Result<(), Fault>
-    ensures early { RefusesView W.contents project.old project.new out.old out.new result }
-    ensures reads { OnlyReads project.old project.new }
-    ensures opens { IsSessionOpen project.old → ServesOn project.new result }
-    ensures text { Shows W.contents project.old project.new out.old out.new View.Archive result }
-    ensures fault { ShowsOrFails project.old result }
-    ensures unrefused { ShowsUnrefused project.old project.new View.Archive result }
-    ensures broke { BreaksOn project.old project.new result }
-{
-    let mut walk = project.walk_archive(alloc)?;
+    let mut walk = project.walk_pages(alloc, pages)?;
     write_lines(&mut walk, out)
 }
 
@@ -141,10 +91,10 @@ fn write_view<S: Alter, W: Write>(
     ensures broke { BreaksOn project.old project.new result }
 {
     match view {
-        View::Workunits => write_workunits(alloc, project, out),
-        View::Results => write_results(alloc, project, out),
-        View::Hosts => write_hosts(alloc, project, out),
-        View::Archive => write_archive(alloc, project, out),
+        View::Workunits => write_pages(alloc, project, WorkunitPages::new(), out),
+        View::Results => write_pages(alloc, project, ResultPages::new(), out),
+        View::Hosts => write_pages(alloc, project, HostPages::new(), out),
+        View::Archive => write_pages(alloc, project, ArchivePages::new(), out),
         View::Summary => write_counts(project, out),
     }
 }

@@ -1,5 +1,6 @@
 -- A SELECT of ours, whole: what it does to the connection, what it answers, and that it is not refused.
 use Rattle.wu_schema.proofs.Words.{Bool, Err, Error, FailsToQuery, Fault, Ghosts, HasCleanDisk, Held, IfErr, IsErrAnd, IsFailure, IsSome, IsTrue, List, None, NotAProject, Ok, Option, Result, Row, Shown, Some, Refines, State, Vec, World, [], arith, fault_of, inl, inr, length, not, option_to_list, refl, state, subst, sym, ℕ, ⊤, ◌++◌, ◌<◌, ◌==◌, ◌∙◌, ◌∷◌, ◌≡◌, ◌≢◌, ◌⊎◌}
+use Rattle.std.specs.Prelude.{IfOk, MatchResult}
 use Rattle.wu_schema.specs.Asking.{Asks, FailsAll, IsSelect, ServesUnlessFailed, ShowsAll, TellsQuery}
 use Rattle.wu_schema.specs.Calls.{Tells}
 use Rattle.wu_schema.proofs.ReadLemmas.{if_ok, if_err}
@@ -8,7 +9,9 @@ use Rattle.wu_schema.proofs.ToldLemmas.{asked_told}
 use Rattle.wu_schema.proofs.Parts.{Part, IsIn, table_in, name_of, parts_there}
 use Rattle.wu_core.specs.declared.fault.Fault.TheVariants.{Broken, Memory}
 pub use Rattle.wu_schema.proofs.AskingLemmas.{asks_fault, asks_made, asks_none, asks_stands, asks_then}
+use Rattle.wu_store.specs.Answers.{ShowsLast}
 use Rattle.wu_store.specs.Loading.{IsStoreFault, NotRefusedIn, StaysUnlessFailed}
+use Rattle.wu_store.specs.Reading.{IsReadFault}
 
 -- a failure is no refusal
 pub never_refused : (fault : Fault) → IsFailure fault → fault ≢ NotAProject
@@ -105,11 +108,15 @@ module _ {S : Type 0} {text : List ℕ} {params : Row} (g : Ghosts S) (it : IsQu
       asked_err g old new (λ (rows : Vec Row A) world. ⊤) (λ it world. it ≡ answer world) fault r is (asked_all (λ rows world. ⊤) (λ rows h world s. tt) (Err fault) asks opens (λ clean. tt) fails told)
 
   -- the one row, where there is one
-  pub asked_first : {A : Type 0} (row : World → Option Row) → ((rows : List Row) → Shown text params before after rows → (world : World) → Refines before.now world → rows ≡ option_to_list (row world))
-      → (rows : Vec Row A) → (IsSelect text → Asks g old new (Ok rows)) → (IsSelect text → ServesUnlessFailed g new (Ok rows)) → ShowsAll g old new (Ok rows) text given → (rest : List Row) (taken : Option Row) → rows.items ≡ rest ++ option_to_list taken → (0 < length rows.items → IsSome taken) → HasAsked g old new (Ok taken) (λ it world. it ≡ row world)
-  asked_first {A} row answer rows asks opens shows rest taken parts some =
-      asked_ok g old new (λ (rows : Vec Row A) world. rows.items ≡ option_to_list (row world)) (λ it world. it ≡ row world) rows taken (λ world h. only_taken rows.items rest (row world) taken h parts some)
-      (asked_all (λ rows world. rows ≡ option_to_list (row world)) answer (Ok rows) asks opens shows (λ clean. tt) tt)
+  pub asked_row : (row : World → Option Row) → ((rows : List Row) → Shown text params before after rows → (world : World) → Refines before.now world → rows ≡ option_to_list (row world)) → (r : Result (Option Row) Fault)
+      → (IsSelect text → Asks g old new r) → (IsSelect text → ServesUnlessFailed g new r) → ShowsLast g old new r text given → FailsAll g old new r text given → IfErr r IsStoreFault → HasAsked g old new r (λ it world. it ≡ row world)
+  asked_row row found r asks opens shows fails told = record {
+    asks = asks it.select;
+    opens = opens it.select;
+    answers = λ clean. if_ok r _ _ (λ taken h world s. only_taken h.0 h.2.rest (row world) taken (found h.0 (subst (λ ps. Shown text ps before after h.0) same h.1) world s) h.2.parts h.2.some) (shows clean);
+    fault = told;
+    unrefused = λ clean world s any limit. if_err r _ _ (λ fault h. never_told fault h world s limit) (fails clean);
+  }
 
 -- ---- a fault that `?` hands on
 
@@ -120,6 +127,38 @@ handed_on (Err other) fault same never = λ is. never (sym same ∙ is)
 pub asks_handed : {S T U : Type 0} (g : Ghosts S) (old new : Held S) (r : Result U Fault) (fault : Fault) → IsErrAnd r (λ other. other ≡ fault) → Asks {T = T} g old new (Err fault) → Asks g old new r
 asks_handed g old new (Ok y) fault same it = absurd same
 asks_handed {S} {T} {U} g old new (Err other) fault same it = subst (λ f. Asks {T = U} g old new (Err f)) (sym same) (asks_fault {T = T} {U = U} g old new fault it)
+
+module _ {U : Type 0} (r : Result U Fault) (fault : Fault) (same : IsErrAnd r (λ other. other ≡ fault)) where
+  pub opens_handed : {S : Type 0} (g : Ghosts S) (new : Held S) → (HasCleanDisk (state g new) → IsFailure fault ⊎ IsTrue (state g new).is_open) → ServesUnlessFailed g new r
+  opens_handed g new it clean = go r same
+    where
+      go : (r : Result U Fault) → IsErrAnd r (λ other. other ≡ fault) → MatchResult r (λ y. IsTrue (state g new).is_open) (λ other. IsFailure other ⊎ IsTrue (state g new).is_open)
+      go (Ok y) same = absurd same
+      go (Err other) same = subst (λ f. IsFailure f ⊎ IsTrue (state g new).is_open) (sym same) (it clean)
+
+  pub nothing_handed : (P : U → Type 0) → IfOk r P
+  nothing_handed P = go r same
+    where
+      go : (r : Result U Fault) → IsErrAnd r (λ other. other ≡ fault) → IfOk r P
+      go (Ok y) same = absurd same
+      go (Err other) same = tt
+
+  pub err_handed : (P : Fault → Type 0) → P fault → IfErr r P
+  err_handed P told = go r same
+    where
+      go : (r : Result U Fault) → IsErrAnd r (λ other. other ≡ fault) → IfErr r P
+      go (Ok y) same = tt
+      go (Err other) same = subst P (sym same) told
+
+  pub fault_handed : IsStoreFault fault → IfErr r IsStoreFault
+  fault_handed told = err_handed IsStoreFault told
+
+  pub match_handed : (P : U → Type 0) → IsStoreFault fault → MatchResult r P IsStoreFault
+  match_handed P told = go r same
+    where
+      go : (r : Result U Fault) → IsErrAnd r (λ other. other ≡ fault) → MatchResult r P IsStoreFault
+      go (Ok y) same = absurd same
+      go (Err other) same = subst IsStoreFault (sym same) told
 
 -- one that is no failure of the disk
 pub never_broken : {U : Type 0} (r : Result U Fault) → IfErr r (λ fault. (fault ≡ Memory) ⊎ (fault ≡ NotAProject)) → r ≢ Err Broken
@@ -151,3 +190,33 @@ never_err x is = absurd cc
 -- what was asked so far was answered
 pub asks_done : {S T : Type 0} (g : Ghosts S) (old new : Held S) (x : T) → Asks g old new (Ok x) → Asks {T = Unit {0}} g old new (Ok tt)
 asks_done g old new x it = asks_made {U = Unit {0}} g old new x (Ok tt) (never_err tt) it
+
+-- the connection is open after what was asked then, too
+pub opens_then : {S U : Type 0} (g : Ghosts S) (mid new : Held S) → (HasCleanDisk (state g mid) → IsTrue (state g mid).is_open) → (r : Result U Fault) → Asks g mid new r → ServesUnlessFailed g new r
+opens_then g mid new opens r asks clean = stays_asked g mid new r asks (opens (omega (arith, asks.crash.clean))) clean
+
+-- ---- what is made of an answer with no further question
+
+pub opens_made : {S U : Type 0} (g : Ghosts S) (new : Held S) (r : Result U Fault) → (HasCleanDisk (state g new) → IsTrue (state g new).is_open) → ServesUnlessFailed g new r
+opens_made {S} {U} g new r opens clean = go r (opens clean)
+  where
+    go : (r : Result U Fault) → IsTrue (state g new).is_open → MatchResult r (λ y. IsTrue (state g new).is_open) (λ fault. IsFailure fault ⊎ IsTrue (state g new).is_open)
+    go (Ok y) is_open = is_open
+    go (Err fault) is_open = inr is_open
+
+-- a row that is read
+pub asks_row : {S T U : Type 0} (g : Ghosts S) (old new : Held S) (x : T) (r : Result U Fault) → IfErr r IsReadFault → Asks g old new (Ok x) → Asks g old new r
+asks_row g old new x r told it = asks_made g old new x r (never_broken r told) it
+
+pub fault_read : {U : Type 0} (r : Result U Fault) → IfErr r IsReadFault → IfErr r IsStoreFault
+fault_read (Ok y) told = tt
+fault_read (Err fault) (inl memory) = inl memory
+fault_read (Err fault) (inr refused) = inr (inr refused)
+
+pub read_told : (fault : Fault) → IsReadFault fault → IsStoreFault fault
+read_told fault (inl memory) = inl memory
+read_told fault (inr refused) = inr (inr refused)
+
+pub read_handed : {U : Type 0} (r : Result U Fault) (fault : Fault) → IsErrAnd r (λ other. other ≡ fault) → IsReadFault fault → IfErr r IsReadFault
+read_handed (Ok y) fault same told = tt
+read_handed (Err other) fault same told = subst IsReadFault (sym same) told

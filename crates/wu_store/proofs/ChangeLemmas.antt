@@ -1,5 +1,10 @@
 -- What the statements that change a project do to the world that it stands for.
-use Rattle.wu_schema.proofs.Words.{Archived, ap, Executes, Grant, Import, Instance, Int, Integer, List, None, Null, Ok, Option, Some, Refines, PutsOne, State, Text, Workunit, World, [], archived_at, archived_cells, arith, bound_value, cast, cast_row, codes, grant_at, grant_cells, import_at, import_cells, instance_cells, map, next_rowid, number, number_or_null, of_z, option_map, pos, refl, result_at, stored_archived, stored_grant, stored_workunit, text_or_null, to_z, to_z-of_z, Value, value_rows, w64, workunit_at, workunit_row, ℕ, ℤ, ◌<◌, ◌^◌, ◌∙◌, ◌∷◌, ◌≡◌}
+use Rattle.wu_schema.proofs.Words.{Archived, ap, Executes, Grant, Import, Instance, Int, Integer, List, None, Null, Ok, Option, Result, Some, Refines, PutsOne, State, Text, Workunit, World, [], archived_at, archived_cells, arith, bound_value, cast, cast_row, codes, grant_at, grant_cells, import_at, import_cells, instance_cells, map, next_rowid, number, number_or_null, of_z, option_map, pos, refl, result_at, stored_archived, stored_grant, stored_workunit, text_or_null, to_z, to_z-of_z, Value, value_rows, w64, workunit_at, workunit_row, ℕ, ℤ, ◌<◌, ◌^◌, ◌∙◌, ◌∷◌, ◌≡◌}
+use Rattle.sqlite.specs.Held.{state}
+use Rattle.sqlite.specs.Store.{Ghosts}
+use Rattle.sqlite.specs.declared.transaction.Transaction.{Transaction}
+use Rattle.wu_schema.specs.Calls.{StatementFrame, TransactionFrame}
+use Rattle.wu_schema.proofs.CallLemmas.{part_then}
 use Rattle.wu_store.specs.Changes.{HasInstances, IsNextPlace, LacksNumber, PutsGrant, with_archived, with_import, with_instance, with_next, with_placed, with_version}
 use Rattle.wu_core.specs.Storable.{bare}
 use Rattle.std.specs.Prelude.{FitsSigned}
@@ -113,3 +118,12 @@ module _ (old new : State) (world : World) (s : Refines old.now world) where
       let there = is_there old.now.schema _ _ has in
       let sets = updates_project version_set_text (codes "version") version_made version_set old new has.0 tree has.1 has.2 there (pos n) count h in
       stands_with_version old.now new.now world s n sets.schema (sets_version old new has.0 tree has.1 has.2 there (pos n) (pos world.version) (pos world.next_number) count h s.rows.project) sets.others sets.sound
+
+-- ---- statements, and one then
+
+pub frame_after : {S T U E : Type 0} (g : Ghosts S) (a b c : Transaction S) (x : T) → TransactionFrame {E = E} g a b (Ok x) → (r : Result U E) → StatementFrame g b c r → StatementFrame g a c r
+frame_after g a b c x one r two = record {
+  same_reference = two.same_reference ∙ one.same_reference;
+  part = part_then (state g a.conn.now) (state g b.conn.now) (state g c.conn.now) one.part two.part;
+  inside = two.inside;
+}

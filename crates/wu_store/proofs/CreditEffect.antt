@@ -1,5 +1,6 @@
 -- What the upsert of a grant's host makes of the rows of hosts: those of one grant more.
-use Rattle.wu_schema.proofs.Words.{AllByRecursion, Binary, Bool, Chosen, Database, Executes, Grant, Has, HasTables, Int, Integer, IsDatabase, IsPermutation, IsPermutation-map, IsPermutation-sym, IsShaped, IsShaped-filter, IsShaped-put_row, IsTrue, List, ListsAll, Ok, ProjectTrees, Row, Schema, Refines, State, Text, Value, World, [], all_has, and_from, and_parts, ap, ap₂, binary, bytes_eq, bytes_eq-Decides, cases_Bool, cast, column, drop, enumerate_from, equal, false, false_from_ne_true, first_key, grant_cells, has_mapped, has_rowid, host_at, hosts_of, if◌then◌else◌, inl, inr, is_eq, is_int, is_of, map, map-map, mapped_has, next_rowid, number, passes, pos, put_row, refl, row_at_is, rowid, some_from, some_has, stored_grant, subst, sym, true, value_cmp, without_rowid, ℕ, ℤ, ◌++◌, ◌+◌, ◌||◌, ◌∙◌, ◌∷◌, ◌≡◌}
+use Rattle.wu_schema.proofs.Words.{AllByRecursion, Binary, Enforced, Table, Bool, Chosen, Database, Executes, Grant, Has, HasTables, Int, Integer, IsDatabase, IsPermutation, IsPermutation-map, IsPermutation-sym, IsShaped, IsShaped-filter, IsShaped-put_row, IsTrue, List, ListsAll, Ok, ProjectTrees, Row, Schema, Refines, State, Text, Value, World, [], all_has, and_from, and_parts, ap, ap₂, binary, bytes_eq, bytes_eq-Decides, cast, column, drop, enumerate_from, equal, false, false_from_ne_true, first_key, grant_cells, has_mapped, has_rowid, host_at, hosts_of, if◌then◌else◌, inl, inr, is_eq, is_int, is_of, map, map-map, mapped_has, next_rowid, number, passes, pos, put_row, refl, row_at_is, rowid, some_from, some_has, stored_grant, subst, sym, true, value_cmp, without_rowid, ℕ, ℤ, ◌++◌, ◌+◌, ◌||◌, ◌∙◌, ◌∷◌, ◌≡◌, ◌≢◌}
+use Rattle.wu_schema.specs.Calm.{IsCalm}
 use Rattle.wu_store.specs.Changes.{IsNextPlace, PutsGrant}
 use Rattle.sqlite_trees.specs.declared.store.Shape.TheVariants as shape
 use Rattle.sqlite_schema.specs.declared.schema.Constraint.TheVariants.{Datatype}
@@ -9,17 +10,18 @@ use Rattle.sqlite_sql.specs.declared.ops.ArithOp.TheVariants as arith
 use Rattle.sqlite_rules.proofs.PlaceLemmas.{next_is_free}
 use Rattle.wu_core.specs.Hosts.{credit_of, grants_of}
 use Rattle.wu_core.proofs.HostLemmas.{host_list, is_among, new_host, grown_host}
+use Rattle.wu_schema.specs.Made.{PutsOne}
 use Rattle.wu_schema.specs.Stored.{host_cells}
 use Rattle.wu_store.specs.Changes.{HoldsHosts, IsCredited, Credits, with_grant}
 use Rattle.wu_store.proofs.EqualLemmas.{text_equal}
-use Rattle.wu_store.proofs.HostEffect.{grows, host_row, summed}
+use Rattle.wu_store.proofs.HostEffect.{Grown, grows, host_row, summed}
 use Rattle.wu_store.proofs.UpsertTexts.{upsert_text}
 use Rattle.wu_store.proofs.NameKey.{host_key}
 use Rattle.wu_schema.proofs.RowLemmas.{int_value}
 use Rattle.wu_store.proofs.FallLemmas.{has_own}
 use Rattle.wu_schema.proofs.InsertEffect.{also, no_more, cast_int}
 use Rattle.wu_store.proofs.ListedLemmas.{listed_next}
-use Rattle.wu_schema.proofs.Parts.{Grants, HasParts, Holds, Hosts, Part, frame, is_part, keeps_both, keeps_calm, parts_there, tree_in}
+use Rattle.wu_schema.proofs.Parts.{Grants, HasParts, Holds, Hosts, Part, Keeps, frame, is_part, keeps_both, keeps_calm, parts_there, tree_in}
 use Rattle.wu_store.proofs.InPlaceLemmas.{in_place, replaced}
 use Rattle.wu_store.proofs.OnceLemmas.{has_permuted, key_once}
 use Rattle.wu_store.proofs.PlacedLemmas.{holds_put, holds_permuted, keeps_put}
@@ -89,22 +91,44 @@ module _ (db : Database) (tree : ℕ) (sound : IsDatabase db) (stands : Has db.s
       grows_to : (name : List ℕ) (total count : ℕ) → grow (host_cells name total count) ≡ (if bytes_eq name g.host then host_cells name (total + g.credit) (count + 1) else host_cells name total count)
       grows_to name total count = ap (λ b. if b then host_cells name (total + g.credit) (count + 1) else host_cells name total count) (text_equal name g.host)
 
+      abbrev more_cells : List ℕ → Row
+      more_cells name = host_cells name (credit_of grants name + g.credit) (grants_of grants name + 1)
+
+      abbrev same_cells : List ℕ → Row
+      same_cells name = host_cells name (credit_of grants name) (grants_of grants name)
+
+      -- the cells of a host grow where it is the grant's
+      grown_if : (b : Bool) (name : List ℕ) → bytes_eq name g.host ≡ b → grow (same_cells name) ≡ (if b then more_cells name else same_cells name)
+      grown_if b name is = grows_to name (credit_of grants name) (grants_of grants name) ∙ ap (λ t. if t then more_cells name else same_cells name) is
+
+      -- the row becomes what its cells grow to,
+      mine_grows : (r : Row) → x ≡ r → drop 1 new_row ≡ grow (drop 1 r)
+      mine_grows r one =
+          let cells : drop 1 new_row ≡ more_cells mine.0 = ap (drop 1) new_is in
+          let grown : grow (drop 1 x) ≡ more_cells mine.0 = ap grow mine.2 ∙ grown_if true mine.0 named in
+          cells ∙ sym grown ∙ ap (λ s. grow (drop 1 s)) one
+
+      -- and no other is of that host
+      other_host : (r : Row) → Has rows r → has_rowid id r ≡ false → (name : List ℕ) → column r 1 ≡ Text name → bytes_eq name g.host ≡ false
+      unfolding first_key
+      other_host r there other name cell =
+          let n = int_value (rowid r) (all_has (λ s. IsTrue (is_int (rowid s))) rows r h.shaped.1 there) in
+          false_from_ne_true _ (λ same.
+          let names : name ≡ mine.0 = (bytes_eq-Decides name g.host).0 same ∙ sym ((bytes_eq-Decides mine.0 g.host).0 named) in
+          let keys : equal Binary (column r 1) (column x 1) ≡ true = ap₂ (equal Binary) cell columns.0 ∙ text_equal name mine.0 ∙ (bytes_eq-Decides name mine.0).1 names in
+          key_once db (host_at tree) 0 (1 ∷ []) refl sound stands x r has there (ap (λ v. is_eq (value_cmp (rowid r) v)) is ∙ other) n.0 id n.1 is (λ at. and_from _ _ keys refl))
+
+      other_stays : (r : Row) → Has rows r → has_rowid id r ≡ false → (name : List ℕ) → drop 1 r ≡ same_cells name → drop 1 r ≡ grow (drop 1 r)
+      other_stays r there other name are =
+          are ∙ sym (ap grow are ∙ grown_if false name (other_host r there other name (in_cells r name (credit_of grants name) (grants_of grants name) are).0))
+
       -- each row of the table becomes what its cells grow to
       each : (r : Row) → Has rows r → drop 1 (if has_rowid id r then new_row else r) ≡ grow (drop 1 r)
-      unfolding first_key
-      each r there = elim (cases_Bool (has_rowid id r)) [
-        | inl it ↦
-            let one : x ≡ r = sym (row_at_is rows id x h.shaped.0 has (has_own x id is)) ∙ row_at_is rows id r h.shaped.0 there it in
-            rw it (ap (drop 1) new_is ∙ sym (ap grow mine.2 ∙ grows_to mine.0 _ _ ∙ ap (λ b. if b then host_cells mine.0 (credit_of grants mine.0 + g.credit) (grants_of grants mine.0 + 1) else host_cells mine.0 (credit_of grants mine.0) (grants_of grants mine.0)) named) ∙ ap (λ s. grow (drop 1 s)) one)
-        | inr other ↦
-            let yours = host_at_row r there in
-            let cells = in_cells r yours.0 _ _ yours.2 in
-            let n = int_value (rowid r) (all_has (λ s. IsTrue (is_int (rowid s))) rows r h.shaped.1 there) in
-            let off : bytes_eq yours.0 g.host ≡ false = false_from_ne_true _ (λ same. key_once db (host_at tree) 0 (1 ∷ []) refl sound stands x r has there (ap (λ v. is_eq (value_cmp (rowid r) v)) is ∙ other) n.0 id n.1 is (λ at.
-            let names : yours.0 ≡ mine.0 = (bytes_eq-Decides yours.0 g.host).0 same ∙ sym ((bytes_eq-Decides mine.0 g.host).0 named) in
-            and_from _ _ (ap₂ (equal Binary) cells.0 columns.0 ∙ text_equal yours.0 mine.0 ∙ (bytes_eq-Decides yours.0 mine.0).1 names) refl)) in
-            rw other (yours.2 ∙ sym (ap grow yours.2 ∙ grows_to yours.0 _ _ ∙ ap (λ b. if b then host_cells yours.0 (credit_of grants yours.0 + g.credit) (grants_of grants yours.0 + 1) else host_cells yours.0 (credit_of grants yours.0) (grants_of grants yours.0)) off))
-      ]
+      each r there = go (has_rowid id r) refl
+        where
+          go : (b : Bool) → has_rowid id r ≡ b → drop 1 (if b then new_row else r) ≡ grow (drop 1 r)
+          go true it = mine_grows r (sym (row_at_is rows id x h.shaped.0 has (has_own x id is)) ∙ row_at_is rows id r h.shaped.0 there it)
+          go false other = let yours = host_at_row r there in other_stays r there other yours.0 yours.2
 
       -- a host whose sums grow
       grown_rows : HoldsHosts (replaced id new_row rows) (grants ++ g ∷ [])
@@ -125,45 +149,54 @@ typed db tree sound stands x credit has =
     ((and_parts _ _ more_typed).0, (and_parts _ _ (and_parts _ _ more_typed).1).0)
 
 module _ (old new : State) (t : ProjectTrees) (grants : List Grant) (g : Grant) (has : HasTables old.now.schema t) (sound : IsDatabase old.now) (h : HoldsHosts (old.now.trees t.host) grants) where
+  stands : Has old.now.schema.tables (host_at t.host)
+  stands = is_there old.now.schema _ _ has.host
+
+  -- the rows of hosts, where one is new or one grows
+  hosts_then : Grown old.now.trees new.now.trees t.host g.host (pos g.credit) → new.now.schema ≡ old.now.schema → IsDatabase new.now → HoldsHosts (new.now.trees t.host) (grants ++ g ∷ [])
+  hosts_then (inl put) same sure = subst (λ rs. HoldsHosts rs (grants ++ g ∷ [])) (sym put.1) (new_rows old.now t.host sound stands grants g h put.0)
+  hosts_then (inr (x, id, there, on, is, trees)) same sure =
+      let mapped : Has (replaced id (summed t.host x (pos g.credit)) (old.now.trees t.host)) (summed t.host x (pos g.credit)) =
+      subst (Has (replaced id (summed t.host x (pos g.credit)) (old.now.trees t.host))) (rw (has_own x id is) refl) (mapped_has (λ r. if has_rowid id r then summed t.host x (pos g.credit) else r) (old.now.trees t.host) x there) in
+      let listed : Has (new.now.trees t.host) (summed t.host x (pos g.credit)) = subst (λ rs. Has rs (summed t.host x (pos g.credit))) (sym trees) mapped in
+      let fits = typed new.now t.host sure (subst (λ (s : Schema). Has s.tables (host_at t.host)) (sym same) stands) x (pos g.credit) listed in
+      subst (λ rs. HoldsHosts rs (grants ++ g ∷ [])) (sym trees) (grown_rows old.now t.host sound stands grants g h x id there on is fits.0 fits.1)
+
+  credited : (new.now.schema ≡ old.now.schema) × Grown old.now.trees new.now.trees t.host g.host (pos g.credit)
+      × ((u : Table) → Has old.now.schema.tables u → u.tree ≢ t.host → IsCalm old.now.schema Enforced u t.host → new.now.trees u.tree ≡ old.now.trees u.tree) × IsDatabase new.now → IsCredited g t grants old.now new.now
+  credited (same, grown, others, sure) = record { schema = same; hosts = hosts_then grown same sure; others = others; sound = sure }
+
   pub credits : (count : ℕ) → Executes upsert_text (Text g.host ∷ number g.credit ∷ []) old new (Ok count) → IsCredited g t grants old.now new.now
-  credits count e =
-      let schema = old.now.schema in
-      let stands = is_there schema _ _ has.host in
-      let did = grows old new has.host.0 t.host has.host.1 (host_key old.now t.host sound stands has.by_bytes) has.host.2 stands h.shaped g.host (pos g.credit) count e in
-      record {
-        schema = did.0;
-        hosts = elim did.1 [
-          | inl put ↦ subst (λ rs. HoldsHosts rs (grants ++ g ∷ [])) (sym put.1) (new_rows old.now t.host sound stands grants g h put.0)
-          | inr (x, id, there, on, is, trees) ↦
-              let listed : Has (new.now.trees t.host) (summed t.host x (pos g.credit)) = subst (λ rs. Has rs (summed t.host x (pos g.credit))) (sym trees)
-              (subst (Has (replaced id (summed t.host x (pos g.credit)) (old.now.trees t.host))) (rw (has_own x id is) refl) (mapped_has (λ r. if has_rowid id r then summed t.host x (pos g.credit) else r) (old.now.trees t.host) x there)) in
-              let fits = typed new.now t.host did.3 (subst (λ (s : Schema). Has s.tables (host_at t.host)) (sym did.0) stands) x (pos g.credit) listed in
-              subst (λ rs. HoldsHosts rs (grants ++ g ∷ [])) (sym trees) (grown_rows old.now t.host sound stands grants g h x id there on is fits.0 fits.1)
-        ];
-        others = did.2;
-        sound = did.3;
-      }
+  credits count e = credited (grows old new has.host.0 t.host has.host.1 (host_key old.now t.host sound stands has.by_bytes) has.host.2 stands h.shaped g.host (pos g.credit) count e)
 
 -- ---- a grant, and then its host
 
 module _ (old mid new : Database) (world : World) (s : Refines old world) (place : ℕ) (g : Grant) where
+  carry : (q : Part) → of_grants q ≡ false → (rows : List Row) → Holds q rows world → Holds q rows (with_grant g world)
+  carry Grants off rows h = absurd (cc)
+  carry Hosts off rows h = absurd (cc)
+  carry _ off rows h = h
+
+  fits : ListsAll (new.trees s.trees.grant) (map stored_grant (enumerate_from 1 (world.grants ++ g ∷ []))) → HoldsHosts (new.trees s.trees.host) (world.grants ++ g ∷ []) → (q : Part) → of_grants q ≡ true → Holds q (new.trees (tree_in s.trees q)) (with_grant g world)
+  fits lists holds Grants on = lists
+  fits lists holds Hosts on = holds
+  fits lists holds _ on = absurd (cc)
+
+  module _ (put : PutsOne old mid s.trees.grant (stored_grant (place, g))) where
+    first : Keeps world.version s.trees old mid (is_part Grants)
+    first = keeps_put old mid world s Grants _ tt put
+
+    module _ (it : IsCredited g s.trees world.grants mid new) (next : IsNextPlace place world.grants) where
+      second : Keeps world.version s.trees mid new (is_part Hosts)
+      second = keeps_calm world.version mid s.trees (subst (λ (x : Schema). HasParts world.version x s.trees) (sym put.schema) (parts_there old world s)) new Hosts tt refl it.others
+
+      listed : ListsAll (new.trees s.trees.grant) (map stored_grant (enumerate_from 1 (world.grants ++ g ∷ [])))
+      listed = lists_still (second Grants tt refl ∙ put.rows) (listed_next grant_cells (old.trees s.trees.grant) world.grants place g next s.rows.grants)
+
+      with_both : Refines new (with_grant g world)
+      with_both = frame old new world (with_grant g world) s of_grants (it.schema ∙ put.schema) refl (keeps_both world.version s.trees old mid new (is_part Grants) (is_part Hosts) first second) carry (fits listed it.hosts) it.sound
+
   pub stands_with_grant : PutsGrant place g old mid → Credits g mid new → IsNextPlace place world.grants → Refines new (with_grant g world)
   stands_with_grant puts credits next =
-      let t = s.trees in
-      let there = parts_there old world s in
-      let put = puts t s.tables in
-      let first = keeps_put old mid world s Grants _ tt put in
-      let it = credits t world.grants (subst (λ (x : Schema). HasTables x t) (sym put.schema) s.tables) put.sound (holds_still (first Hosts tt refl) s.rows.hosts) in
-      let second = keeps_calm world.version mid t (subst (λ (x : Schema). HasParts world.version x t) (sym put.schema) there) new Hosts tt refl it.others in
-      frame old new world (with_grant g world) s of_grants (it.schema ∙ put.schema) refl (keeps_both world.version t old mid new (is_part Grants) (is_part Hosts) first second) carry
-      (fits (lists_still (second Grants tt refl ∙ put.rows) (listed_next grant_cells (old.trees t.grant) world.grants place g next s.rows.grants)) it.hosts) it.sound
-    where
-      carry : (q : Part) → of_grants q ≡ false → (rows : List Row) → Holds q rows world → Holds q rows (with_grant g world)
-      carry Grants off rows h = absurd (cc)
-      carry Hosts off rows h = absurd (cc)
-      carry _ off rows h = h
-
-      fits : ListsAll (new.trees s.trees.grant) (map stored_grant (enumerate_from 1 (world.grants ++ g ∷ []))) → HoldsHosts (new.trees s.trees.host) (world.grants ++ g ∷ []) → (q : Part) → of_grants q ≡ true → Holds q (new.trees (tree_in s.trees q)) (with_grant g world)
-      fits lists holds Grants on = lists
-      fits lists holds Hosts on = holds
-      fits lists holds _ on = absurd (cc)
+      let put = puts s.trees s.tables in
+      with_both put (credits s.trees world.grants (subst (λ (x : Schema). HasTables x s.trees) (sym put.schema) s.tables) put.sound (holds_still (first put Hosts tt refl) s.rows.hosts)) next

@@ -1,14 +1,13 @@
 -- What the SELECTs of the pages of hosts answer of the world that the tables stand for.
-use Rattle.wu_schema.proofs.Words.{AllByRecursion, Binary, Bool, Expr-F, Int, IsAscending, IsPermutation, IsPermutation-filter, IsPermutation-map, Less, List, None, Option, Output, Row, Shown, Some, Refines, State, Term, Text, World, [], all_from, all_has, ap, arith, binary, codes, col, column, cond, drop, everything, false, filter, filter-map, has_filtered, holds, host_at, hosts_of, is_true, list_all, lit, map, map-map, pos, refl, roll-Expr, subst, sym, take, true, ℕ, ◌∙◌, ◌∷◌, ◌≡◌}
+use Rattle.wu_schema.proofs.Words.{Binary, Bool, Expr-F, Int, IsAscending, IsPermutation, IsPermutation-filter, IsPermutation-map, List, None, Option, Output, Row, Shown, Some, Refines, State, Term, Text, World, [], all_from, all_has, ap, arith, binary, codes, col, column, cond, drop, everything, false, filter, filter-map, has_filtered, host_at, hosts_of, is_true, lit, map, map-map, pos, refl, roll-Expr, subst, sym, take, true, ℕ, ◌∙◌, ◌∷◌, ◌≡◌}
 use Rattle.sqlite_sql.specs.declared.ops.BinaryOp.TheVariants as by
 use Rattle.sqlite_sql.specs.declared.ops.CompareOp.TheVariants as compare
 use Rattle.sqlite.specs.Query.{IsSureAnswer}
 use Rattle.sqlite.specs.Program.{overlay}
-use Rattle.wu_core.specs.declared.workunit.Grant.{Grant}
 use Rattle.wu_core.proofs.HostLemmas.{below, once}
 use Rattle.wu_schema.proofs.ExprLemmas.{more}
 use Rattle.wu_schema.proofs.Parts.{Hosts}
-use Rattle.wu_schema.proofs.RowLemmas.{filter_same, no_test, one_test}
+use Rattle.wu_schema.proofs.RowLemmas.{filter_same, one_test}
 use Rattle.wu_schema.proofs.SelectLemmas.{Asked, Fits}
 use Rattle.wu_schema.specs.Refines.{host_of}
 use Rattle.wu_store.specs.Pages.{host_page_behind, is_behind}

@@ -1,5 +1,5 @@
 -- What the SELECT of a workunit's instances answers.
-use Rattle.wu_schema.proofs.Words.{AllByRecursion, Binary, Bool, Instance, Int, IsAscending, IsPermutation, IsPermutation-filter, IsPermutation-map, IsTable, Less, List, None, Option, Output, Row, Shown, Some, Refines, State, Term, Workunit, World, [], ap, append-nil, arith, codes, col, column, drop, enumerate_from, equal, everything, false, filter, find, flat_map, instance_cells, instance_row, instances_of, lit, map, map-map, negsuc, number, option_to_list, refl, result_at, subst, sym, ℕ, ◌++◌, ◌+◌, ◌<◌, ◌==◌, ◌∙◌, ◌∷◌, ◌≡◌}
+use Rattle.wu_schema.proofs.Words.{AllByRecursion, Binary, Bool, Instance, Int, IsAscending, IsPermutation, IsPermutation-filter, IsPermutation-map, IsTable, Less, List, None, Option, Output, Row, Shown, Some, Refines, State, Term, Workunit, World, [], ap, append-nil, arith, codes, col, column, drop, enumerate_from, equal, everything, false, filter, flat_map, instance_cells, instance_row, instances_of, lit, map, map-map, negsuc, number, option_to_list, refl, result_at, subst, sym, ℕ, ◌++◌, ◌+◌, ◌<◌, ◌==◌, ◌∙◌, ◌∷◌, ◌≡◌}
 use Rattle.sqlite.specs.Program.{overlay}
 use Rattle.sqlite.specs.Query.{IsSureAnswer}
 use Rattle.sqlite_sql.specs.declared.ops.CompareOp.TheVariants as compare

@@ -1,28 +1,21 @@
 -- Workunits of the same row have the same line, and rows are read as the lines of theirs.
-use Rattle.std.proofs.Common.{◌≡◌, ◌≢◌, ◌∙◌, ℕ, ◌+◌, ◌<◌, List, [], ◌∷◌, ◌++◌, length, map, Option, Some, None, Result, Ok, Err, IfErr, Vec, ap, arith, refl, subst, sym}
-use Rattle.std.proofs.Common.{take}
-use Rattle.std.proofs.lemmas.List.{get_or-map, length-map, map-append, take_more}
-use Rattle.std.specs.Prelude.{All, get_or}
-use Rattle.std.specs.declared.alloc.Global.{Global}
+use Rattle.std.proofs.Common.{◌≡◌, ◌∙◌, ℕ, Option, Some, None, Err, refl, sym}
 use Rattle.sqlite.specs.Order.{Row}
 use Rattle.wu_core.specs.declared.states.Assimilate.{Assimilate}
 use Rattle.wu_core.specs.declared.states.Assimilate.TheVariants as assimilate
 use Rattle.wu_core.specs.declared.states.FileDelete.{FileDelete}
 use Rattle.wu_core.specs.declared.states.FileDelete.TheVariants as file_delete
 use Rattle.wu_core.specs.declared.fault.Fault.{Fault}
-use Rattle.wu_core.specs.declared.fault.Fault.TheVariants.{NotAProject}
 use Rattle.wu_core.specs.declared.workunit.Workunit.{Workunit}
 use Rattle.wu_core.specs.declared.mask.ErrorMask.{ErrorMask}
 use Rattle.wu_core.proofs.MaskLemmas.{flags_of-error_mask_code}
 use Rattle.wu_core.specs.Codes.{assimilate_code, file_delete_code}
 use Rattle.wu_core.specs.Mask.{error_mask_code}
-use Rattle.wu_core.specs.World.{World}
 use Rattle.wu_schema.specs.Stored.{number_or_null, workunit_row}
 use Rattle.wu_schema.specs.Restoring.{Restores}
 use Rattle.wu_store.proofs.LoadLemmas.{never_unread}
 use Rattle.wu_store.specs.Lines.{line_of, ReadsLine}
-use Rattle.wu_core.specs.Storable.{IsStoredWorkunit, AreStorable, bare}
-use Rattle.wu_store.specs.declared.lines.WorkunitLine.{WorkunitLine}
+use Rattle.wu_core.specs.Storable.{IsStoredWorkunit, bare}
 
 same_number : (a b : Option ℕ) → number_or_null a ≡ number_or_null b → a ≡ b
 same_number None None is = refl

@@ -1,34 +1,23 @@
 -- Rows are read as the values that are stored so, and lines are listed one workunit after another.
-use Rattle.std.proofs.Common.{◌≡◌, ◌≢◌, ◌∙◌, ℕ, ◌+◌, ◌<◌, List, [], ◌∷◌, ◌++◌, length, map, take, Option, Some, None, Result, Ok, Err, IfErr, IfOk, Vec, ap, append-nil, append_assoc, arith, refl, subst, sym, flat_map}
-use Rattle.std.proofs.lemmas.List.{get_or-map, length-map, map-append, take_more}
+use Rattle.std.proofs.Common.{◌≡◌, ◌∙◌, List, [], ◌∷◌, ◌++◌, Option, Some, None, ap, append-nil, append_assoc, refl, subst, sym, flat_map}
 use Rattle.std.proofs.lemmas.List.Concat.{flat_map-append}
-use Rattle.std.proofs.lemmas.List.Elements.{All-cons, All-head, All-nil, All-tail}
-use Rattle.std.specs.Prelude.{All, get_or, slice_get}
-use Rattle.std.specs.List.{enumerate_from}
-use Rattle.std.specs.declared.alloc.Global.{Global}
+use Rattle.std.proofs.lemmas.List.Elements.{All-head, All-tail}
+use Rattle.std.specs.Prelude.{All, slice_get}
 use Rattle.sqlite.specs.Effect.{Database}
 use Rattle.sqlite.specs.Order.{Row, column}
-use Rattle.wu_core.specs.declared.fault.Fault.{Fault}
-use Rattle.wu_core.specs.declared.fault.Fault.TheVariants.{NotAProject}
 use Rattle.wu_core.specs.declared.workunit.Archived.{Archived}
-use Rattle.wu_core.specs.declared.workunit.Instance.{Instance}
 use Rattle.wu_core.specs.declared.workunit.Workunit.{Workunit}
 use Rattle.wu_core.proofs.MaskLemmas.{flags_of}
-use Rattle.wu_core.specs.Hosts.{hosts_of}
 use Rattle.wu_core.specs.World.{World}
-use Rattle.wu_schema.proofs.Words.{map-map}
-use Rattle.wu_schema.specs.Restoring.{Restores}
 use Rattle.wu_schema.specs.Refines.{Refines}
 use Rattle.wu_schema.specs.Stored.{archived_cells}
 use Rattle.wu_store.specs.Answers.{first_above}
-use Rattle.wu_store.specs.Reading.{host_row, IsStoredHost}
-use Rattle.wu_core.specs.Storable.{IsName, AreStorable, IsStorable}
+use Rattle.wu_store.specs.Reading.{host_row}
+use Rattle.wu_core.specs.Storable.{AreStorable, IsStorable}
 use Rattle.wu_store.specs.declared.lines.HostLine.{HostLine}
-use Rattle.wu_store.specs.declared.lines.ResultLine.{ResultLine}
 use Rattle.wu_store.proofs.AboveLemmas.{above_next}
 use Rattle.wu_store.proofs.DueLemmas.{empty, headed}
-use Rattle.wu_store.proofs.LoadLemmas.{never_unread}
-use Rattle.wu_store.proofs.SameWorld.{mask_again, maybe_again, read_blob, read_maybe, read_number, read_text, restored}
+use Rattle.wu_store.proofs.SameWorld.{mask_again, maybe_again, read_blob, read_maybe, read_number, read_text}
 
 -- ---- workunit after workunit
 

@@ -1,5 +1,5 @@
 -- What is loaded of a project is what the world has, step by step.
-use Rattle.wu_schema.proofs.Words.{Bool, Err, Fault, Ghosts, IsOrWantsMemory, HasCleanDisk, Held, IfErr, Import, ImportKind, Instance, List, None, NotAProject, Ok, Option, Result, Row, Some, Refines, State, Workunit, World, [], ap, arith, cases_Bool, filter, find, if◌then◌else◌, inl, inr, instance_row, is_import, length, length-map, map, map-append, number, option_map, refl, slice_get, state, subst, sym, take, verdict_digits, workunit_row, ℕ, ◌++◌, ◌+◌, ◌-◌, ◌<◌, ◌==◌, ◌∙◌, ◌∷◌, ◌≡◌, ◌≢◌, ◌≤◌}
+use Rattle.wu_schema.proofs.Words.{Bool, Err, Fault, Ghosts, IsOrWantsMemory, HasCleanDisk, Held, IfErr, IfOk, Import, ImportKind, Instance, List, None, NotAProject, Ok, Option, Result, Row, Some, Refines, State, Workunit, World, [], ap, arith, cases_Bool, filter, find, if◌then◌else◌, inl, inr, instance_row, is_import, length, length-map, map, map-append, number, option_map, refl, slice_get, state, subst, sym, take, verdict_digits, workunit_row, ℕ, ◌++◌, ◌+◌, ◌-◌, ◌<◌, ◌==◌, ◌∙◌, ◌∷◌, ◌≡◌, ◌≢◌, ◌≤◌}
 use Rattle.std.specs.Prelude.{All, MatchResult, get_or}
 use Rattle.std.specs.Option.{option_map_or}
 use Rattle.sqlite_rules.proofs.ListLemmas.{has_found}
@@ -13,7 +13,7 @@ use Rattle.wu_schema.proofs.AskingLemmas.{asks_stands, back_then, survives_none}
 use Rattle.wu_schema.specs.Restoring.{Restores}
 use Rattle.wu_schema.specs.Stored.{kept_cells}
 use Rattle.wu_store.specs.Answers.{instance_rows_of, kept_of, last_of, last_place, numbered}
-use Rattle.wu_store.specs.Loading.{Asks, FindsInstances, FindsOfRow, LoadsInstances, LoadsImport, IsEarlier, IsLoadable, IsLoadableRow, IsReadOnly, IsRowOfPresent, IsStoreFault, NotRefusedIn, ForEachWorld, instances_at}
+use Rattle.wu_store.specs.Loading.{Asks, Finds, FindsIfThere, FindsInstances, LoadsInstances, LoadsImport, IsEarlier, IsLoadable, IsLoadableIfThere, IsReadOnly, IsRowIfThere, IsRowOfPresent, IsStoreFault, NotRefusedIn, ForEachWorld, instances_at}
 pub use Rattle.wu_store.proofs.AskLemmas.{never_refused}
 use Rattle.wu_store.specs.Reading.{IsStoredImport, row_before, stored_import_row}
 use Rattle.wu_core.specs.Storable.{AreStoredInstances, IsNextNumber, IsStoredInstance, IsStorable, IsStoredWorkunit, bare}
@@ -49,6 +49,10 @@ never_unread stored_as IsValue stored (Err f) value reads is same = elim (reads.
 pub next_is : (n : ℕ) (row : Row) (r : Result ℕ Fault) → row ≡ number n ∷ [] → Restores (λ next. number next ∷ []) IsNextNumber row r → MatchResult r (λ next. next ≡ n) IsStoreFault
 next_is n row (Ok next) is reads = let same : number n ∷ [] ≡ number next ∷ [] = sym is ∙ reads.value.0 in cc
 next_is n row (Err fault) is reads = elim reads.refused [ inl memory ↦ inl memory | inr other ↦ inr (inr other) ]
+
+pub next_within : (row : Row) (r : Result ℕ Fault) → Restores (λ next. number next ∷ []) IsNextNumber row r → IfOk r IsNextNumber
+next_within row (Ok next) reads = reads.value.1
+next_within row (Err fault) reads = tt
 
 -- ---- the next places
 
@@ -198,51 +202,45 @@ module _ (row : Row) (world : World) (w : Workunit) (of : IsRowOfPresent row w w
       let same : v.number ≡ w.number = ap (λ (u : Workunit). u.number) (same_workunit v w (sym reads.value.0 ∙ of.row_is)) in
       (omega (arith, same, can.number), subst (λ n. AreStoredInstances (instances_at n world)) (sym same) (subst AreStoredInstances (sym (at_present w world of.present)) can.instances))
 
--- no row, no workunit that passes a test
-pub none_of_first : (p : Workunit → Bool) (world : World) → None ≡ option_map workunit_row (find p world.workunits) → None ≡ find p world.workunits
-none_of_first p world is = go (find p world.workunits) is
-  where
-    go : (o : Option Workunit) → None ≡ option_map workunit_row o → None ≡ o
-    go None is = refl
-    go (Some w) is = absurd cc
+-- ---- what is found where there is a row, and where there is none
+
+pub none_there : (row : Option Row) → row ≡ None → (found : Option Workunit) (world : World) → IsRowIfThere row found world → None ≡ found
+none_there None is None world of = refl
+none_there None is (Some w) world of = absurd of
+none_there (Some row) is found world of = absurd cc
+
+pub some_there : (there : Option Row) (row : Row) → there ≡ Some row → (found : Option Workunit) (world : World) → IsRowIfThere there found world → (w : Workunit) × (found ≡ Some w) × IsRowOfPresent row w world
+some_there None row is found world of = absurd cc
+some_there (Some first) row is None world of = absurd of
+some_there (Some first) row is (Some w) world of = (w, refl, let same : first ≡ row = cc in subst (λ r. IsRowOfPresent r w world) same of)
 
 -- the row of the first workunit that passes a test is that of the present one, since no two have one number
-row_of_first : (p : Workunit → Bool) (world : World) (row : Row) → Rises world.workunits → Some row ≡ option_map workunit_row (find p world.workunits) → (w : Workunit) × (find p world.workunits ≡ Some w) × IsRowOfPresent row w world
-row_of_first p world row up is = go (find p world.workunits) refl is
+first_there : (p : Workunit → Bool) (world : World) (row : Option Row) → Rises world.workunits → row ≡ option_map workunit_row (find p world.workunits) → IsRowIfThere row (find p world.workunits) world
+first_there p world row up is = go (find p world.workunits) refl row is
   where
-    go : (o : Option Workunit) → find p world.workunits ≡ o → Some row ≡ option_map workunit_row o → (w : Workunit) × (find p world.workunits ≡ Some w) × IsRowOfPresent row w world
-    go None found none = absurd cc
-    go (Some w) found some = (
-      w,
-      found,
-      record {
-        present = found_first (λ (v : Workunit). v.number == w.number) world.workunits w [] (only_one w world.workunits up (has_found p world.workunits w found).0);
-        row_is = same_some some;
-      },
-    )
+    go : (o : Option Workunit) → find p world.workunits ≡ o → (row : Option Row) → row ≡ option_map workunit_row o → IsRowIfThere row o world
+    go None found None is = tt
+    go None found (Some r) is = absurd cc
+    go (Some w) found None is = absurd cc
+    go (Some w) found (Some r) is = record {
+      present = found_first (λ (v : Workunit). v.number == w.number) world.workunits w [] (only_one w world.workunits up (has_found p world.workunits w found).0);
+      row_is = same_some is;
+    }
 
 -- a row that was read, of the first workunit that passes a test, and then its instances
-module _ {S : Type 0} (g : Ghosts S) (old mid new : Held S) (p : Workunit → Bool) (row : Row) (result : Result Workunit Fault)
-    (asks : Asks {T = Option Row} g old mid (Ok (Some row))) (answers : Answers g old mid (Ok (Some row)) (λ world. option_map workunit_row (find p world.workunits))) (next : Asks g mid new result) where
+module _ {S : Type 0} (g : Ghosts S) (old mid new : Held S) (p : Workunit → Bool) (row : Option Row) (result : Result (Option Workunit) Fault)
+    (asks : Asks g old mid (Ok row)) (answers : Answers g old mid (Ok row) (λ world. option_map workunit_row (find p world.workunits))) (next : Asks g mid new result) where
   mid_clean : HasCleanDisk (state g new) → HasCleanDisk (state g mid)
   mid_clean clean = omega (arith, next.crash.clean)
 
   still : HasCleanDisk (state g new) → (world : World) → Refines (state g old).now world → Refines (state g mid).now world
-  still clean world stands = asks_stands g old mid (Some row) asks (mid_clean clean) world stands
+  still clean world stands = asks_stands g old mid row asks (mid_clean clean) world stands
 
-  of_row : HasCleanDisk (state g new) → (world : World) → Refines (state g old).now world → (w : Workunit) × (find p world.workunits ≡ Some w) × IsRowOfPresent row w world
-  of_row clean world stands = row_of_first p world row (world_rises (state g old).now world stands) (answers (mid_clean clean) world stands)
+  there : HasCleanDisk (state g new) → (world : World) → Refines (state g old).now world → IsRowIfThere row (find p world.workunits) world
+  there clean world stands = first_there p world row (world_rises (state g old).now world stands) (answers (mid_clean clean) world stands)
 
-  pub load_found : ForEachWorld g mid new (FindsOfRow row result) → HasCleanDisk (state g new) → (world : World) → Refines (state g old).now world → MatchResult result (λ w. Some w ≡ find p world.workunits) IsStoreFault
-  load_found found clean world stands =
-      let it = of_row clean world stands in
-      if_found result it.0 (find p world.workunits) it.1 (found clean world (still clean world stands) it.0 it.2)
-    where
-      if_found : (r : Result Workunit Fault) (w : Workunit) (o : Option Workunit) → o ≡ Some w → MatchResult r (λ loaded. loaded ≡ w) IsStoreFault → MatchResult r (λ loaded. Some loaded ≡ o) IsStoreFault
-      if_found (Ok v) w o is same = ap Some same ∙ sym is
-      if_found (Err f) w o is told = told
+  pub load_found : ForEachWorld g mid new (FindsIfThere row result) → ForEachWorld g old new (λ world. Finds (find p world.workunits) result)
+  load_found found clean world stands = found clean world (still clean world stands) (find p world.workunits) (there clean world stands)
 
-  pub load_unrefused : NotRefusedIn g mid new result (IsLoadableRow row) → NotRefusedIn g old new result (λ world. IsLoadable (find p world.workunits))
-  load_unrefused unrefused clean world stands can limit =
-      let it = of_row clean world stands in
-      unrefused clean world (still clean world stands) (it.0, it.2, subst IsLoadable it.1 can) (asks.crash.limit ∙ limit)
+  pub load_unrefused : NotRefusedIn g mid new result (IsLoadableIfThere row) → NotRefusedIn g old new result (λ world. IsLoadable (find p world.workunits))
+  load_unrefused unrefused clean world stands can limit = unrefused clean world (still clean world stands) (find p world.workunits, there clean world stands, can) (asks.crash.limit ∙ limit)

@@ -1,5 +1,5 @@
 -- A list that strictly rises is the one order that a sort may give.
-use Rattle.wu_schema.proofs.Words.{Bool, Contains-permutation, Has, IsAscending, IsPermutation, IsPermutation-sym, IsSorted, Less, List, Ordering, [], all_from, all_has, ap, arith, cases_Bool, cond, contains_had, false, get_or, has_contained, inl, inr, is_eq, ordering_reverse, refl, subst, suc, sum_by, sym, tied_itself, true, ℕ, ◌+◌, ◌<◌, ◌∙◌, ◌∷◌, ◌≡◌}
+use Rattle.wu_schema.proofs.Words.{AllByRecursion, Bool, Contains-permutation, Has, IsAscending, IsPermutation, IsPermutation-sym, IsSorted, Less, List, Ordering, [], all_from, all_has, ap, arith, cases_Bool, cond, contains_had, false, get_or, has_contained, inl, inr, is_eq, ordering_reverse, refl, subst, suc, sum_by, sym, tied_itself, true, ℕ, ◌+◌, ◌<◌, ◌∙◌, ◌∷◌, ◌≡◌}
 use Rattle.wu_store.proofs.InPlaceLemmas.{equal_is}
 use Rattle.std.specs.List.Sorted.{IsSortedBy}
 use Rattle.std.specs.Cmp.{IsTotalOrder, IsStrictWeakOrder}
@@ -42,29 +42,41 @@ module _ {X : Type 0} (cmp : X → X → Ordering) (total : IsTotalOrder cmp) wh
   past : (x y z : X) → cmp x y ≡ Less → tied x z ≡ true → is_lt (cmp z y) ≡ true
   past x y z low tie = ap is_lt (total.congr z x y (equal_is _ tie) ∙ low)
 
+  -- so it is none that is no lower than it
+  unlike : (x y z : X) → cmp x y ≡ Less → tied x z ≡ true → is_lt (cmp z y) ≡ false → ⊥
+  unlike x y z low tie high = let no : true ≡ false = sym (past x y z low tie) ∙ high in cc
+
+  -- the first elements are one,
+  first_same : (x : X) (xs : List X) (y : X) (ys : List X) → AllByRecursion (λ b. cmp x b ≡ Less) xs → AllByRecursion (λ b. is_lt (cmp b y) ≡ false) ys → sum_by (one (tied x)) (y ∷ ys) ≡ sum_by (one (tied x)) (x ∷ xs) → Has (x ∷ xs) y → y ≡ x
+  first_same x xs y ys up weak same (inl is) = is
+  first_same x xs y ys up weak same (inr later) =
+      absurd (tied_there (counted (tied x) (y ∷ ys) (let c = counts (tied x) (x ∷ xs) x (inl refl) (itself x) in omega (arith, same, c))))
+    where
+      tied_there : (z : X) × Has (y ∷ ys) z × (tied x z ≡ true) → ⊥
+      tied_there (z, inl is, tie) = unlike x y z (all_has (λ b. cmp x b ≡ Less) xs y up later) tie (ap (λ w. is_lt (cmp w y)) is ∙ ap is_lt (tied_itself total y))
+      tied_there (z, inr there, tie) = unlike x y z (all_has (λ b. cmp x b ≡ Less) xs y up later) tie (all_has (λ b. is_lt (cmp b y) ≡ false) ys z weak there)
+
+  -- and those behind them are the same
+  behind_first : (x : X) (xs ys : List X) → AllByRecursion (λ b. cmp x b ≡ Less) xs → sum_by (one (tied x)) ys ≡ sum_by (one (tied x)) xs → (z : X) → Has ys z → Has (x ∷ xs) z → Has xs z
+  behind_first x xs ys up same z has (inr later) = later
+  behind_first x xs ys up same z has (inl is) =
+      absurd (tied_there (counted (tied x) xs (let c = counts (tied x) ys z has (subst (λ w. tied x w ≡ true) (sym is) (itself x)) in omega (arith, same, c))))
+    where
+      tied_there : (w : X) × Has xs w × (tied x w ≡ true) → ⊥
+      tied_there (w, there, tie) = unlike x w w (all_has (λ b. cmp x b ≡ Less) xs w up there) tie (ap is_lt (tied_itself total w))
+
+  sums_behind : (x y : X) (xs ys : List X) → y ≡ x → (f : X → ℕ) → sum_by f (y ∷ ys) ≡ sum_by f (x ∷ xs) → sum_by f ys ≡ sum_by f xs
+  sums_behind x y xs ys first f same = omega (arith, same, sum_by-cons f y ys, sum_by-cons f x xs, ap f first)
+
   same_sums : (xs ys : List X) → IsAscending (λ a b. cmp a b ≡ Less) xs → IsAscending (λ a b. is_lt (cmp b a) ≡ false) ys → ((f : X → ℕ) → sum_by f ys ≡ sum_by f xs) → ((y : X) → Has ys y → Has xs y) → ys ≡ xs
   same_sums [] [] up weak sums within = refl
   same_sums [] (y ∷ ys) up weak sums within = absurd (within y (inl refl))
   same_sums (x ∷ xs) [] up weak sums within = absurd (let s = sums (λ _. 1) in let c = sum_by-cons (λ _. 1) x xs in omega (arith, s, c))
   same_sums (x ∷ xs) (y ∷ ys) up weak sums within =
-      let first : y ≡ x = elim (within y (inl refl)) [
-        | inl same ↦ same
-        | inr later ↦
-            let low : cmp x y ≡ Less = all_has (λ b. cmp x b ≡ Less) xs y up.0 later in
-            let some = counted (tied x) (y ∷ ys) (let s = sums (one (tied x)) in let c = counts (tied x) (x ∷ xs) x (inl refl) (itself x) in omega (arith, s, c)) in
-            elim some.1 [
-              | inl same ↦ absurd (let e = sym (past x y some.0 low some.2) ∙ ap (λ z. is_lt (cmp z y)) same ∙ ap is_lt (tied_itself total y) in cc)
-              | inr there ↦ absurd (let e = sym (past x y some.0 low some.2) ∙ all_has (λ b. is_lt (cmp b y) ≡ false) ys some.0 weak.0 there in cc)
-            ]
-      ] in
-      let rest : (f : X → ℕ) → sum_by f ys ≡ sum_by f xs = λ f. let s = sums f in let c = sum_by-cons f y ys in let d = sum_by-cons f x xs in let e = ap f first in omega (arith, s, c, d, e) in
-      let inside : (z : X) → Has ys z → Has xs z = λ z has. elim (within z (inr has)) [
-        | inl same ↦
-            let some = counted (tied x) xs (let s = rest (one (tied x)) in let c = counts (tied x) ys z has (subst (λ w. tied x w ≡ true) (sym same) (itself x)) in omega (arith, s, c)) in
-            absurd (let low = all_has (λ b. cmp x b ≡ Less) xs some.0 up.0 some.1 in let e = sym (past x some.0 some.0 low some.2) ∙ ap is_lt (tied_itself total some.0) in cc)
-        | inr later ↦ later
-      ] in
-      (λ i. first i ∷ same_sums xs ys up.1 weak.1 rest inside i)
+      let first : y ≡ x = first_same x xs y ys up.0 weak.0 (sums (one (tied x))) (within y (inl refl)) in
+      let behind : (f : X → ℕ) → sum_by f ys ≡ sum_by f xs = λ f. sums_behind x y xs ys first f (sums f) in
+      let rest : ys ≡ xs = same_sums xs ys up.1 weak.1 behind (λ z has. behind_first x xs ys up.0 (behind (one (tied x))) z has (within z (inr has))) in
+      (λ i. first i ∷ rest i)
 
   -- the sorted order of a list that strictly rises is the list
   pub one_order : (xs ys : List X) → IsAscending (λ a b. cmp a b ≡ Less) xs → IsSorted cmp ys → IsPermutation xs ys → ys ≡ xs

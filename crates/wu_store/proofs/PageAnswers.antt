@@ -1,5 +1,5 @@
 -- What the SELECTs of pages answer of the world that the tables stand for.
-use Rattle.wu_schema.proofs.Words.{Archived, Bool, Database, Expr-F, Int, List, ListsAll, Row, Shown, Some, Refines, State, Term, Text, Workunit, World, [], ap, archived_at, arith, codes, col, column, cond, enumerate_from, eval_all, everything, filter, find, holds, list_all, lit, map, map-map, nat_le, number, option_map, option_to_list, pos, refl, roll-Expr, stored_archived, stored_workunit, take, true, false, workunit_at, workunit_row, ℕ, ℤ, ◌++◌, ◌^◌, ◌∙◌, ◌∷◌, ◌≡◌}
+use Rattle.wu_schema.proofs.Words.{Archived, Bool, Database, Expr-F, Int, List, ListsAll, Row, Shown, Some, Refines, State, Term, Text, Workunit, World, [], ap, archived_at, arith, codes, col, cond, eval_all, everything, filter, find, holds, list_all, lit, map, map-map, nat_le, number, option_map, option_to_list, pos, refl, roll-Expr, stored_archived, stored_workunit, take, true, false, workunit_at, workunit_row, ℕ, ℤ, ◌++◌, ◌^◌, ◌∙◌, ◌∷◌, ◌≡◌}
 use Rattle.sqlite_sql.specs.declared.ops.CompareOp.TheVariants as compare
 use Rattle.sqlite.specs.Program.{overlay}
 use Rattle.sqlite.specs.Query.{IsSureAnswer}

@@ -1,8 +1,7 @@
 -- The lines of hosts, a page after another.
-use Rattle.wu_schema.proofs.Words.{Bool, Err, Fault, Greater, Has, IfErr, IfOk, IsAscending, Less, List, None, NotAProject, Ok, Option, Ordering, Result, Row, Some, Text, World, [], ap, arith, column, filter, has_right, hosts_of, inl, inr, length, length-map, map, map-append, ordering_reverse, refl, slice_get, subst, suc, sym, take, tied_itself, true, ℕ, ◌++◌, ◌-◌, ◌∙◌, ◌∷◌, ◌≡◌, ◌≢◌}
+use Rattle.wu_schema.proofs.Words.{Err, Fault, Greater, Has, IfErr, IfOk, List, None, NotAProject, Ok, Option, Ordering, Result, Row, Some, Text, World, [], ap, column, filter, has_right, hosts_of, inl, inr, length, map, map-append, ordering_reverse, refl, slice_get, subst, sym, take, tied_itself, true, ℕ, ◌++◌, ◌-◌, ◌∙◌, ◌∷◌, ◌≡◌, ◌≢◌}
 use Rattle.std.specs.Cmp.Lexicographic.{slice_cmp}
 use Rattle.std.specs.Ordering.{is_gt, nat_cmp}
-use Rattle.std.specs.Prelude.{All}
 use Rattle.std.proofs.lemmas.Cmp.{nat_list_cmp_total}
 use Rattle.std.proofs.lemmas.List.{take-map}
 use Rattle.wu_core.specs.Storable.{IsName}

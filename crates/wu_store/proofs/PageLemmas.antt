@@ -1,5 +1,5 @@
 -- The rows of a page, and what is left behind its last row.
-use Rattle.wu_schema.proofs.Words.{AllByRecursion, Bool, Fault, Has, IfErr, Int, IsAscending, List, NotAProject, None, Ok, Option, Result, Row, Some, [], all_from, all_has, ap, arith, cases_Bool, column, cond, contains_had, drop, enumerate_from, false, filter, filter_all, has_filtered, has_left, has_right, inl, inr, length, map, map-append, negsuc, nat_tests, pos, refl, slice_get, subst, suc, sym, take, true, zero, ℕ, ℤ, ⊤, ◌++◌, ◌+◌, ◌-◌, ◌<◌, ◌∙◌, ◌∷◌, ◌≡◌, ◌≢◌, ◌⊎◌}
+use Rattle.wu_schema.proofs.Words.{AllByRecursion, Bool, Fault, Has, IfErr, Int, IsAscending, List, NotAProject, None, Ok, Result, Row, Some, [], all_from, all_has, ap, arith, cases_Bool, column, cond, contains_had, drop, enumerate_from, false, filter, filter_all, has_filtered, has_left, has_right, inl, inr, length, map, map-append, negsuc, nat_tests, pos, refl, slice_get, subst, suc, sym, take, true, zero, ℕ, ℤ, ⊤, ◌++◌, ◌+◌, ◌-◌, ◌<◌, ◌∙◌, ◌∷◌, ◌≡◌, ◌≢◌, ◌⊎◌}
 use Rattle.std.specs.Prelude.{int_lt}
 use Rattle.std.specs.List.{AllZip, Contains}
 use Rattle.std.proofs.Common.{append_assoc, length-append}

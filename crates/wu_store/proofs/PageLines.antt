@@ -1,5 +1,5 @@
 -- A row of a page is read as the line that it stands for.
-use Rattle.std.proofs.Common.{◌≡◌, ◌≢◌, ◌∙◌, ℕ, ◌+◌, List, [], ◌∷◌, length, map, Result, Ok, Err, IfOk, IfErr, IsErrAnd, ap, inl, inr, refl, subst, sym}
+use Rattle.std.proofs.Common.{◌≡◌, ◌≢◌, ◌∙◌, ℕ, ◌+◌, List, [], ◌∷◌, length, map, Result, Ok, Err, IfOk, IfErr, ap, inl, inr, refl, subst, sym}
 use Rattle.std.specs.Prelude.{All}
 use Rattle.std.specs.List.{AllByRecursion, Contains, enumerate_from}
 use Rattle.std.proofs.lemmas.List.Elements.{recursion_from_All}
@@ -14,7 +14,7 @@ use Rattle.wu_core.specs.declared.workunit.Archived.{Archived}
 use Rattle.wu_schema.specs.Restoring.{Restores}
 use Rattle.wu_schema.specs.Stored.{archived_cells}
 use Rattle.wu_store.specs.Lines.{ReadsLine}
-use Rattle.wu_store.specs.Pages.{IsRowOfArchived, IsRowOfWorkunit, archive_of}
+use Rattle.wu_store.specs.Pages.{IsRowOfArchived, IsRowOfWorkunit}
 use Rattle.wu_store.specs.Reading.{columns}
 use Rattle.wu_store.specs.declared.lines.WorkunitLine.{WorkunitLine}
 use Rattle.wu_store.proofs.LineLemmas.{same_line}

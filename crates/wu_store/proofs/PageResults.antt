@@ -11,7 +11,7 @@ use Rattle.wu_core.specs.Storable.{AreStorable, IsStorable, IsStoredInstance}
 use Rattle.wu_schema.specs.Restoring.{Restores}
 use Rattle.wu_store.specs.Answers.{numbered}
 use Rattle.wu_store.specs.Lines.{result_line_of, result_lines, result_lines_of}
-use Rattle.wu_store.specs.Pages.{FindsInstancesAbove, IsFoundAs, IsNamedAbove, IsRowOf, IsRowOfResult, ReadsResult, TurnsTo, keys_left, name_row_above, named_row, placed_instance_row, placed_instances, result_lines_above, result_page, result_rows_of, workunit_above}
+use Rattle.wu_store.specs.Pages.{FindsInstancesAbove, IsFoundAs, IsNamedAbove, IsRowOfResult, ReadsResult, TurnsTo, keys_left, name_row_above, named_row, placed_instance_row, placed_instances, result_lines_above, result_page, result_rows_of, workunit_above}
 use Rattle.wu_store.specs.declared.lines.ResultLine.{ResultLine}
 use Rattle.wu_store.specs.declared.pages.results.Named.{Named}
 use Rattle.wu_store.specs.declared.pages.results.OfWorkunit.{OfWorkunit}

@@ -5,6 +5,9 @@ use Rattle.sqlite_sql.specs.declared.ops.BinaryOp.TheVariants as by
 use Rattle.sqlite_sql.specs.declared.ops.CompareOp.{CompareOp}
 use Rattle.sqlite_sql.specs.declared.ops.CompareOp.TheVariants as compare
 use Rattle.wu_core.specs.declared.marks.Marks.{Marks}
+use Rattle.wu_rules.specs.declared.due.Pass.{Pass}
+use Rattle.wu_rules.specs.declared.due.Pass.TheVariants.{Transition, Validate, Assimilate, Delete, Purge}
+use Rattle.wu_schema.proofs.RowLemmas.{one_test}
 use Rattle.wu_schema.specs.Asking.{Asks, FailsAll, IsSelect, ServesUnlessFailed, ShowsAll, TellsQuery}
 use Rattle.wu_schema.specs.Queue.{HasQueue}
 use Rattle.wu_schema.specs.Stored.{flag, stored_marks}
@@ -14,12 +17,12 @@ use Rattle.wu_schema.proofs.ReadLemmas.{if_ok, if_err}
 use Rattle.wu_schema.proofs.SelectLemmas.{Asked, Fits, IsTyped, compiles, parsed_of, select_of, tests_of}
 use Rattle.wu_schema.proofs.ToldLemmas.{asked_told}
 use Rattle.wu_store.specs.Loading.{IsStoreFault}
-use Rattle.wu_store.specs.Queues.{AnswersQueue, NotRefusedQueue, first_marked}
+use Rattle.wu_store.specs.Queues.{AnswersQueue, NotRefusedQueue, first_marked, is_marked, marked_text, wanted_mark}
 use Rattle.wu_store.proofs.AskLemmas.{never_refused}
 use Rattle.wu_store.proofs.EqualLemmas.{number_at_most, number_equal}
 use Rattle.wu_store.proofs.OrderAnswers.{sure_in_order}
 use Rattle.wu_store.proofs.ReadAnswers.{kept_mapped}
-use Rattle.wu_store.proofs.SelectTexts.{marked_asked}
+use Rattle.wu_store.proofs.SelectTexts.{mark_how, mark_place, marked_asked, pass_asked, pass_fits}
 
 -- what a selection does and answers, and that it is not refused
 pub record HasAskedQueue {S A : Type 0} (g : Ghosts S) (old new : Held S) (result : Result (Vec Row A) Fault) (answer : List (ℕ × Marks) → List Row) : Type 0 where
@@ -81,3 +84,31 @@ pub has_come : (o : Option ℕ) (now : ℕ) → is_true (binary (by.Compare comp
 unfolding binary
 has_come None now = refl
 has_come (Some n) now = number_at_most n now
+
+-- ---- the question of a pass
+
+module _ (by n : ℕ) where
+  abbrev given_of : Pass → Row
+  given_of pass = number (wanted_mark pass by) ∷ number n ∷ []
+
+  typed_as : (pass : Pass) (tree : ℕ) → IsTyped (codes "queue") (queue_at tree) (pass_asked pass) (given_of pass)
+  typed_as Transition tree = refl
+  typed_as Validate tree = refl
+  typed_as Assimilate tree = refl
+  typed_as Delete tree = refl
+  typed_as Purge tree = refl
+
+  passes_as : (pass : Pass) (tree : ℕ) (p : ℕ × Marks) → passing (pass_asked pass) (pass_fits pass) (number (wanted_mark pass by)) n tree (stored_marks p) ≡ is_marked pass by p.1
+  passes_as Transition tree p = one_test _ ∙ has_come p.1.wake by
+  passes_as Validate tree p = one_test _ ∙ is_flag p.1.to_validate
+  passes_as Assimilate tree p = one_test _ ∙ is_flag p.1.to_assimilate
+  passes_as Delete tree p = one_test _ ∙ is_flag p.1.to_delete
+  passes_as Purge tree p = one_test _ ∙ has_come p.1.purge_from by
+
+  module _ {S A : Type 0} (g : Ghosts S) (old new : Held S) (r : Result (Vec Row A) Fault) (pass : Pass) where
+    pub pass_asks : (text : List ℕ) → text ≡ marked_text pass → (given : Row) → given ≡ given_of pass
+        → (IsSelect text → Asks g old new r) → (IsSelect text → ServesUnlessFailed g new r) → ShowsAll g old new r text given → FailsAll g old new r text given → IfErr r IsStoreFault → HasAskedQueue g old new r (first_marked n (is_marked pass by))
+    pass_asks text is given same asks opens shows fails told =
+        let there = subst (λ (t : List ℕ). (IsSelect t → Asks g old new r) × (IsSelect t → ServesUnlessFailed g new r) × ShowsAll g old new r t given × FailsAll g old new r t given) is (asks, opens, shows, fails) in
+        asked_queue (pass_asked pass) (pass_fits pass) (number (wanted_mark pass by)) n g old new given same refl (typed_as pass) (first_marked n (is_marked pass by))
+        (λ rows h marked s. marks_found (marked_text pass) (mark_place pass) (mark_how pass) (pass_fits pass) (number (wanted_mark pass by)) n (is_marked pass by) (passes_as pass) (state g old) (state g new) rows h marked s) r there.0 there.1 there.2 there.3 told

@@ -1,6 +1,6 @@
 -- The workunits that the queue has for a pass, and how they are found by their numbers.
-use Rattle.wu_schema.proofs.Words.{AllByRecursion, Bool, Database, Fault, IfErr, List, NotAProject, None, Ok, Option, Result, Row, Refines, Some, Workunit, World, [], ap, arith, column, cond, eq-eqb, false, filter, filter-map, find, get_or, length, length-map, map, map-map, nat_le, nat_tests, ne_eqb, number, refl, sym, take, ℕ, ⊤, ◌+◌, ◌<◌, ◌==◌, ◌∙◌, ◌∷◌, ◌≡◌, ◌≢◌, ◌≤◌}
-use Rattle.std.specs.Prelude.{All}
+use Rattle.wu_schema.proofs.Words.{AllByRecursion, Bool, Database, Fault, IfErr, List, NotAProject, None, Ok, Option, Result, Row, Refines, Some, Workunit, World, [], ap, arith, column, cond, eq-eqb, false, filter, filter-map, find, get_or, inl, inr, length, length-map, map, map-map, nat_le, nat_tests, ne_eqb, number, refl, subst, sym, take, ℕ, ⊤, ◌+◌, ◌<◌, ◌==◌, ◌∙◌, ◌∷◌, ◌≡◌, ◌≢◌, ◌≤◌, ◌⊎◌}
+use Rattle.std.specs.Prelude.{All, IfSome}
 use Rattle.std.specs.Option.{option_map_or}
 use Rattle.std.proofs.lemmas.List.{get_or-map, length-take, take-map}
 use Rattle.std.proofs.lemmas.List.Elements.{All-filter, All-from_recursion, All-take}
@@ -9,13 +9,14 @@ use Rattle.wu_core.specs.declared.marks.Marks.{Marks}
 use Rattle.wu_rules.specs.Due.{changes, chosen}
 use Rattle.wu_rules.specs.Marks.{marks, selects}
 use Rattle.wu_rules.specs.declared.due.Pass.{Pass}
-use Rattle.wu_rules.specs.declared.due.Pass.TheVariants.{Purge}
+use Rattle.wu_rules.specs.declared.due.Pass.TheVariants.{Assimilate, Delete, Purge, Transition, Validate}
 use Rattle.wu_rules.proofs.Marked.{selects-changes}
 use Rattle.wu_schema.specs.Restoring.{Restores}
 use Rattle.wu_schema.proofs.RowLemmas.{filter_same}
 use Rattle.wu_store.specs.Answers.{numbered}
 use Rattle.wu_store.specs.Due.{AreNumbersOf, IsNumberOf, IsRowOfStorable}
-use Rattle.wu_store.specs.Queues.{first_marked, waits_since}
+use Rattle.wu_store.specs.Loading.{IsLoadable, LoadsNumbered}
+use Rattle.wu_store.specs.Queues.{first_marked, is_marked, waits_since}
 use Rattle.wu_store.specs.StandsFor.{marked}
 use Rattle.wu_store.proofs.LoadLemmas.{never_unread}
 use Rattle.wu_store.proofs.MarkedLemmas.{tagged}
@@ -56,6 +57,28 @@ none_waits now age low m = go m.purge_from
     go : (o : Option ℕ) → option_map_or (λ done_at. nat_le (done_at + age) now) o false ≡ false
     go None = refl
     go (Some from) = grind (arith, nat_tests, low)
+
+-- so a pass goes by a moment: a purge by the one so long before,
+pub purge_due : (pass : Pass) (now age : ℕ) (r : Option ℕ) → pass ≡ Purge → IfSome r (λ since. since + age ≡ now) → IfSome r (λ by. (m : Marks) → is_marked pass by m ≡ selects pass now age m)
+purge_due pass now age None is since = tt
+purge_due pass now age (Some by) is since = λ m. subst (λ (p : Pass). is_marked p by m ≡ selects p now age m) (sym is) (waits_so_long by age now since m)
+
+pub purge_never : (pass : Pass) (now age : ℕ) → pass ≡ Purge → now < age → (m : Marks) → selects pass now age m ≡ false
+purge_never pass now age is low m = subst (λ (p : Pass). selects p now age m ≡ false) (sym is) (none_waits now age low m)
+
+-- and each other by the present one
+pub no_purge : (pass : Pass) → (pass ≡ Transition) ⊎ (pass ≡ Validate) ⊎ (pass ≡ Assimilate) ⊎ (pass ≡ Delete) → pass ≢ Purge
+no_purge pass (inl it) is = let no : Transition ≡ Purge = sym it ∙ is in cc
+no_purge pass (inr (inl it)) is = let no : Validate ≡ Purge = sym it ∙ is in cc
+no_purge pass (inr (inr (inl it))) is = let no : Assimilate ≡ Purge = sym it ∙ is in cc
+no_purge pass (inr (inr (inr it))) is = let no : Delete ≡ Purge = sym it ∙ is in cc
+
+pub now_due : (pass : Pass) (now age : ℕ) → pass ≢ Purge → (m : Marks) → is_marked pass now m ≡ selects pass now age m
+now_due Transition now age other m = refl
+now_due Validate now age other m = refl
+now_due Assimilate now age other m = refl
+now_due Delete now age other m = refl
+now_due Purge now age other m = absurd (other refl)
 
 -- by the marks of a world's workunits they are the numbers of those that the pass takes
 pub numbers_chosen : (pass : Pass) (now age limit : ℕ) (world : World) → first_marked limit (selects pass now age) (marked world) ≡ map number_row (chosen pass now age limit world)
@@ -106,6 +129,10 @@ module _ (row : Row) (w : Workunit) (world : World) (of : IsNumberOf row w world
   -- what is found at the number
   pub told_present : (n : ℕ) → n ≡ w.number → (found : Option Workunit) → found ≡ numbered n world → found ≡ Some w
   told_present n same found is = is ∙ ap (λ m. numbered m world) same ∙ of.present
+
+  -- which can be read
+  pub loads_there : (n : ℕ) → n ≡ w.number → IsStorable w → LoadsNumbered n world
+  loads_there n same can = (omega (arith, same, can.number), subst IsLoadable (sym (ap (λ m. numbered m world) same ∙ of.present)) can)
 
 -- ---- row by row
 

@@ -1,11 +1,14 @@
 -- How columns and rows read as values, step by step.
-use Rattle.wu_schema.proofs.Words.{Blob, Err, Fault, IsOrWantsMemory, IfErr, IfOk, ImportKind, Instance, Int, List, None, NotAProject, Null, Ok, Option, Result, Row, Some, Text, Value, Workunit, [], add-one, ap, arith, column, drop, get_or, inl, inr, instance_row, last_skip, length, length-map, map, map-append, number, number_or_null, pos, refl, subst, suc, sym, take, text_or_null, verdict_digits, workunit_row, zero, ℕ, ⊤, ◌++◌, ◌+◌, ◌-◌, ◌<◌, ◌^◌, ◌∙◌, ◌∷◌, ◌≡◌, ◌≢◌, ◌≤◌, ◌⊎◌}
-use Rattle.wu_core.specs.Storable.{AreVerdicts, IsHost, MayBeInstance, IsInput, IsName, IsPlace, IsStoredWorkunit, IsOutput, IsStoredArchived}
+use Rattle.wu_schema.proofs.Words.{IsErrAnd, Blob, Err, Fault, IsOrWantsMemory, IfErr, IfOk, ImportKind, Instance, Int, List, None, NotAProject, Null, Ok, Option, Result, Row, Some, Text, Value, Workunit, [], add-one, ap, arith, column, drop, get_or, inl, inr, instance_row, last_skip, length, length-map, map, map-append, number, number_or_null, pos, refl, subst, suc, sym, take, text_or_null, verdict_digits, workunit_row, zero, ℕ, ⊤, ◌++◌, ◌+◌, ◌-◌, ◌<◌, ◌^◌, ◌∙◌, ◌∷◌, ◌≡◌, ◌≢◌, ◌≤◌, ◌⊎◌}
+use Rattle.wu_core.specs.Formed.{IsInstance}
+use Rattle.wu_core.specs.Storable.{IsStoredInstance, AreVerdicts, IsHost, MayBeInstance, IsInput, IsName, IsPlace, IsStoredWorkunit, IsOutput, IsStoredArchived}
 use Rattle.wu_core.specs.declared.mask.ErrorMask.{ErrorMask}
 use Rattle.wu_core.specs.declared.workunit.Archived.{Archived}
 use Rattle.wu_store.specs.declared.lines.HostLine.{HostLine}
 use Rattle.wu_schema.specs.Stored.{archived_cells}
+use Rattle.std.specs.Option.{ok_or}
 use Rattle.std.specs.Prelude.{MatchOption}
+use Rattle.wu_core.specs.Codes.{Decodes}
 use Rattle.std.proofs.lemmas.List.{take_more, get_or-map}
 use Rattle.std.specs.List.{range_with_len}
 use Rattle.wu_core.specs.declared.fault.Fault.TheVariants.{Memory}
@@ -14,9 +17,14 @@ use Rattle.wu_core.specs.Limits.{last_moment, longest_output}
 use Rattle.wu_store.specs.declared.rows.Moments.{Moments}
 use Rattle.wu_store.specs.declared.rows.Progress.{Progress}
 use Rattle.wu_store.specs.declared.rows.States.{States}
+use Rattle.wu_store.specs.declared.rows.StoredImport.{StoredImport}
+use Rattle.wu_core.specs.declared.states.FileDelete.{FileDelete}
+use Rattle.wu_core.specs.declared.states.Outcome.{Outcome}
+use Rattle.wu_core.specs.declared.states.ServerState.{ServerState}
+use Rattle.wu_core.specs.declared.states.ValidateState.{ValidateState}
 use Rattle.wu_schema.specs.Stored.{parameter_cells}
 use Rattle.wu_schema.specs.Restoring.{Restores}
-use Rattle.wu_store.specs.Reading.{moment_cells, state_cells, columns, progress_cells, IsProgress, host_row, IsStoredHost, mask_cell, HasMoments}
+use Rattle.wu_store.specs.Reading.{IsStoredImport, file_delete_cell, outcome_cell, server_state_cell, stored_import_row, validate_state_cell, verdicts_cell, moment_cells, state_cells, columns, progress_cells, IsProgress, host_row, IsStoredHost, mask_cell, HasMoments}
 
 -- a value that can't be read is none that is stored so
 pub unread : {T C : Type 0} (stored_as : T → C) (IsValue : T → Type 0) (stored : C) (fault : Fault)
@@ -24,6 +32,19 @@ pub unread : {T C : Type 0} (stored_as : T → C) (IsValue : T → Type 0) (stor
     → Restores stored_as IsValue stored (Err fault)
 unread stored_as IsValue stored fault (inl memory) = record { value = tt; found = λ value is same. inr (ap (λ f. Err f) memory); refused = inl memory }
 unread stored_as IsValue stored fault (inr none) = record { value = tt; found = λ value is same. absurd (none.1 value is same); refused = inr none.0 }
+
+-- the number of a code is that of what it is decoded as, and else of nothing
+pub code_restored : {T : Type 0} (code_of : T → ℕ) (v : Value) (n : ℕ) → v ≡ number n → (o : Option T) → Decodes code_of n o → (r : Result T Fault) → r ≡ ok_or o NotAProject → Restores (λ (t : T). number (code_of t)) (λ _. ⊤) v r
+code_restored {T} code_of v n is (Some t) decodes r read = subst (λ q. Restores (λ (t : T). number (code_of t)) (λ _. ⊤) v q) (sym read) (record {
+  value = (is ∙ ap number (sym decodes.coded), tt);
+  found = λ u any same. inl (let code : n ≡ code_of u = let e : number n ≡ number (code_of u) = sym is ∙ same in cc in let found : Some t ≡ Some u = decodes.found u (sym code) in cc);
+  refused = tt;
+})
+code_restored {T} code_of v n is None decodes r read = subst (λ q. Restores (λ (t : T). number (code_of t)) (λ _. ⊤) v q) (sym read) (record {
+  value = tt;
+  found = λ u any same. absurd (let code : n ≡ code_of u = let e : number n ≡ number (code_of u) = sym is ∙ same in cc in let found : None ≡ Some u = decodes.found u (sym code) in cc);
+  refused = inr refl;
+})
 
 pub place_restores : (P : Type 0) → P → (v : Value) (r : Result (Option ℕ) Fault)
     → IfOk r (λ o. MatchOption o (v ≡ Null) (λ n. (v ≢ Null) × (v ≡ Int (pos n))))
@@ -80,6 +101,16 @@ part_unread part row from count stored_as cells IsValue IsPart are shown f unrea
   found = λ t is same. not_ok f (part t) t (unread.found (part t) (are t is) (ap (λ r. columns r from count) same ∙ shown t));
   refused = unread.refused;
 }
+
+-- so is one with a column that can't be read, whatever hands the fault on
+pub column_unread : {T U : Type 0} (part : T → U) (stored_as : T → Row) (cell : U → Value) (IsValue : T → Type 0) (IsPart : U → Type 0) (row : Row) (at : ℕ) → ((t : T) → IsValue t → IsPart (part t)) → ((t : T) → column (stored_as t) at ≡ cell (part t))
+    → (fault : Fault) → Restores cell IsPart (column row at) (Err fault) → (r : Result T Fault) → IsErrAnd r (λ other. other ≡ fault) → Restores stored_as IsValue row r
+column_unread part stored_as cell IsValue IsPart row at are shown fault unread (Ok t) same = absurd same
+column_unread part stored_as cell IsValue IsPart row at are shown fault unread (Err other) same = subst (λ f. Restores stored_as IsValue row (Err f)) (sym same) (record {
+  value = tt;
+  found = λ t is stored. not_ok fault (part t) t (unread.found (part t) (are t is) (ap (λ r. column r at) stored ∙ shown t));
+  refused = unread.refused;
+})
 
 pub workunit_unread : (row : Row) (f : Fault) → Restores progress_cells IsProgress (columns row 10 5) (Err f) → Restores workunit_row IsStoredWorkunit row (Err f)
 workunit_unread row = part_unread progress_of row 10 5 workunit_row progress_cells IsStoredWorkunit IsProgress (λ w is. record { canonical = is.canonical; stamped = is.stamped }) (λ w. refl)
@@ -172,6 +203,24 @@ states_unread row = part_unread states_of row 0 4 instance_row state_cells MayBe
 pub moments_unread : (row : Row) (f : Fault) → Restores moment_cells HasMoments (columns row 5 3) (Err f) → Restores instance_row MayBeInstance row (Err f)
 moments_unread row = part_unread moments_of row 5 3 instance_row moment_cells MayBeInstance HasMoments (λ i is. is.moments) (λ i. refl)
 
+-- four columns that read as these are those of these states alone
+pub states_read : (row : Row) (a : ServerState) (b : Outcome) (d : ValidateState) (e : FileDelete) → Restores server_state_cell (λ _. ⊤) (column row 0) (Ok a) → Restores outcome_cell (λ _. ⊤) (column row 1) (Ok b)
+    → Restores validate_state_cell (λ _. ⊤) (column row 2) (Ok d) → Restores file_delete_cell (λ _. ⊤) (column row 3) (Ok e)
+    → Restores state_cells (λ _. ⊤) (columns row 0 4) (Ok (record { server_state = a; outcome = b; validate_state = d; file_delete = e }))
+states_read row a b d e first second third fourth = record {
+  value = ((λ i. first.value.0 i ∷ second.value.0 i ∷ third.value.0 i ∷ fourth.value.0 i ∷ []), tt);
+  found = λ s is same. inl (ap (λ s. Ok s) (only s same));
+  refused = tt;
+}
+  where
+    only : (s : States) → columns row 0 4 ≡ state_cells s → ◌≡◌ {A = States} (record { server_state = a; outcome = b; validate_state = d; file_delete = e }) s
+    only s same =
+        let p = ok_is a s.server_state (first.found s.server_state tt (ap (λ r. column r 0) same)) in
+        let q = ok_is b s.outcome (second.found s.outcome tt (ap (λ r. column r 1) same)) in
+        let u = ok_is d s.validate_state (third.found s.validate_state tt (ap (λ r. column r 2) same)) in
+        let v = ok_is e s.file_delete (fourth.found s.file_delete tt (ap (λ r. column r 3) same)) in
+        (λ i. record { server_state = p i; outcome = q i; validate_state = u i; file_delete = v i })
+
 joined_four : (a b d e : Value) (ps qs rs ts : Row) → ps ≡ qs → a ≡ b → rs ≡ ts → d ≡ e → ps ++ (a ∷ rs ++ (d ∷ [])) ≡ qs ++ (b ∷ ts ++ (e ∷ []))
 joined_four a b d e ps qs rs ts first second third fourth = rw (first, second, third, fourth) refl
 
@@ -209,6 +258,30 @@ module _ (row : Row) (states : States) (host : Option (List ℕ)) (moments : Mom
           let d = ok_is moments (moments_of i) (moments_are.found (moments_of i) is.moments (ap (λ r. columns r 5 3) same)) in
           let e = ok_is output i.output (output_is.found i.output is.output (ap (λ r. column r 8) same)) in
           rw (a, b, d, e) refl
+
+-- cells of an instance that is well formed, or not
+module _ (cells : Row) where
+  pub formed_read : (i : Instance) → IsInstance i → Restores instance_row MayBeInstance cells (Ok i) → Restores instance_row IsStoredInstance cells (Ok i)
+  formed_read i formed reads = record {
+    value = (reads.value.0, record { values = reads.value.1; formed = formed });
+    found = λ j is same. reads.found j is.values same;
+    refused = tt;
+  }
+
+  pub unformed_read : (i : Instance) → (IsInstance i → ⊥) → Restores instance_row MayBeInstance cells (Ok i) → Restores instance_row IsStoredInstance cells (Err NotAProject)
+  unformed_read i unformed reads = record {
+    value = tt;
+    found = λ j is same. absurd (unformed (subst IsInstance (sym (ok_is i j (reads.found j is.values same))) is.formed));
+    refused = inr refl;
+  }
+
+  pub instance_refused : (fault : Fault) → Restores instance_row MayBeInstance cells (Err fault) → (r : Result Instance Fault) → IsErrAnd r (λ other. other ≡ fault) → Restores instance_row IsStoredInstance cells r
+  instance_refused fault reads (Ok i) same = absurd same
+  instance_refused fault reads (Err other) same = subst (λ f. Restores instance_row IsStoredInstance cells (Err f)) (sym same) (record {
+    value = tt;
+    found = λ j is shown. not_ok fault j j (reads.found j is.values shown);
+    refused = reads.refused;
+  })
 
 -- ---- a host, and an archived workunit
 
@@ -264,11 +337,25 @@ module _ (n : ℕ) (name : List ℕ) (mask : ErrorMask) (canonical : Option ℕ)
           let k = ok_is done_at a.done_at (done_is.found a.done_at is.done_at (ap (λ r. column r 5) same)) in
           rw (b, d, e, g, h, k) refl
 
-  -- so is a row whose columns read so
-  pub archived_read : (row : Row) → length row ≡ 6 → Restores number (λ _. ⊤) (column row 0) (Ok n) → Restores Text IsName (column row 1) (Ok name)
-      → Restores mask_cell (λ _. ⊤) (column row 2) (Ok mask) → Restores number_or_null IsPlace (column row 3) (Ok canonical)
-      → Restores Blob IsOutput (column row 4) (Ok output) → Restores number (λ seconds. seconds ≤ last_moment) (column row 5) (Ok done_at)
-      → Restores archived_cells IsStoredArchived row (Ok read_archived)
-  archived_read row long number_is name_is mask_is canonical_is output_is done_is =
-      let whole : column row 0 ∷ column row 1 ∷ column row 2 ∷ column row 3 ∷ column row 4 ∷ column row 5 ∷ [] ≡ row = subst (λ k. map (column row) (range_with_len 0 k) ≡ row) long (as_columns row) in
-      subst (λ r. Restores archived_cells IsStoredArchived r (Ok read_archived)) whole (archived_cells_read _ _ _ _ _ _ number_is name_is mask_is canonical_is output_is done_is)
+-- ---- what is kept of an import
+
+-- a row whose columns read as these is that of this import alone
+pub import_row_read : (kind : ImportKind) (row : Row) (template content verdicts : List ℕ) (first : ℕ) → length row ≡ 4 → Restores Blob (λ _. ⊤) (column row 0) (Ok template) → Restores Blob (λ _. ⊤) (column row 1) (Ok content)
+    → Restores number (λ _. ⊤) (column row 2) (Ok first) → Restores verdicts_cell (AreVerdicts kind) (column row 3) (Ok verdicts)
+    → Restores stored_import_row (IsStoredImport kind) row (Ok (record { template = template; content = content; first_number = first; verdicts = verdicts }))
+import_row_read kind row template content verdicts first long template_is content_is first_is verdicts_are = record {
+  value = (sym whole ∙ (λ i. template_is.value.0 i ∷ content_is.value.0 i ∷ first_is.value.0 i ∷ verdicts_are.value.0 i ∷ []), verdicts_are.value.1);
+  found = λ s is same. inl (ap (λ s. Ok s) (only s is same));
+  refused = tt;
+}
+  where
+    whole : column row 0 ∷ column row 1 ∷ column row 2 ∷ column row 3 ∷ [] ≡ row
+    whole = subst (λ k. map (column row) (range_with_len 0 k) ≡ row) long (as_columns row)
+
+    only : (s : StoredImport) → IsStoredImport kind s → row ≡ stored_import_row s → ◌≡◌ {A = StoredImport} (record { template = template; content = content; first_number = first; verdicts = verdicts }) s
+    only s is same =
+        let p = ok_is template s.template (template_is.found s.template tt (ap (λ r. column r 0) same)) in
+        let q = ok_is content s.content (content_is.found s.content tt (ap (λ r. column r 1) same)) in
+        let u = ok_is first s.first_number (first_is.found s.first_number tt (ap (λ r. column r 2) same)) in
+        let v = ok_is verdicts s.verdicts (verdicts_are.found s.verdicts is (ap (λ r. column r 3) same)) in
+        (λ i. record { template = p i; content = q i; first_number = u i; verdicts = v i })

@@ -3,6 +3,9 @@ use Rattle.wu_schema.proofs.Words.{Expr-F, Int, List, None, Some, Term, [], arch
 use Rattle.sqlite_sql.specs.declared.ops.CompareOp.{CompareOp}
 use Rattle.sqlite_sql.specs.declared.ops.CompareOp.TheVariants as compare
 use Rattle.wu_schema.specs.Tables.{queue_at}
+use Rattle.wu_rules.specs.declared.due.Pass.{Pass}
+use Rattle.wu_rules.specs.declared.due.Pass.TheVariants.{Transition, Validate, Assimilate, Delete, Purge}
+use Rattle.wu_store.specs.Queues.{marked_text}
 pub use Rattle.wu_schema.proofs.SelectLemmas.{CompilesTo, compiles_to, Asked, Fits}
 use Rattle.wu_schema.proofs.ExprLemmas.{same, more, parameter}
 
@@ -131,37 +134,47 @@ instances_shows = col 1 3 ∷ col 1 4 ∷ col 1 5 ∷ col 1 6 ∷ col 1 7 ∷ co
 abbrev pub marked_asked : List ℕ → ℕ → CompareOp → Asked
 marked_asked text place how = record { text = text; parameters = codes "?1" ∷ codes "?2" ∷ []; shown = 0 ∷ []; tests = (place, how, 0) ∷ []; order = Some 0; limit = Some (parameter 2); upto = col 0 1 }
 
-abbrev pub validate_text : List ℕ
-validate_text = codes "SELECT workunit FROM queue WHERE to_validate = ?1 ORDER BY workunit LIMIT ?2"
-
-pub validate_fits : (tree : ℕ) → Fits (codes "queue") (queue_at tree) (marked_asked validate_text 2 compare.Eq)
+pub validate_fits : (tree : ℕ) → Fits (codes "queue") (queue_at tree) (marked_asked (marked_text Validate) 2 compare.Eq)
 unfolding everything
 validate_fits tree = record { shown = refl; tests = refl; strict = refl; order = refl; height = (698, refl); few = omega arith; limit = λ schema. refl; read = refl; typed = refl }
 
-abbrev pub assimilate_text : List ℕ
-assimilate_text = codes "SELECT workunit FROM queue WHERE to_assimilate = ?1 ORDER BY workunit LIMIT ?2"
-
-pub assimilate_fits : (tree : ℕ) → Fits (codes "queue") (queue_at tree) (marked_asked assimilate_text 3 compare.Eq)
+pub assimilate_fits : (tree : ℕ) → Fits (codes "queue") (queue_at tree) (marked_asked (marked_text Assimilate) 3 compare.Eq)
 unfolding everything
 assimilate_fits tree = record { shown = refl; tests = refl; strict = refl; order = refl; height = (698, refl); few = omega arith; limit = λ schema. refl; read = refl; typed = refl }
 
-abbrev pub delete_text : List ℕ
-delete_text = codes "SELECT workunit FROM queue WHERE to_delete = ?1 ORDER BY workunit LIMIT ?2"
-
-pub delete_fits : (tree : ℕ) → Fits (codes "queue") (queue_at tree) (marked_asked delete_text 4 compare.Eq)
+pub delete_fits : (tree : ℕ) → Fits (codes "queue") (queue_at tree) (marked_asked (marked_text Delete) 4 compare.Eq)
 unfolding everything
 delete_fits tree = record { shown = refl; tests = refl; strict = refl; order = refl; height = (698, refl); few = omega arith; limit = λ schema. refl; read = refl; typed = refl }
 
-abbrev pub wake_text : List ℕ
-wake_text = codes "SELECT workunit FROM queue WHERE wake <= ?1 ORDER BY workunit LIMIT ?2"
-
-pub wake_fits : (tree : ℕ) → Fits (codes "queue") (queue_at tree) (marked_asked wake_text 1 compare.Le)
+pub wake_fits : (tree : ℕ) → Fits (codes "queue") (queue_at tree) (marked_asked (marked_text Transition) 1 compare.Le)
 unfolding everything
 wake_fits tree = record { shown = refl; tests = refl; strict = refl; order = refl; height = (698, refl); few = omega arith; limit = λ schema. refl; read = refl; typed = refl }
 
-abbrev pub purge_text : List ℕ
-purge_text = codes "SELECT workunit FROM queue WHERE purge_from <= ?1 ORDER BY workunit LIMIT ?2"
-
-pub purge_fits : (tree : ℕ) → Fits (codes "queue") (queue_at tree) (marked_asked purge_text 5 compare.Le)
+pub purge_fits : (tree : ℕ) → Fits (codes "queue") (queue_at tree) (marked_asked (marked_text Purge) 5 compare.Le)
 unfolding everything
 purge_fits tree = record { shown = refl; tests = refl; strict = refl; order = refl; height = (698, refl); few = omega arith; limit = λ schema. refl; read = refl; typed = refl }
+
+-- the column of the mark for a pass, and how it is compared
+abbrev pub mark_place : Pass → ℕ
+mark_place Transition = 1
+mark_place Validate = 2
+mark_place Assimilate = 3
+mark_place Delete = 4
+mark_place Purge = 5
+
+abbrev pub mark_how : Pass → CompareOp
+mark_how Transition = compare.Le
+mark_how Validate = compare.Eq
+mark_how Assimilate = compare.Eq
+mark_how Delete = compare.Eq
+mark_how Purge = compare.Le
+
+abbrev pub pass_asked : Pass → Asked
+pass_asked pass = marked_asked (marked_text pass) (mark_place pass) (mark_how pass)
+
+pub pass_fits : (pass : Pass) (tree : ℕ) → Fits (codes "queue") (queue_at tree) (pass_asked pass)
+pass_fits Transition tree = wake_fits tree
+pass_fits Validate tree = validate_fits tree
+pass_fits Assimilate tree = assimilate_fits tree
+pass_fits Delete tree = delete_fits tree
+pass_fits Purge tree = purge_fits tree

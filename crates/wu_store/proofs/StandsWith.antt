@@ -1,5 +1,5 @@
 -- What each change keeps of the world that a database stands for.
-use Rattle.wu_schema.proofs.Words.{Binary, Database, Enforced, Has, HasTables, HoldsAll, cases_Bool, inl, ℕ, Import, Int, IsCalm, IsDatabase, IsTrue, List, ListsAll, OwnsTree, PutsOne, Row, Schema, Some, Refines, Table, World, [], all_has, and_from, and_parts, ap, column, drop, eq-eqb, eqb-true, equal, false, false_from_ne_true, first_key, has_mapped, import_at, import_cells, import_kind_code, inr, is_eq, is_import, is_int, map, map-append, mapped_has, next_rowid, put_row, refl, rowid, stored_project, stored_workunit, subst, sym, true, value_cmp, ℕ, ◌++◌, ◌==◌, ◌∙◌, ◌∷◌, ◌≡◌, ◌≢◌}
+use Rattle.wu_schema.proofs.Words.{Binary, Database, Enforced, Has, HasTables, HoldsAll, cases_Bool, inl, ℕ, Import, Int, IsCalm, IsDatabase, IsTrue, List, ListsAll, OwnsTree, PutsOne, Row, Schema, Some, Refines, Table, World, [], all_has, and_from, and_parts, ap, bytes_eq, column, drop, eq-eqb, eqb-true, equal, false, false_from_ne_true, first_key, has_mapped, import_at, import_cells, import_kind_code, inr, is_eq, is_import, is_int, map, map-append, mapped_has, next_rowid, put_row, refl, rowid, stored_project, stored_workunit, subst, sym, true, value_cmp, ℕ, ◌++◌, ◌==◌, ◌∙◌, ◌∷◌, ◌≡◌, ◌≢◌}
 use Rattle.wu_store.specs.Changes.{with_import, with_next, with_version, without_workunit}
 use Rattle.sqlite_rules.proofs.TableLemmas.{has_put}
 use Rattle.sqlite_catalog.proofs.ListFacts.{ascending_push}
@@ -12,24 +12,40 @@ use Rattle.wu_store.proofs.PlacedLemmas.{holds_put, keeps_put}
 use Rattle.wu_schema.proofs.Parts.{Part, Project, Workunits, Instances, Imports, tree_in, Holds, is_part, IsIn, child_column, child_shaped, falls_with_work, Keeps, in_all, parts_there, parts_hold, keeps_calm, keeps_bare, child_left, frame_in, frame_one, rows_stand, same_part}
 
 module _ (old new : Database) (world : World) (s : Refines old world) where
-  -- no import that was there has the new one's kind and name
-  new_once : (import : Import) → PutsOne old new s.trees.import (Int (next_rowid (old.trees s.trees.import)) ∷ import_cells import) → (a : Import) → Has world.imports a → is_import a.kind a.name import ≡ false
-  unfolding first_key
-  new_once import put a listed = false_from_ne_true _ (λ same.
-      let tree = s.trees.import in
-      let row : Row = Int (next_rowid (old.trees tree)) ∷ import_cells import in
-      let parts = and_parts _ _ same in
-      let kinds : import_kind_code import.kind ≡ import_kind_code a.kind = eqb-true _ _ parts.0 in
-      let it = has_mapped (drop 1) (old.trees tree) (import_cells a) (has_permuted (map import_cells world.imports) (map (drop 1) (old.trees tree)) (import_cells a) s.rows.imports.same (mapped_has import_cells world.imports a listed)) in
-      let cells = kind_in it.0 a (sym it.2) in
-      let there : Has (new.trees tree) row = subst (λ rs. Has rs row) (sym put.rows) (has_put row (old.trees tree)) in
-      let still : Has (new.trees tree) it.0 = subst (λ rs. Has rs it.0) (sym put.rows) (has_permuted (row ∷ old.trees tree) (put_row row (old.trees tree)) it.0 (put_beside row (old.trees tree) put.fresh) (inr it.1)) in
-      let id = int_value (rowid it.0) (all_has (λ r. IsTrue (is_int (rowid r))) (old.trees tree) it.0 s.rows.imports.shaped.1 it.1) in
-      let apart = none_has (λ r. is_eq (value_cmp (rowid r) (rowid row))) (old.trees tree) it.0 put.fresh it.1 in
-      let stands : Has new.schema.tables (import_at tree) = subst (λ (x : Schema). Has x.tables (import_at tree)) (sym put.schema) (is_there old.schema _ _ s.tables.import) in
-      key_once new (import_at tree) 0 (1 ∷ 2 ∷ []) refl put.sound stands row it.0 there still apart id.0 (next_rowid (old.trees tree)) id.1 refl (λ at. and_from _ _
-      (ap (λ v. equal Binary v (column row 1)) cells.0 ∙ number_equal _ _ ∙ ap (λ n. n == import_kind_code import.kind) (sym kinds) ∙ eq-eqb _ _ refl)
-      (and_from _ _ (ap (λ v. equal Binary v (column row 2)) cells.1 ∙ text_equal a.name import.name ∙ bytes_back import.name a.name parts.1) refl)))
+  module _ (import : Import) (put : PutsOne old new s.trees.import (Int (next_rowid (old.trees s.trees.import)) ∷ import_cells import)) (a : Import) where
+    abbrev tree : ℕ
+    tree = s.trees.import
+
+    abbrev new_row : Row
+    new_row = Int (next_rowid (old.trees tree)) ∷ import_cells import
+
+    -- each row that was there is there beside the new one
+    stays_there : (r : Row) → Has (old.trees tree) r → Has (new.trees tree) r
+    stays_there r has = subst (λ rs. Has rs r) (sym put.rows) (has_permuted (new_row ∷ old.trees tree) (put_row new_row (old.trees tree)) r (put_beside new_row (old.trees tree) put.fresh) (inr has))
+
+    put_there : Has (new.trees tree) new_row
+    put_there = subst (λ rs. Has rs new_row) (sym put.rows) (has_put new_row (old.trees tree))
+
+    table_there : Has new.schema.tables (import_at tree)
+    table_there = subst (λ (x : Schema). Has x.tables (import_at tree)) (sym put.schema) (is_there old.schema _ _ s.tables.import)
+
+    -- a row of its kind and name would break the table's key
+    no_row : import_kind_code import.kind ≡ import_kind_code a.kind → bytes_eq import.name a.name ≡ true → (r : Row) → Has (old.trees tree) r → import_cells a ≡ drop 1 r → ⊥
+    unfolding first_key
+    no_row kinds names r has is =
+        let cells = kind_in r a (sym is) in
+        let id = int_value (rowid r) (all_has (λ q. IsTrue (is_int (rowid q))) (old.trees tree) r s.rows.imports.shaped.1 has) in
+        let apart = none_has (λ q. is_eq (value_cmp (rowid q) (rowid new_row))) (old.trees tree) r put.fresh has in
+        let kind : equal Binary (column r 1) (column new_row 1) ≡ true = ap (λ v. equal Binary v (column new_row 1)) cells.0 ∙ number_equal _ _ ∙ ap (λ n. n == import_kind_code import.kind) (sym kinds) ∙ eq-eqb _ _ refl in
+        let name : equal Binary (column r 2) (column new_row 2) ≡ true = ap (λ v. equal Binary v (column new_row 2)) cells.1 ∙ text_equal a.name import.name ∙ bytes_back import.name a.name names in
+        key_once new (import_at tree) 0 (1 ∷ 2 ∷ []) refl put.sound table_there new_row r put_there (stays_there r has) apart id.0 (next_rowid (old.trees tree)) id.1 refl (λ at. and_from _ _ kind (and_from _ _ name refl))
+
+    -- no import that was there has the new one's kind and name
+    new_once : Has world.imports a → is_import a.kind a.name import ≡ false
+    new_once listed = false_from_ne_true _ (λ same.
+        let parts = and_parts _ _ same in
+        let it = has_mapped (drop 1) (old.trees tree) (import_cells a) (has_permuted (map import_cells world.imports) (map (drop 1) (old.trees tree)) (import_cells a) s.rows.imports.same (mapped_has import_cells world.imports a listed)) in
+        no_row (eqb-true _ _ parts.0) parts.1 it.0 it.1 it.2)
 
   -- an import of which no row has the rowid
   pub stands_with_import : (import : Import) → PutsOne old new s.trees.import (Int (next_rowid (old.trees s.trees.import)) ∷ import_cells import) → Refines new (with_import import world)
@@ -39,7 +55,7 @@ module _ (old new : Database) (world : World) (s : Refines old world) where
       frame_one old new world (with_import import world) s Imports put.schema refl (keeps_put old new world s Imports row tt put) carry (
         subst (λ rs. HoldsAll rs (map import_cells (world.imports ++ import ∷ []))) (sym put.rows)
             (subst (HoldsAll (put_row row before)) (sym (map-append import_cells world.imports (import ∷ []))) (holds_put (import_cells import) (map import_cells world.imports) before put.fresh s.rows.imports)),
-        ascending_push (λ (a b : Import). is_import a.kind a.name b ≡ false) world.imports import s.rows.imported_once (λ a has. new_once import put a has),
+        ascending_push (λ (a b : Import). is_import a.kind a.name b ≡ false) world.imports import s.rows.imported_once (new_once import put),
       ) put.sound
     where
       carry : (q : Part) → is_part Imports q ≡ false → (rows : List Row) → Holds q rows world → Holds q rows (with_import import world)

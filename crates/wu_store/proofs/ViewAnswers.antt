@@ -1,24 +1,22 @@
 -- What the SELECTs of the views and of the summary answer of the world that the tables stand for.
-use Rattle.wu_schema.proofs.Words.{AllByRecursion, Archived, Binary, Bool, Grant, Instance, Int, IsAscending, IsPermutation, IsPermutation-filter, IsPermutation-map, Less, List, None, Output, Row, Shown, Some, Refines, State, Term, Workunit, World, [], ap, codes, col, column, drop, cond, enumerate_from, equal, eval_all, everything, false, filter, filter-map, flat_map, holds, instance_cells, instances_of, length, length-map, length_permutation, list_all, lit, map, map-map, negsuc, number, refl, stored_archived, stored_grant, subst, suc, sym, true, ℕ, ◌+◌, ◌==◌, ◌∙◌, ◌∷◌, ◌≡◌, archived_at, arith, grant_at, result_at, workunit_at, host_at, import_at}
+use Rattle.wu_schema.proofs.Words.{AllByRecursion, Binary, Bool, Grant, Instance, Int, IsAscending, IsPermutation, IsPermutation-filter, Less, List, None, Output, Row, Shown, Some, Refines, State, Term, Workunit, World, [], ap, codes, col, column, drop, cond, enumerate_from, equal, eval_all, everything, false, filter, filter-map, flat_map, holds, instance_cells, instances_of, length, length-map, length_permutation, list_all, lit, map, negsuc, number, refl, stored_grant, suc, sym, true, ℕ, ◌+◌, ◌==◌, ◌∙◌, ◌∷◌, ◌≡◌, arith, grant_at, result_at, workunit_at, import_at}
 use Rattle.sqlite_value.proofs.OrderLemmas.{value_cmp-Text}
 use Rattle.std.proofs.Common.{length-append}
 use Rattle.std.proofs.lemmas.List.Elements.{filter-append}
 use Rattle.std.proofs.lemmas.List.Sums.{length-filter}
 use Rattle.sqlite_sql.specs.declared.ops.CompareOp.TheVariants as compare
 use Rattle.wu_core.specs.declared.states.ServerState.{ServerState}
-use Rattle.wu_core.proofs.HostLemmas.{Ascends, below, once}
+use Rattle.wu_core.proofs.HostLemmas.{Ascends, below}
 use Rattle.wu_core.specs.Codes.{server_state_code}
-use Rattle.wu_core.specs.Hosts.{hosts_of}
 use Rattle.wu_schema.specs.Refines.{host_of}
-use Rattle.wu_schema.specs.Stored.{archived_cells}
 use Rattle.wu_schema.proofs.AnswerLemmas.{meeting, showing}
-use Rattle.wu_schema.proofs.Parts.{Archive, Grants, Hosts, Imports, Instances, Workunits}
+use Rattle.wu_schema.proofs.Parts.{Grants, Imports, Instances, Workunits}
 use Rattle.wu_schema.proofs.RowLemmas.{filter_same, no_test, one_test}
 use Rattle.wu_schema.proofs.SelectLemmas.{Asked, Fits}
 use Rattle.wu_store.specs.Answers.{all_credit, all_instances, count_in, import_count, result_count, workunit_count}
 use Rattle.wu_store.proofs.EqualLemmas.{number_equal}
 use Rattle.wu_schema.proofs.ExprLemmas.{same}
-use Rattle.wu_store.proofs.OrderAnswers.{by_key, pair, sure_in_order, sure_sorted}
+use Rattle.wu_store.proofs.OrderAnswers.{by_key, sure_in_order}
 use Rattle.wu_store.proofs.ReadAnswers.{asked_answers, asked_rows}
 
 -- ---- all hosts, in order of their names

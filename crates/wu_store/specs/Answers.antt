@@ -1,9 +1,10 @@
 -- What the reads ask of a world.
-use Rattle.std.specs.Prelude.{◌≡◌, ℕ, zero, suc, ◌==◌, nat_lt, List, [], ◌∷◌, length, map, filter, find, count_by, bytes_eq, Bool, Option, None, Some, option_map, Result, Vec}
+use Rattle.std.specs.Prelude.{◌≡◌, ℕ, zero, suc, ◌==◌, ◌<◌, nat_lt, List, [], ◌∷◌, ◌++◌, IfOk, IsSome, length, option_to_list, map, filter, find, count_by, bytes_eq, Bool, Option, None, Some, option_map, Result, Vec}
 use Rattle.std.specs.List.{flat_map, list_any}
 use Rattle.std.specs.Option.{option_map_or}
-use Rattle.sqlite.specs.Held.{Held}
+use Rattle.sqlite.specs.Held.{Held, state}
 use Rattle.sqlite.specs.Order.{Row}
+use Rattle.sqlite.specs.State.{HasCleanDisk, Shown}
 use Rattle.sqlite.specs.Store.{Ghosts}
 use Rattle.wu_core.specs.declared.fault.Fault.{Fault}
 use Rattle.wu_core.specs.declared.workunit.Workunit.{Workunit}
@@ -13,11 +14,9 @@ use Rattle.wu_core.specs.declared.workunit.Instance.{Instance}
 use Rattle.wu_core.specs.declared.import.ImportKind.{ImportKind}
 use Rattle.wu_core.specs.declared.states.ServerState.{ServerState}
 use Rattle.wu_core.specs.Codes.{server_state_code}
-use Rattle.wu_core.specs.Hosts.{hosts_of}
 use Rattle.wu_core.specs.World.{World, is_import}
 use Rattle.wu_schema.specs.Calls.{Tells}
-use Rattle.wu_schema.specs.Refines.{host_of}
-use Rattle.wu_schema.specs.Stored.{archived_cells, number, kept_cells, instance_row, workunit_row}
+use Rattle.wu_schema.specs.Stored.{number, kept_cells, instance_row, workunit_row}
 
 -- a workunit of this name is present
 abbrev pub has_name : List ℕ → World → Bool
@@ -110,3 +109,16 @@ import_count world = length world.imports
 -- the answer has as many rows as such a world has of these
 abbrev pub AnswersSoMany : {S A : Type 0} → Ghosts S → Held S → Held S → Result (Vec Row A) Fault → (World → ℕ) → Type 0
 AnswersSoMany g old new result count = Tells g old new result (λ rows world. length rows.items ≡ count world)
+
+-- ---- the last row of an answer
+
+-- what is taken from the end of these rows: the last one, where there is one
+pub record IsLastOf (rows : List Row) (taken : Option Row) : Type 0 where
+  pub rest : List Row
+  pub parts : rows ≡ rest ++ option_to_list taken
+  pub some : 0 < length rows → IsSome taken
+
+-- with Ok, it is the last row of the answer
+abbrev pub ShowsLast : {S : Type 0} → Ghosts S → Held S → Held S → Result (Option Row) Fault → List ℕ → Row → Type 0
+ShowsLast g old new result sql params =
+    HasCleanDisk (state g new) → IfOk result (λ taken. (rows : List Row) × Shown sql params (state g old) (state g new) rows × IsLastOf rows taken)

@@ -1,5 +1,5 @@
 -- What the views show of a world, line by line, and its summary.
-use Rattle.std.specs.Prelude.{◌≡◌, ◌≢◌, ℕ, All, List, length, map, sum_by, count_by, Result, IfErr, IfOk, Vec}
+use Rattle.std.specs.Prelude.{◌≡◌, ◌≢◌, ℕ, All, List, length, map, sum_by, count_by, Result, IfErr, IfOk}
 use Rattle.std.specs.List.{enumerate_from, flat_map}
 use Rattle.sqlite.specs.Order.{Row}
 use Rattle.wu_core.specs.declared.fault.Fault.{Fault}

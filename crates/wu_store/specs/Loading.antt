@@ -1,6 +1,6 @@
 -- What is loaded of a project: the present workunit of a number or a name, or the first one above a number, with its
 -- instances; an import; the next number, and the next place of a grant or of an archived row.
-use Rattle.std.specs.Prelude.{◌≡◌, ◌≢◌, ℕ, ◌<◌, ◌^◌, List, [], Option, Some, None, Result, find, IfErr, IfSome, IsTrue, MatchResult}
+use Rattle.std.specs.Prelude.{◌≡◌, ◌≢◌, ℕ, ◌<◌, ◌^◌, List, [], Option, Some, None, Result, find, IfErr, IfSome, IsTrue, MatchResult, ⊤}
 use Rattle.std.specs.Option.{option_map_or}
 use Rattle.sqlite.specs.Held.{Held, state}
 use Rattle.sqlite.specs.Order.{Row}
@@ -93,13 +93,20 @@ pub record IsRowOfPresent (row : Row) (w : Workunit) (world : World) : Type 0 wh
   pub present : numbered w.number world ≡ Some w
   pub row_is : row ≡ workunit_row w
 
--- the workunit of a row is found, with its instances
-abbrev pub FindsOfRow : Row → Result Workunit Fault → World → Type 0
-FindsOfRow row result world = (w : Workunit) → IsRowOfPresent row w world → MatchResult result (λ loaded. loaded ≡ w) IsStoreFault
+-- the row, where there is one, is that of this workunit, which is present; where there is none, there is no workunit
+abbrev pub IsRowIfThere : Option Row → Option Workunit → World → Type 0
+IsRowIfThere None None world = ⊤
+IsRowIfThere (Some row) (Some w) world = IsRowOfPresent row w world
+IsRowIfThere None (Some w) world = ⊥
+IsRowIfThere (Some row) None world = ⊥
 
--- the row is that of a workunit that can be read
-abbrev pub IsLoadableRow : Row → World → Type 0
-IsLoadableRow row world = (w : Workunit) × IsRowOfPresent row w world × IsStorable w
+-- the workunit of a row is found, with its instances, or none where there is no row
+abbrev pub FindsIfThere : Option Row → Result (Option Workunit) Fault → World → Type 0
+FindsIfThere row result world = (found : Option Workunit) → IsRowIfThere row found world → Finds found result
+
+-- the row, if there is one, is that of a workunit that can be read
+abbrev pub IsLoadableIfThere : Option Row → World → Type 0
+IsLoadableIfThere row world = (found : Option Workunit) × IsRowIfThere row found world × IsLoadable found
 
 -- ---- an import, the next number, and the next places
 

@@ -1,5 +1,5 @@
 -- What each statement makes of the queue, and what is asked of it.
-use Rattle.std.specs.Prelude.{◌≡◌, ◌≢◌, ℕ, ◌==◌, nat_le, Bool, false, not, List, [], ◌∷◌, filter, map, take, None, Result, Vec, IfErr}
+use Rattle.std.specs.Prelude.{codes, ◌≡◌, ◌≢◌, ℕ, ◌==◌, nat_le, Bool, false, not, List, [], ◌∷◌, filter, map, take, None, Result, Vec, IfErr}
 use Rattle.std.specs.Option.{option_map_or}
 use Rattle.std.specs.Ordering.{nat_cmp, match_ordering}
 use Rattle.sqlite.specs.Effect.{Database}
@@ -11,6 +11,8 @@ use Rattle.wu_core.specs.World.{World}
 use Rattle.wu_core.specs.declared.fault.Fault.{Fault}
 use Rattle.wu_core.specs.declared.fault.Fault.TheVariants.{NotAProject}
 use Rattle.wu_core.specs.declared.marks.Marks.{Marks}
+use Rattle.wu_rules.specs.declared.due.Pass.{Pass}
+use Rattle.wu_rules.specs.declared.due.Pass.TheVariants.{Transition, Validate, Assimilate, Delete, Purge}
 use Rattle.wu_schema.specs.Calls.{OnAnswer}
 use Rattle.wu_schema.specs.Queue.{HasQueue}
 use Rattle.wu_schema.specs.Refines.{Refines}
@@ -52,6 +54,30 @@ wakes_by now marks = option_map_or (λ moment. nat_le moment now) marks.wake fal
 -- it waits for its purge since this moment, or longer
 abbrev pub waits_since : ℕ → Marks → Bool
 waits_since moment marks = option_map_or (λ since. nat_le since moment) marks.purge_from false
+
+-- the mark of a workunit for this pass is set, or has come by this moment
+abbrev pub is_marked : Pass → ℕ → Marks → Bool
+is_marked Transition by marks = wakes_by by marks
+is_marked Validate by marks = marks.to_validate
+is_marked Assimilate by marks = marks.to_assimilate
+is_marked Delete by marks = marks.to_delete
+is_marked Purge by marks = waits_since by marks
+
+-- the question for such workunits
+abbrev pub marked_text : Pass → List ℕ
+marked_text Transition = codes "SELECT workunit FROM queue WHERE wake <= ?1 ORDER BY workunit LIMIT ?2"
+marked_text Validate = codes "SELECT workunit FROM queue WHERE to_validate = ?1 ORDER BY workunit LIMIT ?2"
+marked_text Assimilate = codes "SELECT workunit FROM queue WHERE to_assimilate = ?1 ORDER BY workunit LIMIT ?2"
+marked_text Delete = codes "SELECT workunit FROM queue WHERE to_delete = ?1 ORDER BY workunit LIMIT ?2"
+marked_text Purge = codes "SELECT workunit FROM queue WHERE purge_from <= ?1 ORDER BY workunit LIMIT ?2"
+
+-- what it compares the mark with
+abbrev pub wanted_mark : Pass → ℕ → ℕ
+wanted_mark Transition by = by
+wanted_mark Validate by = 1
+wanted_mark Assimilate by = 1
+wanted_mark Delete by = 1
+wanted_mark Purge by = by
 
 -- the answer is what a queue that is there has
 abbrev pub AnswersQueue : {S A : Type 0} → Ghosts S → Held S → Held S → Result (Vec Row A) Fault → (List (ℕ × Marks) → List Row) → Type 0

@@ -1,16 +1,17 @@
 //! The workunits that a pass is to change, found by the queue; and the marks by which it finds them, of all workunits.
 
-ghost use Rattle.std.specs.Prelude.{◌≡◌, ◌≤◌, ◌<◌, ◌+◌, ◌++◌, ◌-◌, ◌^◌, ◌∷◌, [], None, length, IfErr, IfOk, IfSome};
+ghost use Rattle.std.specs.Prelude.{◌≡◌, ◌≤◌, ◌<◌, ◌+◌, ◌++◌, ◌-◌, ◌^◌, ◌∷◌, [], false, None, length, IfErr, IfOk, IfSome};
 ghost use Rattle.wu_core.specs.declared.fault.Fault.TheVariants.{Memory};
+ghost use Rattle.wu_core.specs.declared.marks.Marks.{Marks};
 ghost use Rattle.wu_rules.specs.Marks.{marks, selects};
 ghost use Rattle.wu_store.specs.Due.{numbers_left, FindsDue, FindsFirst, AreRowsOfStorable, FindsAllPresent, FindsMarks, FindsPresent, IsRowOfStorable};
-ghost use Rattle.wu_store.specs.Queues.{AnswersQueue, first_marked, NotRefusedQueue};
+ghost use Rattle.wu_store.specs.Queues.{AnswersQueue, first_marked, is_marked, NotRefusedQueue};
 ghost use Rattle.wu_store.specs.StandsFor.{ForEachQueued, NotRefusedQueued};
-ghost use Rattle.wu_store.specs.Loading.{Asks, FindsAbove, IsStoreFault, LoadsAbove, NotRefusedIn, ForEachWorld, ServesUnlessFailed, StaysUnlessFailed};
+ghost use Rattle.wu_store.specs.Loading.{Asks, FindsAbove, IsStoreFault, LoadsAbove, NotRefusedIn, ForEachWorld, ServesUnlessFailed};
 ghost use Rattle.wu_core.specs.Storable.{AreStorable};
 
 use crate::loading::{load, load_above};
-use crate::statements::{assimilate_rows, delete_rows, purge_rows, validate_rows, wake_rows};
+use crate::statements::marked_rows;
 use sqlite::{Alter, Connection, Row};
 use std::alloc::Global;
 use wu_core::{Fault, Marks, Moment, Workunit};
@@ -100,24 +101,16 @@ fn moment_before(now: Moment, seconds: u64) -> Option<Moment>
     Moment::new(now.seconds() - seconds)
 }
 
-/// The rows of the numbers of the workunits that wait for their purge for so long, in order, as far as the limit goes.
-fn waiting_rows<S: Alter>(
-    conn: &mut Connection<S>,
-    now: Moment,
-    min_age: u64,
-    limit: u64,
-) -> Result<Vec<Row>, Fault>
-    ensures asks { Asks S.Store conn.old conn.new result }
-    ensures opens { limit < 2 ^ 63 → ServesUnlessFailed S.Store conn.new result }
-    ensures answers { AnswersQueue S.Store conn.old conn.new result
-        (first_marked limit (selects Pass.Purge now min_age)) }
-    ensures fault { IfErr result IsStoreFault }
-    ensures unrefused { limit < 2 ^ 63 → NotRefusedQueue S.Store conn.old conn.new result }
+/// The moment by which a mark has to have come, where the pass goes by moments: for a purge the one so long before, if
+/// there is one.
+fn moment_due(pass: Pass, now: Moment, min_age: u64) -> Option<Moment>
+    ensures by { IfSome result (λ by. (marks : Marks)
+        → is_marked pass by marks ≡ selects pass now min_age marks) }
+    ensures none { result ≡ None → (marks : Marks) → selects pass now min_age marks ≡ false }
 {
-    match moment_before(now, min_age) {
-        Some(since) => purge_rows(conn, since, limit),
-        // nothing can have waited for so long
-        None => purge_rows(conn, Moment::first(), 0),
+    match pass {
+        Pass::Purge => moment_before(now, min_age),
+        Pass::Transition | Pass::Validate | Pass::Assimilate | Pass::Delete => Some(now),
     }
 }
 
@@ -136,12 +129,10 @@ fn due_rows<S: Alter>(
     ensures fault { IfErr result IsStoreFault }
     ensures unrefused { limit < 2 ^ 63 → NotRefusedQueue S.Store conn.old conn.new result }
 {
-    match pass {
-        Pass::Transition => wake_rows(conn, now, limit),
-        Pass::Validate => validate_rows(conn, limit),
-        Pass::Assimilate => assimilate_rows(conn, limit),
-        Pass::Delete => delete_rows(conn, limit),
-        Pass::Purge => waiting_rows(conn, now, min_age, limit),
+    match moment_due(pass, now, min_age) {
+        Some(by) => marked_rows(conn, pass, by, limit),
+        // nothing can have waited for so long
+        None => marked_rows(conn, pass, Moment::first(), 0),
     }
 }
 
@@ -166,7 +157,6 @@ fn load_all<S: Alter>(
     rows: &[Row],
 ) -> Result<Vec<Workunit>, Fault>
     ensures asks { Asks S.Store conn.old conn.new result }
-    ensures stays { StaysUnlessFailed S.Store conn.old conn.new result }
     ensures fault { IfErr result IsStoreFault }
     ensures found { ForEachWorld S.Store conn.old conn.new (FindsAllPresent rows.now result) }
     ensures long { IfOk result (λ found. length found.items ≡ length rows.now) }

@@ -1,20 +1,19 @@
-//! What is loaded of a project: a workunit with its instances, an import, the next number, and the next places.
+//! What is loaded of a project, each by a question of its own: a workunit with its instances, an import, the next
+//! number, and the next places.
 
 ghost use Rattle.std.specs.Prelude.{◌<◌, ◌^◌, ⊤, IfErr, IfOk};
-ghost use Rattle.wu_store.specs.Loading.{Asks, FindsAbove, FindsEarlier, FindsInstances, FindsNamed, FindsNumbered, FindsOfRow, LoadsInstances, LoadsImport, IsLoadableRow, IsStoreFault, KnowsArchivedPlace, KnowsGrantPlace, KnowsNext, LoadsAbove, LoadsNamed, LoadsNumbered, NotRefusedIn, ForEachWorld, ServesUnlessFailed};
+ghost use Rattle.wu_store.specs.Loading.{Asks, FindsAbove, FindsEarlier, FindsIfThere, FindsInstances, FindsNamed, FindsNumbered, LoadsInstances, LoadsImport, IsLoadableIfThere, IsStoreFault, KnowsArchivedPlace, KnowsGrantPlace, KnowsNext, LoadsAbove, LoadsNamed, LoadsNumbered, NotRefusedIn, ForEachWorld, ServesUnlessFailed};
 ghost use Rattle.wu_store.specs.Reading.{IsPlaceToGive};
 ghost use Rattle.wu_core.specs.Storable.{IsNextNumber, LoadsNext};
 
 use crate::rows::{
     StoredImport, import_from, instances_from, next_number_from, place_behind, workunit_from,
 };
-use crate::statements::{
-    import_rows, instance_rows, last_archived_row, last_grant_row, next_number_row, workunit_row,
-    workunit_row_above, workunit_row_named,
-};
-use sqlite::{Alter, Connection, Row};
+use crate::statements::{ask_row, key_of};
+use sqlite::{Alter, Connection, Row, params};
 use std::alloc::Global;
 use wu_core::{Fault, ImportKind, Instances, Name, Workunit};
+use wu_schema::query;
 
 /// The instances of the workunit of this number, in their order; none where it is not there.
 fn instances_of<S: Alter>(
@@ -27,24 +26,32 @@ fn instances_of<S: Alter>(
     ensures found { ForEachWorld S.Store conn.old conn.new (FindsInstances workunit result) }
     ensures unrefused { NotRefusedIn S.Store conn.old conn.new result (LoadsInstances workunit) }
 {
-    let rows = instance_rows(conn, workunit)?;
+    let key = key_of(workunit)?;
+    let rows = query(
+        conn,
+        "SELECT server_state, outcome, validate_state, file_delete, host, sent_at, deadline, received_at, output FROM result WHERE workunit = ?1 ORDER BY n",
+        params![key],
+    )?;
     instances_from(alloc, &rows)
 }
 
-/// The workunit of a row, with its instances.
-fn with_instances<S: Alter>(
+/// The workunit of a row, with its instances; none where there is no row.
+fn loaded<S: Alter>(
     conn: &mut Connection<S>,
     alloc: Global,
-    row: &Row,
-) -> Result<Workunit, Fault>
+    row: Option<Row>,
+) -> Result<Option<Workunit>, Fault>
     ensures asks { Asks S.Store conn.old conn.new result }
     ensures fault { IfErr result IsStoreFault }
-    ensures found { ForEachWorld S.Store conn.old conn.new (FindsOfRow row.now result) }
-    ensures unrefused { NotRefusedIn S.Store conn.old conn.new result (IsLoadableRow row.now) }
+    ensures found { ForEachWorld S.Store conn.old conn.new (FindsIfThere row result) }
+    ensures unrefused { NotRefusedIn S.Store conn.old conn.new result (IsLoadableIfThere row) }
 {
-    let mut workunit = workunit_from(alloc, row)?;
+    let Some(row) = row else {
+        return Ok(None);
+    };
+    let mut workunit = workunit_from(alloc, &row)?;
     workunit.instances = instances_of(conn, alloc, workunit.number)?;
-    Ok(workunit)
+    Ok(Some(workunit))
 }
 
 /// The present workunit of this number, with its instances, or none.
@@ -61,10 +68,13 @@ pub fn load<S: Alter>(
     ensures found { ForEachWorld S.Store conn.old conn.new (FindsNumbered number result) }
     ensures unrefused { NotRefusedIn S.Store conn.old conn.new result (LoadsNumbered number) }
 {
-    match workunit_row(conn, number)? {
-        Some(row) => Ok(Some(with_instances(conn, alloc, &row)?)),
-        None => Ok(None),
-    }
+    let key = key_of(number)?;
+    let row = ask_row(
+        conn,
+        "SELECT number, name, min_quorum, target_nresults, max_error_results, max_total_results, max_success_results, delay_bound, credit, input, error_mask, canonical, assimilate, file_delete, done_at FROM workunit WHERE number = ?1",
+        params![key],
+    )?;
+    loaded(conn, alloc, row)
 }
 
 /// The present workunit of the least number above this one, with its instances, or none.
@@ -81,10 +91,13 @@ pub fn load_above<S: Alter>(
     ensures found { ForEachWorld S.Store conn.old conn.new (FindsAbove number result) }
     ensures unrefused { NotRefusedIn S.Store conn.old conn.new result (LoadsAbove number) }
 {
-    match workunit_row_above(conn, number)? {
-        Some(row) => Ok(Some(with_instances(conn, alloc, &row)?)),
-        None => Ok(None),
-    }
+    let key = key_of(number)?;
+    let row = ask_row(
+        conn,
+        "SELECT number, name, min_quorum, target_nresults, max_error_results, max_total_results, max_success_results, delay_bound, credit, input, error_mask, canonical, assimilate, file_delete, done_at FROM workunit WHERE number > ?1 ORDER BY number LIMIT 1",
+        params![key],
+    )?;
+    loaded(conn, alloc, row)
 }
 
 /// The present workunit of this name, with its instances, or none. `NotAProject` where a row is no value.
@@ -99,10 +112,12 @@ pub fn load_named<S: Alter>(
     ensures found { ForEachWorld S.Store conn.old conn.new (FindsNamed name.now result) }
     ensures unrefused { NotRefusedIn S.Store conn.old conn.new result (LoadsNamed name.now) }
 {
-    match workunit_row_named(conn, name)? {
-        Some(row) => Ok(Some(with_instances(conn, alloc, &row)?)),
-        None => Ok(None),
-    }
+    let row = ask_row(
+        conn,
+        "SELECT number, name, min_quorum, target_nresults, max_error_results, max_total_results, max_success_results, delay_bound, credit, input, error_mask, canonical, assimilate, file_delete, done_at FROM workunit WHERE name = ?1",
+        params![name.as_str()],
+    )?;
+    loaded(conn, alloc, row)
 }
 
 /// The import of this kind and name, if there was one. `NotAProject` where its row is no value.
@@ -118,7 +133,11 @@ pub fn import_of<S: Alter>(
     ensures found { ForEachWorld S.Store conn.old conn.new (FindsEarlier kind name.now result) }
     ensures unrefused { NotRefusedIn S.Store conn.old conn.new result (LoadsImport kind name.now) }
 {
-    let rows = import_rows(conn, kind, name)?;
+    let rows = query(
+        conn,
+        "SELECT template, content, first_number, verdicts FROM import WHERE kind = ?1 AND name = ?2",
+        params![kind.code(), name.as_str()],
+    )?;
     match rows.first() {
         Some(row) => Ok(Some(import_from(alloc, kind, row)?)),
         None => Ok(None),
@@ -134,7 +153,8 @@ pub fn next_number<S: Alter>(conn: &mut Connection<S>) -> Result<u64, Fault>
     ensures next { ForEachWorld S.Store conn.old conn.new (KnowsNext result) }
     ensures unrefused { NotRefusedIn S.Store conn.old conn.new result LoadsNext }
 {
-    match next_number_row(conn)? {
+    let row = ask_row(conn, "SELECT next_number FROM project", &[])?;
+    match row {
         Some(row) => next_number_from(&row),
         None => Err(Fault::NotAProject),
     }
@@ -149,7 +169,12 @@ pub fn next_grant_place<S: Alter>(conn: &mut Connection<S>) -> Result<u64, Fault
     ensures place { ForEachWorld S.Store conn.old conn.new (KnowsGrantPlace result) }
     ensures unrefused { NotRefusedIn S.Store conn.old conn.new result (λ _. ⊤) }
 {
-    place_behind(last_grant_row(conn)?)
+    let last = ask_row(
+        conn,
+        "SELECT seq FROM credit_grant ORDER BY seq DESC LIMIT 1",
+        &[],
+    )?;
+    place_behind(last)
 }
 
 /// The place that the next archived workunit gets, from 1. `NotAProject` where the last row's is no place.
@@ -161,5 +186,10 @@ pub fn next_archived_place<S: Alter>(conn: &mut Connection<S>) -> Result<u64, Fa
     ensures place { ForEachWorld S.Store conn.old conn.new (KnowsArchivedPlace result) }
     ensures unrefused { NotRefusedIn S.Store conn.old conn.new result (λ _. ⊤) }
 {
-    place_behind(last_archived_row(conn)?)
+    let last = ask_row(
+        conn,
+        "SELECT seq FROM archived ORDER BY seq DESC LIMIT 1",
+        &[],
+    )?;
+    place_behind(last)
 }

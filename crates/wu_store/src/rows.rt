@@ -351,29 +351,6 @@ pub fn stamp_at(row: &Row, at: usize) -> Result<Moment, Fault>
     Moment::new(seconds).ok_or(Fault::NotAProject)
 }
 
-/// The archived workunit of a row of the table `archived` with its columns from the second on, in their order.
-pub(crate) fn archived_from(alloc: Global, row: &Row) -> Result<Archived, Fault>
-    ensures { Restores archived_cells IsStoredArchived row.now result }
-{
-    if row.column_count() != 6 {
-        return Err(Fault::NotAProject);
-    }
-    let number = number_at(row, 0)?;
-    let error_mask = mask_at(row, 2)?;
-    let canonical = place_at(row, 3)?;
-    let done_at = stamp_at(row, 5)?;
-    let output = output_at(row, 4)?;
-    let name = name_at(alloc, row, 1)?;
-    Ok(Archived {
-        number,
-        name,
-        error_mask,
-        canonical,
-        output,
-        done_at,
-    })
-}
-
 /// The archived workunit in the six columns from the second on, behind its place.
 pub(crate) fn placed_archived_from(alloc: Global, row: &Row) -> Result<Archived, Fault>
     requires { length row.now ≡ 7 }

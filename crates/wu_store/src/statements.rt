@@ -1,23 +1,24 @@
-//! The statements, each text in one function.
+//! The statements that change a project, and the questions of the passes and of the summary, each text in one function.
 
 ghost use Rattle.std.specs.Prelude.{ℕ, ◌≡◌, ◌<◌, ◌≤◌, ◌^◌, ⊤, [], None, Some, pos, option_map, IfOk, IfErr, OnOk};
+ghost use Rattle.sqlite.specs.Values.{bound};
 ghost use Rattle.wu_store.specs.Changing.{import_of_change};
-ghost use Rattle.wu_store.specs.Changes.{with_placed, without_workunit, with_import, with_next, with_version, AddsArchived, AddsGrant, AddsInstance, Credits, PutsGrant, WasFree};
+ghost use Rattle.wu_store.specs.Changes.{with_placed, without_workunit, with_import, with_next, with_version, AddsArchived, AddsGrant, AddsInstance, WasFree};
 ghost use Rattle.wu_core.specs.Storable.{bare};
 ghost use Rattle.wu_core.specs.declared.fault.Fault.TheVariants.{NotAProject};
-ghost use Rattle.wu_schema.specs.Asking.{Asks};
+ghost use Rattle.wu_schema.specs.Asking.{Asks, FailsAll, IsSelect};
 ghost use Rattle.wu_schema.specs.Calls.{Answers, AnswersRows, StatementFrame, Does, Changes};
 ghost use Rattle.wu_store.specs.Loading.{IsStoreFault, NotRefusedIn, ServesUnlessFailed};
-ghost use Rattle.wu_store.specs.Queues.{AnswersQueue, ChangesQueue, first_marked, KeepsQueue, KeepsWorld, NotRefusedQueue, waits_since, wakes_by, with_marks, without_marks};
-ghost use Rattle.wu_store.specs.Pages.{archive_page, host_page_behind, name_row_above, result_page, workunit_page};
-ghost use Rattle.wu_store.specs.Answers.{all_credit, AnswersSoMany, count_in, has_name, import_count, instance_rows_of, kept_of, last_archived, last_grant, next_row, result_count, row_above, row_named, row_numbered, was_archived, workunit_count};
+ghost use Rattle.wu_store.specs.Queues.{AnswersQueue, ChangesQueue, first_marked, is_marked, KeepsQueue, KeepsWorld, marked_text, NotRefusedQueue, wanted_mark, with_marks, without_marks};
+ghost use Rattle.wu_store.specs.Answers.{all_credit, AnswersSoMany, count_in, has_name, import_count, result_count, ShowsLast, was_archived, workunit_count};
 
 use crate::changes::Import;
+use sqlite::types::ValueRef;
 use sqlite::{Alter, Connection, Error, Row, Transaction, params};
 use wu_core::{
-    Archived, Deadline, Fault, Grant, ImportKind, Instance, Marks, Moment, Name, ServerState,
-    Workunit,
+    Archived, Deadline, Fault, Grant, Instance, Marks, Moment, Name, ServerState, Workunit,
 };
+use wu_rules::Pass;
 use wu_schema::{execute, query};
 
 /// A number of the schema, none of which is above a signed 64-bit number's range.
@@ -30,7 +31,7 @@ fn signed(number: u64) -> Result<i64, Error>
 }
 
 /// A number as a key of the schema. From 2^63 on it is `NotAProject`, as no row has it.
-fn key_of(number: u64) -> Result<i64, Fault>
+pub fn key_of(number: u64) -> Result<i64, Fault>
     ensures value { IfOk result (λ n. n ≡ pos number) }
     ensures within { IfOk result (λ _. number < 2 ^ 63) }
     ensures beyond { IfErr result (λ _. 2 ^ 63 ≤ number) }
@@ -87,23 +88,20 @@ fn host_of(host: &Option<Name>) -> Option<&str>
     }
 }
 
-/// The row of the import of this kind and name, or none.
-pub fn import_rows<S: Alter>(
+/// The last row that a question answers, or none.
+pub fn ask_row<S: Alter>(
     conn: &mut Connection<S>,
-    kind: ImportKind,
-    name: &Name,
-) -> Result<Vec<Row>, Fault>
-    ensures asks { Asks S.Store conn.old conn.new result }
-    ensures opens { ServesUnlessFailed S.Store conn.new result }
-    ensures answers { AnswersRows S.Store conn.old conn.new result (kept_of kind name.now) }
-    ensures fault { IfErr result IsStoreFault }
-    ensures unrefused { NotRefusedIn S.Store conn.old conn.new result (λ _. ⊤) }
+    sql: &str,
+    params: &[ValueRef<'_>],
+) -> Result<Option<Row>, Fault>
+    ensures asks { IsSelect sql.now → Asks S.Store conn.old conn.new result }
+    ensures opens { IsSelect sql.now → ServesUnlessFailed S.Store conn.new result }
+    ensures shows { ShowsLast S.Store conn.old conn.new result sql.now (bound params.now) }
+    ensures fails { FailsAll S.Store conn.old conn.new result sql.now (bound params.now) }
+    ensures told { IfErr result IsStoreFault }
 {
-    query(
-        conn,
-        "SELECT template, content, first_number, verdicts FROM import WHERE kind = ?1 AND name = ?2",
-        params![kind.code(), name.as_str()],
-    )
+    let mut rows = query(conn, sql, params)?;
+    Ok(rows.pop())
 }
 
 /// Whether a workunit of this name is present.
@@ -136,220 +134,6 @@ pub fn has_archived<S: Alter>(conn: &mut Connection<S>, name: &Name) -> Result<b
         params![name.as_str()],
     )?;
     Ok(!rows.is_empty())
-}
-
-/// The row of the project's next number, or none where the table has no row.
-pub fn next_number_row<S: Alter>(conn: &mut Connection<S>) -> Result<Option<Row>, Fault>
-    ensures asks { Asks S.Store conn.old conn.new result }
-    ensures opens { ServesUnlessFailed S.Store conn.new result }
-    ensures answers { Answers S.Store conn.old conn.new result (λ world. Some (next_row world)) }
-    ensures fault { IfErr result IsStoreFault }
-    ensures unrefused { NotRefusedIn S.Store conn.old conn.new result (λ _. ⊤) }
-{
-    let mut rows = query(conn, "SELECT next_number FROM project", &[])?;
-    Ok(rows.pop())
-}
-
-/// The row of the workunit of this number, or none. A number from 2^63 on is `NotAProject`.
-pub fn workunit_row<S: Alter>(conn: &mut Connection<S>, number: u64) -> Result<Option<Row>, Fault>
-    ensures asks { Asks S.Store conn.old conn.new result }
-    ensures opens { number < 2 ^ 63 → ServesUnlessFailed S.Store conn.new result }
-    ensures answers { Answers S.Store conn.old conn.new result (row_numbered number) }
-    ensures fault { IfErr result IsStoreFault }
-    ensures unrefused { NotRefusedIn S.Store conn.old conn.new result (λ _. number < 2 ^ 63) }
-{
-    let number = key_of(number)?;
-    let mut rows = query(
-        conn,
-        "SELECT number, name, min_quorum, target_nresults, max_error_results, max_total_results, max_success_results, delay_bound, credit, input, error_mask, canonical, assimilate, file_delete, done_at FROM workunit WHERE number = ?1",
-        params![number],
-    )?;
-    Ok(rows.pop())
-}
-
-/// The row of the workunit of this name, or none.
-pub fn workunit_row_named<S: Alter>(
-    conn: &mut Connection<S>,
-    name: &Name,
-) -> Result<Option<Row>, Fault>
-    ensures asks { Asks S.Store conn.old conn.new result }
-    ensures opens { ServesUnlessFailed S.Store conn.new result }
-    ensures answers { Answers S.Store conn.old conn.new result (row_named name.now) }
-    ensures fault { IfErr result IsStoreFault }
-    ensures unrefused { NotRefusedIn S.Store conn.old conn.new result (λ _. ⊤) }
-{
-    let mut rows = query(
-        conn,
-        "SELECT number, name, min_quorum, target_nresults, max_error_results, max_total_results, max_success_results, delay_bound, credit, input, error_mask, canonical, assimilate, file_delete, done_at FROM workunit WHERE name = ?1",
-        params![name.as_str()],
-    )?;
-    Ok(rows.pop())
-}
-
-/// The row of the workunit with the least number above this one, or none. A number from 2^63 on is `NotAProject`.
-pub fn workunit_row_above<S: Alter>(
-    conn: &mut Connection<S>,
-    number: u64,
-) -> Result<Option<Row>, Fault>
-    ensures asks { Asks S.Store conn.old conn.new result }
-    ensures opens { number < 2 ^ 63 → ServesUnlessFailed S.Store conn.new result }
-    ensures answers { Answers S.Store conn.old conn.new result (row_above number) }
-    ensures fault { IfErr result IsStoreFault }
-    ensures unrefused { NotRefusedIn S.Store conn.old conn.new result (λ _. number < 2 ^ 63) }
-{
-    let number = key_of(number)?;
-    let mut rows = query(
-        conn,
-        "SELECT number, name, min_quorum, target_nresults, max_error_results, max_total_results, max_success_results, delay_bound, credit, input, error_mask, canonical, assimilate, file_delete, done_at FROM workunit WHERE number > ?1 ORDER BY number LIMIT 1",
-        params![number],
-    )?;
-    Ok(rows.pop())
-}
-
-/// The rows of the first workunits above a key, in order of number, as many as a page has.
-pub fn workunit_page<S: Alter>(conn: &mut Connection<S>, key: i64) -> Result<Vec<Row>, Fault>
-    ensures asks { Asks S.Store conn.old conn.new result }
-    ensures opens { ServesUnlessFailed S.Store conn.new result }
-    ensures answers { AnswersRows S.Store conn.old conn.new result (workunit_page key) }
-    ensures fault { IfErr result IsStoreFault }
-    ensures unrefused { NotRefusedIn S.Store conn.old conn.new result (λ _. ⊤) }
-{
-    query(
-        conn,
-        "SELECT number, name, min_quorum, target_nresults, max_error_results, max_total_results, max_success_results, delay_bound, credit, input, error_mask, canonical, assimilate, file_delete, done_at FROM workunit WHERE number > ?1 ORDER BY number LIMIT 100",
-        params![key],
-    )
-}
-
-/// The rows of the instances of the workunit of this number, in order of theirs, from the third column on.
-/// A number from 2^63 on is `NotAProject`.
-pub fn instance_rows<S: Alter>(conn: &mut Connection<S>, workunit: u64) -> Result<Vec<Row>, Fault>
-    ensures asks { Asks S.Store conn.old conn.new result }
-    ensures opens { workunit < 2 ^ 63 → ServesUnlessFailed S.Store conn.new result }
-    ensures answers { AnswersRows S.Store conn.old conn.new result (instance_rows_of workunit) }
-    ensures fault { IfErr result IsStoreFault }
-    ensures unrefused { NotRefusedIn S.Store conn.old conn.new result (λ _. workunit < 2 ^ 63) }
-{
-    let workunit = key_of(workunit)?;
-    query(
-        conn,
-        "SELECT server_state, outcome, validate_state, file_delete, host, sent_at, deadline, received_at, output FROM result WHERE workunit = ?1 ORDER BY n",
-        params![workunit],
-    )
-}
-
-/// The row of the last grant's place, or none.
-pub fn last_grant_row<S: Alter>(conn: &mut Connection<S>) -> Result<Option<Row>, Fault>
-    ensures asks { Asks S.Store conn.old conn.new result }
-    ensures opens { ServesUnlessFailed S.Store conn.new result }
-    ensures answers { Answers S.Store conn.old conn.new result last_grant }
-    ensures fault { IfErr result IsStoreFault }
-    ensures unrefused { NotRefusedIn S.Store conn.old conn.new result (λ _. ⊤) }
-{
-    let mut found = query(
-        conn,
-        "SELECT seq FROM credit_grant ORDER BY seq DESC LIMIT 1",
-        &[],
-    )?;
-    Ok(found.pop())
-}
-
-/// The row of the last archived workunit's place, or none.
-pub fn last_archived_row<S: Alter>(conn: &mut Connection<S>) -> Result<Option<Row>, Fault>
-    ensures asks { Asks S.Store conn.old conn.new result }
-    ensures opens { ServesUnlessFailed S.Store conn.new result }
-    ensures answers { Answers S.Store conn.old conn.new result last_archived }
-    ensures fault { IfErr result IsStoreFault }
-    ensures unrefused { NotRefusedIn S.Store conn.old conn.new result (λ _. ⊤) }
-{
-    let mut found = query(
-        conn,
-        "SELECT seq FROM archived ORDER BY seq DESC LIMIT 1",
-        &[],
-    )?;
-    Ok(found.pop())
-}
-
-/// The rows of the first hosts, in order of their names' bytes, as many as a page has.
-pub fn first_host_page<S: Alter>(conn: &mut Connection<S>) -> Result<Vec<Row>, Fault>
-    ensures asks { Asks S.Store conn.old conn.new result }
-    ensures opens { ServesUnlessFailed S.Store conn.new result }
-    ensures answers { AnswersRows S.Store conn.old conn.new result (host_page_behind None) }
-    ensures fault { IfErr result IsStoreFault }
-    ensures unrefused { NotRefusedIn S.Store conn.old conn.new result (λ _. ⊤) }
-{
-    query(
-        conn,
-        "SELECT name, total, grants FROM host ORDER BY name LIMIT 100",
-        &[],
-    )
-}
-
-/// The rows of the first hosts behind this name, in order of their names' bytes, as many as a page has.
-pub fn host_page<S: Alter>(conn: &mut Connection<S>, name: &Name) -> Result<Vec<Row>, Fault>
-    ensures asks { Asks S.Store conn.old conn.new result }
-    ensures opens { ServesUnlessFailed S.Store conn.new result }
-    ensures answers { AnswersRows S.Store conn.old conn.new result
-        (host_page_behind (Some name.now)) }
-    ensures fault { IfErr result IsStoreFault }
-    ensures unrefused { NotRefusedIn S.Store conn.old conn.new result (λ _. ⊤) }
-{
-    query(
-        conn,
-        "SELECT name, total, grants FROM host WHERE name > ?1 ORDER BY name LIMIT 100",
-        params![name.as_str()],
-    )
-}
-
-/// The row of the number and the name of the first workunit above a key, or none.
-pub fn workunit_name_above<S: Alter>(
-    conn: &mut Connection<S>,
-    key: i64,
-) -> Result<Option<Row>, Fault>
-    ensures asks { Asks S.Store conn.old conn.new result }
-    ensures opens { ServesUnlessFailed S.Store conn.new result }
-    ensures answers { Answers S.Store conn.old conn.new result (name_row_above key) }
-    ensures fault { IfErr result IsStoreFault }
-    ensures unrefused { NotRefusedIn S.Store conn.old conn.new result (λ _. ⊤) }
-{
-    let mut rows = query(
-        conn,
-        "SELECT number, name FROM workunit WHERE number > ?1 ORDER BY number LIMIT 1",
-        params![key],
-    )?;
-    Ok(rows.pop())
-}
-
-/// The rows of the instances of the workunit of this number, in order of theirs: from the third column on, and then
-/// their numbers.
-pub fn result_page<S: Alter>(conn: &mut Connection<S>, workunit: i64) -> Result<Vec<Row>, Fault>
-    ensures asks { Asks S.Store conn.old conn.new result }
-    ensures opens { ServesUnlessFailed S.Store conn.new result }
-    ensures answers { (number : ℕ) → workunit ≡ pos number
-        → AnswersRows S.Store conn.old conn.new result (result_page number) }
-    ensures fault { IfErr result IsStoreFault }
-    ensures unrefused { NotRefusedIn S.Store conn.old conn.new result (λ _. ⊤) }
-{
-    query(
-        conn,
-        "SELECT server_state, outcome, validate_state, file_delete, host, sent_at, deadline, received_at, output, n FROM result WHERE workunit = ?1 ORDER BY n",
-        params![workunit],
-    )
-}
-
-/// The rows of the first archived workunits above a key, in order of their archiving, as many as a page has.
-pub fn archive_page<S: Alter>(conn: &mut Connection<S>, key: i64) -> Result<Vec<Row>, Fault>
-    ensures asks { Asks S.Store conn.old conn.new result }
-    ensures opens { ServesUnlessFailed S.Store conn.new result }
-    ensures answers { AnswersRows S.Store conn.old conn.new result (archive_page key) }
-    ensures fault { IfErr result IsStoreFault }
-    ensures unrefused { NotRefusedIn S.Store conn.old conn.new result (λ _. ⊤) }
-{
-    query(
-        conn,
-        "SELECT seq, number, name, error_mask, canonical, output, done_at FROM archived WHERE seq > ?1 ORDER BY seq LIMIT 100",
-        params![key],
-    )
 }
 
 /// The rows of the credit of all grants, in order of their making.
@@ -414,102 +198,57 @@ pub fn import_kind_rows<S: Alter>(conn: &mut Connection<S>) -> Result<Vec<Row>, 
     query(conn, "SELECT kind FROM import", &[])
 }
 
-/// The rows of the numbers of the first workunits in the queue that are marked for the validator, in order, as far as
-/// the limit goes. A limit from 2^63 on is `NotAProject`.
-pub fn validate_rows<S: Alter>(conn: &mut Connection<S>, limit: u64) -> Result<Vec<Row>, Fault>
-    ensures asks { Asks S.Store conn.old conn.new result }
-    ensures opens { limit < 2 ^ 63 → ServesUnlessFailed S.Store conn.new result }
-    ensures answers { AnswersQueue S.Store conn.old conn.new result
-        (first_marked limit (λ marks. marks.to_validate)) }
-    ensures fault { IfErr result IsStoreFault }
-    ensures unrefused { limit < 2 ^ 63 → NotRefusedQueue S.Store conn.old conn.new result }
+/// The question by which a pass finds the numbers of workunits in the queue: those whose mark for it is set or has come,
+/// in order, as far as a limit goes.
+fn marked_text(pass: Pass) -> &'static str
+    ensures { result.now ≡ marked_text pass }
 {
-    let limit = key_of(limit)?;
-    query(
-        conn,
-        "SELECT workunit FROM queue WHERE to_validate = ?1 ORDER BY workunit LIMIT ?2",
-        params![1i64, limit],
-    )
+    match pass {
+        Pass::Transition =>
+            "SELECT workunit FROM queue WHERE wake <= ?1 ORDER BY workunit LIMIT ?2",
+        Pass::Validate => {
+            "SELECT workunit FROM queue WHERE to_validate = ?1 ORDER BY workunit LIMIT ?2"
+        }
+        Pass::Assimilate => {
+            "SELECT workunit FROM queue WHERE to_assimilate = ?1 ORDER BY workunit LIMIT ?2"
+        }
+        Pass::Delete =>
+            "SELECT workunit FROM queue WHERE to_delete = ?1 ORDER BY workunit LIMIT ?2",
+        Pass::Purge => {
+            "SELECT workunit FROM queue WHERE purge_from <= ?1 ORDER BY workunit LIMIT ?2"
+        }
+    }
 }
 
-/// The rows of the numbers of the first workunits in the queue that are marked for the assimilator, in order, as far as
-/// the limit goes. A limit from 2^63 on is `NotAProject`.
-pub fn assimilate_rows<S: Alter>(conn: &mut Connection<S>, limit: u64) -> Result<Vec<Row>, Fault>
-    ensures asks { Asks S.Store conn.old conn.new result }
-    ensures opens { limit < 2 ^ 63 → ServesUnlessFailed S.Store conn.new result }
-    ensures answers { AnswersQueue S.Store conn.old conn.new result
-        (first_marked limit (λ marks. marks.to_assimilate)) }
-    ensures fault { IfErr result IsStoreFault }
-    ensures unrefused { limit < 2 ^ 63 → NotRefusedQueue S.Store conn.old conn.new result }
+/// What the question compares a mark with: a moment, or 1, as which the table keeps a mark that is set.
+fn wanted_mark(pass: Pass, by: Moment) -> i64
+    ensures value { result ≡ pos (wanted_mark pass by) }
+    ensures within { wanted_mark pass by < 2 ^ 63 }
 {
-    let limit = key_of(limit)?;
-    query(
-        conn,
-        "SELECT workunit FROM queue WHERE to_assimilate = ?1 ORDER BY workunit LIMIT ?2",
-        params![1i64, limit],
-    )
+    match pass {
+        Pass::Transition | Pass::Purge => seconds(by),
+        Pass::Validate | Pass::Assimilate | Pass::Delete => 1,
+    }
 }
 
-/// The rows of the numbers of the first workunits in the queue that are marked for the file deleter, in order, as far
-/// as the limit goes. A limit from 2^63 on is `NotAProject`.
-pub fn delete_rows<S: Alter>(conn: &mut Connection<S>, limit: u64) -> Result<Vec<Row>, Fault>
-    ensures asks { Asks S.Store conn.old conn.new result }
-    ensures opens { limit < 2 ^ 63 → ServesUnlessFailed S.Store conn.new result }
-    ensures answers { AnswersQueue S.Store conn.old conn.new result
-        (first_marked limit (λ marks. marks.to_delete)) }
-    ensures fault { IfErr result IsStoreFault }
-    ensures unrefused { limit < 2 ^ 63 → NotRefusedQueue S.Store conn.old conn.new result }
-{
-    let limit = key_of(limit)?;
-    query(
-        conn,
-        "SELECT workunit FROM queue WHERE to_delete = ?1 ORDER BY workunit LIMIT ?2",
-        params![1i64, limit],
-    )
-}
-
-/// The rows of the numbers of the first workunits in the queue for which the transitioner has something to do at a
-/// moment, in order, as far as the limit goes. A limit from 2^63 on is `NotAProject`.
-pub fn wake_rows<S: Alter>(
-    conn: &mut Connection<S>,
-    now: Moment,
-    limit: u64,
-) -> Result<Vec<Row>, Fault>
-    ensures asks { Asks S.Store conn.old conn.new result }
-    ensures opens { limit < 2 ^ 63 → ServesUnlessFailed S.Store conn.new result }
-    ensures answers { AnswersQueue S.Store conn.old conn.new result
-        (first_marked limit (wakes_by now)) }
-    ensures fault { IfErr result IsStoreFault }
-    ensures unrefused { limit < 2 ^ 63 → NotRefusedQueue S.Store conn.old conn.new result }
-{
-    let limit = key_of(limit)?;
-    query(
-        conn,
-        "SELECT workunit FROM queue WHERE wake <= ?1 ORDER BY workunit LIMIT ?2",
-        params![seconds(now), limit],
-    )
-}
-
-/// The rows of the numbers of the first workunits in the queue that wait for their purge since a moment, or longer, in
+/// The rows of the numbers of the first workunits in the queue whose mark for a pass is set, or has come by a moment, in
 /// order, as far as the limit goes. A limit from 2^63 on is `NotAProject`.
-pub fn purge_rows<S: Alter>(
+pub fn marked_rows<S: Alter>(
     conn: &mut Connection<S>,
-    since: Moment,
+    pass: Pass,
+    by: Moment,
     limit: u64,
 ) -> Result<Vec<Row>, Fault>
     ensures asks { Asks S.Store conn.old conn.new result }
     ensures opens { limit < 2 ^ 63 → ServesUnlessFailed S.Store conn.new result }
     ensures answers { AnswersQueue S.Store conn.old conn.new result
-        (first_marked limit (waits_since since)) }
+        (first_marked limit (is_marked pass by)) }
     ensures fault { IfErr result IsStoreFault }
     ensures unrefused { limit < 2 ^ 63 → NotRefusedQueue S.Store conn.old conn.new result }
 {
     let limit = key_of(limit)?;
-    query(
-        conn,
-        "SELECT workunit FROM queue WHERE purge_from <= ?1 ORDER BY workunit LIMIT ?2",
-        params![seconds(since), limit],
-    )
+    let mark = wanted_mark(pass, by);
+    query(conn, marked_text(pass), params![mark, limit])
 }
 
 /// Adds the row of a workunit at its place in order of number, without its instances. The table's key refuses a number
@@ -591,42 +330,11 @@ pub fn delete_workunit<S: Alter>(tx: &mut Transaction<'_, S>, number: u64) -> Re
     ensures queue { Does S.Store tx.old tx.new result
         (ChangesQueue (without_marks number)) }
 {
+    let number = signed(number)?;
     execute(
         tx,
         "DELETE FROM workunit WHERE number = ?1",
-        params![signed(number)?],
-    )
-}
-
-fn insert_grant_row<S: Alter>(
-    tx: &mut Transaction<'_, S>,
-    seq: u64,
-    grant: &Grant,
-) -> Result<(), Error>
-    ensures writes { StatementFrame S.Store tx.old tx.new result }
-    ensures puts { Does S.Store tx.old tx.new result (PutsGrant seq grant.now) }
-{
-    execute(
-        tx,
-        "INSERT INTO credit_grant (seq, workunit, n, host, credit) VALUES (?1, ?2, ?3, ?4, ?5)",
-        params![
-            signed(seq)?,
-            signed(grant.workunit)?,
-            grant.n,
-            grant.host.as_str(),
-            signed(grant.credit)?
-        ],
-    )
-}
-
-fn add_credit<S: Alter>(tx: &mut Transaction<'_, S>, grant: &Grant) -> Result<(), Error>
-    ensures writes { StatementFrame S.Store tx.old tx.new result }
-    ensures credits { Does S.Store tx.old tx.new result (Credits grant.now) }
-{
-    execute(
-        tx,
-        "INSERT INTO host (name, total, grants) VALUES (?1, ?2, 1) ON CONFLICT (name) DO UPDATE SET total = total + excluded.total, grants = grants + 1",
-        params![grant.host.as_str(), signed(grant.credit)?],
+        params![number],
     )
 }
 
@@ -640,8 +348,19 @@ pub fn insert_grant<S: Alter>(
     ensures grants { Does S.Store tx.old tx.new result (AddsGrant seq grant.now) }
     ensures queue { Does S.Store tx.old tx.new result KeepsQueue }
 {
-    insert_grant_row(tx, seq, grant)?;
-    add_credit(tx, grant)
+    let seq = signed(seq)?;
+    let workunit = signed(grant.workunit)?;
+    let credit = signed(grant.credit)?;
+    execute(
+        tx,
+        "INSERT INTO credit_grant (seq, workunit, n, host, credit) VALUES (?1, ?2, ?3, ?4, ?5)",
+        params![seq, workunit, grant.n, grant.host.as_str(), credit],
+    )?;
+    execute(
+        tx,
+        "INSERT INTO host (name, total, grants) VALUES (?1, ?2, 1) ON CONFLICT (name) DO UPDATE SET total = total + excluded.total, grants = grants + 1",
+        params![grant.host.as_str(), credit],
+    )
 }
 
 /// Adds the row of an archived workunit, at the next place of those that are there.
@@ -682,6 +401,7 @@ pub fn insert_import<S: Alter>(
         (with_import (import_of_change import.now)) }
     ensures queue { Does S.Store tx.old tx.new result KeepsQueue }
 {
+    let first_number = signed(import.first_number)?;
     execute(
         tx,
         "INSERT INTO import (kind, name, template, content, first_number, verdicts) VALUES (?1, ?2, ?3, ?4, ?5, ?6)",
@@ -690,7 +410,7 @@ pub fn insert_import<S: Alter>(
             import.name.as_str(),
             import.template,
             import.content,
-            signed(import.first_number)?,
+            first_number,
             import.verdicts.digits()
         ],
     )
@@ -731,10 +451,11 @@ pub fn set_next_number<S: Alter>(tx: &mut Transaction<'_, S>, next_number: u64) 
     ensures sets { Changes S.Store tx.old tx.new result (with_next next_number) }
     ensures queue { Does S.Store tx.old tx.new result KeepsQueue }
 {
+    let next_number = signed(next_number)?;
     execute(
         tx,
         "UPDATE project SET next_number = ?1",
-        params![signed(next_number)?],
+        params![next_number],
     )
 }
 
@@ -744,9 +465,6 @@ pub fn set_version<S: Alter>(tx: &mut Transaction<'_, S>, version: u64) -> Resul
     ensures sets { Changes S.Store tx.old tx.new result (with_version version) }
     ensures queue { Does S.Store tx.old tx.new result KeepsQueue }
 {
-    execute(
-        tx,
-        "UPDATE project SET version = ?1",
-        params![signed(version)?],
-    )
+    let version = signed(version)?;
+    execute(tx, "UPDATE project SET version = ?1", params![version])
 }

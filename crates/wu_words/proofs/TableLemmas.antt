@@ -1,6 +1,8 @@
 -- A table gone through one by one.
-use Rattle.std.proofs.Common.{ℕ, ◌+◌, ◌<◌, ◌≡◌, ◌∙◌, ◌++◌, List, [], ◌∷◌, length, map, take, get_or, ap, refl, true}
-use Rattle.clap.specs.Words.{App, Shape, with_subcommand}
+use Rattle.std.proofs.Common.{ℕ, ◌+◌, ◌<◌, ◌≡◌, ◌∙◌, ◌++◌, List, [], ◌∷◌, false, length, map, take, get_or, ap, refl, true, Result, Ok, Err, IfOk}
+use Rattle.clap.specs.Words.{AddsSubcommand, App, Shape, app_of, shape_of, with_subcommand}
+use Rattle.clap.specs.declared.builder.command.Command.{Command}
+use Rattle.clap.specs.declared.builder.command.Command.TheViews.{out-Command}
 use Rattle.wu_words.specs.CommandLine.{program_with}
 use Rattle.std.proofs.lemmas.List.{map-append, take_more}
 
@@ -12,6 +14,12 @@ map_more f xs i d h = ap (map f) (take_more xs i d h) ∙ map-append f (take i x
 pub program_more : (shapes : List Shape) (shape : Shape) → with_subcommand (program_with shapes) shape ≡ program_with (shapes ++ shape ∷ [])
 program_more [] shape = refl
 program_more (first ∷ shapes) shape = refl
+
+-- so clap adds one that is local
+pub subcommand_added : {E : Type 0} (command sub : Command) (shape : Shape) (added : Result Command E) → shape_of sub ≡ shape → (out-Command sub).has_globals ≡ false
+    → IfOk added (AddsSubcommand command sub) → IfOk added (λ more. app_of more ≡ with_subcommand (app_of command) shape)
+subcommand_added command sub shape (Ok more) is local adds = adds.shape local ∙ ap (with_subcommand (app_of command)) is
+subcommand_added command sub shape (Err error) is local adds = tt
 
 -- a line has to name a subcommand, or asks for the version
 abbrev pub requiring : App → App

@@ -52,12 +52,21 @@ impl Commands {
 }
 
 /// What a line asks of a project.
-#[derive(Drop)]
 pub enum Action {
     /// Commands are run.
     Commands(Commands),
     /// A view is looked at.
     Look(View),
+}
+
+// It is written out, so that a caller does not prove again how each part is dropped.
+impl Drop for Action {
+    fn drop(self) {
+        match self {
+            Action::Commands(_commands) => {}
+            Action::Look(_view) => {}
+        }
+    }
 }
 
 /// An action of one command.

@@ -17,7 +17,6 @@ use wu_core::Fault;
 use wu_feed::LineCause;
 
 /// Why a line of a script can't be run.
-#[derive(Drop)]
 pub enum Refusal {
     /// It is not taken apart into words.
     Text(LineCause),
@@ -29,6 +28,18 @@ pub enum Refusal {
     Repeat,
     /// A value or a file of it is refused.
     Fault(Fault),
+}
+
+// It is written out, so that a caller does not prove again how each part is dropped.
+impl Drop for Refusal {
+    fn drop(self) {
+        match self {
+            Refusal::Text(_cause) => {}
+            Refusal::Words(_usage) => {}
+            Refusal::Script | Refusal::Repeat => {}
+            Refusal::Fault(_fault) => {}
+        }
+    }
 }
 
 impl From<Usage> for Refusal {
@@ -61,7 +72,6 @@ impl Refusal {
 }
 
 /// A line of a script that has words.
-#[derive(Drop)]
 pub struct Entry {
     /// Its place among the lines of the script, from 1.
     pub number: u64,
@@ -70,7 +80,30 @@ pub struct Entry {
     pub line: Result<Line, Refusal>,
 }
 
+// It is written out, so that a caller does not prove again how each part is dropped.
+impl Drop for Entry {
+    fn drop(self) {
+        let Entry {
+            number: _number,
+            repeats: _repeats,
+            line: _line,
+        } = self;
+    }
+}
+
 impl Entry {
+    /// Its line alone.
+    pub fn into_line(self) -> Result<Line, Refusal>
+        ensures { result ≡ self.line }
+    {
+        let Entry {
+            number: _number,
+            repeats: _repeats,
+            line,
+        } = self;
+        line
+    }
+
     /// The files that the line names, as `Line::files`; none where it is no line.
     pub fn files(&self, alloc: Global) -> Result<Vec<LineFile<'_>>, AllocError>
         ensures files { IfOk result

@@ -1,6 +1,6 @@
 //! The lines of a script as lines of the command line.
 
-ghost use Rattle.std.specs.Prelude.{◌≡◌, ◌++◌, ◌<◌, codes, drop, IfErr, IfOk, length, map, string_bytes};
+ghost use Rattle.std.specs.Prelude.{◌≡◌, ◌++◌, ◌∷◌, ◌<◌, codes, drop, IfErr, IfOk, length, map, string_bytes};
 ghost use Rattle.wu_words.specs.Scripts.{asks_to_repeat, command_words, FailsToRead, is_pass, ReadsRepeated, ReadsScriptLine, ReadsScript, ReadsWords, ReadsWordsOf};
 
 use crate::entry::{Entries, Entry, Refusal};
@@ -20,13 +20,22 @@ fn database_word(alloc: Global, db: &str) -> Result<String, AllocError>
     Ok(word)
 }
 
+/// The words of a script's line behind the program's name.
+fn words_behind_name(alloc: Global, words: Words) -> Result<Vec<String>, AllocError>
+    ensures { IfOk result (λ all. map string_bytes all.items ≡ codes "lintelthyme" ∷ words) }
+{
+    let name = String::from_str(alloc, "lintelthyme")?;
+    let mut all = words.into_vec();
+    all.insert(0, name)?;
+    Ok(all)
+}
+
 /// The words of a script's line as words of the command line: behind the program's name, with the database at their
 /// end.
 fn words_of_command(alloc: Global, db: &str, words: Words) -> Result<Vec<String>, AllocError>
     ensures { IfOk result (λ all. map string_bytes all.items ≡ command_words db.now words) }
 {
-    let mut all = words.into_vec();
-    all.insert(0, String::from_str(alloc, "lintelthyme")?)?;
+    let mut all = words_behind_name(alloc, words)?;
     all.push(database_word(alloc, db)?)?;
     Ok(all)
 }

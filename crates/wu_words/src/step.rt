@@ -12,14 +12,32 @@ use wu_core::Fault;
 
 /// An entry of a script with what its files hold, in the order of `Entry::files`: None for one that could not be read,
 /// no bytes for a template that is left out.
-#[derive(Drop)]
 pub struct FedEntry {
     pub entry: Entry,
     pub contents: Vec<Option<Vec<u8>>>,
 }
 
+// It is written out, so that a caller does not prove again how each part is dropped.
+impl Drop for FedEntry {
+    fn drop(self) {
+        let FedEntry {
+            entry: _entry,
+            contents: _contents,
+        } = self;
+    }
+}
+
+impl FedEntry {
+    /// The entry, and what its files hold.
+    fn into_parts(self) -> (Entry, Vec<Option<Vec<u8>>>)
+        ensures { result ≡ (self.entry, self.contents) }
+    {
+        let FedEntry { entry, contents } = self;
+        (entry, contents)
+    }
+}
+
 /// What a line of a script asks of a project.
-#[derive(Drop)]
 pub struct Step {
     /// Its place among the lines of the script, from 1.
     pub number: u64,
@@ -28,12 +46,46 @@ pub struct Step {
     pub action: Action,
 }
 
+// It is written out, so that a caller does not prove again how each part is dropped.
+impl Drop for Step {
+    fn drop(self) {
+        let Step {
+            number: _number,
+            repeats: _repeats,
+            action: _action,
+        } = self;
+    }
+}
+
+impl Step {
+    /// Its action alone.
+    pub fn into_action(self) -> Action
+        ensures { result ≡ self.action }
+    {
+        let Step {
+            number: _number,
+            repeats: _repeats,
+            action,
+        } = self;
+        action
+    }
+}
+
 /// The first line of a script that can't be run, and why.
-#[derive(Drop)]
 pub struct BadLine {
     /// Its place among the lines of the script, from 1.
     pub number: u64,
     pub why: Refusal,
+}
+
+// It is written out, so that a caller does not prove again how each part is dropped.
+impl Drop for BadLine {
+    fn drop(self) {
+        let BadLine {
+            number: _number,
+            why: _why,
+        } = self;
+    }
 }
 
 impl BadLine {
@@ -118,13 +170,10 @@ pub fn feed(
 fn prepare_entry(alloc: Global, fed: FedEntry) -> Result<Step, BadLine>
     ensures { GivesStep result fed }
 {
-    let FedEntry { entry, contents } = fed;
-    let Entry {
-        number,
-        repeats,
-        line,
-    } = entry;
-    let line = match line {
+    let (entry, contents) = fed.into_parts();
+    let number = entry.number;
+    let repeats = entry.repeats;
+    let line = match entry.into_line() {
         Ok(line) => line,
         Err(why) => return Err(BadLine { number, why }),
     };

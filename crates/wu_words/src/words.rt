@@ -16,158 +16,158 @@ use clap::ArgMatches;
 use std::alloc::Global;
 
 /// The line of a batch.
-fn batch(alloc: Global, found: &ArgMatches<'_>) -> Result<Line, Usage>
-    ensures line { IfOk result (IsLine (rows_of (found_of found.now)) Subcommand.Batch) }
-    ensures refused { IfErr result (IsLacking (rows_of (found_of found.now)) Subcommand.Batch) }
+fn batch(alloc: Global, found: &ArgMatches<'_>) -> Result<Order, Usage>
+    ensures order { IfOk result (IsOrder (rows_of (found_of found.now)) Subcommand.Batch) }
+    ensures refused { IfErr result (IsUnread (rows_of (found_of found.now)) Subcommand.Batch) }
 {
-    Ok(Line::Batch {
+    Ok(Order::Line(Line::Batch {
         db: text(alloc, found, LineOption::Database)?,
         name: text(alloc, found, LineOption::Name)?,
         jobs: text(alloc, found, LineOption::Jobs)?,
         template: template(alloc, found)?,
-    })
+    }))
 }
 
 /// The line of a file of sends.
-fn sent(alloc: Global, found: &ArgMatches<'_>) -> Result<Line, Usage>
-    ensures line { IfOk result (IsLine (rows_of (found_of found.now)) Subcommand.Sent) }
-    ensures refused { IfErr result (IsLacking (rows_of (found_of found.now)) Subcommand.Sent) }
+fn sent(alloc: Global, found: &ArgMatches<'_>) -> Result<Order, Usage>
+    ensures order { IfOk result (IsOrder (rows_of (found_of found.now)) Subcommand.Sent) }
+    ensures refused { IfErr result (IsUnread (rows_of (found_of found.now)) Subcommand.Sent) }
 {
-    Ok(Line::Sent {
+    Ok(Order::Line(Line::Sent {
         db: text(alloc, found, LineOption::Database)?,
         name: text(alloc, found, LineOption::Name)?,
         file: text(alloc, found, LineOption::File)?,
-    })
+    }))
 }
 
 /// The line of a file of reports.
-fn reported(alloc: Global, found: &ArgMatches<'_>) -> Result<Line, Usage>
-    ensures line { IfOk result (IsLine (rows_of (found_of found.now)) Subcommand.Reported) }
-    ensures refused { IfErr result (IsLacking (rows_of (found_of found.now)) Subcommand.Reported) }
+fn reported(alloc: Global, found: &ArgMatches<'_>) -> Result<Order, Usage>
+    ensures order { IfOk result (IsOrder (rows_of (found_of found.now)) Subcommand.Reported) }
+    ensures refused { IfErr result (IsUnread (rows_of (found_of found.now)) Subcommand.Reported) }
 {
-    Ok(Line::Reported {
+    Ok(Order::Line(Line::Reported {
         db: text(alloc, found, LineOption::Database)?,
         name: text(alloc, found, LineOption::Name)?,
         file: text(alloc, found, LineOption::File)?,
-    })
+    }))
 }
 
 /// The line of a transition.
-fn transition(alloc: Global, found: &ArgMatches<'_>) -> Result<Line, Usage>
-    ensures line { IfOk result (IsLine (rows_of (found_of found.now)) Subcommand.Transition) }
+fn transition(alloc: Global, found: &ArgMatches<'_>) -> Result<Order, Usage>
+    ensures order { IfOk result (IsOrder (rows_of (found_of found.now)) Subcommand.Transition) }
     ensures refused { IfErr result
-        (IsLacking (rows_of (found_of found.now)) Subcommand.Transition) }
+        (IsUnread (rows_of (found_of found.now)) Subcommand.Transition) }
 {
-    Ok(Line::Transition {
+    Ok(Order::Line(Line::Transition {
         db: text(alloc, found, LineOption::Database)?,
         now: text(alloc, found, LineOption::Now)?,
         limit: number(found, LineOption::Limit)?,
-    })
+    }))
 }
 
 /// The line of a validation.
-fn validate(alloc: Global, found: &ArgMatches<'_>) -> Result<Line, Usage>
-    ensures line { IfOk result (IsLine (rows_of (found_of found.now)) Subcommand.Validate) }
-    ensures refused { IfErr result (IsLacking (rows_of (found_of found.now)) Subcommand.Validate) }
+fn validate(alloc: Global, found: &ArgMatches<'_>) -> Result<Order, Usage>
+    ensures order { IfOk result (IsOrder (rows_of (found_of found.now)) Subcommand.Validate) }
+    ensures refused { IfErr result (IsUnread (rows_of (found_of found.now)) Subcommand.Validate) }
 {
-    Ok(Line::Validate {
+    Ok(Order::Line(Line::Validate {
         db: text(alloc, found, LineOption::Database)?,
         limit: number(found, LineOption::Limit)?,
-    })
+    }))
 }
 
 /// The line of an assimilation.
-fn assimilate(alloc: Global, found: &ArgMatches<'_>) -> Result<Line, Usage>
-    ensures line { IfOk result (IsLine (rows_of (found_of found.now)) Subcommand.Assimilate) }
+fn assimilate(alloc: Global, found: &ArgMatches<'_>) -> Result<Order, Usage>
+    ensures order { IfOk result (IsOrder (rows_of (found_of found.now)) Subcommand.Assimilate) }
     ensures refused { IfErr result
-        (IsLacking (rows_of (found_of found.now)) Subcommand.Assimilate) }
+        (IsUnread (rows_of (found_of found.now)) Subcommand.Assimilate) }
 {
-    Ok(Line::Assimilate {
+    Ok(Order::Line(Line::Assimilate {
         db: text(alloc, found, LineOption::Database)?,
         now: text(alloc, found, LineOption::Now)?,
         limit: number(found, LineOption::Limit)?,
-    })
+    }))
 }
 
 /// The line of a deletion.
-fn delete(alloc: Global, found: &ArgMatches<'_>) -> Result<Line, Usage>
-    ensures line { IfOk result (IsLine (rows_of (found_of found.now)) Subcommand.Delete) }
-    ensures refused { IfErr result (IsLacking (rows_of (found_of found.now)) Subcommand.Delete) }
+fn delete(alloc: Global, found: &ArgMatches<'_>) -> Result<Order, Usage>
+    ensures order { IfOk result (IsOrder (rows_of (found_of found.now)) Subcommand.Delete) }
+    ensures refused { IfErr result (IsUnread (rows_of (found_of found.now)) Subcommand.Delete) }
 {
-    Ok(Line::Delete {
+    Ok(Order::Line(Line::Delete {
         db: text(alloc, found, LineOption::Database)?,
         limit: number(found, LineOption::Limit)?,
-    })
+    }))
 }
 
 /// The line of a purge.
-fn purge(alloc: Global, found: &ArgMatches<'_>) -> Result<Line, Usage>
-    ensures line { IfOk result (IsLine (rows_of (found_of found.now)) Subcommand.Purge) }
-    ensures refused { IfErr result (IsLacking (rows_of (found_of found.now)) Subcommand.Purge) }
+fn purge(alloc: Global, found: &ArgMatches<'_>) -> Result<Order, Usage>
+    ensures order { IfOk result (IsOrder (rows_of (found_of found.now)) Subcommand.Purge) }
+    ensures refused { IfErr result (IsUnread (rows_of (found_of found.now)) Subcommand.Purge) }
 {
-    Ok(Line::Purge {
+    Ok(Order::Line(Line::Purge {
         db: text(alloc, found, LineOption::Database)?,
         now: text(alloc, found, LineOption::Now)?,
         limit: number(found, LineOption::Limit)?,
         min_age: number(found, LineOption::MinAge)?,
-    })
+    }))
 }
 
 /// The line of a cancel.
-fn cancel(alloc: Global, found: &ArgMatches<'_>) -> Result<Line, Usage>
-    ensures line { IfOk result (IsLine (rows_of (found_of found.now)) Subcommand.Cancel) }
-    ensures refused { IfErr result (IsLacking (rows_of (found_of found.now)) Subcommand.Cancel) }
+fn cancel(alloc: Global, found: &ArgMatches<'_>) -> Result<Order, Usage>
+    ensures order { IfOk result (IsOrder (rows_of (found_of found.now)) Subcommand.Cancel) }
+    ensures refused { IfErr result (IsUnread (rows_of (found_of found.now)) Subcommand.Cancel) }
 {
-    Ok(Line::Cancel {
+    Ok(Order::Line(Line::Cancel {
         db: text(alloc, found, LineOption::Database)?,
         workunit: text(alloc, found, LineOption::Workunit)?,
-    })
+    }))
 }
 
 /// The line of a cycle.
-fn cycle(alloc: Global, found: &ArgMatches<'_>) -> Result<Line, Usage>
-    ensures line { IfOk result (IsLine (rows_of (found_of found.now)) Subcommand.Cycle) }
-    ensures refused { IfErr result (IsLacking (rows_of (found_of found.now)) Subcommand.Cycle) }
+fn cycle(alloc: Global, found: &ArgMatches<'_>) -> Result<Order, Usage>
+    ensures order { IfOk result (IsOrder (rows_of (found_of found.now)) Subcommand.Cycle) }
+    ensures refused { IfErr result (IsUnread (rows_of (found_of found.now)) Subcommand.Cycle) }
 {
-    Ok(Line::Cycle {
+    Ok(Order::Line(Line::Cycle {
         db: text(alloc, found, LineOption::Database)?,
         now: text(alloc, found, LineOption::Now)?,
         limit: number(found, LineOption::Limit)?,
         min_age: number(found, LineOption::MinAge)?,
-    })
+    }))
 }
 
 /// The line of a view. That is looked at before memory is taken: an unknown view is never told as want of memory.
-fn show(alloc: Global, found: &ArgMatches<'_>) -> Result<Line, Usage>
-    ensures line { IfOk result (IsLine (rows_of (found_of found.now)) Subcommand.Show) }
+fn show(alloc: Global, found: &ArgMatches<'_>) -> Result<Order, Usage>
+    ensures order { IfOk result (IsOrder (rows_of (found_of found.now)) Subcommand.Show) }
     ensures refused { IfErr result (IsUnread (rows_of (found_of found.now)) Subcommand.Show) }
     ensures wants { WantsOnly result (IsSeen (rows_of (found_of found.now))) }
 {
-    Ok(Line::Show {
+    Ok(Order::Line(Line::Show {
         view: view(found)?,
         db: text(alloc, found, LineOption::Database)?,
-    })
+    }))
 }
 
 /// The line of an upgrade.
-fn upgrade(alloc: Global, found: &ArgMatches<'_>) -> Result<Line, Usage>
-    ensures line { IfOk result (IsLine (rows_of (found_of found.now)) Subcommand.Upgrade) }
-    ensures refused { IfErr result (IsLacking (rows_of (found_of found.now)) Subcommand.Upgrade) }
+fn upgrade(alloc: Global, found: &ArgMatches<'_>) -> Result<Order, Usage>
+    ensures order { IfOk result (IsOrder (rows_of (found_of found.now)) Subcommand.Upgrade) }
+    ensures refused { IfErr result (IsUnread (rows_of (found_of found.now)) Subcommand.Upgrade) }
 {
-    Ok(Line::Upgrade {
+    Ok(Order::Line(Line::Upgrade {
         db: text(alloc, found, LineOption::Database)?,
-    })
+    }))
 }
 
 /// A script's file, and the database that it is for.
-fn script(alloc: Global, found: &ArgMatches<'_>) -> Result<ScriptFile, Usage>
-    ensures script { IfOk result (IsScript (rows_of (found_of found.now))) }
-    ensures refused { IfErr result (IsLacking (rows_of (found_of found.now)) Subcommand.Script) }
+fn script(alloc: Global, found: &ArgMatches<'_>) -> Result<Order, Usage>
+    ensures order { IfOk result (IsOrder (rows_of (found_of found.now)) Subcommand.Script) }
+    ensures refused { IfErr result (IsUnread (rows_of (found_of found.now)) Subcommand.Script) }
 {
-    Ok(ScriptFile {
+    Ok(Order::Script(ScriptFile {
         db: text(alloc, found, LineOption::Database)?,
         file: text(alloc, found, LineOption::File)?,
-    })
+    }))
 }
 
 /// What a subcommand asks for, with the values that `clap` found.
@@ -177,22 +177,21 @@ fn order_of(alloc: Global, subcommand: Subcommand, found: &ArgMatches<'_>) -> Re
     ensures wants { WantsOnly result
         (subcommand ≡ Subcommand.Show → IsSeen (rows_of (found_of found.now))) }
 {
-    let line = match subcommand {
-        Subcommand::Batch => batch(alloc, found)?,
-        Subcommand::Sent => sent(alloc, found)?,
-        Subcommand::Reported => reported(alloc, found)?,
-        Subcommand::Transition => transition(alloc, found)?,
-        Subcommand::Validate => validate(alloc, found)?,
-        Subcommand::Assimilate => assimilate(alloc, found)?,
-        Subcommand::Delete => delete(alloc, found)?,
-        Subcommand::Purge => purge(alloc, found)?,
-        Subcommand::Cancel => cancel(alloc, found)?,
-        Subcommand::Cycle => cycle(alloc, found)?,
-        Subcommand::Show => show(alloc, found)?,
-        Subcommand::Upgrade => upgrade(alloc, found)?,
-        Subcommand::Script => return Ok(Order::Script(script(alloc, found)?)),
-    };
-    Ok(Order::Line(line))
+    match subcommand {
+        Subcommand::Batch => batch(alloc, found),
+        Subcommand::Sent => sent(alloc, found),
+        Subcommand::Reported => reported(alloc, found),
+        Subcommand::Transition => transition(alloc, found),
+        Subcommand::Validate => validate(alloc, found),
+        Subcommand::Assimilate => assimilate(alloc, found),
+        Subcommand::Delete => delete(alloc, found),
+        Subcommand::Purge => purge(alloc, found),
+        Subcommand::Cancel => cancel(alloc, found),
+        Subcommand::Cycle => cycle(alloc, found),
+        Subcommand::Show => show(alloc, found),
+        Subcommand::Upgrade => upgrade(alloc, found),
+        Subcommand::Script => script(alloc, found),
+    }
 }
 
 /// What the words ask for, of which the first is the program's name. `clap` takes them apart: one subcommand, each

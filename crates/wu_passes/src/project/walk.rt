@@ -174,6 +174,27 @@ impl<S: Alter> Project<S> {
     ghost use Rattle.wu_passes.specs.Projects.{IsPresentSession, IsSessionOpen};
     ghost use Rattle.wu_passes.specs.Walks.{Begins, RefusesFirst, RestsIfRefused, WalksOver};
 
+    /// Begins a walk over all lines of these pages.
+    ///
+    /// Nothing is read yet. Over an older version it is `OldSchema`.
+    pub fn walk_pages<P: Pages>(&mut self, alloc: Global, pages: P) -> Result<Walk<'_, S, P>, Fault>
+        ensures* refused { sem 𝓛 (RestsIfRefused S.row S.Store self.entry result) }
+        ensures same_reference { IfOk result
+            (λ walk. walk.project.ghost_name ≡ self.entry.ghost_name) }
+        ensures early { RefusesFirst self.old result }
+        ensures begins { IfOk result (Begins self.old) }
+        ensures fault { IsSessionOpen self.old → IsPresentSession self.old → IsOk result }
+        ensures lines { IfOk result (WalksOver P.Pages (P.Pages.rest pages) self.old) }
+    {
+        if self.has_ended {
+            return Err(Fault::Ended);
+        }
+        if let Some(version) = self.older {
+            return Err(Fault::OldSchema(version));
+        }
+        Ok(Walk::new(self, alloc, pages))
+    }
+
     /// Begins a walk over all workunits, in order of number.
     ///
     /// Nothing is read yet. Over an older version it is `OldSchema`.
@@ -186,13 +207,7 @@ impl<S: Alter> Project<S> {
         ensures fault { IsSessionOpen self.old → IsPresentSession self.old → IsOk result }
         ensures lines { IfOk result (WalksOver ⟦<WorkunitPages as Pages>⟧ workunit_lines self.old) }
     {
-        if self.has_ended {
-            return Err(Fault::Ended);
-        }
-        if let Some(version) = self.older {
-            return Err(Fault::OldSchema(version));
-        }
-        Ok(Walk::new(self, alloc, WorkunitPages::new()))
+        self.walk_pages(alloc, WorkunitPages::new())
     }
 
     /// Begins a walk over all instances, in order of their workunits and then of their own numbers.
@@ -207,13 +222,7 @@ impl<S: Alter> Project<S> {
         ensures fault { IsSessionOpen self.old → IsPresentSession self.old → IsOk result }
         ensures lines { IfOk result (WalksOver ⟦<ResultPages as Pages>⟧ result_lines self.old) }
     {
-        if self.has_ended {
-            return Err(Fault::Ended);
-        }
-        if let Some(version) = self.older {
-            return Err(Fault::OldSchema(version));
-        }
-        Ok(Walk::new(self, alloc, ResultPages::new()))
+        self.walk_pages(alloc, ResultPages::new())
     }
 
     /// Begins a walk over all hosts that have grants, in order of their names' bytes.
@@ -228,13 +237,7 @@ impl<S: Alter> Project<S> {
         ensures fault { IsSessionOpen self.old → IsPresentSession self.old → IsOk result }
         ensures lines { IfOk result (WalksOver ⟦<HostPages as Pages>⟧ host_lines self.old) }
     {
-        if self.has_ended {
-            return Err(Fault::Ended);
-        }
-        if let Some(version) = self.older {
-            return Err(Fault::OldSchema(version));
-        }
-        Ok(Walk::new(self, alloc, HostPages::new()))
+        self.walk_pages(alloc, HostPages::new())
     }
 
     /// Begins a walk over all archived workunits, in order of their archiving.
@@ -249,12 +252,6 @@ impl<S: Alter> Project<S> {
         ensures fault { IsSessionOpen self.old → IsPresentSession self.old → IsOk result }
         ensures lines { IfOk result (WalksOver ⟦<ArchivePages as Pages>⟧ archived_lines self.old) }
     {
-        if self.has_ended {
-            return Err(Fault::Ended);
-        }
-        if let Some(version) = self.older {
-            return Err(Fault::OldSchema(version));
-        }
-        Ok(Walk::new(self, alloc, ArchivePages::new()))
+        self.walk_pages(alloc, ArchivePages::new())
     }
 }

@@ -6,10 +6,10 @@ ghost use Rattle.wu_store.specs.Lines.{archived_lines};
 
 use crate::pages::{Pages, last_key};
 use crate::rows::placed_archived_from;
-use crate::statements::archive_page;
-use sqlite::{Alter, Connection, Row};
+use sqlite::{Alter, Connection, Row, params};
 use std::alloc::Global;
 use wu_core::{Archived, Fault};
+use wu_schema::query;
 
 /// The view of the archive, in order of archiving.
 #[derive(Drop)]
@@ -45,7 +45,11 @@ impl Pages for ArchivePages {
         conn: &mut Connection<S>,
         alloc: Global,
     ) -> Result<Vec<Row>, Fault> {
-        let rows = archive_page(conn, self.after)?;
+        let rows = query(
+            conn,
+            "SELECT seq, number, name, error_mask, canonical, output, done_at FROM archived WHERE seq > ?1 ORDER BY seq LIMIT 100",
+            params![self.after],
+        )?;
         self.after = last_key(&rows, self.after)?;
         Ok(rows)
     }

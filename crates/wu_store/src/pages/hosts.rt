@@ -10,10 +10,10 @@ ghost use Rattle.wu_store.specs.Pages.{host_page_behind};
 use crate::lines::{HostLine, host_from};
 use crate::pages::Pages;
 use crate::rows::name_at;
-use crate::statements::{first_host_page, host_page};
-use sqlite::{Alter, Connection, Row};
+use sqlite::{Alter, Connection, Row, params};
 use std::alloc::Global;
 use wu_core::{Fault, Name};
+use wu_schema::query;
 
 /// The view of hosts, in order of their names' bytes.
 #[derive(Drop)]
@@ -31,8 +31,16 @@ fn page_behind<S: Alter>(conn: &mut Connection<S>, after: &Option<Name>) -> Resu
     ensures unrefused { NotRefusedIn S.Store conn.old conn.new result (λ _. ⊤) }
 {
     match after {
-        Some(name) => host_page(conn, name),
-        None => first_host_page(conn),
+        Some(name) => query(
+            conn,
+            "SELECT name, total, grants FROM host WHERE name > ?1 ORDER BY name LIMIT 100",
+            params![name.as_str()],
+        ),
+        None => query(
+            conn,
+            "SELECT name, total, grants FROM host ORDER BY name LIMIT 100",
+            &[],
+        ),
     }
 }
 

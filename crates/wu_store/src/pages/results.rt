@@ -11,10 +11,11 @@ ghost use Rattle.wu_store.specs.Pages.{FindsInstancesAbove, IsNamedAbove, keys_l
 use crate::lines::ResultLine;
 use crate::pages::Pages;
 use crate::rows::{name_at, value_at};
-use crate::statements::{result_page, workunit_name_above};
-use sqlite::{Alter, Connection, Row};
+use crate::statements::ask_row;
+use sqlite::{Alter, Connection, Row, params};
 use std::alloc::Global;
 use wu_core::{Fault, Name};
+use wu_schema::query;
 
 /// A workunit, by its number and its name.
 #[derive(Drop)]
@@ -59,11 +60,20 @@ fn instances_above<S: Alter>(
     ensures found { ForEachWorld S.Store conn.old conn.new (FindsInstancesAbove key result) }
     ensures unrefused { NotRefusedIn S.Store conn.old conn.new result AreStorable }
 {
-    let Some(row) = workunit_name_above(conn, key)? else {
+    let row = ask_row(
+        conn,
+        "SELECT number, name FROM workunit WHERE number > ?1 ORDER BY number LIMIT 1",
+        params![key],
+    )?;
+    let Some(row) = row else {
         return Ok(None);
     };
     let workunit = named_from(alloc, &row, key)?;
-    let rows = result_page(conn, workunit.key)?;
+    let rows = query(
+        conn,
+        "SELECT server_state, outcome, validate_state, file_delete, host, sent_at, deadline, received_at, output, n FROM result WHERE workunit = ?1 ORDER BY n",
+        params![workunit.key],
+    )?;
     Ok(Some(OfWorkunit { workunit, rows }))
 }
 

@@ -6,10 +6,10 @@ ghost use Rattle.wu_store.specs.Lines.{workunit_lines};
 
 use crate::lines::WorkunitLine;
 use crate::pages::{Pages, last_key};
-use crate::statements::workunit_page;
-use sqlite::{Alter, Connection, Row};
+use sqlite::{Alter, Connection, Row, params};
 use std::alloc::Global;
 use wu_core::Fault;
+use wu_schema::query;
 
 /// The view of workunits, in order of number.
 #[derive(Drop)]
@@ -45,7 +45,11 @@ impl Pages for WorkunitPages {
         conn: &mut Connection<S>,
         alloc: Global,
     ) -> Result<Vec<Row>, Fault> {
-        let rows = workunit_page(conn, self.after)?;
+        let rows = query(
+            conn,
+            "SELECT number, name, min_quorum, target_nresults, max_error_results, max_total_results, max_success_results, delay_bound, credit, input, error_mask, canonical, assimilate, file_delete, done_at FROM workunit WHERE number > ?1 ORDER BY number LIMIT 100",
+            params![self.after],
+        )?;
         self.after = last_key(&rows, self.after)?;
         Ok(rows)
     }

@@ -1,13 +1,28 @@
-use Rattle.wu_schema.proofs.Words.{Database, List, Option, Refines, Workunit, ap, length, state, subst, sym, ◌^◌, ◌<◌, ◌∙◌}
+use Rattle.wu_schema.proofs.Words.{Database, List, Ok, Option, Refines, Workunit, ap, arith, length, state, subst, sym, ◌<◌, ◌^◌, ◌∙◌}
 use Rattle.std.proofs.Common.{rules}
 use Rattle.std.specs.Prelude.{IsNone, sum_by}
 use Rattle.wu_check.specs.Findings.{IsBasis, Judges, Says}
 use Rattle.wu_check.specs.declared.finding.Finding.{Finding}
 use Rattle.wu_check.specs.declared.finding.Verdict.TheVariants as verdict
-use Rattle.wu_check.proofs.ExamineLemmas.{examines_fault, examines_made, examines_then}
+use Rattle.wu_check.proofs.ExamineLemmas.{examines_fault, examines_made, examines_then, serves_then}
 use Rattle.wu_check.proofs.SizeLemmas.{counts_fit}
 use Rattle.wu_check.proofs.VerdictLemmas.{judged_sound}
 use Rattle.wu_check.proofs.checking.examine.Goals as goal
+
+pub returns-in_err-loaded-clause-examines : goal.returns-in_err-loaded-clause-examines
+returns-in_err-loaded-clause-examines g c = examines_fault g.S.Store c.args.conn.now c.find_world.new.conn IsBasis c.in_err-loaded.field-0.0 Says c.in_err-loaded.ensures.examines c.from_residual.result c.from_residual.ensures.1
+
+pub returns-in-Unsound-clause-examines : goal.returns-in-Unsound-clause-examines
+returns-in-Unsound-clause-examines g c =
+    examines_made g.S.Store c.args.conn.now c.find_world.new.conn IsBasis c.in_ok-loaded.field-0 (verdict.Unsound c.in-Unsound.finding) Says
+    (λ basis. subst (IsBasis (state g.S.Store c.args.conn.now).now) c.in-Unsound.is basis) c.in_ok-loaded.ensures.examines
+
+pub returns-in-Unsound-clause-opens : goal.returns-in-Unsound-clause-opens
+returns-in-Unsound-clause-opens g c = c.in_ok-loaded.ensures.opens
+
+pub returns-in-Some-clause-opens : goal.returns-in-Some-clause-opens
+returns-in-Some-clause-opens g c =
+    serves_then g.S.Store c.find_world.new.conn c.judge.new.conn c.in_ok-loaded.field-0 (Ok c.in_ok-finding.field-0) (λ clean. omega (arith, clean, c.in_ok-finding.ensures.examines.asks.crash.clean)) c.in_ok-loaded.ensures.opens c.in_ok-finding.ensures.stays
 
 pub returns-in_err-finding-clause-examines : goal.returns-in_err-finding-clause-examines
 returns-in_err-finding-clause-examines g c =
@@ -32,6 +47,10 @@ count_results-requires g c =
     let none : IsNone c.in_ok-finding.field-0 = search rules in
     let few = counts_fit c.in-World.loaded (c.in_ok-finding.ensures.sound none) in
     subst (λ (ws : List Workunit). sum_by (λ (w : Workunit). length w.instances) ws < 2 ^ 64) (sym c.workunits-2.ensures) few
+
+pub returns-clause-opens : goal.returns-clause-opens
+returns-clause-opens g c =
+    serves_then g.S.Store c.find_world.new.conn c.judge.new.conn c.in_ok-loaded.field-0 (Ok c.in_ok-finding.field-0) (λ clean. omega (arith, clean, c.in_ok-finding.ensures.examines.asks.crash.clean)) c.in_ok-loaded.ensures.opens c.in_ok-finding.ensures.stays
 
 pub returns-clause-examines : goal.returns-clause-examines
 returns-clause-examines g c =

@@ -1,13 +1,34 @@
-use Rattle.wu_schema.proofs.Words.{None, Refines, Schema, Some, state, subst}
+use Rattle.wu_schema.proofs.Words.{Database, None, Option, Refines, Schema, Some, state, subst, sym}
 use Rattle.std.proofs.Common.{rules}
-use Rattle.std.specs.Prelude.{IsNone}
-use Rattle.wu_check.specs.Findings.{IsRightWorld, Judges}
+use Rattle.std.specs.Prelude.{IfSome, IsNone}
+use Rattle.std.proofs.lemmas.Bool.{iff_false}
+use Rattle.wu_check.specs.Findings.{IsRightWorld, Judges, TellsOf}
 use Rattle.wu_check.specs.Queues.{HasMarks}
+use Rattle.wu_check.specs.declared.finding.Finding.{Finding}
 use Rattle.wu_check.specs.declared.finding.Finding.TheVariants as finding
 use Rattle.wu_store.specs.StandsFor.{IsQueued}
-use Rattle.wu_check.proofs.ExamineLemmas.{MarksIn, examines_fault, examines_made, examines_marks}
+use Rattle.wu_check.proofs.ExamineLemmas.{MarksIn, examines_fault, examines_made, examines_marks, examines_memory, examines_none, stays_none}
 use Rattle.wu_check.proofs.VerdictLemmas.{judged_right, judged_wrong}
 use Rattle.wu_check.proofs.judging.judge.Goals as goal
+
+pub returns-in_err-finding-clause-examines : goal.returns-in_err-finding-clause-examines
+returns-in_err-finding-clause-examines g c = examines_memory g.S.Store c.args.conn.now _ c.in_err-finding.field-0.0 c.in_err-finding.ensures.memory c.from_residual.result c.from_residual.ensures.1
+
+pub returns-in_err-finding-clause-stays : goal.returns-in_err-finding-clause-stays
+returns-in_err-finding-clause-stays g c = stays_none g.S.Store c.args.conn.now c.from_residual.result
+
+pub returns-in-Some-clause-examines : goal.returns-in-Some-clause-examines
+returns-in-Some-clause-examines g c =
+    let told : TellsOf c.schema.result.now c.args.loaded.now c.in-Some.finding = subst (λ (found : Option Finding). IfSome found (TellsOf c.schema.result.now c.args.loaded.now)) c.in-Some.is c.in_ok-finding.ensures.told in
+    examines_none g.S.Store c.args.conn.now (Some c.in-Some.finding) (λ (db : Database) (found : Option Finding). Refines db c.args.loaded.now → Judges db c.args.loaded.now found)
+    (told (state g.S.Store c.args.conn.now).now (sym c.schema.ensures.value))
+
+pub returns-then-not-is_queued-clause-examines : goal.returns-then-not-is_queued-clause-examines
+returns-then-not-is_queued-clause-examines g c =
+    let none : IsNone c.in_ok-finding.field-0 = search rules in
+    let right = subst (λ (s : Schema). IsRightWorld s c.args.loaded.now) c.schema.ensures.value (c.in_ok-finding.ensures.right none) in
+    examines_none g.S.Store c.args.conn.now None (λ (db : Database) (found : Option Finding). Refines db c.args.loaded.now → Judges db c.args.loaded.now found)
+    (λ stands. record { sound = right.sound; known = right.known; queue = λ queued. absurd (iff_false c.is_queued.ensures c.if-not-is_queued.true queued) })
 
 pub returns-in_err-place-clause-examines : goal.returns-in_err-place-clause-examines
 returns-in_err-place-clause-examines g c =

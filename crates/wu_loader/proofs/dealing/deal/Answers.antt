@@ -1,6 +1,12 @@
-use Rattle.wu_schema.proofs.Words.{List, Workunit, [], arith, length, rules, subst, sym, ◌∙◌, ◌++◌, ◌<◌, ◌∷◌, ◌≡◌, ◌≢◌, ◌≤◌}
+use Rattle.wu_schema.proofs.Words.{List, Workunit, [], arith, length, rules, subst, sym, ◌++◌, ◌<◌, ◌∙◌, ◌∷◌, ◌≡◌, ◌≢◌, ◌≤◌}
+use Rattle.std.proofs.lemmas.Bool.Decides.{nat_tests}
 use Rattle.wu_core.specs.Limits.{most_instances}
-use Rattle.wu_loader.proofs.DealLemmas.{no_items, deals_left, deals_more, deals_none, deals_too_many, IsDealing}
+use Rattle.wu_loader.specs.Dealing.{AreDealt}
+use Rattle.wu_loader.specs.Worlds.{IsOrdered}
+use Rattle.wu_loader.specs.declared.finding.NoWorld.TheVariants.{Memory}
+use Rattle.wu_loader.specs.declared.finding.Wrong.{Wrong}
+use Rattle.wu_loader.proofs.WholeLemmas.{handed}
+use Rattle.wu_loader.proofs.DealLemmas.{no_items, deals_all, deals_left, deals_more, deals_none, deals_too_many, IsDealing}
 use Rattle.wu_loader.proofs.dealing.deal.Goals as goal
 
 pub loop-workunit-init : goal.loop-workunit-init
@@ -21,6 +27,24 @@ loop-workunit-preserved c =
     let dealt : Workunit = record c.in-Some.workunit { instances = c.in_ok-instances.instances.items } in
     let grown : c.push.new.self.items ≡ c.loop-workunit.dealt.items ++ dealt ∷ [] = search rules in
     rw grown (deals_more _ _ _ _ _ c.in-Some.workunit _ _ _ so_far told.taken told.all few)
+
+pub returns-in_err-instances-clause-none : goal.returns-in_err-instances-clause-none
+returns-in_err-instances-clause-none c =
+    let none = λ (wrong : Wrong). (ws : List Workunit) → IsOrdered ws → ¬ AreDealt c.args.workunits.items c.args.placed.items ws in
+    handed c.from_residual.result Memory none none (λ wrong is. is) c.from_residual.ensures.1 tt
+
+pub returns-in_err-push-clause-none : goal.returns-in_err-push-clause-none
+returns-in_err-push-clause-none c =
+    let none = λ (wrong : Wrong). (ws : List Workunit) → IsOrdered ws → ¬ AreDealt c.args.workunits.items c.args.placed.items ws in
+    handed c.from_residual-in_err-push.result Memory none none (λ wrong is. is) c.from_residual-in_err-push.ensures.1 tt
+
+pub returns-then-is_empty-clause-dealt : goal.returns-then-is_empty-clause-dealt
+returns-then-is_empty-clause-dealt c =
+    let ok = c.loop-workunit.workunit-iterator.rest.ok in let len = c.in-None.ensures.steps in
+    let none : c.loop-workunit.workunit-iterator.rest.items ≡ [] = no_items _ (sym ok.0 ∙ len.0) in
+    let so_far = subst (λ (rest : List Workunit). IsDealing c.args.workunits.items c.args.placed.items c.loop-workunit.yielded rest c.loop-workunit.dealt.items c.loop-workunit.left.items) none c.loop-workunit.invariant in
+    let empty : length c.loop-workunit.left.items ≡ 0 = grind (arith, nat_tests, c.if-is_empty.ensures) in
+    deals_all _ _ _ _ _ so_far (no_items _ empty)
 
 pub returns-clause-none : goal.returns-clause-none
 returns-clause-none c =

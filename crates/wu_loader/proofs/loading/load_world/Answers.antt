@@ -1,13 +1,37 @@
-use Rattle.wu_schema.proofs.Words.{Database, IsDatabase, rules, state}
-use Rattle.wu_schema.proofs.AskingLemmas.{asks_unchanged}
+use Rattle.wu_schema.proofs.Words.{Database, Err, Fault, IsDatabase, Ok, Result, inr, state, ◌≢◌}
+use Rattle.wu_core.specs.declared.fault.Fault.TheVariants.{Broken, Memory}
+use Rattle.wu_schema.proofs.AskingLemmas.{asks_made, asks_unchanged}
 use Rattle.wu_store.proofs.PlacedLemmas.{world_rises}
-use Rattle.wu_loader.proofs.LookLemmas.{failed_on}
+use Rattle.wu_loader.specs.Asked.{Looks}
+use Rattle.wu_loader.specs.declared.finding.Found.{Found}
+use Rattle.wu_loader.specs.declared.finding.Found.TheVariants as found
+use Rattle.wu_loader.proofs.LookLemmas.{looks_fault, never_broken}
 use Rattle.wu_loader.proofs.StandLemmas.{rows_stand, stands_arranged, stands_shown}
+use Rattle.wu_loader.proofs.loading.load_world.Given
 use Rattle.wu_loader.proofs.loading.load_world.Goals as goal
+use Rattle.wu_loader.proofs.loading.load_world.Goals.{After-from_residual}
+
+-- a fault of the questions is handed on
+handed : (g : Given.Over) (c : After-from_residual g) → Looks {T = Found} g.S.Store c.args.conn.now c.table_rows.new.conn c.from_residual.result (λ db trees found. Unit {0})
+handed g c = looks_fault g.S.Store c.args.conn.now c.table_rows.new.conn c.in_err-rows.field-0.0 _ (λ db trees found. Unit {0}) c.in_err-rows.ensures c.from_residual.result c.from_residual.ensures.1
+
+pub returns-in_err-rows-clause-asks : goal.returns-in_err-rows-clause-asks
+returns-in_err-rows-clause-asks g c = (handed g c).asks
+
+pub returns-in_err-rows-clause-opens : goal.returns-in_err-rows-clause-opens
+returns-in_err-rows-clause-opens g c = (handed g c).opens
+
+pub returns-in_err-rows-clause-fault : goal.returns-in_err-rows-clause-fault
+returns-in_err-rows-clause-fault g c = (handed g c).fault
 
 pub returns-in_err-rows-clause-answered : goal.returns-in_err-rows-clause-answered
-returns-in_err-rows-clause-answered g c clean trees has unlimited =
-    failed_on c.from_residual.result c.in_err-rows.field-0.0 c.from_residual.ensures.1 (c.in_err-rows.ensures.answered clean trees has unlimited)
+returns-in_err-rows-clause-answered g c = (handed g c).answered
+
+pub returns-in-Ok-clause-asks : goal.returns-in-Ok-clause-asks
+returns-in-Ok-clause-asks g c = asks_made g.S.Store c.args.conn.now c.table_rows.new.conn c.in_ok-rows.rows (Ok (found.World c.in-Ok.loaded)) (never_broken (found.World c.in-Ok.loaded)) c.in_ok-rows.ensures.asks
+
+pub returns-in-Ok-clause-opens : goal.returns-in-Ok-clause-opens
+returns-in-Ok-clause-opens g c = c.in_ok-rows.ensures.opens
 
 pub returns-in-Ok-clause-world : goal.returns-in-Ok-clause-world
 returns-in-Ok-clause-world g c clean trees has whole =
@@ -22,3 +46,18 @@ returns-in-Err-Wrong-clause-none g c clean world readable stands =
     let shown = c.in_ok-rows.ensures.says clean stands.trees (record { tables = stands.tables; arranged = stands_arranged db stands.trees world stands.rows }) in
     let none = rw c.in-Err-Wrong.field-0-is at c.in-Err-Wrong.ensures.none in
     none world readable (world_rises db world stands) (stands_shown db stands.trees world stands.rows c.in_ok-rows.rows shown)
+
+pub returns-in-Err-Wrong-clause-asks : goal.returns-in-Err-Wrong-clause-asks
+returns-in-Err-Wrong-clause-asks g c = asks_made g.S.Store c.args.conn.now c.table_rows.new.conn c.in_ok-rows.rows (Ok (found.Wrong c.in-Err-Wrong.wrong)) (never_broken (found.Wrong c.in-Err-Wrong.wrong)) c.in_ok-rows.ensures.asks
+
+pub returns-in-Err-Wrong-clause-opens : goal.returns-in-Err-Wrong-clause-opens
+returns-in-Err-Wrong-clause-opens g c = c.in_ok-rows.ensures.opens
+
+no_fault_of_memory : ◌≢◌ {A = Result Found Fault} (Err Memory) (Err Broken)
+no_fault_of_memory is = absurd cc
+
+pub returns-clause-asks : goal.returns-clause-asks
+returns-clause-asks g c = asks_made g.S.Store c.args.conn.now c.table_rows.new.conn c.in_ok-rows.rows (Err Memory) no_fault_of_memory c.in_ok-rows.ensures.asks
+
+pub returns-clause-opens : goal.returns-clause-opens
+returns-clause-opens g c clean = inr (c.in_ok-rows.ensures.opens clean)

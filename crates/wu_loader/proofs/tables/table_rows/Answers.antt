@@ -1,36 +1,34 @@
-use Rattle.wu_schema.proofs.Words.{Database, IsPermutation, List, ProjectTrees, Row, map, ◌≡◌}
-use Rattle.wu_loader.specs.Shown.{keyed, unkeyed, Shows}
-use Rattle.wu_loader.proofs.LookLemmas.{HasLooked, Known, looked, looks_ended, looks_fault, looks_made, looks_next}
+use Rattle.wu_loader.proofs.LookLemmas.{looked, looks_ended, looks_fault, looks_made, looks_next}
 use Rattle.wu_loader.proofs.tables.table_rows.Goals as goal
 
-pub returns-in_err-project_rows : goal.returns-in_err-project_rows
-returns-in_err-project_rows g c =
-    looks_fault g.S.Store c.args.conn.now c.project_rows.new.conn c.in_err-project_rows.field-0.0 _ _ c.in_err-project_rows.ensures c.from_residual.result c.from_residual.ensures.1
+pub returns-in_err-rows_of : goal.returns-in_err-rows_of
+returns-in_err-rows_of g c =
+    looks_fault g.S.Store c.args.conn.now c.rows_of.new.conn c.in_err-rows_of.field-0.0 _ _ c.in_err-rows_of.ensures c.from_residual.result c.from_residual.ensures.1
 
-pub returns-in_err-workunit_rows : goal.returns-in_err-workunit_rows
-returns-in_err-workunit_rows g c =
-    looks_ended g.S.Store c.args.conn.now c.project_rows.new.conn c.workunit_rows.new.conn _ (looked g.S.Store c.args.conn.now c.project_rows.new.conn c.in_ok-project_rows.field-0 _ c.in_ok-project_rows.ensures) c.in_err-workunit_rows.field-0.0 _ _ c.in_err-workunit_rows.ensures c.from_residual-in_err-workunit_rows.result c.from_residual-in_err-workunit_rows.ensures.1
+pub returns-in_err-rows_of-2 : goal.returns-in_err-rows_of-2
+returns-in_err-rows_of-2 g c =
+    looks_ended g.S.Store c.args.conn.now c.rows_of.new.conn c.rows_of-2.new.conn _ (looked g.S.Store c.args.conn.now c.rows_of.new.conn c.in_ok-rows_of.field-0 _ c.in_ok-rows_of.ensures) c.in_err-rows_of-2.field-0.0 _ _ c.in_err-rows_of-2.ensures c.from_residual-in_err-rows_of-2.result c.from_residual-in_err-rows_of-2.ensures.1
 
-pub returns-in_err-instance_rows : goal.returns-in_err-instance_rows
-returns-in_err-instance_rows g c =
-    looks_ended g.S.Store c.args.conn.now c.workunit_rows.new.conn c.instance_rows.new.conn _ (looks_next g.S.Store c.args.conn.now c.project_rows.new.conn c.workunit_rows.new.conn _ (looked g.S.Store c.args.conn.now c.project_rows.new.conn c.in_ok-project_rows.field-0 _ c.in_ok-project_rows.ensures) c.in_ok-workunit_rows.field-0 _ c.in_ok-workunit_rows.ensures) c.in_err-instance_rows.field-0.0 _ _ c.in_err-instance_rows.ensures c.from_residual-in_err-instance_rows.result c.from_residual-in_err-instance_rows.ensures.1
+pub returns-in_err-rows_of-3 : goal.returns-in_err-rows_of-3
+returns-in_err-rows_of-3 g c =
+    looks_ended g.S.Store c.args.conn.now c.rows_of-2.new.conn c.rows_of-3.new.conn _ (looks_next g.S.Store c.args.conn.now c.rows_of.new.conn c.rows_of-2.new.conn _ (looked g.S.Store c.args.conn.now c.rows_of.new.conn c.in_ok-rows_of.field-0 _ c.in_ok-rows_of.ensures) c.in_ok-rows_of-2.field-0 _ c.in_ok-rows_of-2.ensures) c.in_err-rows_of-3.field-0.0 _ _ c.in_err-rows_of-3.ensures c.from_residual-in_err-rows_of-3.result c.from_residual-in_err-rows_of-3.ensures.1
 
-pub returns-in_err-grant_rows : goal.returns-in_err-grant_rows
-returns-in_err-grant_rows g c =
-    looks_ended g.S.Store c.args.conn.now c.instance_rows.new.conn c.grant_rows.new.conn _ (looks_next g.S.Store c.args.conn.now c.workunit_rows.new.conn c.instance_rows.new.conn _ (looks_next g.S.Store c.args.conn.now c.project_rows.new.conn c.workunit_rows.new.conn _ (looked g.S.Store c.args.conn.now c.project_rows.new.conn c.in_ok-project_rows.field-0 _ c.in_ok-project_rows.ensures) c.in_ok-workunit_rows.field-0 _ c.in_ok-workunit_rows.ensures) c.in_ok-instance_rows.field-0 _ c.in_ok-instance_rows.ensures) c.in_err-grant_rows.field-0.0 _ _ c.in_err-grant_rows.ensures c.from_residual-in_err-grant_rows.result c.from_residual-in_err-grant_rows.ensures.1
+pub returns-in_err-rows_of-4 : goal.returns-in_err-rows_of-4
+returns-in_err-rows_of-4 g c =
+    looks_ended g.S.Store c.args.conn.now c.rows_of-3.new.conn c.rows_of-4.new.conn _ (looks_next g.S.Store c.args.conn.now c.rows_of-2.new.conn c.rows_of-3.new.conn _ (looks_next g.S.Store c.args.conn.now c.rows_of.new.conn c.rows_of-2.new.conn _ (looked g.S.Store c.args.conn.now c.rows_of.new.conn c.in_ok-rows_of.field-0 _ c.in_ok-rows_of.ensures) c.in_ok-rows_of-2.field-0 _ c.in_ok-rows_of-2.ensures) c.in_ok-rows_of-3.field-0 _ c.in_ok-rows_of-3.ensures) c.in_err-rows_of-4.field-0.0 _ _ c.in_err-rows_of-4.ensures c.from_residual-in_err-rows_of-4.result c.from_residual-in_err-rows_of-4.ensures.1
 
-pub returns-in_err-host_rows : goal.returns-in_err-host_rows
-returns-in_err-host_rows g c =
-    looks_ended g.S.Store c.args.conn.now c.grant_rows.new.conn c.host_rows.new.conn _ (looks_next g.S.Store c.args.conn.now c.instance_rows.new.conn c.grant_rows.new.conn _ (looks_next g.S.Store c.args.conn.now c.workunit_rows.new.conn c.instance_rows.new.conn _ (looks_next g.S.Store c.args.conn.now c.project_rows.new.conn c.workunit_rows.new.conn _ (looked g.S.Store c.args.conn.now c.project_rows.new.conn c.in_ok-project_rows.field-0 _ c.in_ok-project_rows.ensures) c.in_ok-workunit_rows.field-0 _ c.in_ok-workunit_rows.ensures) c.in_ok-instance_rows.field-0 _ c.in_ok-instance_rows.ensures) c.in_ok-grant_rows.field-0 _ c.in_ok-grant_rows.ensures) c.in_err-host_rows.field-0.0 _ _ c.in_err-host_rows.ensures c.from_residual-in_err-host_rows.result c.from_residual-in_err-host_rows.ensures.1
+pub returns-in_err-rows_of-5 : goal.returns-in_err-rows_of-5
+returns-in_err-rows_of-5 g c =
+    looks_ended g.S.Store c.args.conn.now c.rows_of-4.new.conn c.rows_of-5.new.conn _ (looks_next g.S.Store c.args.conn.now c.rows_of-3.new.conn c.rows_of-4.new.conn _ (looks_next g.S.Store c.args.conn.now c.rows_of-2.new.conn c.rows_of-3.new.conn _ (looks_next g.S.Store c.args.conn.now c.rows_of.new.conn c.rows_of-2.new.conn _ (looked g.S.Store c.args.conn.now c.rows_of.new.conn c.in_ok-rows_of.field-0 _ c.in_ok-rows_of.ensures) c.in_ok-rows_of-2.field-0 _ c.in_ok-rows_of-2.ensures) c.in_ok-rows_of-3.field-0 _ c.in_ok-rows_of-3.ensures) c.in_ok-rows_of-4.field-0 _ c.in_ok-rows_of-4.ensures) c.in_err-rows_of-5.field-0.0 _ _ c.in_err-rows_of-5.ensures c.from_residual-in_err-rows_of-5.result c.from_residual-in_err-rows_of-5.ensures.1
 
-pub returns-in_err-archived_rows : goal.returns-in_err-archived_rows
-returns-in_err-archived_rows g c =
-    looks_ended g.S.Store c.args.conn.now c.host_rows.new.conn c.archived_rows.new.conn _ (looks_next g.S.Store c.args.conn.now c.grant_rows.new.conn c.host_rows.new.conn _ (looks_next g.S.Store c.args.conn.now c.instance_rows.new.conn c.grant_rows.new.conn _ (looks_next g.S.Store c.args.conn.now c.workunit_rows.new.conn c.instance_rows.new.conn _ (looks_next g.S.Store c.args.conn.now c.project_rows.new.conn c.workunit_rows.new.conn _ (looked g.S.Store c.args.conn.now c.project_rows.new.conn c.in_ok-project_rows.field-0 _ c.in_ok-project_rows.ensures) c.in_ok-workunit_rows.field-0 _ c.in_ok-workunit_rows.ensures) c.in_ok-instance_rows.field-0 _ c.in_ok-instance_rows.ensures) c.in_ok-grant_rows.field-0 _ c.in_ok-grant_rows.ensures) c.in_ok-host_rows.field-0 _ c.in_ok-host_rows.ensures) c.in_err-archived_rows.field-0.0 _ _ c.in_err-archived_rows.ensures c.from_residual-in_err-archived_rows.result c.from_residual-in_err-archived_rows.ensures.1
+pub returns-in_err-rows_of-6 : goal.returns-in_err-rows_of-6
+returns-in_err-rows_of-6 g c =
+    looks_ended g.S.Store c.args.conn.now c.rows_of-5.new.conn c.rows_of-6.new.conn _ (looks_next g.S.Store c.args.conn.now c.rows_of-4.new.conn c.rows_of-5.new.conn _ (looks_next g.S.Store c.args.conn.now c.rows_of-3.new.conn c.rows_of-4.new.conn _ (looks_next g.S.Store c.args.conn.now c.rows_of-2.new.conn c.rows_of-3.new.conn _ (looks_next g.S.Store c.args.conn.now c.rows_of.new.conn c.rows_of-2.new.conn _ (looked g.S.Store c.args.conn.now c.rows_of.new.conn c.in_ok-rows_of.field-0 _ c.in_ok-rows_of.ensures) c.in_ok-rows_of-2.field-0 _ c.in_ok-rows_of-2.ensures) c.in_ok-rows_of-3.field-0 _ c.in_ok-rows_of-3.ensures) c.in_ok-rows_of-4.field-0 _ c.in_ok-rows_of-4.ensures) c.in_ok-rows_of-5.field-0 _ c.in_ok-rows_of-5.ensures) c.in_err-rows_of-6.field-0.0 _ _ c.in_err-rows_of-6.ensures c.from_residual-in_err-rows_of-6.result c.from_residual-in_err-rows_of-6.ensures.1
 
-pub returns-in_err-import_rows : goal.returns-in_err-import_rows
-returns-in_err-import_rows g c =
-    looks_ended g.S.Store c.args.conn.now c.archived_rows.new.conn c.import_rows.new.conn _ (looks_next g.S.Store c.args.conn.now c.host_rows.new.conn c.archived_rows.new.conn _ (looks_next g.S.Store c.args.conn.now c.grant_rows.new.conn c.host_rows.new.conn _ (looks_next g.S.Store c.args.conn.now c.instance_rows.new.conn c.grant_rows.new.conn _ (looks_next g.S.Store c.args.conn.now c.workunit_rows.new.conn c.instance_rows.new.conn _ (looks_next g.S.Store c.args.conn.now c.project_rows.new.conn c.workunit_rows.new.conn _ (looked g.S.Store c.args.conn.now c.project_rows.new.conn c.in_ok-project_rows.field-0 _ c.in_ok-project_rows.ensures) c.in_ok-workunit_rows.field-0 _ c.in_ok-workunit_rows.ensures) c.in_ok-instance_rows.field-0 _ c.in_ok-instance_rows.ensures) c.in_ok-grant_rows.field-0 _ c.in_ok-grant_rows.ensures) c.in_ok-host_rows.field-0 _ c.in_ok-host_rows.ensures) c.in_ok-archived_rows.field-0 _ c.in_ok-archived_rows.ensures) c.in_err-import_rows.field-0.0 _ _ c.in_err-import_rows.ensures c.from_residual-in_err-import_rows.result c.from_residual-in_err-import_rows.ensures.1
+pub returns-in_err-rows_of-7 : goal.returns-in_err-rows_of-7
+returns-in_err-rows_of-7 g c =
+    looks_ended g.S.Store c.args.conn.now c.rows_of-6.new.conn c.rows_of-7.new.conn _ (looks_next g.S.Store c.args.conn.now c.rows_of-5.new.conn c.rows_of-6.new.conn _ (looks_next g.S.Store c.args.conn.now c.rows_of-4.new.conn c.rows_of-5.new.conn _ (looks_next g.S.Store c.args.conn.now c.rows_of-3.new.conn c.rows_of-4.new.conn _ (looks_next g.S.Store c.args.conn.now c.rows_of-2.new.conn c.rows_of-3.new.conn _ (looks_next g.S.Store c.args.conn.now c.rows_of.new.conn c.rows_of-2.new.conn _ (looked g.S.Store c.args.conn.now c.rows_of.new.conn c.in_ok-rows_of.field-0 _ c.in_ok-rows_of.ensures) c.in_ok-rows_of-2.field-0 _ c.in_ok-rows_of-2.ensures) c.in_ok-rows_of-3.field-0 _ c.in_ok-rows_of-3.ensures) c.in_ok-rows_of-4.field-0 _ c.in_ok-rows_of-4.ensures) c.in_ok-rows_of-5.field-0 _ c.in_ok-rows_of-5.ensures) c.in_ok-rows_of-6.field-0 _ c.in_ok-rows_of-6.ensures) c.in_err-rows_of-7.field-0.0 _ _ c.in_err-rows_of-7.ensures c.from_residual-in_err-rows_of-7.result c.from_residual-in_err-rows_of-7.ensures.1
 
 pub returns : goal.returns
 returns g c =
-    looks_made g.S.Store c.args.conn.now c.import_rows.new.conn _ _ _ (λ db trees all. record { project = all.0.0.0.0.0.0; workunits = all.0.0.0.0.0.1; instances = all.0.0.0.0.1; grants = all.0.0.0.1; hosts = all.0.0.1; archived = all.0.1; imports = all.1 }) (looks_next g.S.Store c.args.conn.now c.archived_rows.new.conn c.import_rows.new.conn _ (looks_next g.S.Store c.args.conn.now c.host_rows.new.conn c.archived_rows.new.conn _ (looks_next g.S.Store c.args.conn.now c.grant_rows.new.conn c.host_rows.new.conn _ (looks_next g.S.Store c.args.conn.now c.instance_rows.new.conn c.grant_rows.new.conn _ (looks_next g.S.Store c.args.conn.now c.workunit_rows.new.conn c.instance_rows.new.conn _ (looks_next g.S.Store c.args.conn.now c.project_rows.new.conn c.workunit_rows.new.conn _ (looked g.S.Store c.args.conn.now c.project_rows.new.conn c.in_ok-project_rows.field-0 _ c.in_ok-project_rows.ensures) c.in_ok-workunit_rows.field-0 _ c.in_ok-workunit_rows.ensures) c.in_ok-instance_rows.field-0 _ c.in_ok-instance_rows.ensures) c.in_ok-grant_rows.field-0 _ c.in_ok-grant_rows.ensures) c.in_ok-host_rows.field-0 _ c.in_ok-host_rows.ensures) c.in_ok-archived_rows.field-0 _ c.in_ok-archived_rows.ensures) c.in_ok-import_rows.field-0 _ c.in_ok-import_rows.ensures)
+    looks_made g.S.Store c.args.conn.now c.rows_of-7.new.conn _ _ _ (λ db trees all. record { project = all.0.0.0.0.0.0; workunits = all.0.0.0.0.0.1; instances = all.0.0.0.0.1; grants = all.0.0.0.1; hosts = all.0.0.1; archived = all.0.1; imports = all.1 }) (looks_next g.S.Store c.args.conn.now c.rows_of-6.new.conn c.rows_of-7.new.conn _ (looks_next g.S.Store c.args.conn.now c.rows_of-5.new.conn c.rows_of-6.new.conn _ (looks_next g.S.Store c.args.conn.now c.rows_of-4.new.conn c.rows_of-5.new.conn _ (looks_next g.S.Store c.args.conn.now c.rows_of-3.new.conn c.rows_of-4.new.conn _ (looks_next g.S.Store c.args.conn.now c.rows_of-2.new.conn c.rows_of-3.new.conn _ (looks_next g.S.Store c.args.conn.now c.rows_of.new.conn c.rows_of-2.new.conn _ (looked g.S.Store c.args.conn.now c.rows_of.new.conn c.in_ok-rows_of.field-0 _ c.in_ok-rows_of.ensures) c.in_ok-rows_of-2.field-0 _ c.in_ok-rows_of-2.ensures) c.in_ok-rows_of-3.field-0 _ c.in_ok-rows_of-3.ensures) c.in_ok-rows_of-4.field-0 _ c.in_ok-rows_of-4.ensures) c.in_ok-rows_of-5.field-0 _ c.in_ok-rows_of-5.ensures) c.in_ok-rows_of-6.field-0 _ c.in_ok-rows_of-6.ensures) c.in_ok-rows_of-7.field-0 _ c.in_ok-rows_of-7.ensures)

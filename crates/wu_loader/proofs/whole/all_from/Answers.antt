@@ -1,7 +1,10 @@
-use Rattle.wu_schema.proofs.Words.{[], arith, length, refl, rules, sym, take_all, ◌++◌, ◌+◌, ◌∙◌, ◌∷◌, ◌≡◌}
+use Rattle.wu_schema.proofs.Words.{Err, Fault, [], arith, refl, rules, subst, sym, take_all, ◌++◌, ◌+◌, ◌∙◌, ◌∷◌, ◌≡◌}
 use Rattle.std.proofs.lemmas.List.Elements.{All-push, All-nil}
 use Rattle.std.proofs.lemmas.List.{length-append}
-use Rattle.wu_loader.proofs.WholeLemmas.{no_row, rows_more}
+use Rattle.wu_schema.specs.Restoring.{Restores}
+use Rattle.wu_loader.specs.Whole.{IsNoRow}
+use Rattle.wu_loader.specs.declared.finding.NoWorld.TheVariants.{Memory}
+use Rattle.wu_loader.proofs.WholeLemmas.{handed, no_row, rows_more}
 use Rattle.wu_loader.proofs.whole.all_from.Goals as goal
 
 pub loop-before-preserved : goal.loop-before-preserved
@@ -14,3 +17,25 @@ loop-before-preserved g c =
       each = All-push g.T.FromRow.is_value c.loop-before.values.items c.in-Ok.value so_far.each read.1;
       long = let e = length-append c.loop-before.values.items (c.in-Ok.value ∷ []) in let l = so_far.long in omega (arith, e, l);
     })
+
+pub loop-before-init : goal.loop-before-init
+loop-before-init g c = rw c.new-values.ensures.items (record { same = refl; each = All-nil g.T.FromRow.is_value; long = refl })
+
+pub returns-in_err-push-in-Ok-clause-none : goal.returns-in_err-push-in-Ok-clause-none
+returns-in_err-push-in-Ok-clause-none g c =
+    let none = IsNoRow g.T.FromRow.cells g.T.FromRow.is_value c.args.rows.now in
+    handed c.from_residual.result Memory none none (λ wrong is. is) c.from_residual.ensures.1 tt
+
+pub returns-in-Err-NotAProject-clause-none : goal.returns-in-Err-NotAProject-clause-none
+returns-in-Err-NotAProject-clause-none g c =
+    no_row g.T.FromRow.cells g.T.FromRow.is_value c.args.rows.now c.args.table c.loop-before.before c.index-rows-before.result c.loop-before-test.true (sym c.index-rows-before.is)
+    (subst (λ (fault : Fault). Restores (g.T.FromRow.cells (c.loop-before.before + 1)) g.T.FromRow.is_value c.index-rows-before.result (Err fault)) c.in-Err-NotAProject.field-0-is c.in-Err-NotAProject.ensures)
+
+pub returns-in-Err : goal.returns-in-Err
+returns-in-Err g c = record { same = tt; each = tt; none = tt }
+
+pub returns-clause-same : goal.returns-clause-same
+returns-clause-same g c = let so_far = c.loop-before.invariant in sym (so_far.same ∙ take_all c.loop-before.before c.args.rows.now c.loop-before-test.false)
+
+pub returns-clause-each : goal.returns-clause-each
+returns-clause-each g c = let so_far = c.loop-before.invariant in so_far.each

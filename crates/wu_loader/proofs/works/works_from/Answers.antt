@@ -1,4 +1,3 @@
-use Rattle.wu_schema.proofs.Words.{rules, subst, sym}
 use Rattle.wu_schema.proofs.ReadLemmas.{if_ok}
 use Rattle.wu_loader.proofs.WholeLemmas.{handed, refused}
 use Rattle.wu_loader.proofs.WorkLemmas.{never_placed, never_works, works_are, works_dealt}

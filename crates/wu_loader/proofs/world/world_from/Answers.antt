@@ -1,9 +1,9 @@
-use Rattle.wu_schema.proofs.Words.{Grant, Import, IsPermutation, IsPermutation-refl, List, Row, Workunit, World, ap, hosts_of, import_cells, map, rules, subst, sym, ◌∙◌, ◌≡◌}
+use Rattle.wu_schema.proofs.Words.{Grant, IsPermutation, IsPermutation-refl, List, World, hosts_of, import_cells, map, subst, sym, ◌∙◌, ◌≡◌}
 use Rattle.std.specs.Prelude.{All}
 use Rattle.wu_core.specs.Storable.{IsStoredArchived}
 use Rattle.wu_schema.specs.Refines.{host_of}
 use Rattle.wu_loader.specs.Rows.{archived_row, grant_row, IsStoredGrant, IsStoredImport}
-use Rattle.wu_loader.specs.Worlds.{project_of, AreRowsOf, AreRowsOfWorks}
+use Rattle.wu_loader.specs.Worlds.{project_of, AreRowsOf}
 use Rattle.wu_loader.proofs.RowLemmas.{one_grant}
 use Rattle.wu_loader.proofs.WholeLemmas.{handed, no_rows, none_permuted, one_rows, rows_plain}
 use Rattle.wu_loader.proofs.world.world_from.Goals as goal

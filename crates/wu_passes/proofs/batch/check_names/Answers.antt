@@ -3,7 +3,7 @@ use Rattle.sqlite.specs.State.{HasCleanDisk}
 use Rattle.sqlite.specs.Held.{state}
 use Rattle.wu_core.specs.declared.fault.Fault.TheVariants.{WorkunitUsed}
 use Rattle.wu_schema.specs.Refines.{Refines}
-use Rattle.wu_passes.proofs.AskLemmas.{asks_done, asks_none, asks_stands, asks_then, free_more, handed_on, taken_here}
+use Rattle.wu_passes.proofs.AskLemmas.{asks_done, asks_handed, asks_made, asks_none, asks_stands, asks_then, free_more, handed_on, taken_here}
 use Rattle.wu_passes.proofs.batch.check_names.Goals as goal
 
 pub loop-job-init : goal.loop-job-init
@@ -36,3 +36,16 @@ returns-in_err-is_used-clause-unrefused g c clean world stands limit =
     let before : HasCleanDisk (state g.S.Store c.loop-job.conn) = omega (arith, c.is_used.ensures.asks.crash.clean) in
     handed_on c.from_residual.result c.in_err-is_used.field-0.0 c.from_residual.ensures.1
     (c.in_err-is_used.ensures.unrefused clean world (asks_stands g.S.Store _ _ tt asks before world stands) (asks.crash.limit ∙ limit))
+
+pub returns-then-branch-clause-asks : goal.returns-then-branch-clause-asks
+returns-then-branch-clause-asks g c =
+    let (place, asks, free) = c.loop-job.invariant in
+    asks_then g.S.Store _ _ _ tt asks _ (asks_made g.S.Store _ _ c.in_ok-is_used.field-0 _ (λ is. absurd cc) c.in_ok-is_used.ensures.asks)
+
+pub returns-in_err-is_used-clause-asks : goal.returns-in_err-is_used-clause-asks
+returns-in_err-is_used-clause-asks g c =
+    let (place, asks, free) = c.loop-job.invariant in
+    asks_then g.S.Store _ _ _ tt asks _ (asks_handed g.S.Store _ _ c.from_residual.result c.in_err-is_used.field-0.0 c.from_residual.ensures.1 c.in_err-is_used.ensures.asks)
+
+pub returns-clause-asks : goal.returns-clause-asks
+returns-clause-asks g c = let (place, asks, free) = c.loop-job.invariant in asks

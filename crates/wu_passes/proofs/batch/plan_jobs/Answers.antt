@@ -4,7 +4,8 @@ use Rattle.sqlite.specs.Held.{state}
 use Rattle.wu_schema.specs.Refines.{Refines}
 use Rattle.wu_machine.specs.Batches.{first_taken}
 use Rattle.wu_passes.proofs.BatchLemmas.{jobs_planned, names_refused}
-use Rattle.wu_passes.proofs.AskLemmas.{asks_stands, handed_is, handed_on}
+use Rattle.wu_passes.proofs.AskLemmas.{asks_handed, asks_made, asks_stands, asks_then, handed_is, handed_on}
+use Rattle.wu_passes.proofs.ExitLemmas.{memory_unbroken, memory_unrefused}
 use Rattle.wu_passes.proofs.batch.plan_jobs.Goals as goal
 
 pub returns-in_err-check_names-clause-plan : goal.returns-in_err-check_names-clause-plan
@@ -30,3 +31,19 @@ returns-in_err-next-clause-unrefused g c clean world stands project limit =
     let still : Refines (state g.S.Store c.check_names.new.conn).now world = asks_stands g.S.Store _ _ c.in_ok-check_names.field-0 c.in_ok-check_names.ensures.asks before world stands in
     handed_on c.from_residual-in_err-next.result c.in_err-next.field-0.0 c.from_residual-in_err-next.ensures.1
     (c.in_err-next.ensures.unrefused clean world still project.next (c.check_names.ensures.asks.crash.limit ∙ limit))
+
+pub returns-in_err-check_names-clause-asks : goal.returns-in_err-check_names-clause-asks
+returns-in_err-check_names-clause-asks g c = asks_handed g.S.Store _ _ c.from_residual.result c.in_err-check_names.field-0.0 c.from_residual.ensures.1 c.in_err-check_names.ensures.asks
+
+pub returns-in_err-next-clause-asks : goal.returns-in_err-next-clause-asks
+returns-in_err-next-clause-asks g c =
+    asks_then g.S.Store c.args.conn.now c.check_names.new.conn c.next_number.new.conn c.in_ok-check_names.field-0 c.in_ok-check_names.ensures.asks c.from_residual-in_err-next.result
+    (asks_handed g.S.Store _ _ c.from_residual-in_err-next.result c.in_err-next.field-0.0 c.from_residual-in_err-next.ensures.1 c.in_err-next.ensures.asks)
+
+pub returns-clause-asks : goal.returns-clause-asks
+returns-clause-asks g c =
+    asks_then g.S.Store c.args.conn.now c.check_names.new.conn c.next_number.new.conn c.in_ok-check_names.field-0 c.in_ok-check_names.ensures.asks c.new_batch.result
+    (asks_made g.S.Store _ _ c.in_ok-next.next c.new_batch.result (memory_unbroken c.new_batch.result c.new_batch.ensures.fault) c.in_ok-next.ensures.asks)
+
+pub returns-clause-unrefused : goal.returns-clause-unrefused
+returns-clause-unrefused g c clean world stands project limit = memory_unrefused c.new_batch.result c.new_batch.ensures.fault

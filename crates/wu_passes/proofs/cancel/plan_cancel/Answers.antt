@@ -1,9 +1,11 @@
-use Rattle.std.proofs.Common.{◌≡◌, ◌∙◌, inl, Some, sym}
+use Rattle.std.proofs.Common.{◌≡◌, ◌∙◌, inl, inr, Some, sym}
 use Rattle.sqlite.specs.Held.{state}
 use Rattle.wu_machine.specs.Worlds.{workunit_named}
-use Rattle.wu_passes.proofs.AskLemmas.{handed_on}
+use Rattle.wu_passes.proofs.AskLemmas.{asks_handed, asks_made, handed_is, handed_on}
 use Rattle.wu_passes.proofs.CancelLemmas.{cancel_planned, cancel_unknown}
 use Rattle.wu_passes.proofs.PlanLemmas.{named_loads}
+use Rattle.wu_passes.proofs.ExitLemmas.{handed_going}
+use Rattle.wu_passes.proofs.WalkLemmas.{serves_handed, serves_open}
 use Rattle.wu_passes.proofs.cancel.plan_cancel.Goals as goal
 
 pub returns-in-Some-clause-plan : goal.returns-in-Some-clause-plan
@@ -18,3 +20,24 @@ returns-in-None-clause-plan g c clean world stands is project =
 pub returns-in_err-workunit-clause-unrefused : goal.returns-in_err-workunit-clause-unrefused
 returns-in_err-workunit-clause-unrefused g c clean world stands project limit =
     handed_on c.from_residual.result c.in_err-workunit.field-0.0 c.from_residual.ensures.1 (c.in_err-workunit.ensures.unrefused clean world stands (named_loads world project.storable c.args.name.now) limit)
+
+pub returns-in_err-workunit-clause-asks : goal.returns-in_err-workunit-clause-asks
+returns-in_err-workunit-clause-asks g c = asks_handed g.S.Store _ _ c.from_residual.result c.in_err-workunit.field-0.0 c.from_residual.ensures.1 c.in_err-workunit.ensures.asks
+
+pub returns-in_err-workunit-clause-opens : goal.returns-in_err-workunit-clause-opens
+returns-in_err-workunit-clause-opens g c clean = serves_handed c.from_residual.result c.in_err-workunit.field-0.0 c.from_residual.ensures.1 (c.in_err-workunit.ensures.opens clean)
+
+pub returns-in_err-workunit-clause-never : goal.returns-in_err-workunit-clause-never
+returns-in_err-workunit-clause-never g c = handed_going c.from_residual.result c.in_err-workunit.field-0.0 c.from_residual.ensures.1 c.in_err-workunit.ensures.fault
+
+pub returns-in_err-workunit-clause-plan : goal.returns-in_err-workunit-clause-plan
+returns-in_err-workunit-clause-plan g c clean world stands is project = rw (handed_is c.from_residual.result c.in_err-workunit.field-0.0 c.from_residual.ensures.1) (inr c.in_err-workunit.ensures.fault)
+
+pub returns-in-Some-clause-opens : goal.returns-in-Some-clause-opens
+returns-in-Some-clause-opens g c clean = serves_open c.give_up.result (c.in_ok-workunit.ensures.opens clean)
+
+pub returns-in-None-clause-asks : goal.returns-in-None-clause-asks
+returns-in-None-clause-asks g c = asks_made g.S.Store _ _ c.in_ok-workunit.field-0 _ (λ is. absurd cc) c.in_ok-workunit.ensures.asks
+
+pub returns-in-None-clause-opens : goal.returns-in-None-clause-opens
+returns-in-None-clause-opens g c clean = inr (c.in_ok-workunit.ensures.opens clean)

@@ -6,7 +6,7 @@ use Rattle.std.proofs.lemmas.Iterator.Consumers.{YieldsList-end}
 use Rattle.sqlite.specs.State.{HasCleanDisk}
 use Rattle.sqlite.specs.Held.{state}
 use Rattle.wu_schema.specs.Refines.{Refines}
-use Rattle.wu_passes.proofs.AskLemmas.{asks_done, asks_handed, asks_none, asks_stands, asks_then, handed_on}
+use Rattle.wu_passes.proofs.AskLemmas.{asks_done, asks_handed, asks_made, asks_none, asks_stands, asks_then, handed_on}
 use Rattle.wu_passes.proofs.TouchedLemmas.{no_rows_left}
 use Rattle.wu_passes.proofs.files.apply_rows.Goals as goal
 
@@ -47,3 +47,6 @@ returns-clause-left g c clean world stands =
     let seen = YieldsList-end (YieldsList-from_vec {s = c.into_iter-row-iterator.result} c.into_vec-row-items.result.items (search rules) (search rules)) c.loop-row.yielded c.loop-row.row-iterator c.loop-row.yielded_by c.next.result c.next.new.self c.in-None.is c.next.ensures.steps in
     let whole : c.loop-row.yielded ≡ c.args.rows = sym (map-id c.loop-row.yielded) ∙ seen.0 ∙ c.into_vec-row-items.ensures in
     rw whole at (left clean world stands)
+
+pub returns-clause-asks : goal.returns-clause-asks
+returns-clause-asks g c = let (_, asks, _) = c.loop-row.invariant in asks_made g.S.Store _ _ tt _ (λ is. absurd cc) asks

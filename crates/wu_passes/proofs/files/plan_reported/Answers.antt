@@ -1,12 +1,16 @@
-use Rattle.std.proofs.Common.{arith, ◌∙◌}
+use Rattle.std.proofs.Common.{arith, inr, ◌∙◌}
 use Rattle.sqlite.specs.Held.{state}
 use Rattle.sqlite.specs.State.{HasCleanDisk}
 use Rattle.wu_core.specs.declared.import.ImportKind.TheVariants as kind
 use Rattle.wu_schema.specs.Refines.{Refines}
 use Rattle.wu_machine.specs.Commands.{file_of}
 use Rattle.wu_machine.specs.Requests.{AskReported}
-use Rattle.wu_passes.proofs.AskLemmas.{asks_stands, found_in_range, handed_on}
+use Rattle.wu_passes.proofs.AskLemmas.{asks_handed, asks_made, asks_stands, asks_then, found_in_range, handed_is, handed_on}
 use Rattle.wu_passes.proofs.ImportPlans.{asked_reported, repeated_planned}
+use Rattle.wu_store.proofs.AskLemmas.{stays_asked}
+use Rattle.wu_passes.proofs.ExitLemmas.{handed_going, repeat_going, repeat_unbroken, repeat_unrefused, told_going}
+use Rattle.wu_passes.proofs.WalkLemmas.{serves_handed, serves_open}
+use Rattle.wu_passes.specs.Planning.{given_of}
 use Rattle.wu_passes.proofs.files.plan_reported.Goals as goal
 
 pub returns-in-Some-clause-plan : goal.returns-in-Some-clause-plan
@@ -24,3 +28,38 @@ returns-in_ok-read_reports-in-None-clause-unrefused g c clean world stands proje
     let before : HasCleanDisk (state g.S.Store c.import_of.new.conn) = omega (arith, c.plan_rows.ensures.asks.crash.clean) in
     let still : Refines (state g.S.Store c.import_of.new.conn).now world = asks_stands g.S.Store _ _ c.in_ok-earlier.field-0 c.in_ok-earlier.ensures.asks before world stands in
     c.plan_rows.ensures.unrefused clean world still project.storable (c.import_of.ensures.asks.crash.limit ∙ limit)
+
+pub returns-in_err-earlier-clause-asks : goal.returns-in_err-earlier-clause-asks
+returns-in_err-earlier-clause-asks g c = asks_handed g.S.Store _ _ c.from_residual.result c.in_err-earlier.field-0.0 c.from_residual.ensures.1 c.in_err-earlier.ensures.asks
+
+pub returns-in_err-earlier-clause-opens : goal.returns-in_err-earlier-clause-opens
+returns-in_err-earlier-clause-opens g c clean = serves_handed c.from_residual.result c.in_err-earlier.field-0.0 c.from_residual.ensures.1 (c.in_err-earlier.ensures.opens clean)
+
+pub returns-in_err-earlier-clause-never : goal.returns-in_err-earlier-clause-never
+returns-in_err-earlier-clause-never g c = handed_going c.from_residual.result c.in_err-earlier.field-0.0 c.from_residual.ensures.1 c.in_err-earlier.ensures.fault
+
+pub returns-in_err-earlier-clause-plan : goal.returns-in_err-earlier-clause-plan
+returns-in_err-earlier-clause-plan g c clean world stands is project = rw (handed_is c.from_residual.result c.in_err-earlier.field-0.0 c.from_residual.ensures.1) (inr c.in_err-earlier.ensures.fault)
+
+pub returns-in-Some-clause-asks : goal.returns-in-Some-clause-asks
+returns-in-Some-clause-asks g c = asks_made g.S.Store _ _ c.in_ok-earlier.field-0 c.repeated.result (repeat_unbroken (given_of c.file_source-source.result) c.in-Some.earlier c.repeated.result c.repeated.ensures.fault) c.in_ok-earlier.ensures.asks
+
+pub returns-in-Some-clause-opens : goal.returns-in-Some-clause-opens
+returns-in-Some-clause-opens g c clean = serves_open c.repeated.result (c.in_ok-earlier.ensures.opens clean)
+
+pub returns-in-Some-clause-never : goal.returns-in-Some-clause-never
+returns-in-Some-clause-never g c = repeat_going (given_of c.file_source-source.result) c.in-Some.earlier c.repeated.result c.repeated.ensures.fault
+
+pub returns-in-Some-clause-unrefused : goal.returns-in-Some-clause-unrefused
+returns-in-Some-clause-unrefused g c clean world stands project limit = repeat_unrefused (given_of c.file_source-source.result) c.in-Some.earlier c.repeated.result c.repeated.ensures.fault
+
+pub returns-in_ok-read_reports-in-None-clause-asks : goal.returns-in_ok-read_reports-in-None-clause-asks
+returns-in_ok-read_reports-in-None-clause-asks g c = asks_then g.S.Store c.args.conn.now c.import_of.new.conn c.plan_rows.new.conn c.in_ok-earlier.field-0 c.in_ok-earlier.ensures.asks c.plan_rows.result c.plan_rows.ensures.asks
+
+pub returns-in_ok-read_reports-in-None-clause-opens : goal.returns-in_ok-read_reports-in-None-clause-opens
+returns-in_ok-read_reports-in-None-clause-opens g c clean =
+    let before : HasCleanDisk (state g.S.Store c.import_of.new.conn) = omega (arith, c.plan_rows.ensures.asks.crash.clean) in
+    stays_asked g.S.Store _ _ c.plan_rows.result c.plan_rows.ensures.asks (c.in_ok-earlier.ensures.opens before) clean
+
+pub returns-in_ok-read_reports-in-None-clause-never : goal.returns-in_ok-read_reports-in-None-clause-never
+returns-in_ok-read_reports-in-None-clause-never g c = told_going c.plan_rows.result c.plan_rows.ensures.fault

@@ -26,17 +26,17 @@ returns-in-Ok g c = record {
 -- a line was not, and the session goes on
 pub returns-else-eq : goal.returns-else-eq
 returns-else-eq g c = record {
-  text = search rules;
+  text = c.in-Err.ensures.text;
   goes = λ clean world goes. goes_on (state_of c.args.project.now) _ world clean c.write_view.ensures.reads.read goes;
   reads = c.write_view.ensures.reads.read;
   clean = c.write_view.ensures.reads.read.survives.clean;
   counts = c.write_view.ensures.reads.read.survives.counts;
   limit = c.write_view.ensures.reads.limit;
-  refused = search rules;
-  ends = search rules;
+  refused = c.in-Err.ensures.early;
+  ends = c.in-Err.ensures.reads.ends;
   broken = search rules;
-  fault = search rules;
-  unrefused = search rules;
-  broke = search rules;
-  opens = search rules;
+  fault = c.in-Err.ensures.fault;
+  unrefused = c.in-Err.ensures.unrefused;
+  broke = c.in-Err.ensures.broke;
+  opens = c.in-Err.ensures.opens;
 }

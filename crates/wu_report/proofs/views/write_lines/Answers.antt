@@ -1,4 +1,5 @@
 use Rattle.std.proofs.Common.{◌∙◌, Err, ap, arith, subst, sym}
+use Rattle.std.specs.Prelude.{IsTrue}
 use Rattle.sqlite.specs.State.{HasCleanDisk}
 use Rattle.wu_store.proofs.AskLemmas.{handed_on}
 use Rattle.wu_passes.proofs.WalkLemmas.{reads_then, serves_handed, serves_open}
@@ -18,7 +19,7 @@ returns-in_err-line-clause-text g c clean world lines has =
 
 pub returns-in_err-line-clause-reads : goal.returns-in_err-line-clause-reads
 returns-in_err-line-clause-reads g c = record {
-  reads = reads_then _ _ _ c.loop-line.invariant.reads c.next.ensures.reads.reads;
+  reads = reads_then (walked c.args.walk.now) (walked c.loop-line.walk) (walked c.next.new.self) c.loop-line.invariant.reads c.next.ensures.reads.reads;
   broke = λ clean is.
       let before : HasCleanDisk (state_of (walked c.loop-line.walk)) = omega (arith, c.next.ensures.reads.reads.read.survives.clean, clean) in
       let fault = handed_broken c.from_residual.result c.in_err-line.field-0.0 c.from_residual.ensures.1 is in
@@ -28,7 +29,7 @@ returns-in_err-line-clause-reads g c = record {
 pub returns-in_err-line-clause-opens : goal.returns-in_err-line-clause-opens
 returns-in_err-line-clause-opens g c ready clean =
     let before : HasCleanDisk (state_of (walked c.loop-line.walk)) = omega (arith, c.next.ensures.reads.reads.read.survives.clean, clean) in
-    serves_handed c.from_residual.result c.in_err-line.field-0.0 c.from_residual.ensures.1 (c.in_err-line.ensures.opens (c.loop-line.invariant.ready before ready) clean)
+    serves_handed {Q = IsTrue (state_of (walked c.next.new.self)).is_open} c.from_residual.result c.in_err-line.field-0.0 c.from_residual.ensures.1 (c.in_err-line.ensures.opens (c.loop-line.invariant.ready before ready) clean)
 
 pub returns-in_err-line-clause-unrefused : goal.returns-in_err-line-clause-unrefused
 returns-in_err-line-clause-unrefused g c clean world lines has can limit =
@@ -47,7 +48,7 @@ returns-in_err-write-clause-text g c clean world lines has =
 
 pub returns-in_err-write-clause-reads : goal.returns-in_err-write-clause-reads
 returns-in_err-write-clause-reads g c = record {
-  reads = reads_then _ _ _ c.loop-line.invariant.reads c.next.ensures.reads.reads;
+  reads = reads_then (walked c.args.walk.now) (walked c.loop-line.walk) (walked c.next.new.self) c.loop-line.invariant.reads c.next.ensures.reads.reads;
   broke = λ clean is.
       let broke = handed_broken c.from_residual-in_err-write.result c.in_err-write.field-0.0 c.from_residual-in_err-write.ensures.1 is in
       absurd (let no = sym broke ∙ c.in_err-write.ensures.fault in cc);
@@ -56,7 +57,7 @@ returns-in_err-write-clause-reads g c = record {
 pub returns-in_err-write-clause-opens : goal.returns-in_err-write-clause-opens
 returns-in_err-write-clause-opens g c ready clean =
     let before : HasCleanDisk (state_of (walked c.loop-line.walk)) = omega (arith, c.next.ensures.reads.reads.read.survives.clean, clean) in
-    serves_open c.from_residual-in_err-write.result (c.in_ok-line.ensures.opens (c.loop-line.invariant.ready before ready) clean)
+    serves_open {Q = IsTrue (state_of (walked c.next.new.self)).is_open} c.from_residual-in_err-write.result (c.in_ok-line.ensures.opens (c.loop-line.invariant.ready before ready) clean)
 
 pub returns-in_err-write-clause-unrefused : goal.returns-in_err-write-clause-unrefused
 returns-in_err-write-clause-unrefused g c clean world lines has can limit =
@@ -82,7 +83,7 @@ returns-clause-text g c clean world lines has =
 
 pub returns-clause-reads : goal.returns-clause-reads
 returns-clause-reads g c = record {
-  reads = reads_then _ _ _ c.loop-line.invariant.reads c.next.ensures.reads.reads;
+  reads = reads_then (walked c.args.walk.now) (walked c.loop-line.walk) (walked c.next.new.self) c.loop-line.invariant.reads c.next.ensures.reads.reads;
   broke = λ clean is. absurd cc;
 }
 

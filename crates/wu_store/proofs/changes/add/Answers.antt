@@ -1,11 +1,13 @@
 use Rattle.wu_schema.proofs.Words.{HasCleanDisk, arith, state, subst}
 use Rattle.wu_core.specs.declared.marks.Marks.{Marks}
 use Rattle.wu_schema.proofs.CallLemmas.{ok_both}
+use Rattle.wu_schema.proofs.StepLemmas.{frame_then}
 use Rattle.wu_schema.specs.Queue.{HasQueue}
 use Rattle.wu_store.specs.Changes.{with_placed}
 use Rattle.wu_store.specs.Queues.{with_marks}
 use Rattle.wu_store.specs.StandsFor.{marked}
 use Rattle.wu_store.proofs.MarkedLemmas.{marked_placed}
+use Rattle.wu_store.proofs.ChangeLemmas.{frame_after}
 use Rattle.wu_store.proofs.changes.add.Goals as goal
 
 pub returns-clause-adds : goal.returns-clause-adds
@@ -26,3 +28,8 @@ returns-clause-adds g c clean =
       queue = λ _. subst (HasQueue new) (marked_placed w world)
           (subst (λ (m : Marks). HasQueue new (with_marks w.number m (marked world))) c.marks_of.ensures (puts (with_placed w world) (marked world) whole still));
     }) (c.insert_marks.ensures.puts clean) (c.insert_marks.ensures.stays clean)
+
+pub returns-clause-writes : goal.returns-clause-writes
+returns-clause-writes g c =
+    let r = c.insert_marks.result in
+    frame_then g.S.Store _ _ _ tt c.in_ok-insert_workunit.ensures.writes r (frame_after g.S.Store _ _ _ tt c.in_ok-insert_instances.ensures.works r c.insert_marks.ensures.writes)

@@ -1,6 +1,8 @@
 use Rattle.wu_schema.proofs.Words.{HasCleanDisk, arith, state, subst}
 use Rattle.wu_schema.proofs.CallLemmas.{ok_both}
+use Rattle.wu_schema.proofs.StepLemmas.{frame_then}
 use Rattle.wu_schema.specs.Queue.{HasQueue}
+use Rattle.wu_store.proofs.ChangeLemmas.{frame_after}
 use Rattle.wu_store.proofs.changes.upgrade.Goals as goal
 
 pub returns-clause-upgrades : goal.returns-clause-upgrades
@@ -13,3 +15,8 @@ returns-clause-upgrades g c clean =
     ok_both c.set_version.result _ _ _ (λ sets keeps world s same.
     let (filled, q) = c.in_ok-fill_queue.ensures.fills last world (made.stands world s) same made.queue in
     record { refines = sets world filled; queue = λ _. subst (HasQueue new) same (keeps world rows filled q) }) (c.set_version.ensures.sets clean) (c.set_version.ensures.queue clean)
+
+pub returns-clause-writes : goal.returns-clause-writes
+returns-clause-writes g c =
+    let r = c.set_version.result in
+    frame_then g.S.Store _ _ _ tt c.in_ok-make_queue.ensures.writes r (frame_after g.S.Store _ _ _ tt c.in_ok-fill_queue.ensures.works r c.set_version.ensures.writes)

@@ -5,12 +5,34 @@ use Rattle.wu_core.specs.declared.workunit.Workunit.{Workunit}
 use Rattle.wu_schema.specs.Refines.{Refines}
 use Rattle.wu_store.specs.Answers.{numbered}
 use Rattle.wu_store.specs.Loading.{Finds}
-use Rattle.wu_store.proofs.AskLemmas.{asks_stands, handed_on}
+use Rattle.wu_store.proofs.AskLemmas.{asks_handed, asks_made, asks_stands, asks_then, fault_handed, handed_on, match_handed, never_err, opens_handed}
 use Rattle.wu_store.proofs.DueLemmas.{above_first, above_loads, numbered_loads, zero_first}
 use Rattle.wu_store.proofs.due.first.Goals as goal
 
-pub returns-in_err-workunit-clause-unrefused : goal.returns-in_err-workunit-clause-unrefused
-returns-in_err-workunit-clause-unrefused g c clean world stands storable limit = handed_on c.from_residual.result c.in_err-workunit.field-0.0 c.from_residual.ensures.1 (c.in_err-workunit.ensures.unrefused clean world stands (numbered_loads 0 world (omega arith) storable) limit)
+pub returns-in_err-workunit : goal.returns-in_err-workunit
+returns-in_err-workunit g c =
+    let fault = c.in_err-workunit.field-0.0 in
+    let r = c.from_residual.result in
+    let same = c.from_residual.ensures.1 in
+    record {
+      asks = asks_handed g.S.Store _ _ r fault same c.in_err-workunit.ensures.asks;
+      opens = opens_handed r fault same g.S.Store c.load.new.conn (c.in_err-workunit.ensures.opens (omega arith));
+      fault = fault_handed r fault same c.in_err-workunit.ensures.fault;
+      found = λ clean world stands. match_handed r fault same _ c.in_err-workunit.ensures.fault;
+      unrefused = λ clean world stands storable limit. handed_on r fault same (c.in_err-workunit.ensures.unrefused clean world stands (numbered_loads 0 world (omega arith) storable) limit);
+    }
+
+pub returns-in-Some-clause-asks : goal.returns-in-Some-clause-asks
+returns-in-Some-clause-asks g c = asks_made g.S.Store _ _ c.in_ok-workunit.field-0 _ (never_err _) c.in_ok-workunit.ensures.asks
+
+pub returns-in-Some-clause-opens : goal.returns-in-Some-clause-opens
+returns-in-Some-clause-opens g c = c.in_ok-workunit.ensures.opens (omega arith)
+
+pub returns-in-None-clause-asks : goal.returns-in-None-clause-asks
+returns-in-None-clause-asks g c = asks_then g.S.Store _ _ _ c.in_ok-workunit.field-0 c.in_ok-workunit.ensures.asks c.load_above.result c.load_above.ensures.asks
+
+pub returns-in-None-clause-opens : goal.returns-in-None-clause-opens
+returns-in-None-clause-opens g c = c.load_above.ensures.opens (omega arith)
 
 pub returns-in-Some-clause-found : goal.returns-in-Some-clause-found
 returns-in-Some-clause-found g c clean world stands =

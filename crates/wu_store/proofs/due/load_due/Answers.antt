@@ -1,7 +1,7 @@
-use Rattle.wu_schema.proofs.Words.{HasCleanDisk, Refines, arith, state, ◌∙◌}
+use Rattle.wu_schema.proofs.Words.{Err, HasCleanDisk, NotAProject, Refines, arith, inr, refl, state, ◌∙◌}
 use Rattle.wu_rules.specs.Due.{chosen}
 use Rattle.wu_store.specs.StandsFor.{marked}
-use Rattle.wu_store.proofs.AskLemmas.{asks_stands, handed_on}
+use Rattle.wu_store.proofs.AskLemmas.{asks_handed, asks_row, asks_stands, asks_then, fault_handed, handed_on, match_handed, nothing_handed, opens_handed, opens_then}
 use Rattle.wu_store.proofs.QueuedLemmas.{chosen_storable, rows_chosen}
 use Rattle.wu_store.proofs.due.load_due.Goals as goal
 
@@ -19,6 +19,31 @@ returns-clause-unrefused g c low clean world queued stands storable limit =
     let are = rows_chosen _ world stands.refines c.args.pass c.args.now c.args.min_age c.args.limit c.as_slice.result.now (c.as_slice.ensures.value ∙ c.in_ok-rows.ensures.answers before (marked world) (stands.queue queued)) in
     c.load_all.ensures.unrefused clean world still (chosen c.args.pass c.args.now c.args.min_age c.args.limit world, are, chosen_storable _ world stands.refines c.args.pass c.args.now c.args.min_age c.args.limit storable) (c.in_ok-rows.ensures.asks.crash.limit ∙ limit)
 
-pub returns-in_err-rows-clause-unrefused : goal.returns-in_err-rows-clause-unrefused
-returns-in_err-rows-clause-unrefused g c low clean world queued stands storable limit =
-    handed_on c.from_residual.result c.in_err-rows.field-0.0 c.from_residual.ensures.1 (c.in_err-rows.ensures.unrefused low clean (marked world) (stands.queue queued) limit)
+pub returns-clause-asks : goal.returns-clause-asks
+returns-clause-asks g c = asks_then g.S.Store _ _ _ c.in_ok-rows.rows c.in_ok-rows.ensures.asks c.load_all.result c.load_all.ensures.asks
+
+pub returns-clause-opens : goal.returns-clause-opens
+returns-clause-opens g c low = opens_then g.S.Store c.due_rows.new.conn c.load_all.new.conn (c.in_ok-rows.ensures.opens low) c.load_all.result c.load_all.ensures.asks
+
+pub returns-in_err-rows : goal.returns-in_err-rows
+returns-in_err-rows g c =
+    let fault = c.in_err-rows.field-0.0 in
+    let r = c.from_residual.result in
+    let same = c.from_residual.ensures.1 in
+    record {
+      asks = asks_handed g.S.Store _ _ r fault same c.in_err-rows.ensures.asks;
+      opens = λ low. opens_handed r fault same g.S.Store c.due_rows.new.conn (c.in_err-rows.ensures.opens low);
+      fault = fault_handed r fault same c.in_err-rows.ensures.fault;
+      due = λ clean world queued stands. match_handed r fault same _ c.in_err-rows.ensures.fault;
+      few = nothing_handed r fault same _;
+      unrefused = λ low clean world queued stands storable limit. handed_on r fault same (c.in_err-rows.ensures.unrefused low clean (marked world) (stands.queue queued) limit);
+    }
+
+pub returns-then-len-limit-clause-asks : goal.returns-then-len-limit-clause-asks
+returns-then-len-limit-clause-asks g c = asks_row g.S.Store _ _ c.in_ok-rows.rows (Err NotAProject) (inr refl) c.in_ok-rows.ensures.asks
+
+pub returns-then-len-limit-clause-opens : goal.returns-then-len-limit-clause-opens
+returns-then-len-limit-clause-opens g c low clean = inr (c.in_ok-rows.ensures.opens low clean)
+
+pub returns-then-len-limit-clause-due : goal.returns-then-len-limit-clause-due
+returns-then-len-limit-clause-due g c clean world queued stands = inr (inr refl)

@@ -1,4 +1,9 @@
-use Rattle.std.proofs.Common.{rules, ◌≡◌, ◌-◌, ◌<◌, ◌∙◌, ◌^◌, None, Option, Some, sym, ap, subst, arith}
+use Rattle.std.proofs.Common.{inl, rules, ◌≡◌, ◌-◌, ◌<◌, ◌∙◌, ◌^◌, None, Option, Some, sym, ap, subst, arith}
+use Rattle.std.specs.Prelude.{Vec, ℕ}
+use Rattle.std.specs.declared.alloc.Global.{Global}
+use Rattle.wu_core.specs.declared.marks.Marks.{Marks}
+use Rattle.wu_core.specs.declared.fault.Fault.TheVariants.{Memory, NotAProject}
+use Rattle.wu_store.specs.Reading.{IsReadFault}
 use Rattle.sqlite.specs.State.{HasCleanDisk}
 use Rattle.sqlite.specs.Held.{state}
 use Rattle.wu_core.specs.declared.workunit.Workunit.{Workunit}
@@ -7,7 +12,7 @@ use Rattle.wu_store.specs.Due.{numbers_left}
 use Rattle.wu_store.proofs.DueLemmas.{above_loads}
 use Rattle.wu_store.proofs.MarkedLemmas.{marks_row, marks_rows}
 use Rattle.wu_store.proofs.ListingLemmas.{all_listed, AreListed, listed_storable, one_listed}
-use Rattle.wu_store.proofs.AskLemmas.{asks_done, asks_handed, asks_stands, asks_then, handed_on, still_open}
+use Rattle.wu_store.proofs.AskLemmas.{asks_done, asks_handed, asks_made, asks_row, asks_stands, asks_then, fault_handed, fault_read, handed_on, match_handed, never_err, opens_handed, opens_made, opens_then, read_handed, read_told, still_open}
 use Rattle.wu_store.proofs.due.load_marks.Goals as goal
 
 pub returns-in_err-next-2-clause-unrefused : goal.returns-in_err-next-2-clause-unrefused
@@ -45,5 +50,41 @@ pub returns-in_err-next-2-clause-asks : goal.returns-in_err-next-2-clause-asks
 returns-in_err-next-2-clause-asks g c =
     asks_then g.S.Store _ _ _ tt c.loop-next.invariant.asks _ (asks_handed g.S.Store _ _ c.from_residual-in_err-next-2.result c.in_err-next-2.field-0.0 c.from_residual-in_err-next-2.ensures.1 c.in_err-next-2.ensures.asks)
 
-pub returns-in_err-next-clause-unrefused : goal.returns-in_err-next-clause-unrefused
-returns-in_err-next-clause-unrefused g c clean world stands storable limit = handed_on c.from_residual.result c.in_err-next.field-0.0 c.from_residual.ensures.1 (c.in_err-next.ensures.unrefused clean world stands storable limit)
+pub returns-in_err-next-2-clause-opens : goal.returns-in_err-next-2-clause-opens
+returns-in_err-next-2-clause-opens g c =
+    let r = c.from_residual-in_err-next-2.result in
+    opens_then g.S.Store c.loop-next.conn c.next_after.new.conn c.loop-next.invariant.opens r (asks_handed g.S.Store _ _ r c.in_err-next-2.field-0.0 c.from_residual-in_err-next-2.ensures.1 c.in_err-next-2.ensures.asks)
+
+pub returns-in_err-next-2-clause-marks : goal.returns-in_err-next-2-clause-marks
+returns-in_err-next-2-clause-marks g c clean world stands = match_handed c.from_residual-in_err-next-2.result c.in_err-next-2.field-0.0 c.from_residual-in_err-next-2.ensures.1 _ c.in_err-next-2.ensures.fault
+
+pub returns-in_err-add_marks : goal.returns-in_err-add_marks
+returns-in_err-add_marks g c =
+    let fault = c.in_err-add_marks.field-0.0 in
+    let r = c.from_residual-in_err-add_marks.result in
+    let same = c.from_residual-in_err-add_marks.ensures.1 in
+    let wants : IsReadFault c.in_err-add_marks.field-0.0 = inl c.in_err-add_marks.ensures.fault in
+    let told = read_handed r fault same wants in
+    record {
+      asks = asks_row g.S.Store _ _ tt r told c.loop-next.invariant.asks;
+      opens = opens_made g.S.Store c.loop-next.conn r c.loop-next.invariant.opens;
+      fault = fault_read r told;
+      marks = λ clean world stands. match_handed r fault same _ (read_told fault wants);
+      unrefused = λ clean world stands storable limit. handed_on r fault same (λ is. let no : Memory ≡ NotAProject = sym c.in_err-add_marks.ensures.fault ∙ is in cc);
+    }
+
+pub returns-in_err-next : goal.returns-in_err-next
+returns-in_err-next g c =
+    let fault = c.in_err-next.field-0.0 in
+    let r = c.from_residual.result in
+    let same = c.from_residual.ensures.1 in
+    record {
+      asks = asks_handed g.S.Store _ _ r fault same c.in_err-next.ensures.asks;
+      opens = opens_handed r fault same g.S.Store c.first.new.conn c.in_err-next.ensures.opens;
+      fault = fault_handed r fault same c.in_err-next.ensures.fault;
+      marks = λ clean world stands. match_handed r fault same _ c.in_err-next.ensures.fault;
+      unrefused = λ clean world stands storable limit. handed_on r fault same (c.in_err-next.ensures.unrefused clean world stands storable limit);
+    }
+
+pub returns-clause-asks : goal.returns-clause-asks
+returns-clause-asks g c = asks_made {U = Vec (ℕ × Marks) Global} g.S.Store _ _ tt _ (never_err _) c.loop-next.invariant.asks

@@ -1,20 +1,53 @@
-use Rattle.wu_schema.proofs.Words.{None, Some, sym, ◌∙◌, ◌≡◌}
-use Rattle.wu_store.proofs.AskLemmas.{handed_on}
-use Rattle.wu_store.proofs.QueuedLemmas.{number_read, number_told, told_present}
+use Rattle.wu_schema.proofs.Words.{Err, None, NotAProject, Some, inr, refl, sym, ◌∙◌, ◌≡◌}
+use Rattle.wu_store.proofs.AskLemmas.{asks_handed, asks_made, asks_none, asks_row, fault_handed, fault_read, handed_on, match_handed, never_broken, never_err, read_handed, read_told}
+use Rattle.wu_store.proofs.QueuedLemmas.{loads_there, number_read, number_told, told_present}
 use Rattle.wu_store.proofs.due.present.Goals as goal
 
-pub returns-in-Some-clause-found : goal.returns-in-Some-clause-found
-returns-in-Some-clause-found g c clean world stands w of =
-    let number = number_told c.args.row.now w world of c.in_ok-number.number c.in_ok-number.ensures in
-    let found : Some c.in-Some.workunit ≡ Some w = told_present c.args.row.now w world of c.in_ok-number.number number (Some c.in-Some.workunit) (sym c.in-Some.is ∙ c.in_ok-workunit.ensures.found clean world stands) in
-    cc
+pub returns-in_err-number : goal.returns-in_err-number
+returns-in_err-number g c =
+    let fault = c.in_err-number.field-0.0 in
+    let r = c.from_residual.result in
+    let same = c.from_residual.ensures.1 in
+    let refused = read_handed r fault same c.in_err-number.ensures.refused in
+    record {
+      asks = asks_none g.S.Store c.args.conn.now r (never_broken r refused);
+      fault = fault_read r refused;
+      found = λ clean world stands w of. match_handed r fault same _ (read_told fault c.in_err-number.ensures.refused);
+      unrefused = λ clean world stands can limit. handed_on r fault same (number_read c.args.row.now can.0 world can.1 _ c.in_err-number.ensures);
+    }
 
-pub returns-in-None-clause-unrefused : goal.returns-in-None-clause-unrefused
-returns-in-None-clause-unrefused g c clean world stands (w, of, can) limit =
-    let number = number_told c.args.row.now w world of c.in_ok-number.number c.in_ok-number.ensures in
-    let none : None ≡ Some w = told_present c.args.row.now w world of c.in_ok-number.number number None (sym c.in-None.is ∙ c.in_ok-workunit.ensures.found clean world stands) in
-    absurd cc
+pub returns-in_err-workunit : goal.returns-in_err-workunit
+returns-in_err-workunit g c =
+    let fault = c.in_err-workunit.field-0.0 in
+    let r = c.from_residual-in_err-workunit.result in
+    let same = c.from_residual-in_err-workunit.ensures.1 in
+    record {
+      asks = asks_handed g.S.Store _ _ r fault same c.in_err-workunit.ensures.asks;
+      fault = fault_handed r fault same c.in_err-workunit.ensures.fault;
+      found = λ clean world stands w of. match_handed r fault same _ c.in_err-workunit.ensures.fault;
+      unrefused = λ clean world stands can limit.
+          let number = number_told c.args.row.now can.0 world can.1 c.in_ok-number.number c.in_ok-number.ensures in
+          handed_on r fault same (c.in_err-workunit.ensures.unrefused clean world stands (loads_there c.args.row.now can.0 world can.1 c.in_ok-number.number number can.2) limit);
+    }
 
-pub returns-in_err-number-clause-unrefused : goal.returns-in_err-number-clause-unrefused
-returns-in_err-number-clause-unrefused g c clean world stands (w, of, can) limit =
-    handed_on c.from_residual.result c.in_err-number.field-0.0 c.from_residual.ensures.1 (number_read c.args.row.now w world of _ c.in_err-number.ensures)
+pub returns-in-Some : goal.returns-in-Some
+returns-in-Some g c = record {
+  asks = asks_made g.S.Store _ _ c.in_ok-workunit.field-0 _ (never_err _) c.in_ok-workunit.ensures.asks;
+  fault = tt;
+  found = λ clean world stands w of.
+      let number = number_told c.args.row.now w world of c.in_ok-number.number c.in_ok-number.ensures in
+      let found : Some c.in-Some.workunit ≡ Some w = told_present c.args.row.now w world of c.in_ok-number.number number (Some c.in-Some.workunit) (sym c.in-Some.is ∙ c.in_ok-workunit.ensures.found clean world stands) in
+      cc;
+  unrefused = λ clean world stands can limit. tt;
+}
+
+pub returns-in-None : goal.returns-in-None
+returns-in-None g c = record {
+  asks = asks_row g.S.Store _ _ c.in_ok-workunit.field-0 (Err NotAProject) (inr refl) c.in_ok-workunit.ensures.asks;
+  fault = inr (inr refl);
+  found = λ clean world stands w of. inr (inr refl);
+  unrefused = λ clean world stands can limit.
+      let number = number_told c.args.row.now can.0 world can.1 c.in_ok-number.number c.in_ok-number.ensures in
+      let none : None ≡ Some can.0 = told_present c.args.row.now can.0 world can.1 c.in_ok-number.number number None (sym c.in-None.is ∙ c.in_ok-workunit.ensures.found clean world stands) in
+      absurd cc;
+}

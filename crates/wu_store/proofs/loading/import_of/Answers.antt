@@ -1,28 +1,78 @@
-use Rattle.std.proofs.Common.{rules, ◌≡◌, Some, None, sym, ◌∙◌}
-use Rattle.std.specs.Prelude.{slice_get}
-use Rattle.wu_store.proofs.AskLemmas.{handed_on}
+use Rattle.wu_schema.proofs.Words.{Err, None, Ok, Text, [], ap, bound_value, import_kind_code, number, refl, state, sym, ◌∙◌, ◌∷◌, ◌≡◌}
+use Rattle.wu_schema.proofs.Parts.{Imports}
+use Rattle.wu_schema.proofs.InsertEffect.{also, no_more}
+use Rattle.wu_store.specs.Answers.{kept_of}
+use Rattle.wu_store.proofs.SelectTexts.{import_asked, import_fits}
+use Rattle.wu_store.proofs.ReadAnswers.{import_found}
+use Rattle.std.specs.Option.{option_copied}
+use Rattle.wu_store.proofs.AskLemmas.{asked_all, asks_handed, asks_made, asks_row, fault_handed, fault_read, handed_on, match_handed, never_err, opens_handed, opens_made, question, read_handed, read_told}
 use Rattle.wu_store.proofs.LoadLemmas.{import_read, no_first, none_earlier, one_first, some_earlier}
 use Rattle.wu_store.proofs.loading.import_of.Goals as goal
 
-pub returns-in_err-rows-clause-unrefused : goal.returns-in_err-rows-clause-unrefused
-returns-in_err-rows-clause-unrefused g c clean world stands has limit = handed_on c.from_residual.result c.in_err-rows.field-0.0 c.from_residual.ensures.1 (c.in_err-rows.ensures.unrefused clean world stands tt limit)
+pub returns-in_err-rows : goal.returns-in_err-rows
+returns-in_err-rows g c =
+    let q = c.in_err-rows.ensures in
+    let fault = c.in_err-rows.field-0.0 in
+    let r = c.from_residual.result in
+    let same = c.from_residual.ensures.1 in
+    let it = asked_all g.S.Store (question Imports (λ _. tt) import_asked import_fits (number (import_kind_code c.args.kind) ∷ Text c.args.name.now ∷ []) refl (λ _. refl)) c.args.conn.now c.query.new.conn _
+    (also (ap bound_value c.params-to_sql.ensures ∙ ap number c.code.ensures) (also (ap bound_value c.params-to_sql-2.ensures ∙ ap (λ t. Text t) c.as_str.ensures) no_more)) (λ rows world. rows ≡ kept_of c.args.kind c.args.name.now world)
+    (λ rows h world s. import_found (state g.S.Store c.args.conn.now) (state g.S.Store c.query.new.conn) world s c.args.kind c.args.name.now rows h) (Err fault) q.asks q.opens q.shows q.fails q.told in
+    record {
+      asks = asks_handed g.S.Store _ _ r fault same it.asks;
+      opens = opens_handed r fault same g.S.Store c.query.new.conn it.opens;
+      fault = fault_handed r fault same it.fault;
+      found = λ clean world stands. match_handed r fault same _ it.fault;
+      unrefused = λ clean world stands has limit. handed_on r fault same (it.unrefused clean world stands tt limit);
+    }
 
-pub returns-in_err-import_from-in-Some-clause-unrefused : goal.returns-in_err-import_from-in-Some-clause-unrefused
-returns-in_err-import_from-in-Some-clause-unrefused g c clean world stands has limit =
-    let rows_are = c.in_ok-rows.ensures.answers clean world stands in
-    let there : slice_get c.in_ok-rows.rows.items 0 ≡ Some c.in-Some.row.now = search rules in
-    let first = one_first c.in_ok-rows.rows.items c.in-Some.row.now there in
-    handed_on c.from_residual-in_err-import_from-in-Some.result c.in_err-import_from-in-Some.field-0.0 c.from_residual-in_err-import_from-in-Some.ensures.1
-    (import_read c.args.kind c.args.name.now world c.in-Some.row.now first.0 (sym rows_are ∙ first.1) _ c.in_err-import_from-in-Some.ensures has)
+pub returns-in_err-import_from-in-Some : goal.returns-in_err-import_from-in-Some
+returns-in_err-import_from-in-Some g c =
+    let q = c.in_ok-rows.ensures in
+    let asked = asked_all g.S.Store (question Imports (λ _. tt) import_asked import_fits (number (import_kind_code c.args.kind) ∷ Text c.args.name.now ∷ []) refl (λ _. refl)) c.args.conn.now c.query.new.conn _
+    (also (ap bound_value c.params-to_sql.ensures ∙ ap number c.code.ensures) (also (ap bound_value c.params-to_sql-2.ensures ∙ ap (λ t. Text t) c.as_str.ensures) no_more)) (λ rows world. rows ≡ kept_of c.args.kind c.args.name.now world)
+    (λ rows h world s. import_found (state g.S.Store c.args.conn.now) (state g.S.Store c.query.new.conn) world s c.args.kind c.args.name.now rows h) (Ok c.in_ok-rows.rows) q.asks q.opens q.shows q.fails q.told in
+    let fault = c.in_err-import_from-in-Some.field-0.0 in
+    let r = c.from_residual-in_err-import_from-in-Some.result in
+    let same = c.from_residual-in_err-import_from-in-Some.ensures.1 in
+    let refused = read_handed r fault same c.in_err-import_from-in-Some.ensures.refused in
+    record {
+      asks = asks_row g.S.Store _ _ c.in_ok-rows.rows r refused asked.asks;
+      opens = opens_made g.S.Store c.query.new.conn r asked.opens;
+      fault = fault_read r refused;
+      found = λ clean world stands. match_handed r fault same _ (read_told fault c.in_err-import_from-in-Some.ensures.refused);
+      unrefused = λ clean world stands has limit.
+          let first = one_first c.deref.result.now c.in-Some.row.now (sym c.first.ensures.value ∙ ap option_copied c.in-Some.is) in
+          handed_on r fault same (import_read c.args.kind c.args.name.now world c.in-Some.row.now first.0 (sym (c.deref.ensures.value ∙ asked.answers clean world stands) ∙ first.1) _ c.in_err-import_from-in-Some.ensures has);
+    }
 
-pub returns-in-Some-clause-found : goal.returns-in-Some-clause-found
-returns-in-Some-clause-found g c clean world stands =
-    let rows_are = c.in_ok-rows.ensures.answers clean world stands in
-    let there : slice_get c.in_ok-rows.rows.items 0 ≡ Some c.in-Some.row.now = search rules in
-    let first = one_first c.in_ok-rows.rows.items c.in-Some.row.now there in
-    some_earlier c.args.kind c.args.name.now world c.in-Some.row.now first.0 (sym rows_are ∙ first.1) c.in_ok-import_from-in-Some.field-0 c.in_ok-import_from-in-Some.ensures
+pub returns-in-Some : goal.returns-in-Some
+returns-in-Some g c =
+    let q = c.in_ok-rows.ensures in
+    let asked = asked_all g.S.Store (question Imports (λ _. tt) import_asked import_fits (number (import_kind_code c.args.kind) ∷ Text c.args.name.now ∷ []) refl (λ _. refl)) c.args.conn.now c.query.new.conn _
+    (also (ap bound_value c.params-to_sql.ensures ∙ ap number c.code.ensures) (also (ap bound_value c.params-to_sql-2.ensures ∙ ap (λ t. Text t) c.as_str.ensures) no_more)) (λ rows world. rows ≡ kept_of c.args.kind c.args.name.now world)
+    (λ rows h world s. import_found (state g.S.Store c.args.conn.now) (state g.S.Store c.query.new.conn) world s c.args.kind c.args.name.now rows h) (Ok c.in_ok-rows.rows) q.asks q.opens q.shows q.fails q.told in
+    record {
+      asks = asks_made g.S.Store _ _ c.in_ok-rows.rows _ (never_err _) asked.asks;
+      opens = asked.opens;
+      fault = tt;
+      found = λ clean world stands.
+          let first = one_first c.deref.result.now c.in-Some.row.now (sym c.first.ensures.value ∙ ap option_copied c.in-Some.is) in
+          some_earlier c.args.kind c.args.name.now world c.in-Some.row.now first.0 (sym (c.deref.ensures.value ∙ asked.answers clean world stands) ∙ first.1) c.in_ok-import_from-in-Some.field-0 c.in_ok-import_from-in-Some.ensures;
+      unrefused = λ clean world stands has limit. tt;
+    }
 
-pub returns-clause-found : goal.returns-clause-found
-returns-clause-found g c clean world stands =
-    let none : slice_get c.in_ok-rows.rows.items 0 ≡ None = search rules in
-    none_earlier c.args.kind c.args.name.now world (sym (c.in_ok-rows.ensures.answers clean world stands) ∙ no_first c.in_ok-rows.rows.items none)
+pub returns : goal.returns
+returns g c =
+    let q = c.in_ok-rows.ensures in
+    let asked = asked_all g.S.Store (question Imports (λ _. tt) import_asked import_fits (number (import_kind_code c.args.kind) ∷ Text c.args.name.now ∷ []) refl (λ _. refl)) c.args.conn.now c.query.new.conn _
+    (also (ap bound_value c.params-to_sql.ensures ∙ ap number c.code.ensures) (also (ap bound_value c.params-to_sql-2.ensures ∙ ap (λ t. Text t) c.as_str.ensures) no_more)) (λ rows world. rows ≡ kept_of c.args.kind c.args.name.now world)
+    (λ rows h world s. import_found (state g.S.Store c.args.conn.now) (state g.S.Store c.query.new.conn) world s c.args.kind c.args.name.now rows h) (Ok c.in_ok-rows.rows) q.asks q.opens q.shows q.fails q.told in
+    record {
+      asks = asks_made g.S.Store _ _ c.in_ok-rows.rows (Ok None) (never_err None) asked.asks;
+      opens = asked.opens;
+      fault = tt;
+      found = λ clean world stands.
+          none_earlier c.args.kind c.args.name.now world (sym (c.deref.ensures.value ∙ asked.answers clean world stands) ∙ no_first c.deref.result.now (sym c.first.ensures.value ∙ ap option_copied c.in-None.is));
+      unrefused = λ clean world stands has limit. tt;
+    }

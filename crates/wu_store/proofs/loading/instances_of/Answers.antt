@@ -1,14 +1,54 @@
-use Rattle.wu_schema.proofs.Words.{◌∙◌}
-use Rattle.wu_store.proofs.AskLemmas.{handed_on}
+use Rattle.wu_schema.proofs.Words.{Err, Ok, [], arith, inr, number, refl, state, ◌∙◌, ◌∷◌, ◌^◌, ◌≡◌, ◌≤◌}
+use Rattle.wu_schema.proofs.Parts.{Instances}
+use Rattle.wu_schema.proofs.InsertEffect.{also, no_more}
+use Rattle.wu_store.specs.Answers.{instance_rows_of}
+use Rattle.wu_store.specs.Reading.{IsReadFault}
+use Rattle.wu_store.proofs.AskLemmas.{asked_all, asks_handed, asks_none, asks_row, fault_handed, fault_read, handed_on, match_handed, never_broken, question, read_handed, read_told}
+use Rattle.wu_store.proofs.ChangeLemmas.{sent_number}
+use Rattle.wu_store.proofs.SelectTexts.{instances_asked, instances_fits}
+use Rattle.wu_store.proofs.InstanceAnswers as answers
 use Rattle.wu_store.proofs.LoadLemmas.{instances_found, instances_read}
 use Rattle.wu_store.proofs.loading.instances_of.Goals as goal
 
-pub returns-in_err-rows-clause-unrefused : goal.returns-in_err-rows-clause-unrefused
-returns-in_err-rows-clause-unrefused g c clean world stands has limit = handed_on c.from_residual.result c.in_err-rows.field-0.0 c.from_residual.ensures.1 (c.in_err-rows.ensures.unrefused clean world stands has.0 limit)
+pub returns-in_err-key : goal.returns-in_err-key
+returns-in_err-key g c =
+    let fault = c.in_err-key.field-0.0 in
+    let r = c.from_residual.result in
+    let same = c.from_residual.ensures.1 in
+    let refused : IsReadFault fault = inr c.in_err-key.ensures.refused in
+    let beyond : 2 ^ 63 ≤ c.args.workunit = c.in_err-key.ensures.beyond in
+    record {
+      asks = asks_none g.S.Store c.args.conn.now r (never_broken r (read_handed r fault same refused));
+      fault = fault_handed r fault same (read_told fault refused);
+      found = λ clean world stands. match_handed r fault same _ (read_told fault refused);
+      unrefused = λ clean world stands has limit. absurd (omega (arith, has.0, beyond));
+    }
 
-pub returns-clause-found : goal.returns-clause-found
-returns-clause-found g c clean world stands = instances_found c.args.workunit world _ (c.deref.ensures.value ∙ c.in_ok-rows.ensures.answers clean world stands) c.instances_from.result c.instances_from.ensures
+pub returns-in_err-rows : goal.returns-in_err-rows
+returns-in_err-rows g c =
+    let q = c.in_err-rows.ensures in
+    let fault = c.in_err-rows.field-0.0 in
+    let r = c.from_residual-in_err-rows.result in
+    let same = c.from_residual-in_err-rows.ensures.1 in
+    let it = asked_all g.S.Store (question Instances (λ _. tt) instances_asked instances_fits (number c.args.workunit ∷ []) refl (λ _. refl)) c.args.conn.now c.query.new.conn _ (also (sent_number c.args.workunit c.params-to_sql.ensures c.in_ok-key.ensures.value c.in_ok-key.ensures.within) no_more) (λ rows world. rows ≡ instance_rows_of c.args.workunit world)
+    (λ rows h world s. answers.instances_found (state g.S.Store c.args.conn.now) (state g.S.Store c.query.new.conn) world s c.args.workunit rows h) (Err fault) q.asks q.opens q.shows q.fails q.told in
+    record {
+      asks = asks_handed g.S.Store _ _ r fault same it.asks;
+      fault = fault_handed r fault same it.fault;
+      found = λ clean world stands. match_handed r fault same _ it.fault;
+      unrefused = λ clean world stands has limit. handed_on r fault same (it.unrefused clean world stands tt limit);
+    }
 
-pub returns-clause-unrefused : goal.returns-clause-unrefused
-returns-clause-unrefused g c clean world stands has limit =
-    instances_read c.args.workunit world _ (c.deref.ensures.value ∙ c.in_ok-rows.ensures.answers clean world stands) c.instances_from.result c.instances_from.ensures has.1
+pub returns : goal.returns
+returns g c =
+    let q = c.in_ok-rows.ensures in
+    let r = c.instances_from.result in
+    let reads = c.instances_from.ensures in
+    let it = asked_all g.S.Store (question Instances (λ _. tt) instances_asked instances_fits (number c.args.workunit ∷ []) refl (λ _. refl)) c.args.conn.now c.query.new.conn _ (also (sent_number c.args.workunit c.params-to_sql.ensures c.in_ok-key.ensures.value c.in_ok-key.ensures.within) no_more) (λ rows world. rows ≡ instance_rows_of c.args.workunit world)
+    (λ rows h world s. answers.instances_found (state g.S.Store c.args.conn.now) (state g.S.Store c.query.new.conn) world s c.args.workunit rows h) (Ok c.in_ok-rows.rows) q.asks q.opens q.shows q.fails q.told in
+    record {
+      asks = asks_row g.S.Store _ _ c.in_ok-rows.rows r reads.refused it.asks;
+      fault = fault_read r reads.refused;
+      found = λ clean world stands. instances_found c.args.workunit world _ (c.deref.ensures.value ∙ it.answers clean world stands) r reads;
+      unrefused = λ clean world stands has limit. instances_read c.args.workunit world _ (c.deref.ensures.value ∙ it.answers clean world stands) r reads has.1;
+    }

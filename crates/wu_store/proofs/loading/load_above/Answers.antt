@@ -1,16 +1,58 @@
-use Rattle.wu_schema.proofs.Words.{Err, Ok, Workunit, nat_lt}
-use Rattle.wu_store.proofs.AskLemmas.{handed_on}
+use Rattle.wu_schema.proofs.Words.{Err, Ok, Workunit, [], arith, inr, number, refl, state, ◌∷◌, ◌^◌, ◌≤◌, nat_lt}
+use Rattle.wu_schema.proofs.Parts.{Workunits}
+use Rattle.wu_schema.proofs.InsertEffect.{also, no_more}
+use Rattle.wu_store.specs.Answers.{row_above}
+use Rattle.wu_store.specs.Reading.{IsReadFault}
+use Rattle.wu_store.proofs.ChangeLemmas.{sent_number}
+use Rattle.wu_store.proofs.SelectTexts.{above_asked, above_fits}
+use Rattle.wu_store.proofs.OrderAnswers.{above_found}
+use Rattle.wu_store.proofs.AskLemmas.{asked_row, asks_handed, asks_none, asks_then, fault_handed, handed_on, match_handed, never_broken, opens_handed, opens_then, question, read_handed, read_told}
 use Rattle.wu_store.proofs.LoadLemmas.{load_found, load_unrefused}
 use Rattle.wu_store.proofs.loading.load_above.Goals as goal
 
-pub returns-in_err-row-clause-unrefused : goal.returns-in_err-row-clause-unrefused
-returns-in_err-row-clause-unrefused g c clean world stands can limit = handed_on c.from_residual.result c.in_err-row.field-0.0 c.from_residual.ensures.1 (c.in_err-row.ensures.unrefused clean world stands can.0 limit)
+pub returns-in_err-key : goal.returns-in_err-key
+returns-in_err-key g c =
+    let fault = c.in_err-key.field-0.0 in
+    let r = c.from_residual.result in
+    let same = c.from_residual.ensures.1 in
+    let refused : IsReadFault fault = inr c.in_err-key.ensures.refused in
+    let beyond : 2 ^ 63 ≤ c.args.number = c.in_err-key.ensures.beyond in
+    record {
+      asks = asks_none g.S.Store c.args.conn.now r (never_broken r (read_handed r fault same refused));
+      opens = λ low. absurd (omega (arith, low, beyond));
+      fault = fault_handed r fault same (read_told fault refused);
+      found = λ clean world stands. match_handed r fault same _ (read_told fault refused);
+      unrefused = λ clean world stands can limit. absurd (omega (arith, can.0, beyond));
+    }
 
-pub returns-in_err-with_instances-in-Some-clause-unrefused : goal.returns-in_err-with_instances-in-Some-clause-unrefused
-returns-in_err-with_instances-in-Some-clause-unrefused g c clean world stands can limit =
-    handed_on c.from_residual-in_err-with_instances-in-Some.result c.in_err-with_instances-in-Some.field-0.0 c.from_residual-in_err-with_instances-in-Some.ensures.1
-    (load_unrefused g.S.Store c.args.conn.now c.workunit_row_above.new.conn c.with_instances.new.conn (λ (w : Workunit). nat_lt c.args.number w.number) c.in-Some.row (Err c.in_err-with_instances-in-Some.field-0.0) (rw c.in-Some.is at c.in_ok-row.ensures.asks) (rw c.in-Some.is at c.in_ok-row.ensures.answers) c.in_err-with_instances-in-Some.ensures.asks c.in_err-with_instances-in-Some.ensures.unrefused clean world stands can.1 limit)
+pub returns-in_err-row : goal.returns-in_err-row
+returns-in_err-row g c =
+    let q = c.in_err-row.ensures in
+    let fault = c.in_err-row.field-0.0 in
+    let r = c.from_residual-in_err-row.result in
+    let same = c.from_residual-in_err-row.ensures.1 in
+    let it = asked_row g.S.Store (question Workunits (λ _. tt) above_asked above_fits (number c.args.number ∷ []) refl (λ _. refl)) c.args.conn.now c.ask_row.new.conn _ (also (sent_number c.args.number c.params-to_sql.ensures c.in_ok-key.ensures.value c.in_ok-key.ensures.within) no_more) (row_above c.args.number)
+    (λ rows h world s. above_found (state g.S.Store c.args.conn.now) (state g.S.Store c.ask_row.new.conn) world s c.args.number rows h) (Err fault) q.asks q.opens q.shows q.fails q.told in
+    record {
+      asks = asks_handed g.S.Store _ _ r fault same it.asks;
+      opens = λ low. opens_handed r fault same g.S.Store c.ask_row.new.conn it.opens;
+      fault = fault_handed r fault same it.fault;
+      found = λ clean world stands. match_handed r fault same _ it.fault;
+      unrefused = λ clean world stands can limit. handed_on r fault same (it.unrefused clean world stands tt limit);
+    }
 
-pub returns-in_ok-with_instances-in-Some-clause-found : goal.returns-in_ok-with_instances-in-Some-clause-found
-returns-in_ok-with_instances-in-Some-clause-found g c clean world stands =
-    load_found g.S.Store c.args.conn.now c.workunit_row_above.new.conn c.with_instances.new.conn (λ (w : Workunit). nat_lt c.args.number w.number) c.in-Some.row (Ok c.in_ok-with_instances-in-Some.field-0) (rw c.in-Some.is at c.in_ok-row.ensures.asks) (rw c.in-Some.is at c.in_ok-row.ensures.answers) c.in_ok-with_instances-in-Some.ensures.asks c.in_ok-with_instances-in-Some.ensures.found clean world stands
+pub returns : goal.returns
+returns g c =
+    let q = c.in_ok-row.ensures in
+    let row = c.in_ok-row.row in
+    let test = λ (w : Workunit). nat_lt c.args.number w.number in
+    let it = asked_row g.S.Store (question Workunits (λ _. tt) above_asked above_fits (number c.args.number ∷ []) refl (λ _. refl)) c.args.conn.now c.ask_row.new.conn _ (also (sent_number c.args.number c.params-to_sql.ensures c.in_ok-key.ensures.value c.in_ok-key.ensures.within) no_more) (row_above c.args.number)
+    (λ rows h world s. above_found (state g.S.Store c.args.conn.now) (state g.S.Store c.ask_row.new.conn) world s c.args.number rows h) (Ok row) q.asks q.opens q.shows q.fails q.told in
+    record {
+      asks = asks_then g.S.Store _ _ _ row it.asks c.loaded.result c.loaded.ensures.asks;
+      opens = λ low. opens_then g.S.Store c.ask_row.new.conn c.loaded.new.conn it.opens c.loaded.result c.loaded.ensures.asks;
+      fault = c.loaded.ensures.fault;
+      found = load_found g.S.Store _ _ _ test row c.loaded.result it.asks it.answers c.loaded.ensures.asks c.loaded.ensures.found;
+      unrefused = λ clean world stands can limit.
+          load_unrefused g.S.Store _ _ _ test row c.loaded.result it.asks it.answers c.loaded.ensures.asks c.loaded.ensures.unrefused clean world stands can.1 limit;
+    }

@@ -1,12 +1,41 @@
-use Rattle.wu_store.proofs.AskLemmas.{handed_on}
+use Rattle.wu_schema.proofs.Words.{Err, Ok, [], refl, state}
+use Rattle.wu_schema.proofs.Parts.{Archive}
+use Rattle.wu_store.specs.Answers.{last_archived}
+use Rattle.wu_store.proofs.AskLemmas.{asked_row, asks_handed, asks_row, fault_handed, fault_read, handed_on, match_handed, nothing_handed, opens_handed, opens_made}
+use Rattle.wu_store.proofs.LastLemmas.{archived_text, archived_fits, archived_found, last_question}
 use Rattle.wu_store.proofs.LoadLemmas.{place_known, place_read}
 use Rattle.wu_store.proofs.loading.next_archived_place.Goals as goal
 
-pub returns-in_err-last_archived_row-clause-unrefused : goal.returns-in_err-last_archived_row-clause-unrefused
-returns-in_err-last_archived_row-clause-unrefused g c clean world stands any limit = handed_on c.from_residual.result c.in_err-last_archived_row.field-0.0 c.from_residual.ensures.1 (c.in_err-last_archived_row.ensures.unrefused clean world stands tt limit)
+pub returns-in_err-last : goal.returns-in_err-last
+returns-in_err-last g c =
+    let q = c.in_err-last.ensures in
+    let fault = c.in_err-last.field-0.0 in
+    let r = c.from_residual.result in
+    let same = c.from_residual.ensures.1 in
+    let it = asked_row g.S.Store (last_question Archive (λ _. tt) archived_text archived_fits) c.args.conn.now c.ask_row.new.conn [] refl last_archived
+    (λ rows h world s. archived_found (state g.S.Store c.args.conn.now) (state g.S.Store c.ask_row.new.conn) world s rows h) (Err fault) q.asks q.opens q.shows q.fails q.told in
+    record {
+      within = nothing_handed r fault same _;
+      asks = asks_handed g.S.Store _ _ r fault same it.asks;
+      opens = opens_handed r fault same g.S.Store c.ask_row.new.conn it.opens;
+      fault = fault_handed r fault same it.fault;
+      place = λ clean world stands. match_handed r fault same _ it.fault;
+      unrefused = λ clean world stands any limit. handed_on r fault same (it.unrefused clean world stands tt limit);
+    }
 
-pub returns-clause-place : goal.returns-clause-place
-returns-clause-place g c clean world stands = place_known world.archived c.in_ok-last_archived_row.field-0 c.place_behind.result (c.in_ok-last_archived_row.ensures.answers clean world stands) c.place_behind.ensures.reads
-
-pub returns-clause-unrefused : goal.returns-clause-unrefused
-returns-clause-unrefused g c clean world stands any limit = place_read world.archived c.in_ok-last_archived_row.field-0 c.place_behind.result (c.in_ok-last_archived_row.ensures.answers clean world stands) c.place_behind.ensures.reads
+pub returns : goal.returns
+returns g c =
+    let q = c.in_ok-last.ensures in
+    let last = c.in_ok-last.last in
+    let r = c.place_behind.result in
+    let reads = c.place_behind.ensures.reads in
+    let it = asked_row g.S.Store (last_question Archive (λ _. tt) archived_text archived_fits) c.args.conn.now c.ask_row.new.conn [] refl last_archived
+    (λ rows h world s. archived_found (state g.S.Store c.args.conn.now) (state g.S.Store c.ask_row.new.conn) world s rows h) (Ok last) q.asks q.opens q.shows q.fails q.told in
+    record {
+      within = c.place_behind.ensures.within;
+      asks = asks_row g.S.Store _ _ last r reads.refused it.asks;
+      opens = opens_made g.S.Store c.ask_row.new.conn r it.opens;
+      fault = fault_read r reads.refused;
+      place = λ clean world stands. place_known world.archived last r (it.answers clean world stands) reads;
+      unrefused = λ clean world stands any limit. place_read world.archived last r (it.answers clean world stands) reads;
+    }

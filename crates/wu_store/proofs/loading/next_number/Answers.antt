@@ -1,22 +1,63 @@
-use Rattle.std.proofs.Common.{◌≡◌, sym, ◌∙◌}
-use Rattle.wu_store.proofs.AskLemmas.{handed_on}
+use Rattle.wu_schema.proofs.Words.{Err, Ok, Some, [], inr, refl, state, sym, ◌∙◌, ◌≡◌}
+use Rattle.wu_schema.proofs.Parts.{Project}
+use Rattle.wu_core.specs.declared.fault.Fault.TheVariants.{NotAProject}
+use Rattle.wu_store.proofs.AskLemmas.{asked_row, asks_handed, asks_row, fault_handed, fault_read, handed_on, match_handed, nothing_handed, opens_handed, opens_made, question}
 use Rattle.wu_store.specs.Answers.{next_row}
-use Rattle.wu_store.proofs.LoadLemmas.{never_unread, next_is}
+use Rattle.wu_store.proofs.ReadAnswers.{next_found}
+use Rattle.wu_store.proofs.SelectTexts.{next_asked, next_fits}
+use Rattle.wu_store.proofs.LoadLemmas.{never_unread, next_is, next_within}
 use Rattle.wu_schema.proofs.QuietLemmas.{same_some}
 use Rattle.wu_store.proofs.loading.next_number.Goals as goal
 
-pub returns-in_err-row-clause-unrefused : goal.returns-in_err-row-clause-unrefused
-returns-in_err-row-clause-unrefused g c clean world stands has limit = handed_on c.from_residual.result c.in_err-row.field-0.0 c.from_residual.ensures.1 (c.in_err-row.ensures.unrefused clean world stands tt limit)
+pub returns-in_err-row : goal.returns-in_err-row
+returns-in_err-row g c =
+    let q = c.in_err-row.ensures in
+    let fault = c.in_err-row.field-0.0 in
+    let r = c.from_residual.result in
+    let same = c.from_residual.ensures.1 in
+    let it = asked_row g.S.Store (question Project (λ _. tt) next_asked next_fits [] refl (λ _. refl)) c.args.conn.now c.ask_row.new.conn [] refl (λ world. Some (next_row world))
+    (λ found h world s. next_found (state g.S.Store c.args.conn.now) (state g.S.Store c.ask_row.new.conn) world s found h) (Err fault) q.asks q.opens q.shows q.fails q.told in
+    record {
+      within = nothing_handed r fault same _;
+      asks = asks_handed g.S.Store _ _ r fault same it.asks;
+      opens = opens_handed r fault same g.S.Store c.ask_row.new.conn it.opens;
+      fault = fault_handed r fault same it.fault;
+      next = λ clean world stands. match_handed r fault same _ it.fault;
+      unrefused = λ clean world stands has limit. handed_on r fault same (it.unrefused clean world stands tt limit);
+    }
 
-pub returns-in-Some-clause-next : goal.returns-in-Some-clause-next
-returns-in-Some-clause-next g c clean world stands =
-    let row_is : c.in-Some.row ≡ next_row world = same_some (sym c.in-Some.is ∙ c.in_ok-row.ensures.answers clean world stands) in
-    next_is world.next_number c.in-Some.row c.next_number_from.result row_is c.next_number_from.ensures.reads
+pub returns-in-Some : goal.returns-in-Some
+returns-in-Some g c =
+    let q = c.in_ok-row.ensures in
+    let row = c.in_ok-row.row in
+    let asked = asked_row g.S.Store (question Project (λ _. tt) next_asked next_fits [] refl (λ _. refl)) c.args.conn.now c.ask_row.new.conn [] refl (λ world. Some (next_row world))
+    (λ found h world s. next_found (state g.S.Store c.args.conn.now) (state g.S.Store c.ask_row.new.conn) world s found h) (Ok row) q.asks q.opens q.shows q.fails q.told in
+    let r = c.next_number_from.result in
+    let reads = c.next_number_from.ensures.reads in
+    record {
+      within = next_within c.in-Some.row r reads;
+      asks = asks_row g.S.Store _ _ row r reads.refused asked.asks;
+      opens = opens_made g.S.Store c.ask_row.new.conn r asked.opens;
+      fault = fault_read r reads.refused;
+      next = λ clean world stands.
+          let row_is : c.in-Some.row ≡ next_row world = same_some (sym c.in-Some.is ∙ asked.answers clean world stands) in
+          next_is world.next_number c.in-Some.row r row_is reads;
+      unrefused = λ clean world stands has limit.
+          let row_is : c.in-Some.row ≡ next_row world = same_some (sym c.in-Some.is ∙ asked.answers clean world stands) in
+          never_unread _ _ c.in-Some.row r world.next_number reads has row_is;
+    }
 
-pub returns-in-Some-clause-unrefused : goal.returns-in-Some-clause-unrefused
-returns-in-Some-clause-unrefused g c clean world stands has limit =
-    let row_is : c.in-Some.row ≡ next_row world = same_some (sym c.in-Some.is ∙ c.in_ok-row.ensures.answers clean world stands) in
-    never_unread _ _ c.in-Some.row c.next_number_from.result world.next_number c.next_number_from.ensures.reads has row_is
-
-pub returns-in-None-clause-unrefused : goal.returns-in-None-clause-unrefused
-returns-in-None-clause-unrefused g c clean world stands has limit = absurd (let no = sym c.in-None.is ∙ c.in_ok-row.ensures.answers clean world stands in cc)
+pub returns-in-None : goal.returns-in-None
+returns-in-None g c =
+    let q = c.in_ok-row.ensures in
+    let row = c.in_ok-row.row in
+    let asked = asked_row g.S.Store (question Project (λ _. tt) next_asked next_fits [] refl (λ _. refl)) c.args.conn.now c.ask_row.new.conn [] refl (λ world. Some (next_row world))
+    (λ found h world s. next_found (state g.S.Store c.args.conn.now) (state g.S.Store c.ask_row.new.conn) world s found h) (Ok row) q.asks q.opens q.shows q.fails q.told in
+    record {
+      within = tt;
+      asks = asks_row g.S.Store _ _ row (Err NotAProject) (inr refl) asked.asks;
+      opens = λ clean. inr (asked.opens clean);
+      fault = inr (inr refl);
+      next = λ clean world stands. inr (inr refl);
+      unrefused = λ clean world stands has limit. absurd (let no = sym c.in-None.is ∙ asked.answers clean world stands in cc);
+    }

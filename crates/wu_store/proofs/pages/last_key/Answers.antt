@@ -1,4 +1,4 @@
-use Rattle.wu_schema.proofs.Words.{Ok, ap, of_z, subst, sym, to_z, to_z-of_z, w64, ◌∙◌}
+use Rattle.wu_schema.proofs.Words.{Ok, ap, subst, sym, to_z-of_z, w64, ◌∙◌}
 use Rattle.std.specs.Option.{option_copied}
 use Rattle.wu_store.specs.Pages.{ReadsLastKey}
 use Rattle.wu_store.proofs.PageLemmas.{last_read, no_last}

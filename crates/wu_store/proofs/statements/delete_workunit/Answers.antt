@@ -9,7 +9,7 @@ use Rattle.wu_store.proofs.statements.delete_workunit.Goals as goal
 
 pub returns : goal.returns
 returns g c =
-    let given : _ ≡ number c.args.number ∷ [] = also (sent_number c.args.number c.params-to_sql.ensures c.in_ok-signed.ensures.value c.in_ok-signed.ensures.within) no_more in
+    let given : _ ≡ number c.args.number ∷ [] = also (sent_number c.args.number c.params-to_sql.ensures c.in_ok-number.ensures.value c.in_ok-number.ensures.within) no_more in
     let old = state g.S.Store c.args.tx.now.conn.now in
     let new = state g.S.Store c.execute.new.tx.conn.now in
     let ran : HasCleanDisk new → OnOk c.execute.result ((count : ℕ) × Executes delete_text (number c.args.number ∷ []) old new (Ok count)) =

@@ -14,7 +14,7 @@ returns g c =
     (also (ap bound_value c.params-to_sql-2.ensures ∙ ap (λ t. Text t) c.as_str.ensures)
     (also (ap bound_value c.params-to_sql-3.ensures)
     (also (ap bound_value c.params-to_sql-4.ensures)
-    (also (sent_number i.first_number c.params-to_sql-5.ensures c.in_ok-signed.ensures.value c.in_ok-signed.ensures.within)
+    (also (sent_number i.first_number c.params-to_sql-5.ensures c.in_ok-first_number.ensures.value c.in_ok-first_number.ensures.within)
     (also (ap bound_value c.params-to_sql-6.ensures ∙ ap (λ t. Text t) c.digits.ensures) no_more))))) in
     let old = state g.S.Store c.args.tx.now.conn.now in
     let new = state g.S.Store c.execute.new.tx.conn.now in

@@ -8,7 +8,7 @@ use Rattle.wu_store.proofs.statements.set_version.Goals as goal
 
 pub returns : goal.returns
 returns g c =
-    let given : _ ≡ number c.args.version ∷ [] = also (sent_number c.args.version c.params-to_sql.ensures c.in_ok-signed.ensures.value c.in_ok-signed.ensures.within) no_more in
+    let given : _ ≡ number c.args.version ∷ [] = also (sent_number c.args.version c.params-to_sql.ensures c.in_ok-version.ensures.value c.in_ok-version.ensures.within) no_more in
     let old = state g.S.Store c.args.tx.now.conn.now in
     let new = state g.S.Store c.execute.new.tx.conn.now in
     let ran : HasCleanDisk new → OnOk c.execute.result ((count : ℕ) × Executes version_set_text (number c.args.version ∷ []) old new (Ok count)) =

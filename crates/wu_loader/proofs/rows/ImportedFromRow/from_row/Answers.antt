@@ -1,8 +1,23 @@
-use Rattle.wu_schema.proofs.Words.{Import, Ok, import_cells, rules, subst, sym, ◌≡◌}
+use Rattle.wu_schema.proofs.Words.{Import, Ok, import_cells, refl, rules, subst, sym, ◌≡◌}
 use Rattle.wu_schema.specs.Restoring.{Restores}
 use Rattle.wu_loader.specs.Rows.{IsStoredImport}
-use Rattle.wu_loader.proofs.RowLemmas.{import_reads}
+use Rattle.wu_loader.proofs.RowLemmas.{column_unread, import_reads}
 use Rattle.wu_loader.proofs.rows.ImportedFromRow.from_row.Goals as goal
+
+pub returns-in_err-kind : goal.returns-in_err-kind
+returns-in_err-kind c = column_unread (λ (i : Import). i.kind) c.args.row.now 0 (λ i is. tt) (λ t. refl) c.in_err-kind.ensures c.from_residual.result c.from_residual.ensures.1
+
+pub returns-in_err-first_number : goal.returns-in_err-first_number
+returns-in_err-first_number c = column_unread (λ (i : Import). i.first_number) c.args.row.now 4 (λ i is. tt) (λ t. refl) c.in_err-first_number.ensures c.from_residual-in_err-first_number.result c.from_residual-in_err-first_number.ensures.1
+
+pub returns-in_err-template : goal.returns-in_err-template
+returns-in_err-template c = column_unread (λ (i : Import). i.template) c.args.row.now 2 (λ i is. tt) (λ t. refl) c.in_err-template.ensures c.from_residual-in_err-template.result c.from_residual-in_err-template.ensures.1
+
+pub returns-in_err-content : goal.returns-in_err-content
+returns-in_err-content c = column_unread (λ (i : Import). i.content) c.args.row.now 3 (λ i is. tt) (λ t. refl) c.in_err-content.ensures c.from_residual-in_err-content.result c.from_residual-in_err-content.ensures.1
+
+pub returns-in_err-name : goal.returns-in_err-name
+returns-in_err-name c = column_unread (λ (i : Import). i.name) c.args.row.now 1 (λ i is. is.name) (λ t. refl) c.in_err-name.ensures c.from_residual-in_err-name.result c.from_residual-in_err-name.ensures.1
 
 pub returns : goal.returns
 returns c =

@@ -1,18 +1,16 @@
-use Rattle.std.proofs.Common.{refl, rules, subst, sym}
-use Rattle.wu_passes.specs.Projects.{state_of}
-use Rattle.wu_passes.specs.Walks.{ShowsTables}
-use Rattle.wu_passes.proofs.WalkLemmas.{all_left}
+use Rattle.std.proofs.Common.{refl}
+use Rattle.wu_passes.proofs.WalkLemmas.{walks_same}
 use Rattle.wu_passes.proofs.project.Project.walk_results.Goals as goal
 
 pub returns : goal.returns
 returns g c = (
-  (let e = c.new-2.ensures.same_reference in cc, λ w. refl, tt),
+  (refl, c.walk_pages.follows.holds, c.walk_pages.follows.holds-at-none),
   record {
     refused = tt;
-    same_reference = c.new-2.ensures.same_reference;
-    early = search rules;
-    begins = record { same = c.new-2.ensures.same; present = search rules; none = c.new-2.ensures.none };
-    fault = λ still present. refl;
-    lines = λ world shows. all_left _ world _ c.new.result _ _ _ (subst (λ project. ShowsTables (state_of project) world) (sym c.new-2.ensures.same) shows) c.new-2.ensures.none c.new-2.ensures.pages (c.new.ensures.all world);
+    same_reference = c.walk_pages.ensures.same_reference;
+    early = c.walk_pages.ensures.early;
+    begins = c.walk_pages.ensures.begins;
+    fault = c.walk_pages.ensures.fault;
+    lines = walks_same _ _ _ c.args.self.now c.walk_pages.result c.new.ensures.all c.walk_pages.ensures.lines;
   },
 )

@@ -1,20 +1,44 @@
-use Rattle.wu_schema.proofs.Words.{Err, None, Ok, Option, Row, Some, ap, List, length, slice_get, subst, sym, ℕ, ◌-◌, ◌∙◌, ◌≡◌}
+use Rattle.wu_schema.proofs.Words.{Err, Option, ap, List, subst, sym, ℕ, ◌∙◌, ◌≡◌}
 use Rattle.std.specs.Option.{option_copied}
-use Rattle.wu_core.specs.World.{World}
 use Rattle.wu_store.specs.Pages.{IsRowOfHost, TurnsTo, host_lines_behind, host_page_behind}
 use Rattle.wu_store.specs.declared.pages.hosts.HostPages.{HostPages}
-use Rattle.wu_store.proofs.AskLemmas.{handed_on}
+use Rattle.wu_store.proofs.AskLemmas.{asks_handed, asks_made, asks_row, fault_handed, fault_read, handed_on, never_err, nothing_handed, opens_handed, opens_made, read_handed}
 use Rattle.wu_store.proofs.PageHosts.{none_turned, some_read, some_turned}
 use Rattle.wu_store.proofs.pages.hosts.HostPagesPages.turn.Goals as goal
 use Rattle.wu_store.proofs.pages.hosts.HostPagesPages.turn.Goals.{in-Some+in_ok-name_at+in-Some-1, in-Some+in_ok-name_at+in-None-1, in_default}
 
-pub returns-in_err-rows-clause-unrefused : goal.returns-in_err-rows-clause-unrefused
-returns-in_err-rows-clause-unrefused g c clean world stands can limit = handed_on c.from_residual.result c.in_err-rows.field-0.0 c.from_residual.ensures.1 (c.in_err-rows.ensures.unrefused clean world stands tt limit)
+pub returns-in_err-rows : goal.returns-in_err-rows
+returns-in_err-rows g c =
+    let fault = c.in_err-rows.field-0.0 in
+    let r = c.from_residual.result in
+    let same = c.from_residual.ensures.1 in
+    record {
+      asks = asks_handed g.S.Store _ _ r fault same c.in_err-rows.ensures.asks;
+      opens = opens_handed r fault same g.S.Store c.page_behind.new.conn c.in_err-rows.ensures.opens;
+      fault = fault_handed r fault same c.in_err-rows.ensures.fault;
+      rows = λ clean world stands. nothing_handed r fault same _;
+      unrefused = λ clean world stands can limit. handed_on r fault same (c.in_err-rows.ensures.unrefused clean world stands tt limit);
+    }
 
-pub returns-in_err-name_at-clause-unrefused : goal.returns-in_err-name_at-clause-unrefused
-returns-in_err-name_at-clause-unrefused g c clean world stands can limit =
-    handed_on c.from_residual-in_err-name_at.result c.in_err-name_at.field-0.0 c.from_residual-in_err-name_at.ensures.1
-    (some_read world c.args.self.now.after _ (c.deref.ensures.value ∙ c.in_ok-rows.ensures.answers clean world stands) c.in-Some.row.now (sym c.last.ensures.value ∙ ap option_copied c.in-Some.is) (Err c.in_err-name_at.field-0.0) c.in_err-name_at.ensures can)
+pub returns-in_err-name_at : goal.returns-in_err-name_at
+returns-in_err-name_at g c =
+    let asked = c.in_ok-rows.ensures in
+    let fault = c.in_err-name_at.field-0.0 in
+    let r = c.from_residual-in_err-name_at.result in
+    let same = c.from_residual-in_err-name_at.ensures.1 in
+    let refused = read_handed r fault same c.in_err-name_at.ensures.refused in
+    record {
+      asks = asks_row g.S.Store _ _ c.in_ok-rows.rows r refused asked.asks;
+      opens = opens_made g.S.Store c.page_behind.new.conn r asked.opens;
+      fault = fault_read r refused;
+      rows = λ clean world stands. nothing_handed r fault same _;
+      unrefused = λ clean world stands can limit.
+          handed_on r fault same
+          (some_read world c.args.self.now.after _ (c.deref.ensures.value ∙ asked.answers clean world stands) c.in-Some.row.now (sym c.last.ensures.value ∙ ap option_copied c.in-Some.is) (Err fault) c.in_err-name_at.ensures can);
+    }
+
+pub returns-clause-asks : goal.returns-clause-asks
+returns-clause-asks g c = asks_made g.S.Store _ _ c.in_ok-rows.rows _ (never_err _) c.in_ok-rows.ensures.asks
 
 pub returns-clause-rows : goal.returns-clause-rows
 returns-clause-rows g c clean world stands =

@@ -4,20 +4,36 @@ use Rattle.std.specs.declared.alloc.Global.{Global}
 use Rattle.wu_core.specs.declared.workunit.Workunit.{Workunit}
 use Rattle.wu_store.specs.Pages.{IsFoundAs, result_lines_above, workunit_above}
 use Rattle.wu_store.specs.declared.pages.results.OfWorkunit.{OfWorkunit}
-use Rattle.wu_store.proofs.AskLemmas.{asks_done, asks_handed, asks_made, asks_stands, asks_then, handed_on, never_err}
+use Rattle.wu_store.proofs.AskLemmas.{asks_done, asks_handed, asks_made, asks_stands, asks_then, fault_handed, handed_on, never_err, nothing_handed, opens_handed}
 use Rattle.wu_store.proofs.PageResults.{found_at, last_page, none_at, passed_over, turned_page}
 use Rattle.wu_store.proofs.pages.results.ResultPagesPages.turn.Goals as goal
 use Rattle.wu_store.proofs.pages.results.ResultPagesPages.turn.Goals.{in-Some-1, in-None-1}
 
-pub returns-in_err-found-clause-asks : goal.returns-in_err-found-clause-asks
-returns-in_err-found-clause-asks g c =
-    asks_then g.S.Store _ _ _ tt c.loop-found.invariant.asks _ (asks_handed g.S.Store _ _ c.from_residual.result c.in_err-found.field-0.0 c.from_residual.ensures.1 c.in_err-found.ensures.asks)
+pub returns-in_err-found : goal.returns-in_err-found
+returns-in_err-found g c =
+    let fault = c.in_err-found.field-0.0 in
+    let r = c.from_residual.result in
+    let same = c.from_residual.ensures.1 in
+    record {
+      asks = asks_then g.S.Store _ _ _ tt c.loop-found.invariant.asks r (asks_handed g.S.Store _ _ r fault same c.in_err-found.ensures.asks);
+      opens = opens_handed r fault same g.S.Store c.instances_above.new.conn c.in_err-found.ensures.opens;
+      fault = fault_handed r fault same c.in_err-found.ensures.fault;
+      rows = λ clean world stands. nothing_handed r fault same _;
+      unrefused = λ clean world stands can limit.
+          let before : HasCleanDisk (state g.S.Store c.loop-found.conn) = omega (arith, c.instances_above.ensures.asks.crash.clean) in
+          let still : Refines (state g.S.Store c.loop-found.conn).now world = asks_stands g.S.Store _ _ tt c.loop-found.invariant.asks before world stands in
+          handed_on r fault same (c.in_err-found.ensures.unrefused clean world still can (c.loop-found.invariant.asks.crash.limit ∙ limit));
+    }
 
-pub returns-in_err-found-clause-unrefused : goal.returns-in_err-found-clause-unrefused
-returns-in_err-found-clause-unrefused g c clean world stands can limit =
-    let before : HasCleanDisk (state g.S.Store c.loop-found.conn) = omega (arith, c.instances_above.ensures.asks.crash.clean) in
-    let still : Refines (state g.S.Store c.loop-found.conn).now world = asks_stands g.S.Store _ _ tt c.loop-found.invariant.asks before world stands in
-    handed_on c.from_residual.result c.in_err-found.field-0.0 c.from_residual.ensures.1 (c.in_err-found.ensures.unrefused clean world still can (c.loop-found.invariant.asks.crash.limit ∙ limit))
+pub returns-then-not-is_empty-clause-opens : goal.returns-then-not-is_empty-clause-opens
+returns-then-not-is_empty-clause-opens g c = c.in_ok-found.ensures.opens
+
+pub returns-clause-opens : goal.returns-clause-opens
+returns-clause-opens g c = c.in_ok-found.ensures.opens
+
+pub returns-clause-asks : goal.returns-clause-asks
+returns-clause-asks g c =
+    asks_then g.S.Store _ _ _ tt c.loop-found.invariant.asks _ (asks_made g.S.Store _ _ c.in_ok-found.field-0 (Ok c.new.result) (never_err _) c.in_ok-found.ensures.asks)
 
 pub returns-then-not-is_empty-clause-asks : goal.returns-then-not-is_empty-clause-asks
 returns-then-not-is_empty-clause-asks g c =

@@ -1,0 +1,57 @@
+use Rattle.std.proofs.Common.{◌≡◌, ◌<◌, ◌∙◌, List, Some, ap, arith, get_or, length, refl, slice_get, subst, sym}
+use Rattle.std.proofs.lemmas.Option.{slice_get-get_or}
+use Rattle.std.proofs.lemmas.Result.{IfOk-weaker}
+use Rattle.wu_audit.specs.declared.wrong.Table.TheVariants as table
+use Rattle.wu_core.specs.declared.workunit.Archived.{Archived}
+use Rattle.wu_core.specs.declared.workunit.Grant.{Grant}
+use Rattle.wu_core.specs.declared.workunit.Workunit.{Workunit}
+use Rattle.wu_check.specs.declared.finding.Key.TheVariants as key
+use Rattle.wu_check.proofs.KeyLemmas.{key_at, key_of_none, row_within}
+use Rattle.wu_check.proofs.keys.key_of.Goals as goal
+
+pub bounds-workunits-place : goal.bounds-workunits-place
+bounds-workunits-place c = subst (λ (ws : List Workunit). c.in-Some.place < length ws) (sym c.workunits.ensures) (row_within c.args.loaded.now c.args.wrong table.Workunit c.in-Some.place c.requires (sym c.table.ensures ∙ c.in-Workunit.is) (sym c.place.ensures ∙ c.in-Some.is))
+
+pub counted-requires : goal.counted-requires
+counted-requires c = subst (λ (gs : List Grant). c.in-Some.place < length gs) (sym c.grants.ensures) (row_within c.args.loaded.now c.args.wrong table.CreditGrant c.in-Some.place c.requires (sym c.table.ensures ∙ c.in-CreditGrant.is) (sym c.place.ensures ∙ c.in-Some.is))
+
+pub counted-requires-in-Archived : goal.counted-requires-in-Archived
+counted-requires-in-Archived c = subst (λ (rows : List Archived). c.in-Some.place < length rows) (sym c.archived.ensures) (row_within c.args.loaded.now c.args.wrong table.Archived c.in-Some.place c.requires (sym c.table.ensures ∙ c.in-Archived.is) (sym c.place.ensures ∙ c.in-Some.is))
+
+pub import_key-requires : goal.import_key-requires
+import_key-requires c = row_within c.args.loaded.now c.args.wrong table.Import c.in-Some.place c.requires (sym c.table.ensures ∙ c.in-Import.is) (sym c.place.ensures ∙ c.in-Some.is)
+
+pub returns-in_default : goal.returns-in_default
+returns-in_default c = record { key = key_of_none c.args.loaded.now c.args.wrong (sym c.place.ensures ∙ c.in_default.is); memory = tt }
+
+pub returns-in-Project : goal.returns-in-Project
+returns-in-Project c = record {
+  key = let none = row_within c.args.loaded.now c.args.wrong table.Project c.in-Some.place c.requires (sym c.table.ensures ∙ c.in-Project.is) (sym c.place.ensures ∙ c.in-Some.is) in absurd (omega (arith, none));
+  memory = tt;
+}
+
+pub returns-in-Workunit : goal.returns-in-Workunit
+returns-in-Workunit c =
+    let place = c.in-Some.place in
+    let read : Workunit = get_or c.workunits.result.now place c.index-workunits-place.result in
+    let within = subst (λ (ws : List Workunit). place < length ws) (sym c.workunits.ensures) (row_within c.args.loaded.now c.args.wrong table.Workunit place c.requires (sym c.table.ensures ∙ c.in-Workunit.is) (sym c.place.ensures ∙ c.in-Some.is)) in
+    let there = subst (λ (ws : List Workunit). slice_get ws place ≡ Some read) c.workunits.ensures (slice_get-get_or c.workunits.result.now place c.index-workunits-place.result within) in
+    record { key = key_at c.args.loaded.now c.args.wrong table.Workunit place (key.Workunit read.number) (sym c.table.ensures ∙ c.in-Workunit.is) (sym c.place.ensures ∙ c.in-Some.is) (read, (place, refl, there), refl); memory = tt }
+
+pub returns-in-CreditGrant : goal.returns-in-CreditGrant
+returns-in-CreditGrant c = record {
+  key = key_at c.args.loaded.now c.args.wrong table.CreditGrant c.in-Some.place (key.Grant c.counted.result) (sym c.table.ensures ∙ c.in-CreditGrant.is) (sym c.place.ensures ∙ c.in-Some.is) (c.in-Some.place, refl, ap key.Grant c.counted.ensures);
+  memory = tt;
+}
+
+pub returns-in-Archived : goal.returns-in-Archived
+returns-in-Archived c = record {
+  key = key_at c.args.loaded.now c.args.wrong table.Archived c.in-Some.place (key.Archived c.counted-in-Archived.result) (sym c.table.ensures ∙ c.in-Archived.is) (sym c.place.ensures ∙ c.in-Some.is) (c.in-Some.place, refl, ap key.Archived c.counted-in-Archived.ensures);
+  memory = tt;
+}
+
+pub returns-in-Import : goal.returns-in-Import
+returns-in-Import c = record {
+  key = IfOk-weaker c.import_key.result _ _ (λ k is. key_at c.args.loaded.now c.args.wrong table.Import c.in-Some.place k (sym c.table.ensures ∙ c.in-Import.is) (sym c.place.ensures ∙ c.in-Some.is) is) c.import_key.ensures.key;
+  memory = c.import_key.ensures.memory;
+}

@@ -1,0 +1,31 @@
+-- The question about each table, and what its answer shows.
+use Rattle.std.specs.Prelude.{◌≡◌, ℕ, List, codes, map}
+use Rattle.std.specs.List.Sorted.{IsPermutation}
+use Rattle.sqlite.specs.Order.{Row}
+use Rattle.sqlite.specs.Tree.{Trees}
+use Rattle.wu_schema.specs.Tables.{ProjectTrees}
+use Rattle.wu_loader.specs.Shown.{keyed, unkeyed}
+use Rattle.wu_loader.specs.declared.finding.Table.{Table}
+use Rattle.wu_loader.specs.declared.finding.Table.TheVariants as table
+
+-- all rows of a table: in order of the key where that is the rowid, else in any order
+abbrev pub question : Table → List ℕ
+question table.Project = codes "SELECT one, version, next_number FROM project ORDER BY one"
+question table.Workunit =
+    codes "SELECT number, name, min_quorum, target_nresults, max_error_results, max_total_results, max_success_results, delay_bound, credit, input, error_mask, canonical, assimilate, file_delete, done_at FROM workunit ORDER BY number"
+question table.Result =
+    codes "SELECT workunit, n, server_state, outcome, validate_state, file_delete, host, sent_at, deadline, received_at, output FROM result"
+question table.CreditGrant = codes "SELECT seq, workunit, n, host, credit FROM credit_grant ORDER BY seq"
+question table.Host = codes "SELECT name, total, grants FROM host"
+question table.Archived = codes "SELECT seq, number, name, error_mask, canonical, output, done_at FROM archived ORDER BY seq"
+question table.Import = codes "SELECT kind, name, template, content, first_number, verdicts FROM import"
+
+-- these are the rows that are shown
+abbrev pub ShowsTable : Table → Trees → ProjectTrees → List Row → Type 0
+ShowsTable table.Project db trees rows = rows ≡ map (keyed 3) (db trees.project)
+ShowsTable table.Workunit db trees rows = rows ≡ map (keyed 15) (db trees.workunit)
+ShowsTable table.Result db trees rows = IsPermutation (map (unkeyed 11) (db trees.result)) rows
+ShowsTable table.CreditGrant db trees rows = rows ≡ map (keyed 5) (db trees.grant)
+ShowsTable table.Host db trees rows = IsPermutation (map (unkeyed 3) (db trees.host)) rows
+ShowsTable table.Archived db trees rows = rows ≡ map (keyed 7) (db trees.archived)
+ShowsTable table.Import db trees rows = IsPermutation (map (unkeyed 6) (db trees.import)) rows
