@@ -1,6 +1,7 @@
 """A plain script that does a project's work over Python's sqlite3 module, one commit a command, and times it.
 
-    python3 plain.py FILE    prints a line 'name<TAB>milliseconds' for each command
+    python3 plain.py FILE           prints a line 'name<TAB>milliseconds' for each command
+    python3 plain.py FILE --views   the same for each view of a file that is there, and writes their texts to FILE.NAME
 
 It keeps the same tables with the same queue, reads the same files and follows the same rules, without the proofs: a
 pass reads the rows of its first workunits by the queue with two queries, judges them in Python, and writes them with
@@ -360,17 +361,74 @@ def purge(db, now, limit, min_age):
     return len(gone)
 
 
-def view(db):
-    words = ["INIT", "READY", "DONE", "ERROR"]
-    out = io.BytesIO()
+STATES = {UNSENT: "UNSENT", IN_PROGRESS: "IN_PROGRESS", OVER: "OVER"}
+OUTCOMES = ["INIT", "SUCCESS", "", "CLIENT_ERROR", "NO_REPLY", "DIDNT_NEED"]
+VERDICTS = ["INIT", "VALID", "INVALID", "NO_CHECK", "INCONCLUSIVE", "TOO_LATE"]
+STEPS = ["INIT", "READY", "DONE", "ERROR"]
+
+
+def moment(seconds):
+    return "-" if seconds is None else datetime.fromtimestamp(seconds, timezone.utc).strftime("%Y-%m-%dT%H:%M:%SZ")
+
+
+def or_dash(value):
+    return "-" if value is None else value
+
+
+def workunits(db):
     for w in db.execute("SELECT * FROM workunit ORDER BY number"):
         w = dict(zip(WORKUNIT, w))
-        done = "-" if w["done_at"] is None else datetime.fromtimestamp(w["done_at"], timezone.utc).strftime("%Y-%m-%dT%H:%M:%SZ")
-        canonical = "-" if w["canonical"] is None else w["canonical"]
-        out.write(
-            f"{w['number']} {w['name']} input={len(w['input'])} quorum={w['min_quorum']} target={w['target_nresults']} max_error={w['max_error_results']} max_total={w['max_total_results']} max_success={w['max_success_results']} delay={w['delay_bound']} credit={w['credit']} mask={w['error_mask']} canonical={canonical} assimilate={words[w['assimilate']]} delete={words[w['file_delete']]} done={done}\n".encode()
-        )
-    return out.getvalue().count(b"\n")
+        yield f"{w['number']} {w['name']} input={len(w['input'])} quorum={w['min_quorum']} target={w['target_nresults']} max_error={w['max_error_results']} max_total={w['max_total_results']} max_success={w['max_success_results']} delay={w['delay_bound']} credit={w['credit']} mask={w['error_mask']} canonical={or_dash(w['canonical'])} assimilate={STEPS[w['assimilate']]} delete={STEPS[w['file_delete']]} done={moment(w['done_at'])}"
+
+
+def results(db):
+    lines = "SELECT w.name, n, server_state, outcome, validate_state, r.file_delete, host, sent_at, deadline, received_at, length(output) FROM result r JOIN workunit w ON w.number = workunit ORDER BY workunit, n"
+    for name, n, state, outcome, verdict, deletion, host, sent_at, deadline, received, size in db.execute(lines):
+        yield f"{name}_{n} {STATES[state]} {OUTCOMES[outcome]} {VERDICTS[verdict]} {STEPS[deletion]} host={or_dash(host)} sent={moment(sent_at)} deadline={moment(deadline)} received={moment(received)} output={size}"
+
+
+def hosts(db):
+    for name, total, grants in db.execute("SELECT name, total, grants FROM host ORDER BY name"):
+        yield f"{name} total={total} grants={grants}"
+
+
+def archive(db):
+    for number, name, mask, canonical, output, done in db.execute("SELECT number, name, error_mask, canonical, output, done_at FROM archived ORDER BY seq"):
+        yield f"{number} {name} mask={mask} canonical={or_dash(canonical)} done={moment(done)} output={output.hex() or '-'}"
+
+
+def summary(db):
+    def count(table):
+        return db.execute(f"SELECT count(*) FROM {table}").fetchone()[0]
+
+    version, following = db.execute("SELECT version, next_number FROM project").fetchone()
+    states = dict(db.execute("SELECT server_state, count(*) FROM result GROUP BY server_state"))
+    credit = db.execute("SELECT coalesce(sum(credit), 0) FROM credit_grant").fetchone()[0]
+    yield f"version {version}"
+    yield f"next {following}"
+    yield f"workunits {count('workunit')}"
+    yield f"results {sum(states.values())}"
+    for state, word in ((UNSENT, "unsent"), (IN_PROGRESS, "in_progress"), (OVER, "over")):
+        yield f"{word} {states.get(state, 0)}"
+    yield f"archived {count('archived')}"
+    yield f"grants {count('credit_grant')}"
+    yield f"credit {credit}"
+    yield f"imports {count('import')}"
+
+
+VIEWS = [workunits, results, hosts, archive, summary]
+
+
+def view(db, lines):
+    out = io.BytesIO()
+    for line in lines(db):
+        out.write(f"{line}\n".encode())
+    return out
+
+
+def views(db):
+    for lines in VIEWS:
+        timed(f"view {lines.__name__}", lambda: view(db, lines).tell())
 
 
 def timed(name, work):
@@ -423,7 +481,7 @@ def main(path):
     more(db, 0, 20)
     day(db, "among 20,000", 200_001)
     idle(db, "among 20,000")
-    timed("view of 20,000 lines", lambda: view(db))
+    views(db)
     more(db, 20, 80)
     day(db, "among 100,000", 300_001)
     idle(db, "among 100,000")
@@ -435,4 +493,15 @@ def main(path):
     timed("opening with 100,000", reopened)
 
 
-main(sys.argv[1])
+def shown(path):
+    db = sqlite3.connect(path)
+    views(db)
+    for lines in VIEWS:
+        with open(f"{path}.{lines.__name__}", "wb") as file:
+            file.write(view(db, lines).getvalue())
+
+
+if sys.argv[2:] == ["--views"]:
+    shown(sys.argv[1])
+else:
+    main(sys.argv[1])

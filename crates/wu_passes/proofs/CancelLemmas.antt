@@ -18,36 +18,40 @@ use Rattle.wu_machine.specs.Machine.{cancel_done, done, IsUpToDate}
 use Rattle.wu_passes.specs.Planning.{IsCancelPlan, IsPlan, RefusesCancel}
 use Rattle.wu_machine.specs.Commands.{reply_of_answer}
 use Rattle.wu_machine.specs.Requests.{AskCancel, Cancelled, Reply}
-use Rattle.wu_passes.specs.Touched.{AreImages, touched_named, with_touched}
+use Rattle.wu_passes.specs.declared.touched.Touch.{Touch}
+use Rattle.wu_passes.specs.Touched.{AreImages, touched_named, untouched, with_touched}
 use Rattle.wu_machine.specs.Worlds.{workunit_named, with_named}
 use Rattle.wu_machine.proofs.Versions.{done_up_to_date}
 use Rattle.wu_passes.proofs.PlanLemmas.{queued}
 use Rattle.wu_passes.proofs.TouchedLemmas.{images_by_row, images_empty, images_loaded, left_by_row, loaded, loaded_found, name_found, replaced_all, touched_empty}
 
 module _ (db : Database) (world : World) (stands : Refines db world) (name : List ℕ) (w : Workunit) (present : workunit_named world name ≡ Some w) where
-  images : AreImages world (w ∷ [])
-  images = images_loaded world (once_named db world stands) [] (w ∷ []) name w present refl (λ q. refl) (images_empty world)
+  images : AreImages world (untouched w ∷ [])
+  images = images_loaded world (once_named db world stands) [] (untouched w ∷ []) name w present refl (λ q. refl) (images_empty world)
 
-  there : touched_named (w ∷ []) name ≡ Some w
-  there = loaded_found world (once_named db world stands) [] (w ∷ []) name w present refl (λ q. refl)
+  there : touched_named (untouched w ∷ []) name ≡ Some (untouched w)
+  there = loaded_found world (once_named db world stands) [] (untouched w ∷ []) name w present refl (λ q. refl)
 
-  here : with_touched (w ∷ []) world ≡ world
-  here = loaded world (once_named db world stands) [] (w ∷ []) name w present refl (λ q. refl) ∙ touched_empty world
+  here : with_touched (untouched w ∷ []) world ≡ world
+  here = loaded world (once_named db world stands) [] (untouched w ∷ []) name w present refl (λ q. refl) ∙ touched_empty world
 
   -- another of its name and number in its place
   module _ (image : Workunit) (named : image.name ≡ w.name) (numbered : image.number ≡ w.number) where
-    found_by : (q : List ℕ) → touched_named (image ∷ []) q ≡ (if bytes_eq w.name q then Some image else touched_named (w ∷ []) q)
-    found_by q = ap (λ n. if bytes_eq n q then Some image else None) named ∙ elim (cases_Bool (bytes_eq w.name q)) [
+    abbrev changed : Touch
+    changed = record { was = w; now = image }
+
+    found_by : (q : List ℕ) → touched_named (changed ∷ []) q ≡ (if bytes_eq w.name q then Some changed else touched_named (untouched w ∷ []) q)
+    found_by q = ap (λ n. if bytes_eq n q then Some changed else None) named ∙ elim (cases_Bool (bytes_eq w.name q)) [
       | inl on ↦ rw on refl
       | inr off ↦ rw off refl
     ]
 
     pub replaced_one : (change : Workunit → Workunit) → change w ≡ image
-        → (made_all (Replace image ∷ []) world ≡ with_named world name change) × (IsQueued world → AreRight (Replace image ∷ []) world)
+        → (made_all (Replace w image ∷ []) world ≡ with_named world name change) × (IsQueued world → AreRight (Replace w image ∷ []) world)
     replaced_one change makes =
-        let all = images_by_row world (w ∷ []) (image ∷ []) name w image there images named numbered found_by in
-        let now = left_by_row world (w ∷ []) (image ∷ []) name w image there images named numbered found_by change makes in
-        let put = replaced_all (image ∷ []) world (once_named db world stands) (once_number db world stands) all (λ i j d low within. absurd (omega (arith, low, within))) in
+        let all = images_by_row world (untouched w ∷ []) (changed ∷ []) name (untouched w) image there images named numbered found_by in
+        let now = left_by_row world (untouched w ∷ []) (changed ∷ []) name (untouched w) image there images named numbered found_by change makes in
+        let put = replaced_all (changed ∷ []) world (once_named db world stands) (once_number db world stands) all (λ i j d low within. absurd (omega (arith, low, within))) in
         (put.0 ∙ now ∙ ap (λ (v : World). with_named v name change) here, put.1)
 
 pub same_name : (v : Workunit) → (cancelled v).name ≡ v.name
@@ -74,7 +78,7 @@ module _ (db : Database) (world : World) (stands : Refines db world) (is : IsUpT
         idle = λ none. absurd none;
       }
     where
-      same : made_all (Replace (cancelled w) ∷ []) world ≡ with_named world name cancelled
+      same : made_all (Replace w (cancelled w) ∷ []) world ≡ with_named world name cancelled
           → ◌≡◌ {A = Done} (Cancelled name, with_named world name cancelled) (reply_of_answer plan.answer, made_all plan.changes.items world)
       same made =
           ap {B = Done} (λ (n : List ℕ). (Cancelled n, with_named world name cancelled)) (sym (name_found world.workunits name w present))

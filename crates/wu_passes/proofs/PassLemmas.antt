@@ -1,16 +1,15 @@
 -- What the changes of a pass make of a world is what the pass makes of it.
 use Rattle.std.proofs.Common.{◌≡◌, ℕ, ◌<◌, ◌==◌, if◌then◌else◌, List, [], ◌∷◌, ◌++◌, map, refl, sym, ap, subst, ◌∙◌}
-use Rattle.std.proofs.lemmas.Bool.{eq-eqb, or_left, or_right}
+use Rattle.std.proofs.lemmas.Bool.{eq-eqb}
 use Rattle.std.specs.List.{AllByRecursion, filter, flat_map}
-use Rattle.std.specs.Prelude.{not}
+use Rattle.std.specs.Prelude.{find, not, Some}
 use Rattle.sqlite.specs.Effect.{Database}
 use Rattle.wu_core.specs.declared.workunit.Archived.{Archived}
 use Rattle.wu_core.specs.declared.workunit.Grant.{Grant}
 use Rattle.wu_core.specs.declared.workunit.Workunit.{Workunit}
 use Rattle.wu_core.specs.World.{World}
-use Rattle.wu_rules.proofs.Lists.{any-map}
 use Rattle.wu_schema.specs.Refines.{Refines}
-use Rattle.wu_store.specs.Changes.{HasNumber, IsNextPlace, with_replaced, without_workunit}
+use Rattle.wu_store.specs.Changes.{IsNextPlace, with_replaced, without_workunit}
 use Rattle.wu_store.specs.Changing.{AreRight, archived_from, granted_from, made_all}
 use Rattle.wu_store.specs.StandsFor.{IsQueued}
 use Rattle.wu_rules.specs.Due.{changes, chosen}
@@ -21,18 +20,26 @@ use Rattle.wu_rules.specs.declared.due.Pass.TheVariants.{Purge}
 use Rattle.wu_store.proofs.ChangingLemmas.{archived_made, archived_right, grants_made, grants_right}
 use Rattle.wu_store.proofs.PlacedLemmas.{Rises, is_other, replaced, world_rises}
 use Rattle.wu_machine.specs.Passes.{archives, granted, images, passed}
-use Rattle.wu_passes.proofs.TouchedLemmas.{made_append, number_kept, right_append}
-use Rattle.wu_machine.proofs.ImageLemmas.{Above, IsPart, none, taken, left, all_then, apart, first_ones, leaves, leaves_left, leaves_more, leaves_taken, part_all}
+use Rattle.wu_passes.proofs.TouchedLemmas.{made_append, others_found, right_append}
+use Rattle.wu_machine.proofs.ImageLemmas.{Above, IsPart, none, taken, left, apart, first_ones, leaves, leaves_left, leaves_more, leaves_taken, part_all}
 
--- each has its number there
-abbrev Have : List Workunit → List Workunit → Type 0
-Have ws = AllByRecursion (λ (w : Workunit). HasNumber w.number ws)
+-- each is found there by its number
+abbrev pub Have : List Workunit → List Workunit → Type 0
+Have ws = AllByRecursion (λ (w : Workunit). find (λ (v : Workunit). v.number == w.number) ws ≡ Some w)
 
-own_numbers : (ws : List Workunit) → Have ws ws
-own_numbers [] = tt
-own_numbers (w ∷ ws) = (or_left _ _ (eq-eqb w.number w.number refl), all_then (λ v. HasNumber v.number ws) (λ v. HasNumber v.number (w ∷ ws)) (λ v has. or_right _ _ has) ws (own_numbers ws))
+own_numbers : (ws : List Workunit) → Rises ws → Have ws ws
+own_numbers [] up = tt
+own_numbers (w ∷ ws) up = (rw (eq-eqb w.number w.number refl) refl, behind w ws ws up.0 (own_numbers ws up.1))
+  where
+    behind : (w : Workunit) (ts ws : List Workunit) → Above w.number ts → Have ws ts → Have (w ∷ ws) ts
+    behind w [] ws above has = tt
+    behind w (t ∷ ts) ws above has = let off = apart w.number t.number above.0 in (rw off.0 has.0, behind w ts ws above.1 has.1)
 
 -- ---- images in the places of workunits
+
+-- each in place of the one of its number
+abbrev pub replacements : (Workunit → Workunit) → List Workunit → List Change
+replacements image ts = map (λ w. Replace w (image w)) ts
 
 module _ (image : Workunit → Workunit) (numbers : (w : Workunit) → (image w).number ≡ w.number) where
   -- the images of these, one after another
@@ -40,7 +47,7 @@ module _ (image : Workunit → Workunit) (numbers : (w : Workunit) → (image w)
   put [] ws = ws
   put (t ∷ ts) ws = put ts (replaced (image t) ws)
 
-  made_put : (ts : List Workunit) (world : World) → made_all (map (λ w. Replace (image w)) ts) world ≡ record world { workunits = put ts world.workunits }
+  made_put : (ts : List Workunit) (world : World) → made_all (replacements image ts) world ≡ record world { workunits = put ts world.workunits }
   made_put [] world = refl
   made_put (t ∷ ts) world = made_put ts (with_replaced (image t) world)
 
@@ -77,16 +84,25 @@ module _ (image : Workunit → Workunit) (numbers : (w : Workunit) → (image w)
       ∙ ap (λ l. w ∷ l) (put_part part up.1)
       ∙ ap (λ l. l ++ flat_map (leaves (λ v. image v ∷ []) ts) ws) (sym (leaves_left (λ v. image v ∷ []) w ts above))
 
-  still_has : (t : Workunit) (n : ℕ) (ws : List Workunit) → HasNumber n ws → HasNumber n (replaced t ws)
-  still_has t n ws has = any-map (λ (v : Workunit). v.number == n) (λ (v : Workunit). v.number == n) (λ v. if v.number == t.number then t else v) (λ v. ap (λ m. m == n) (number_kept t v)) ws ∙ has
+  -- the others stay
+  still_have : (t : Workunit) (ts ws : List Workunit) → Above t.number ts → Have ws ts → Have (replaced (image t) ws) ts
+  still_have t [] ws above has = tt
+  still_have t (v ∷ ts) ws above has =
+      let off = apart t.number v.number above.0 in
+      (others_found (image t) v.number ws (ap (λ n. n == v.number) (numbers t) ∙ off.0) ∙ has.0, still_have t ts ws above.1 has.1)
 
-  right_put : (ts : List Workunit) (world : World) → IsQueued world → Have world.workunits ts → AreRight (map (λ w. Replace (image w)) ts) world
-  right_put [] world queue has = tt
-  right_put (t ∷ ts) world queue has = (
-    (queue, subst (λ n. HasNumber n world.workunits) (sym (numbers t)) has.0),
-    right_put ts (with_replaced (image t) world) queue
-        (all_then (λ v. HasNumber v.number world.workunits) (λ v. HasNumber v.number (replaced (image t) world.workunits)) (λ v. still_has (image t) v.number world.workunits) ts has.1),
+  right_put : (ts : List Workunit) (world : World) → IsQueued world → Rises ts → Have world.workunits ts → AreRight (replacements image ts) world
+  right_put [] world queue up has = tt
+  right_put (t ∷ ts) world queue up has = (
+    (queue, subst (λ n. find (λ (v : Workunit). v.number == n) world.workunits ≡ Some t) (sym (numbers t)) has.0),
+    right_put ts (with_replaced (image t) world) queue up.1 (still_have t ts world.workunits up.0 has.1),
   )
+
+-- some of a list whose numbers rise
+part_rises : {ts ws : List Workunit} → IsPart ts ws → Rises ws → Rises ts
+part_rises none up = tt
+part_rises (taken {w} part) up = (part_all (λ v. w.number < v.number) part up.0, part_rises part up.1)
+part_rises (left part) up = part_rises part up.1
 
 -- ---- workunits taken out
 
@@ -135,10 +151,7 @@ cut_part (left {w} {ts} {ws} part) up =
 
 -- ---- what a pass makes of a world that tables stand for
 
--- each in place of the one of its number, or each taken out
-abbrev pub replacements : (Workunit → Workunit) → List Workunit → List Change
-replacements image ts = map (λ w. Replace (image w)) ts
-
+-- each taken out
 abbrev pub removals : List Workunit → List Change
 removals ts = map (λ (w : Workunit). Remove w.number) ts
 
@@ -155,7 +168,10 @@ module _ (db : Database) (world : World) (stands : Refines db world) (pass : Pas
         ∙ (λ i. record world { workunits = flat_map (leaves (λ w. sym (is w) i) (chosen pass now min_age limit world)) world.workunits })
 
     pub pass_replaces_right : IsQueued world → AreRight (replacements image (chosen pass now min_age limit world)) world
-    pass_replaces_right queue = right_put image numbers (chosen pass now min_age limit world) world queue (part_all (λ v. HasNumber v.number world.workunits) chosen_part (own_numbers world.workunits))
+    pass_replaces_right queue =
+        let up = world_rises db world stands in
+        right_put image numbers (chosen pass now min_age limit world) world queue (part_rises chosen_part up)
+        (part_all (λ w. find (λ (v : Workunit). v.number == w.number) world.workunits ≡ Some w) chosen_part (own_numbers world.workunits up))
 
 -- a purge takes each chosen workunit out
 module _ (db : Database) (world : World) (stands : Refines db world) (now min_age limit : ℕ) where

@@ -31,10 +31,10 @@ asked ask = AskPass ask.pass ask.moment ask.limit ask.min_age
 
 -- how a pass changes a workunit: its image takes its place, or it goes
 abbrev pub change_by : Pass → ℕ → Workunit → Change
-change_by Transition now w = Replace (transitioned w now)
-change_by Validate now w = Replace (validation.validated w)
-change_by Assimilate now w = Replace (assimilated w now)
-change_by Delete now w = Replace (emptied w)
+change_by Transition now w = Replace w (transitioned w now)
+change_by Validate now w = Replace w (validation.validated w)
+change_by Assimilate now w = Replace w (assimilated w now)
+change_by Delete now w = Replace w (emptied w)
 change_by Purge now w = Remove w.number
 
 -- what a pass makes of a workunit

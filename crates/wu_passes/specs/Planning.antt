@@ -32,7 +32,7 @@ use Rattle.wu_store.specs.Changing.{AreRight, import_of_change, made_all}
 use Rattle.wu_machine.specs.Imports.{Given, first_answer, kept_import}
 use Rattle.wu_machine.specs.FileRows.{Rule, after_rows, row_verdicts}
 use Rattle.wu_machine.specs.Machine.{done, is_upgrade, IsUpToDate, MakesNothing}
-use Rattle.wu_passes.specs.Touched.{AreDistinct, IsLeft}
+use Rattle.wu_passes.specs.Touched.{AreDistinct, IsLeft, replaces}
 use Rattle.wu_machine.specs.declared.command.Answer.{Answer}
 use Rattle.wu_machine.specs.declared.command.Answer.TheVariants as answer
 use Rattle.wu_machine.specs.Requests.{Request, AskUpgrade}
@@ -47,7 +47,7 @@ given_of source = record { kind = source.kind; name = source.name.now; template 
 pub record IsCancelPlan (w : Workunit) (plan : Plan) : Type 0 where
   pub undecided : is_undecided w ≡ true
   pub answer : plan.answer ≡ answer.Cancelled w.name
-  pub changes : plan.changes.items ≡ Replace (cancelled w) ∷ []
+  pub changes : plan.changes.items ≡ Replace w (cancelled w) ∷ []
 
 -- it is refused where the workunit is not undecided, or for want of memory
 abbrev pub RefusesCancel : Workunit → Fault → Type 0
@@ -122,7 +122,7 @@ pub record IsNewFile (given : Given) (left : Left) (plan : Plan) : Type 0 where
   pub kept : Kept
   pub keeps : KeepsImport given 0 left.verdicts.items kept
   pub reply : reply_of_answer plan.answer ≡ first_answer (import_of_change kept)
-  pub changes : plan.changes.items ≡ map Replace left.touched ++ Keep kept ∷ []
+  pub changes : plan.changes.items ≡ map replaces left.touched ++ Keep kept ∷ []
   pub distinct : AreDistinct left.touched
 
 -- the plan of a file of these rows: they are applied or skipped, and the file is kept with their verdicts

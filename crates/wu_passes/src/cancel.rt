@@ -6,6 +6,7 @@ ghost use Rattle.wu_machine.specs.Sound.{IsProject};
 ghost use Rattle.wu_machine.specs.Requests.{AskCancel};
 ghost use Rattle.wu_store.specs.Loading.{Asks, NotRefusedIn, ForEachWorld, ServesUnlessFailed};
 
+use crate::copies::copy_of;
 use crate::plan::Plan;
 use sqlite::{Alter, Connection};
 use std::alloc::Global;
@@ -19,10 +20,11 @@ fn give_up<'a>(alloc: Global, mut workunit: Workunit) -> Result<Plan<'a>, Fault>
     ensures plan { IfOk result (IsCancelPlan workunit) }
     ensures fault { IfErr result (RefusesCancel workunit) }
 {
+    let was = copy_of(alloc, &workunit)?;
     cancel(&mut workunit)?;
     let name = workunit.name.copy()?;
     let mut changes = Vec::new(alloc);
-    changes.push(Change::Replace(workunit))?;
+    changes.push(Change::Replace(was, workunit))?;
     Ok(Plan {
         answer: Answer::Cancelled { workunit: name },
         changes,

@@ -4,6 +4,7 @@
 mod batch;
 mod cancel;
 mod commit;
+mod copies;
 mod files;
 mod imports;
 mod passes;

@@ -11,6 +11,7 @@ ghost use Rattle.wu_store.specs.Changing.{archived_from, granted_from};
 ghost use Rattle.wu_store.specs.Loading.{Asks, IsStoreFault, ForEachWorld, ServesUnlessFailed};
 ghost use Rattle.wu_rules.specs.declared.due.Pass.TheVariants as pass;
 
+use crate::copies::copy_of;
 use crate::plan::Plan;
 use sqlite::{Alter, Connection};
 use std::alloc::Global;
@@ -125,7 +126,7 @@ fn plain<'a>(alloc: Global, change: Change<'a>) -> Image<'a>
     }
 }
 
-/// What the pass makes of the workunit. It takes memory first, so that a fault is of memory alone.
+/// What the pass makes of the workunit. A fault is of memory alone.
 fn image_of<'a>(
     alloc: Global,
     pass: Pass,
@@ -137,28 +138,32 @@ fn image_of<'a>(
 {
     match pass {
         Pass::Transition => {
+            let was = copy_of(alloc, &workunit)?;
             transition(alloc, &mut workunit, now)?;
-            Ok(plain(alloc, Change::Replace(workunit)))
+            Ok(plain(alloc, Change::Replace(was, workunit)))
         }
         Pass::Validate => {
+            let was = copy_of(alloc, &workunit)?;
             let grants = validate(alloc, &mut workunit)?;
             Ok(Image {
-                change: Change::Replace(workunit),
+                change: Change::Replace(was, workunit),
                 grants,
                 archived: None,
             })
         }
         Pass::Assimilate => {
+            let was = copy_of(alloc, &workunit)?;
             let archived = assimilate(alloc, &mut workunit, now)?;
             Ok(Image {
-                change: Change::Replace(workunit),
+                change: Change::Replace(was, workunit),
                 grants: Vec::new(alloc),
                 archived,
             })
         }
         Pass::Delete => {
+            let was = copy_of(alloc, &workunit)?;
             delete_files(&mut workunit);
-            Ok(plain(alloc, Change::Replace(workunit)))
+            Ok(plain(alloc, Change::Replace(was, workunit)))
         }
         Pass::Purge => Ok(plain(alloc, Change::Remove(workunit.number))),
     }

@@ -1,12 +1,12 @@
-//! The workunits that the rows of a file speak of, each as the rows so far left it.
+//! The workunits that the rows of a file speak of, each as it was found and as the rows so far left it.
 
 ghost use Rattle.std.specs.Prelude.{◌≡◌, ◌≢◌, ◌≤◌, [], IfErr, IfOk, IfSome, OnOk, is_some, map};
 ghost use Rattle.std.specs.Option.{option_map_or};
 ghost use Rattle.wu_core.specs.declared.fault.Fault.TheVariants.{Memory};
 ghost use Rattle.wu_machine.specs.FileRows.{KeepsIdentity, left_by, unknown};
-ghost use Rattle.wu_store.specs.declared.changes.Change.TheVariants.{Replace};
-ghost use Rattle.wu_passes.specs.Touched.{AreDistinct, HasAlso, LeavesBy, touched_named};
+ghost use Rattle.wu_passes.specs.Touched.{AreDistinct, HasAlso, LeavesBy, replaces, touched_named};
 
+use crate::copies::copy_of;
 use std::alloc::Global;
 use std::collections::BTreeMap;
 use std::marker::Model;
@@ -84,20 +84,27 @@ impl FileRow for ReportRow {
     }
 }
 
-/// The workunits that the rows so far spoke of, each as they left it. One is found by its name.
+/// A workunit that rows spoke of: as it was found, and as they left it.
+#[derive(Drop)]
+pub struct Touch {
+    pub was: Workunit,
+    pub now: Workunit,
+}
+
+/// The workunits that the rows so far spoke of. One is found by its name.
 #[derive(Drop)]
 pub struct Touched {
-    by_name: BTreeMap<String, Workunit>,
+    by_name: BTreeMap<String, Touch>,
 }
 
 impl Model for Touched {
     ghost use Rattle.std.specs.Prelude.{List};
     ghost use Rattle.std.specs.List.{AllByRecursion};
     ghost use Rattle.std.specs.BTreeMap.{values};
-    ghost use Rattle.wu_core.specs.declared.workunit.Workunit.{Workunit};
+    ghost use Rattle.wu_passes.specs.declared.touched.Touch.{Touch};
     ghost use Rattle.wu_passes.specs.Touched.{IsUnderItsName};
 
-    ghost Value = { List Workunit };
+    ghost Value = { List Touch };
 
     ghost view = { λ touched. values touched.by_name };
 
@@ -121,41 +128,44 @@ impl Touched {
         self.by_name.contains_key(name.as_str())
     }
 
-    /// Takes a workunit in.
+    /// Takes a workunit in, as it was found.
     pub fn insert(&mut self, alloc: Global, workunit: Workunit) -> Result<(), Fault>
         ensures also { OnOk result (HasAlso workunit self.old self.new) }
         ensures fault { IfErr result (λ fault. fault ≡ Memory) }
     {
         let name = String::from_str(alloc, workunit.name.as_str())?;
-        self.by_name.insert(name, workunit)?;
+        let was = copy_of(alloc, &workunit)?;
+        let touch = Touch { was, now: workunit };
+        self.by_name.insert(name, touch)?;
         Ok(())
     }
 
     /// Applies a row to its workunit, or skips it: the number of the verdict. Where its workunit is not among these, it
     /// is `unknown`.
     pub fn apply<R: FileRow>(&mut self, row: R) -> u8
-        ensures verdict { result ≡ option_map_or (R.rule.verdict row)
+        ensures verdict { result ≡ option_map_or (λ touch. R.rule.verdict row touch.now)
             (touched_named self.old (R.rule.workunit row)) unknown }
         ensures digit { result ≤ 9 }
         ensures left { LeavesBy R.rule row result self.old self.new }
         ensures keeps { IfSome (touched_named self.old (R.rule.workunit row))
-            (λ w. KeepsIdentity w (left_by R.rule row result w)) }
+            (λ touch. KeepsIdentity touch.now (left_by R.rule row result touch.now)) }
     {
-        let Some(workunit) = self.by_name.get_mut(row.workunit().as_str()) else {
+        let Some(touch) = self.by_name.get_mut(row.workunit().as_str()) else {
             return R::unknown();
         };
-        row.apply(workunit)
+        row.apply(&mut touch.now)
     }
 
     /// The changes that put each in the place of the present workunit of its number.
     pub fn into_changes<'a>(self, alloc: Global) -> Result<Vec<Change<'a>>, Fault>
         ensures distinct { AreDistinct self }
-        ensures changes { IfOk result (λ changes. changes.items ≡ map Replace self) }
+        ensures changes { IfOk result (λ changes. changes.items ≡ map replaces self) }
         ensures fault { IfErr result (λ fault. fault ≡ Memory) }
     {
         let mut changes = Vec::new(alloc);
-        for (_, workunit) in self.by_name {
-            changes.push(Change::Replace(workunit))?;
+        for (_, touch) in self.by_name {
+            let Touch { was, now } = touch;
+            changes.push(Change::Replace(was, now))?;
         }
         Ok(changes)
     }

@@ -9,6 +9,10 @@ pub mod QuietLemmas
 pub mod CalmLemmas
 pub mod RowLemmas
 pub mod SelectLemmas
+pub mod SetTexts
+pub mod CountTexts
+pub mod CountAnswers
+pub mod GroupLemmas
 pub mod AnswerLemmas
 pub mod ReadLemmas
 pub mod ToldLemmas

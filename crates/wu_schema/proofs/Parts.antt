@@ -4,9 +4,9 @@ use Rattle.wu_schema.proofs.Words.{Bool, Database, Enforced, Has, HasNamed, HasT
 use Rattle.sqlite_trees.specs.declared.store.Shape.TheVariants as shape
 use Rattle.wu_schema.specs.Refines.{HasRows, host_of}
 use Rattle.wu_schema.proofs.QuietLemmas.{same_some}
-use Rattle.wu_schema.proofs.RowLemmas.{childless}
-use Rattle.wu_schema.proofs.CalmLemmas.{calm_bare, calm_child}
-use Rattle.wu_schema.proofs.StandsLemmas.{is_there, IsChild, ChildrenAre, refers_by, only_work, KeepsBut}
+use Rattle.wu_schema.specs.Calm.{IsSteady}
+use Rattle.wu_schema.proofs.CalmLemmas.{calm_bare}
+use Rattle.wu_schema.proofs.StandsLemmas.{is_there, IsChild, ChildrenAre, child_calm, child_steady, refers_by, KeepsBut}
 
 -- ---- the parts
 
@@ -200,20 +200,33 @@ module _ (version : ℕ) (old : Database) (t : ProjectTrees) (there : HasParts v
   pub keeps_but : (new : Database) (p : Part) → IsIn p version → KeepsBut old new (tree_in t p) → Keeps version t old new (is_part p)
   keeps_but new p in_p but q in_q other = kept new q (but (table_of t q) (stands_in q in_q) (table_apart p q in_p in_q other))
 
-  -- nothing leads from a part to another but from the workunits to their children
-  calm : (p q : Part) → IsIn p version → IsIn q version → is_part p Workunits ≡ false → IsCalm old.schema Enforced (table_of t q) (tree_in t p)
-  calm p q in_p in_q none = by (child_column q) refl
+  -- nothing leads to a part from another tree than that of the workunits
+  pub calm_from : (source : ℕ) → t.workunit ≢ source → (q : Part) → IsIn q version → IsCalm old.schema Enforced (table_of t q) source
+  calm_from source other q in_q = by (child_column q) refl
     where
-      by : (o : Option ℕ) → child_column q ≡ o → IsCalm old.schema Enforced (table_of t q) (tree_in t p)
-      by None bare = calm_bare old.schema (table_of t q) (tree_in t p) (there q in_q).2 (references_in t q ∙ ap references_by bare)
-      by (Some c) is =
-          let work = there Workunits tt in
-          calm_child old.schema (table_of t q) t.workunit (tree_in t p) (childless old.schema (workunit_at t.workunit) work.2 refl) (only_work old.schema t.workunit work (table_of t q) c (child_there q c in_q is)) (apart p Workunits in_p tt none)
+      by : (o : Option ℕ) → child_column q ≡ o → IsCalm old.schema Enforced (table_of t q) source
+      by None bare = calm_bare old.schema (table_of t q) source (there q in_q).2 (references_in t q ∙ ap references_by bare)
+      by (Some c) is = child_calm old.schema t.workunit (there Workunits tt) (table_of t q) c (child_there q c in_q is) source other
+
+  calm : (p q : Part) → IsIn p version → IsIn q version → is_part p Workunits ≡ false → IsCalm old.schema Enforced (table_of t q) (tree_in t p)
+  calm p q in_p in_q none = calm_from (tree_in t p) (apart p Workunits in_p tt none) q in_q
 
   -- where each other tree is kept to which no actions lead
   pub keeps_calm : (new : Database) (p : Part) → IsIn p version → is_part p Workunits ≡ false
       → ((u : Table) → Has old.schema.tables u → u.tree ≢ tree_in t p → IsCalm old.schema Enforced u (tree_in t p) → new.trees u.tree ≡ old.trees u.tree) → Keeps version t old new (is_part p)
   keeps_calm new p in_p none others q in_q other = kept new q (others (table_of t q) (stands_in q in_q) (table_apart p q in_p in_q other) (calm p q in_p in_q none))
+
+  -- where rows of the workunits are set
+  pub keeps_set : (new : Database) → ((u : Table) → Has old.schema.tables u → u.tree ≢ t.workunit → IsCalm old.schema Enforced u t.workunit → new.trees u.tree ≡ old.trees u.tree)
+      → ((u : Table) → Has old.schema.tables u → u.tree ≢ t.workunit → IsSteady old.schema Enforced u → new.trees u.tree ≡ old.trees u.tree) → Keeps version t old new (is_part Workunits)
+  keeps_set new others steady q in_q other = kept new q (by (child_column q) refl)
+    where
+      off : (table_of t q).tree ≢ t.workunit
+      off = table_apart Workunits q tt in_q other
+
+      by : (o : Option ℕ) → child_column q ≡ o → new.trees (table_of t q).tree ≡ old.trees (table_of t q).tree
+      by None bare = others (table_of t q) (stands_in q in_q) off (calm_bare old.schema (table_of t q) t.workunit (there q in_q).2 (references_in t q ∙ ap references_by bare))
+      by (Some c) is = steady (table_of t q) (stands_in q in_q) off (child_steady old.schema t.workunit (there Workunits tt) (table_of t q) c (child_there q c in_q is))
 
   -- where each tree is kept that has no references, as when a workunit goes
   pub keeps_bare : (new : Database) → ((u : Table) → Has old.schema.tables u → OwnsTree old.schema u → u.tree ≢ t.workunit → u.references ≡ [] → new.trees u.tree ≡ old.trees u.tree) → Keeps version t old new falls_with_work

@@ -1,5 +1,5 @@
 -- The queue: made beside what was there, and what a change of something else leaves of it.
-use Rattle.wu_schema.proofs.Words.{AllByRecursion, Database, Enforced, Has, HasMade, HasNamed, IsCalm, List, ListsAll, ProjectTrees, PutsOne, Refines, Row, Schema, Table, World, ap, bytes_eq, codes, false, inl, inr, length, map, next_tree, refl, subst, sym, true, ℕ, ◌∙◌, ◌≡◌, ◌≢◌}
+use Rattle.wu_schema.proofs.Words.{AllByRecursion, Database, Enforced, Has, HasMade, HasNamed, IsCalm, IsDatabase, List, ListsAll, ProjectTrees, PutsOne, Refines, Row, Schema, Table, World, ap, bytes_eq, codes, false, inl, inr, length, map, next_tree, refl, subst, sym, true, ℕ, ◌∙◌, ◌≡◌, ◌≢◌}
 use Rattle.wu_core.specs.declared.marks.Marks.{Marks}
 use Rattle.wu_core.specs.World.{empty_world}
 use Rattle.wu_schema.specs.Fresh.{MakesProject}
@@ -8,10 +8,9 @@ use Rattle.wu_schema.specs.Made.{MakesEmpty}
 use Rattle.wu_schema.specs.Queue.{AddsIndexes, HasQueue, MakesIndexes, MakesQueue, queue_table}
 use Rattle.wu_schema.specs.Stored.{stored_marks}
 use Rattle.wu_schema.specs.Tables.{queue_at}
-use Rattle.wu_schema.proofs.CalmLemmas.{calm_child}
-use Rattle.wu_schema.proofs.RowLemmas.{childless}
-use Rattle.wu_schema.proofs.StandsLemmas.{IsChild, but_one, is_there, lists_still, only_work}
-use Rattle.wu_schema.proofs.Parts.{Part, Project, Workunits, IsIn, Keeps, apart, frame, is_part, kept, parts_there, stands_in, table_of, tree_in, placed}
+use Rattle.wu_schema.specs.Calm.{IsSteady}
+use Rattle.wu_schema.proofs.StandsLemmas.{IsChild, but_one, child_calm, child_steady, is_there, lists_still}
+use Rattle.wu_schema.proofs.Parts.{Part, Project, Workunits, IsIn, apart, calm_from, frame, is_part, kept, parts_there, stands_in, table_of, tree_in, placed}
 use Rattle.wu_schema.proofs.MadeLemmas.{made_grows, no_list, still_made}
 use Rattle.wu_schema.proofs.StandsOver.{Grows, grows_both, stands_over}
 use Rattle.wu_schema.proofs.IndexEffect.{added_then, all_added_grow, all_added_sound, all_indexed, only_indexed}
@@ -119,14 +118,30 @@ module _ (old : Database) (world : World) (s : Refines old world) (marked : List
   pub queue_calm : (p : Part) → IsIn p world.version → is_part p Workunits ≡ false → IsCalm old.schema Enforced (queue_at q.tree) (tree_in s.trees p)
   queue_calm p is_in none =
       let there = parts_there old world s in
-      let work = there Workunits tt in
-      calm_child old.schema (queue_at q.tree) s.trees.workunit (tree_in s.trees p) (childless old.schema _ work.2 refl) (only_work old.schema s.trees.workunit work (queue_at q.tree) 0 queue_child) (apart world.version old s.trees there p Workunits is_in tt none)
+      child_calm old.schema s.trees.workunit (there Workunits tt) (queue_at q.tree) 0 queue_child (tree_in s.trees p) (apart world.version old s.trees there p Workunits is_in tt none)
 
-  -- and a row that is put into it leaves the world
+  -- and one of its own rows leads to no other
+  pub queue_self : IsCalm old.schema Enforced (queue_at q.tree) q.tree
+  queue_self = child_calm old.schema s.trees.workunit (parts_there old world s Workunits tt) (queue_at q.tree) 0 queue_child q.tree (queue_apart Workunits tt)
+
+  -- where rows of the workunits are set, it stays
+  pub queue_steady : IsSteady old.schema Enforced (queue_at q.tree)
+  queue_steady = child_steady old.schema s.trees.workunit (parts_there old world s Workunits tt) (queue_at q.tree) 0 queue_child
+
+  -- and a change of its rows leaves the world
+  module _ (new : Database) (same : new.schema ≡ old.schema) (sound : IsDatabase new) where
+    beside_all : ((p : Part) → IsIn p world.version → new.trees (table_of s.trees p).tree ≡ old.trees (table_of s.trees p).tree) → Refines new world
+    beside_all stays = frame old new world world s (λ p. false) same refl (λ p is_in off. kept world.version old s.trees (parts_there old world s) new p (stays p is_in)) (λ p off rows h. h) (λ p on. absurd (cc)) sound
+
+    -- one that is no tree of ours has another table
+    off_queue : (p : Part) → IsIn p world.version → (table_of s.trees p).tree ≢ q.tree
+    off_queue p is_in one = queue_apart p is_in (sym (placed s.trees p) ∙ one)
+
+    pub world_kept : ((u : Table) → Has old.schema.tables u → u.tree ≢ q.tree → IsCalm old.schema Enforced u q.tree → new.trees u.tree ≡ old.trees u.tree) → Refines new world
+    world_kept others = beside_all (λ p is_in.
+        let there = parts_there old world s in
+        others (table_of s.trees p) (stands_in world.version old s.trees there p is_in) (off_queue p is_in) (calm_from world.version old s.trees there q.tree (queue_apart Workunits tt) p is_in))
+
+  -- so does a row that is put into it
   pub world_beside : (new : Database) (row : Row) → PutsOne old new q.tree row → Refines new world
-  world_beside new row put = frame old new world world s (λ p. false) put.schema refl keeps (λ p off rows h. h) (λ p on. absurd (cc)) put.sound
-    where
-      keeps : Keeps world.version s.trees old new (λ p. false)
-      keeps p is_in off =
-          let there = parts_there old world s in
-          kept world.version old s.trees there new p (but_one old new q.tree row put (table_of s.trees p) (stands_in world.version old s.trees there p is_in) (λ same. queue_apart p is_in (sym (placed s.trees p) ∙ same)))
+  world_beside new row put = beside_all new put.schema put.sound (λ p is_in. but_one old new q.tree row put (table_of s.trees p) (stands_in world.version old s.trees (parts_there old world s) p is_in) (off_queue new put.schema put.sound p is_in))

@@ -21,6 +21,7 @@ use Rattle.sqlite_ast.specs.declared.Shown.{Shown}
 use Rattle.sqlite_ast.specs.declared.Arm.{Arm}
 use Rattle.sqlite_ast.specs.declared.Sort.{roll-Sort}
 use Rattle.sqlite_ast.specs.declared.Statement.TheVariants as written
+use Rattle.sqlite_draft.specs.declared.query.Aggregate.{Aggregate}
 use Rattle.sqlite_resolve.specs.declared.scope.Bound.{Bound}
 use Rattle.sqlite_resolve.specs.declared.scope.Output.{Output}
 use Rattle.sqlite_resolve.specs.declared.state.State.{State}
@@ -32,7 +33,7 @@ use Rattle.sqlite_resolve.specs.declared.compare.Affinity.TheVariants as affinit
 use Rattle.sqlite_resolve.specs.Terms.{conjuncts}
 use Rattle.sqlite_resolve.specs.Expr.{lower, is_identity, combine}
 use Rattle.sqlite_resolve.specs.Order.{sorts}
-use Rattle.wu_schema.proofs.ExprLemmas.{column, parameter, scope, so_far, lower_step, column_lowers, parameter_lowers}
+use Rattle.wu_schema.proofs.ExprLemmas.{column, parameter, scope, so_far, so_far_with, lower_step, column_lowers, column_lowers_with, parameter_lowers_with}
 use Rattle.wu_schema.proofs.QueryLemmas.{plain_query, alone as by_itself, viewing_is, query_step, one, from_table, output}
 use Rattle.sqlite.specs.Command.TheVariants as command
 use Rattle.sqlite_resolve.specs.Select.{constant_or}
@@ -65,7 +66,7 @@ IsFound table ks = ◌≡◌ {A = List (Option ℕ × Option Column)} (map (λ k
 abbrev pub output_at : Table → ℕ → Output
 output_at table k = output table k (the table k)
 
-found_first : (table : Table) (k : ℕ) (ks : List ℕ) → IsFound table (k ∷ ks) → (column_named table (name_at table k) ≡ Some k) × (slice_get table.columns k ≡ Some (the table k)) × IsFound table ks
+pub found_first : (table : Table) (k : ℕ) (ks : List ℕ) → IsFound table (k ∷ ks) → (column_named table (name_at table k) ≡ Some k) × (slice_get table.columns k ≡ Some (the table k)) × IsFound table ks
 found_first table k ks h =
     let pair : ◌≡◌ {A = Option ℕ × Option Column} (column_named table (name_at table k), slice_get table.columns k) (Some k, Some (the table k)) = cc in
     (ap (λ (x : Option ℕ × Option Column). x.0) pair, ap (λ (x : Option ℕ × Option Column). x.1) pair, cc)
@@ -198,10 +199,10 @@ module _ (table : Table) where
   order_last last (Some k) = declared table k (the table k)
 
 module _ (schema : Schema) (title : Name) (at : ℕ) (table : Table) (has : HasTable schema title at table) where
-  abbrev bound_here : Bound
+  abbrev pub bound_here : Bound
   bound_here = record { name = title; table = at; slot = 1; shared = [] }
 
-  heading_is : (shown : List Output) (may_aggregate may_alias : Bool) (name text : Name) (k : ℕ) (c : Column) → column_named table name ≡ Some k → slice_get table.columns k ≡ Some c
+  pub heading_is : (shown : List Output) (may_aggregate may_alias : Bool) (name text : Name) (k : ℕ) (c : Column) → column_named table name ≡ Some k → slice_get table.columns k ≡ Some c
       → heading (scope schema title at shown may_aggregate may_alias) (column name) text ≡ c.name
   unfolding pipeline
   heading_is shown may_aggregate may_alias name text k c named there = rw (has.there, named, has.there, there)
@@ -229,7 +230,7 @@ module _ (schema : Schema) (title : Name) (at : ℕ) (table : Table) (has : HasT
     | false ↦ refl
   ]
 
-  alone_is : (k : ℕ) → alone (declared table k (the table k)) ≡ how table k
+  pub alone_is : (k : ℕ) → alone (declared table k (the table k)) ≡ how table k
   unfolding pipeline
   alone_is k = elim (is_key table.key k) as (λ b. alone (if b then nothing else record { collation = Some (the table k).collation; is_written = false }) ≡ (if b then Binary else (the table k).collation)) [
     | true ↦ refl
@@ -251,69 +252,74 @@ module _ (schema : Schema) (title : Name) (at : ℕ) (table : Table) (has : HasT
     keeps_parameter (at_place schema at (place_of table k)) j (place_tied k there strict),
   )
 
-  -- each column equals a parameter
+  -- each column is compared with a parameter, whatever aggregates were met so far
+
+  module _ (aggregates : List Aggregate) where
+    pub test_lowers_with : (d : ℕ) (shown : List Output) (may_aggregate may_alias : Bool) (b : ℕ) (last : Carried) (p : Test) → 3 < b → IsFound table (p.0 ∷ []) → (the table p.0).is_strict ≡ true
+        → lower_to (suc (suc d)) (scope schema title at shown may_aggregate may_alias) (test_of table p) (so_far_with aggregates 2 b last) ≡ Ok (meets table p, so_far_with aggregates 2 (b - 3) nothing)
+    unfolding pipeline
+    test_lowers_with d shown may_aggregate may_alias b last p some found strict =
+        let parts = found_first table p.0 [] found in
+        let less : b - 1 - 1 - 1 ≡ b - 3 = omega arith in
+        rw (
+          lower_step (suc d) (scope schema title at shown may_aggregate may_alias) (test_of table p) (so_far_with aggregates 2 b last),
+          lt-ltb 1 b (omega (arith, some)),
+          not_identity p.1,
+          not_identity p.1,
+          column_lowers_with d schema title at table shown may_aggregate may_alias 2 (b - 1) nothing has (lt-ltb 1 (b - 1) (omega (arith, some))) aggregates (name_at table p.0) p.0 (the table p.0) parts.0 parts.1,
+          parameter_lowers_with d schema title at table shown may_aggregate may_alias 2 (b - 1 - 1) (declared table p.0 (the table p.0)) has (lt-ltb 1 (b - 1 - 1) (omega (arith, some))) aggregates (suc p.2),
+          one_less p.2,
+          chosen_is p.0,
+          combined (scope schema title at shown may_aggregate may_alias) (how table p.0) p.1 (col 1 (place_of table p.0)) (col 0 p.2) (so_far_with aggregates 2 (b - 1 - 1 - 1) nothing),
+          compared_is shown may_aggregate may_alias (by.Compare p.1 (how table p.0)) p.0 p.2 parts.1 strict,
+        ) (λ i. Ok (meets table p, so_far_with aggregates 2 (less i) nothing))
+
+    -- ---- several comparisons, all to hold
+
+    abbrev LowersAt : ℕ → List Output → Expr → Term → ℕ → Type 0
+    LowersAt d shown e t c = (b : ℕ) (last : Carried) → c < b → lower_to d (scope schema title at shown false true) e (so_far_with aggregates 2 b last) ≡ Ok (t, so_far_with aggregates 2 (b - c) nothing)
+
+    and_lowers : (d : ℕ) (shown : List Output) (e : Expr) (t : Term) (c : ℕ) (p : Test) → IsFound table (p.0 ∷ []) → (the table p.0).is_strict ≡ true → LowersAt (suc (suc d)) shown e t c
+        → LowersAt (suc (suc (suc d))) shown (roll-Expr (Expr-F.Binary binary.And e (test_of table p))) (op2 by.And t (meets table p)) (c + 4)
+    unfolding pipeline
+    and_lowers d shown e t c p found strict lowers b last some =
+        let less : b - 1 - c - 3 ≡ b - (c + 4) = omega arith in
+        rw (
+          lower_step (suc (suc d)) (scope schema title at shown false true) (roll-Expr (Expr-F.Binary binary.And e (test_of table p))) (so_far_with aggregates 2 b last),
+          lt-ltb 1 b (omega (arith, some)),
+          lowers (b - 1) nothing (omega (arith, some)),
+          test_lowers_with d shown false true (b - 1 - c) nothing p (omega (arith, some)) found strict,
+        ) (λ i. Ok (op2 by.And t (meets table p), so_far_with aggregates 2 (less i) nothing))
+
+    both_lower : (d : ℕ) (shown : List Output) (e : Expr) (t : Term) (c : ℕ) (ps : List Test) → IsFound table (places ps) → AreStrict table ps → LowersAt (suc (suc d)) shown e t c
+        → LowersAt (deep (suc (suc d)) ps) shown (both table e ps) (both_terms table t ps) (cost c ps)
+    both_lower d shown e t c [] found strict lowers = lowers
+    both_lower d shown e t c (p ∷ ps) found strict lowers =
+        let parts = found_first table p.0 (places ps) found in
+        both_lower (suc d) shown (roll-Expr (Expr-F.Binary binary.And e (test_of table p))) (op2 by.And t (meets table p)) (c + 4) ps parts.2 (cc)
+        (and_lowers d shown e t c p (λ i. (parts.0 i, parts.1 i) ∷ []) (cc) lowers)
+
+    cut_both : (t : Term) (ps : List Test) → conjuncts (both_terms table t ps) ≡ conjuncts t ++ map (meets table) ps
+    cut_both t [] = sym (append-nil (conjuncts t))
+    cut_both t (p ∷ ps) = cut_both (op2 by.And t (meets table p)) ps ∙ append_assoc (conjuncts t) (meets table p ∷ []) (map (meets table) ps)
+
+    -- WHERE
+
+    -- the tests are no more than fit under the parser's height
+
+    pub where_lowers_with : (d : ℕ) (shown : List Output) (ps : List Test) (b : ℕ) (last : Carried) → FitsUnder d ps → where_cost ps < b → IsFound table (places ps) → AreStrict table ps
+        → tests lower (scope schema title at shown false true) [] (where_of table ps) (so_far_with aggregates 2 b last) ≡ Ok (map (meets table) ps, so_far_with aggregates 2 (b - where_cost ps) (where_last last ps))
+    unfolding pipeline
+    where_lowers_with d shown [] b last under some found strict = let less : b ≡ b - 0 = omega arith in (λ i. Ok ([], so_far_with aggregates 2 (less i) last))
+    where_lowers_with d shown (p ∷ ps) b last under some found strict =
+        let parts = found_first table p.0 (places ps) found in
+        let all = both_lower d shown (test_of table p) (meets table p) 3 ps parts.2 (cc) (λ c l s. test_lowers_with d shown false true c l p s (λ i. (parts.0 i, parts.1 i) ∷ []) (cc)) in
+        let whole = subst (λ n. LowersAt n shown (both table (test_of table p) ps) (both_terms table (meets table p) ps) (cost 3 ps)) under all in
+        rw (whole b last some) (ap (λ ts. Ok (ts, so_far_with aggregates 2 (b - cost 3 ps) nothing)) (cut_both (meets table p) ps))
 
   pub test_lowers : (d : ℕ) (shown : List Output) (may_aggregate may_alias : Bool) (b : ℕ) (last : Carried) (p : Test) → 3 < b → IsFound table (p.0 ∷ []) → (the table p.0).is_strict ≡ true
       → lower_to (suc (suc d)) (scope schema title at shown may_aggregate may_alias) (test_of table p) (so_far 2 b last) ≡ Ok (meets table p, so_far 2 (b - 3) nothing)
-  unfolding pipeline
-  test_lowers d shown may_aggregate may_alias b last p some found strict =
-      let parts = found_first table p.0 [] found in
-      let less : b - 1 - 1 - 1 ≡ b - 3 = omega arith in
-      rw (
-        lower_step (suc d) (scope schema title at shown may_aggregate may_alias) (test_of table p) (so_far 2 b last),
-        lt-ltb 1 b (omega (arith, some)),
-        not_identity p.1,
-        not_identity p.1,
-        column_lowers d schema title at table shown may_aggregate may_alias 2 (b - 1) nothing has (lt-ltb 1 (b - 1) (omega (arith, some))) (name_at table p.0) p.0 (the table p.0) parts.0 parts.1,
-        parameter_lowers d schema title at table shown may_aggregate may_alias 2 (b - 1 - 1) (declared table p.0 (the table p.0)) has (lt-ltb 1 (b - 1 - 1) (omega (arith, some))) (suc p.2),
-        one_less p.2,
-        chosen_is p.0,
-        combined (scope schema title at shown may_aggregate may_alias) (how table p.0) p.1 (col 1 (place_of table p.0)) (col 0 p.2) (so_far 2 (b - 1 - 1 - 1) nothing),
-        compared_is shown may_aggregate may_alias (by.Compare p.1 (how table p.0)) p.0 p.2 parts.1 strict,
-      ) (λ i. Ok (meets table p, so_far 2 (less i) nothing))
-
-  -- ---- several comparisons, all to hold
-
-  abbrev LowersAt : ℕ → List Output → Expr → Term → ℕ → Type 0
-  LowersAt d shown e t c = (b : ℕ) (last : Carried) → c < b → lower_to d (scope schema title at shown false true) e (so_far 2 b last) ≡ Ok (t, so_far 2 (b - c) nothing)
-
-  and_lowers : (d : ℕ) (shown : List Output) (e : Expr) (t : Term) (c : ℕ) (p : Test) → IsFound table (p.0 ∷ []) → (the table p.0).is_strict ≡ true → LowersAt (suc (suc d)) shown e t c
-      → LowersAt (suc (suc (suc d))) shown (roll-Expr (Expr-F.Binary binary.And e (test_of table p))) (op2 by.And t (meets table p)) (c + 4)
-  unfolding pipeline
-  and_lowers d shown e t c p found strict lowers b last some =
-      let less : b - 1 - c - 3 ≡ b - (c + 4) = omega arith in
-      rw (
-        lower_step (suc (suc d)) (scope schema title at shown false true) (roll-Expr (Expr-F.Binary binary.And e (test_of table p))) (so_far 2 b last),
-        lt-ltb 1 b (omega (arith, some)),
-        lowers (b - 1) nothing (omega (arith, some)),
-        test_lowers d shown false true (b - 1 - c) nothing p (omega (arith, some)) found strict,
-      ) (λ i. Ok (op2 by.And t (meets table p), so_far 2 (less i) nothing))
-
-  both_lower : (d : ℕ) (shown : List Output) (e : Expr) (t : Term) (c : ℕ) (ps : List Test) → IsFound table (places ps) → AreStrict table ps → LowersAt (suc (suc d)) shown e t c
-      → LowersAt (deep (suc (suc d)) ps) shown (both table e ps) (both_terms table t ps) (cost c ps)
-  both_lower d shown e t c [] found strict lowers = lowers
-  both_lower d shown e t c (p ∷ ps) found strict lowers =
-      let parts = found_first table p.0 (places ps) found in
-      both_lower (suc d) shown (roll-Expr (Expr-F.Binary binary.And e (test_of table p))) (op2 by.And t (meets table p)) (c + 4) ps parts.2 (cc)
-      (and_lowers d shown e t c p (λ i. (parts.0 i, parts.1 i) ∷ []) (cc) lowers)
-
-  cut_both : (t : Term) (ps : List Test) → conjuncts (both_terms table t ps) ≡ conjuncts t ++ map (meets table) ps
-  cut_both t [] = sym (append-nil (conjuncts t))
-  cut_both t (p ∷ ps) = cut_both (op2 by.And t (meets table p)) ps ∙ append_assoc (conjuncts t) (meets table p ∷ []) (map (meets table) ps)
-
-  -- WHERE
-
-  -- the tests are no more than fit under the parser's height
-
-  where_lowers : (d : ℕ) (shown : List Output) (ps : List Test) (b : ℕ) (last : Carried) → FitsUnder d ps → where_cost ps < b → IsFound table (places ps) → AreStrict table ps
-      → tests lower (scope schema title at shown false true) [] (where_of table ps) (so_far 2 b last) ≡ Ok (map (meets table) ps, so_far 2 (b - where_cost ps) (where_last last ps))
-  unfolding pipeline
-  where_lowers d shown [] b last under some found strict = let less : b ≡ b - 0 = omega arith in (λ i. Ok ([], so_far 2 (less i) last))
-  where_lowers d shown (p ∷ ps) b last under some found strict =
-      let parts = found_first table p.0 (places ps) found in
-      let all = both_lower d shown (test_of table p) (meets table p) 3 ps parts.2 (cc) (λ c l s. test_lowers d shown false true c l p s (λ i. (parts.0 i, parts.1 i) ∷ []) (cc)) in
-      let whole = subst (λ n. LowersAt n shown (both table (test_of table p) ps) (both_terms table (meets table p) ps) (cost 3 ps)) under all in
-      rw (whole b last some) (ap (λ ts. Ok (ts, so_far 2 (b - cost 3 ps) nothing)) (cut_both (meets table p) ps))
+  test_lowers = test_lowers_with []
 
   -- ---- ORDER BY a column
 
@@ -397,7 +403,7 @@ module _ (schema : Schema) (title : Name) (at : ℕ) (table : Table) (has : HasT
         has.named,
         columns_lower schema title at table has q.shown 100000 [] nothing (omega (arith, few)) fits.shown,
         has.there,
-        where_lowers schema title at table has fits.height.0 (map (output_at table) q.shown) q.tests (100000 - length q.shown) (carried_after table nothing q.shown) fits.height.1 (omega (arith, few)) fits.tests fits.strict,
+        where_lowers_with schema title at table has [] fits.height.0 (map (output_at table) q.shown) q.tests (100000 - length q.shown) (carried_after table nothing q.shown) fits.height.1 (omega (arith, few)) fits.tests fits.strict,
         order_lowers schema title at table has q.shown q.order (100000 - length q.shown - where_cost q.tests) (where_last (carried_after table nothing q.shown) q.tests) (omega (arith, few)) fits.order,
       ) refl
 

@@ -1,5 +1,5 @@
 -- What each change keeps of the world that a database stands for.
-use Rattle.wu_schema.proofs.Words.{Bool, Database, Enforced, Has, HasNamed, HasTables, HoldsAll, IsDatabase, IsPermutation, IsPermutation-cons, IsPermutation-map, IsPermutation-trans, IsShaped, IsShaped-filter, List, ListsAll, OwnsTree, ParentKey, ProjectTrees, PutsOne, Reference, RefersOnlyTo, Row, Schema, Some, Refines, Table, Trees, Workunit, World, [], all_has, ap, ap₂, arith, bytes_eq, bytes_eq-Decides, codes, cond, drop, false, false_from_ne_true, filter, filter-map, find, inl, inr, instances_of, is_taken, list_any, map, not, parent_key, pipeline, position_from, put_row, refl, same_name, slice_get, some_from, subst, suc, sym, true, workunit_at, ℕ, ◌++◌, ◌+◌, ◌-◌, ◌==◌, ◌∙◌, ◌∷◌, ◌≡◌, ◌≢◌, ◌≤◌}
+use Rattle.wu_schema.proofs.Words.{Bool, Database, Enforced, Has, HasNamed, HasTables, HoldsAll, IsCalm, IsDatabase, IsPermutation, IsPermutation-cons, IsPermutation-map, IsPermutation-trans, IsShaped, IsShaped-filter, List, ListsAll, OwnsTree, ParentKey, ProjectTrees, PutsOne, Reference, RefersOnlyTo, Row, Schema, Some, Refines, Table, Trees, Workunit, World, [], all_has, ap, ap₂, arith, bytes_eq, bytes_eq-Decides, codes, cond, drop, false, false_from_ne_true, filter, filter-map, find, inl, inr, instances_of, is_taken, list_any, map, not, parent_key, pipeline, position_from, put_row, refl, same_name, slice_get, some_from, subst, suc, sym, true, workunit_at, ℕ, ◌++◌, ◌+◌, ◌-◌, ◌==◌, ◌∙◌, ◌∷◌, ◌≡◌, ◌≢◌, ◌≤◌}
 use Rattle.std.proofs.lemmas.List.Sorted.{IsPermutation-to_front}
 use Rattle.sqlite_trees.specs.declared.store.Shape.TheVariants as shape
 use Rattle.sqlite_rules.proofs.ListLemmas.{has_got}
@@ -7,9 +7,11 @@ use Rattle.sqlite_catalog.proofs.ReadLemmas.{lists_once}
 use Rattle.sqlite_catalog.specs.Listing.{Lists}
 use Rattle.sqlite_trees.specs.Objects.{catalog_tree}
 use Rattle.wu_schema.specs.Tables.{result_refers}
+use Rattle.wu_schema.specs.Calm.{IsSteady}
+use Rattle.wu_schema.proofs.CalmLemmas.{calm_child}
 use Rattle.wu_schema.proofs.QuietLemmas.{same_some}
 use Rattle.wu_schema.proofs.PutLemmas.{put_beside}
-use Rattle.wu_schema.proofs.RowLemmas.{filter_same}
+use Rattle.wu_schema.proofs.RowLemmas.{childless, filter_same}
 
 -- two tables of other names have other trees
 pub differ : (tables : List Table) (s t : Table) → find (λ u. u.tree == s.tree) tables ≡ Some s → find (λ u. u.tree == t.tree) tables ≡ Some t → bytes_eq s.name s.name ≡ true → bytes_eq s.name t.name ≡ false → s.tree ≢ t.tree
@@ -77,6 +79,18 @@ module _ (schema : Schema) (work : ℕ) (has : HasNamed schema (codes "workunit"
     pub only_work : RefersOnlyTo schema Enforced child.tree work
     only_work t ref key listed same refers found =
         ap (λ (k : ParentKey). k.0) (same_some (sym found ∙ ap (parent_key schema.tables) (one_reference t ref (is.owns t listed same) refers) ∙ refers_key c))
+
+    -- it is left alone by writes of other tables, and by those that set rows of the workunits
+    pub child_calm : (source : ℕ) → work ≢ source → IsCalm schema Enforced child source
+    child_calm source other = calm_child schema child work source (childless schema (workunit_at work) has.2 refl) only_work other
+
+    pub child_steady : IsSteady schema Enforced child
+    child_steady = record {
+      parent = work;
+      childless = childless schema (workunit_at work) has.2 refl;
+      only = only_work;
+      stays = λ t ref listed same refers. ap (λ (r : Reference). r.on_update) (one_reference t ref (is.owns t listed same) refers);
+    }
 
     pub child_apart : child.tree ≢ work
     child_apart same = absurd (let bare = sym (ap (λ (u : Table). u.references) (has.2 child is.listed same)) ∙ is.refers in cc)

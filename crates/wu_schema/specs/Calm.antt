@@ -2,6 +2,7 @@
 use Rattle.std.specs.Prelude.{◌≡◌, ◌≢◌, ℕ, [], Some}
 use Rattle.sqlite.specs.Schema.{Schema}
 use Rattle.sqlite.specs.Table.{Table}
+use Rattle.sqlite_schema.specs.declared.schema.Action.TheVariants.{NoAction}
 use Rattle.sqlite_schema.specs.declared.schema.Keys.{Keys}
 use Rattle.sqlite_schema.specs.declared.schema.Reference.{Reference}
 use Rattle.sqlite_schema.specs.Rules.{ParentKey, parent_key}
@@ -22,3 +23,10 @@ module _ (schema : Schema) (keys : Keys) where
     pub childless : IsChildless parent
     pub only : RefersOnlyTo at.tree parent
     pub past : (t : Table) (ref : Reference) (key : ParentKey) → Has schema.tables t → t.tree ≡ at.tree → Has t.references ref → parent_key schema.tables ref ≡ Some key → key.0 ≢ source
+
+  -- what the table refers to never becomes a child, and the table follows no change of its rows
+  pub record IsSteady (at : Table) : Type 0 where
+    pub parent : ℕ
+    pub childless : IsChildless parent
+    pub only : RefersOnlyTo at.tree parent
+    pub stays : (t : Table) (ref : Reference) → Has schema.tables t → t.tree ≡ at.tree → Has t.references ref → ref.on_update ≡ NoAction

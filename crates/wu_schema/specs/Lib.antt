@@ -6,6 +6,7 @@ pub mod Refines
 pub mod Calm
 pub mod Calls
 pub mod Asking
+pub mod Counting
 pub mod Made
 pub mod Versions
 pub mod Indexes

@@ -30,7 +30,7 @@ cast_number_or_null (Some n) = cast_int (pos n)
 workunit_kept : (tree : ℕ) (w : Workunit) → map (λ s. cast_row (workunit_at tree) s) (value_rows (workunit_row w) 16 1 workunit_put.terms) ≡ stored_workunit w ∷ []
 workunit_kept tree w = simp (cast_null, cast_number, cast_number_or_null)
 
-cast_text_or_null : (t : Option (List ℕ)) → cast KindText (text_or_null t) ≡ text_or_null t
+pub cast_text_or_null : (t : Option (List ℕ)) → cast KindText (text_or_null t) ≡ text_or_null t
 cast_text_or_null None = refl
 cast_text_or_null (Some t) = refl
 

@@ -17,7 +17,7 @@ use Rattle.wu_store.proofs.EqualLemmas.{text_equal}
 use Rattle.wu_store.proofs.HostEffect.{Grown, grows, host_row, summed}
 use Rattle.wu_store.proofs.UpsertTexts.{upsert_text}
 use Rattle.wu_store.proofs.NameKey.{host_key}
-use Rattle.wu_schema.proofs.RowLemmas.{int_value}
+use Rattle.wu_schema.proofs.RowLemmas.{int_value, map_same}
 use Rattle.wu_store.proofs.FallLemmas.{has_own}
 use Rattle.wu_schema.proofs.InsertEffect.{also, no_more, cast_int}
 use Rattle.wu_store.proofs.ListedLemmas.{listed_next}
@@ -27,10 +27,6 @@ use Rattle.wu_store.proofs.OnceLemmas.{has_permuted, key_once}
 use Rattle.wu_store.proofs.PlacedLemmas.{holds_put, holds_permuted, keeps_put}
 use Rattle.wu_schema.proofs.StandsLemmas.{is_there, lists_still, holds_still}
 use Rattle.wu_store.proofs.SumLemmas.{stored_sum}
-
-map_same : {X Y : Type 0} (f g : X → Y) (xs : List X) → ((x : X) → Has xs x → f x ≡ g x) → map f xs ≡ map g xs
-map_same f g [] same = refl
-map_same f g (x ∷ xs) same = (λ i. same x (inl refl) i ∷ map_same f g xs (λ y has. same y (inr has)) i)
 
 -- a sum with more
 abbrev more : ℕ → Value → Value

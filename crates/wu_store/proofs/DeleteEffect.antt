@@ -91,10 +91,10 @@ module _ (n : ℤ) (rows : List Row) (good : IsShaped shape.Table rows) where
   has_int : (r : Row) → Has rows r → (id : ℤ) × (rowid r ≡ Int id)
   has_int r has = int_value (rowid r) (all_has (λ s. IsTrue (is_int (rowid s))) rows r good.1 has)
 
-  has_number : (r : Row) → Has rows r → equal Binary (rowid r) (Int n) ≡ has_rowid n r
+  pub has_number : (r : Row) → Has rows r → equal Binary (rowid r) (Int n) ≡ has_rowid n r
   has_number r has = let id = has_int r has in ap (λ v. equal Binary v (Int n)) id.1 ∙ int_equal id.0 n ∙ ap (λ v. is_eq (value_cmp v (Int n))) (sym id.1)
 
-  own_number : (r : Row) → Has rows r → has_rowid n r ≡ true → rowid r ≡ Int n
+  pub own_number : (r : Row) → Has rows r → has_rowid n r ≡ true → rowid r ≡ Int n
   own_number r has on = let id = has_int r has in id.1 ∙ ap Int ((Decides-int_eq id.0 n).0 (sym (ap is_eq (value_cmp-Int id.0 n)) ∙ sym (ap (λ v. is_eq (value_cmp v (Int n))) id.1) ∙ on))
 
   -- the rows that the condition finds are those with the rowid

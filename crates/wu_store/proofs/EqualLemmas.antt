@@ -1,8 +1,8 @@
 -- When SQL finds two values equal.
-use Rattle.wu_schema.proofs.Words.{Binary, Bool, Equal, Greater, Int, Less, List, Ordering, Some, Text, ap, arith, binary, bytes_eq, cond, equal, false, int_cmp, is_eq, is_true, nat_le, nat_lt, nat_tests, negsuc, pos, refl, sym, true, value_cmp, value_cmp-Int, ℕ, ℤ, ◌==◌, ◌∙◌, ◌≡◌}
+use Rattle.wu_schema.proofs.Words.{Binary, Bool, Equal, Greater, Int, Less, List, Ordering, Some, Text, ap, arith, binary, bytes_eq, cond, equal, false, int_cmp, is_eq, is_true, nat_le, nat_lt, nat_tests, negsuc, not, pos, refl, sym, true, value_cmp, value_cmp-Int, ℕ, ℤ, ◌==◌, ◌∙◌, ◌≡◌}
 use Rattle.std.specs.Prelude.{int_lt}
 use Rattle.std.specs.Cmp.Lexicographic.{slice_cmp}
-use Rattle.std.specs.Ordering.{is_gt, is_le, nat_cmp}
+use Rattle.std.specs.Ordering.{is_gt, nat_cmp}
 use Rattle.std.proofs.lemmas.Map.Text.{is_eq-slice_cmp}
 use Rattle.sqlite_value.proofs.OrderLemmas.{value_cmp-Text}
 use Rattle.sqlite_sql.specs.Ops.{test}
@@ -41,9 +41,8 @@ unfolding binary
 text_above a b = true_if (test compare.Gt (value_cmp (Text a) (Text b))) ∙ ap (test compare.Gt) (value_cmp-Text a b) ∙ is_more (slice_cmp nat_cmp a b)
 
 -- one number is above another
-pub int_above : (a b : ℤ) → is_true (binary (by.Compare compare.Gt Binary) (Int a) (Int b)) ≡ int_lt b a
-unfolding binary
-int_above a b = true_if (test compare.Gt (value_cmp (Int a) (Int b))) ∙ ap (test compare.Gt) (value_cmp-Int a b) ∙ is_more (int_cmp a b) ∙ greater (int_lt a b) refl
+is_greater : (a b : ℤ) → is_gt (int_cmp a b) ≡ int_lt b a
+is_greater a b = greater (int_lt a b) refl
   where
     -- what is lower is not higher
     lower : (a b : ℤ) → int_lt a b ≡ true → int_lt b a ≡ false
@@ -60,17 +59,25 @@ int_above a b = true_if (test compare.Gt (value_cmp (Int a) (Int b))) ∙ ap (te
     greater true low = sym (lower a b low)
     greater false high = chosen (int_lt b a)
 
+pub int_above : (a b : ℤ) → is_true (binary (by.Compare compare.Gt Binary) (Int a) (Int b)) ≡ int_lt b a
+unfolding binary
+int_above a b = true_if (test compare.Gt (value_cmp (Int a) (Int b))) ∙ ap (test compare.Gt) (value_cmp-Int a b) ∙ is_more (int_cmp a b) ∙ is_greater a b
+
 pub number_above : (a b : ℕ) → is_true (binary (by.Compare compare.Gt Binary) (Int (pos a)) (Int (pos b))) ≡ nat_lt b a
 number_above a b = int_above (pos a) (pos b)
 
-pub number_at_most : (a b : ℕ) → is_true (binary (by.Compare compare.Le Binary) (Int (pos a)) (Int (pos b))) ≡ nat_le a b
+-- and is not
+pub int_at_most : (a b : ℤ) → is_true (binary (by.Compare compare.Le Binary) (Int a) (Int b)) ≡ not (int_lt b a)
 unfolding binary
-number_at_most a b = true_if (test compare.Le (value_cmp (Int (pos a)) (Int (pos b)))) ∙ ap (test compare.Le) (value_cmp-Int (pos a) (pos b)) ∙ tested (int_cmp (pos a) (pos b)) ∙ tests
+int_at_most a b = true_if (test compare.Le (value_cmp (Int a) (Int b))) ∙ ap (test compare.Le) (value_cmp-Int a b) ∙ tested (int_cmp a b) ∙ ap not (is_greater a b)
   where
-    tested : (o : Ordering) → test compare.Le o ≡ is_le o
+    tested : (o : Ordering) → test compare.Le o ≡ not (is_gt o)
     tested Less = refl
     tested Equal = refl
     tested Greater = refl
 
-    tests : is_le (int_cmp (pos a) (pos b)) ≡ nat_le a b
+pub number_at_most : (a b : ℕ) → is_true (binary (by.Compare compare.Le Binary) (Int (pos a)) (Int (pos b))) ≡ nat_le a b
+number_at_most a b = int_at_most (pos a) (pos b) ∙ tests
+  where
+    tests : not (nat_lt b a) ≡ nat_le a b
     tests = grind (arith, nat_tests)

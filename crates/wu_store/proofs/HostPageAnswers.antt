@@ -1,28 +1,21 @@
 -- What the SELECTs of the pages of hosts answer of the world that the tables stand for.
-use Rattle.wu_schema.proofs.Words.{Binary, Bool, Expr-F, Int, IsAscending, IsPermutation, IsPermutation-filter, IsPermutation-map, List, None, Option, Output, Row, Shown, Some, Refines, State, Term, Text, World, [], all_from, all_has, ap, arith, binary, codes, col, column, cond, drop, everything, false, filter, filter-map, has_filtered, host_at, hosts_of, is_true, lit, map, map-map, pos, refl, roll-Expr, subst, sym, take, true, ℕ, ◌∙◌, ◌∷◌, ◌≡◌}
+use Rattle.wu_schema.proofs.Words.{Binary, Bool, Expr-F, Int, IsPermutation, IsPermutation-filter, IsPermutation-map, List, None, Option, Output, Row, Shown, Some, Refines, State, Term, Text, World, [], ap, arith, binary, codes, col, column, drop, everything, false, filter, host_at, hosts_of, is_true, lit, map, map-map, pos, refl, roll-Expr, subst, sym, take, true, ℕ, ◌∙◌, ◌∷◌, ◌≡◌}
 use Rattle.sqlite_sql.specs.declared.ops.BinaryOp.TheVariants as by
 use Rattle.sqlite_sql.specs.declared.ops.CompareOp.TheVariants as compare
 use Rattle.sqlite.specs.Query.{IsSureAnswer}
 use Rattle.sqlite.specs.Program.{overlay}
+use Rattle.sqlite_trees.proofs.ListLemmas.{ascending-filter}
 use Rattle.wu_core.proofs.HostLemmas.{below, once}
 use Rattle.wu_schema.proofs.ExprLemmas.{more}
 use Rattle.wu_schema.proofs.Parts.{Hosts}
-use Rattle.wu_schema.proofs.RowLemmas.{filter_same, one_test}
+use Rattle.wu_schema.proofs.RowLemmas.{one_test}
 use Rattle.wu_schema.proofs.SelectLemmas.{Asked, Fits}
 use Rattle.wu_schema.specs.Refines.{host_of}
 use Rattle.wu_store.specs.Pages.{host_page_behind, is_behind}
 use Rattle.wu_store.proofs.EqualLemmas.{text_above}
-use Rattle.wu_store.proofs.OrderAnswers.{pair, passing, sorted, sure_sorted}
+use Rattle.wu_store.proofs.OrderAnswers.{behind_rowid, pair, passing, sorted, sure_sorted}
 use Rattle.wu_store.proofs.ReadAnswers.{asked_answers, kept_mapped}
 use Rattle.wu_store.proofs.ViewAnswers.{host_pair, host_shows, name_pair, names_rise, names_shown}
-
--- what passes a test rises as all do
-kept_rise : {X : Type 0} (R : X → X → Type 0) (p : X → Bool) (xs : List X) → IsAscending R xs → IsAscending R (filter p xs)
-kept_rise R p [] up = tt
-kept_rise R p (x ∷ xs) up = elim (p x) as (λ b. IsAscending R (cond b (x ∷ filter p xs) (filter p xs))) [
-  | true ↦ (all_from (R x) (filter p xs) (λ y has. all_has (R x) xs y up.0 (has_filtered p xs y has).0), kept_rise R p xs up.1)
-  | false ↦ kept_rise R p xs up.1
-]
 
 -- the first hosts that pass a test, which only looks at what is behind the rowid
 module _ (tree : ℕ) (tests : List Term) (params : Row) (cells_pass : Row → Bool) where
@@ -35,11 +28,6 @@ module _ (tree : ℕ) (tests : List Term) (params : Row) (cells_pass : Row → B
   pair_is : (r : Row) → row_pair r ≡ host_pair (drop 1 r)
   pair_is [] = refl
   pair_is (v ∷ r) = refl
-
-  pairs_are : ((r : Row) → passes r ≡ cells_pass (drop 1 r)) → (rows : List Row) → map row_pair (filter passes rows) ≡ map host_pair (filter cells_pass (map (drop 1) rows))
-  pairs_are same rows =
-      ap (map row_pair) (filter_same passes (λ r. cells_pass (drop 1 r)) rows (λ r has. same r)) ∙ (λ i. map (λ r. pair_is r i) (filter (λ r. cells_pass (drop 1 r)) rows))
-      ∙ sym (map-map host_pair (drop 1) (filter (λ r. cells_pass (drop 1 r)) rows)) ∙ ap (map host_pair) (sym (filter-map cells_pass (drop 1) rows))
 
 module _ (tests : List Term) (params : Row) (cells_pass : Row → Bool) (after : Option (List ℕ)) (old : State) (world : World) (s : Refines old.now world) where
   first_hosts : ((r : Row) → passes s.trees.host tests params cells_pass r ≡ cells_pass (drop 1 r)) → ((host : List ℕ) → cells_pass (host_of world.grants host) ≡ is_behind after host) → (rows : List Row)
@@ -54,8 +42,8 @@ module _ (tests : List Term) (params : Row) (cells_pass : Row → Bool) (after :
       let named : map host_pair (filter cells_pass (map (host_of grants) hosts)) ≡ map (name_pair grants) kept =
       ap (map host_pair) (kept_mapped cells_pass (is_behind after) (host_of grants) hosts behind) ∙ map-map host_pair (host_of grants) kept in
       let those : IsPermutation (map (name_pair grants) kept) (map host_pair (filter cells_pass (map (drop 1) stored))) = subst (λ xs. IsPermutation xs (map host_pair (filter cells_pass (map (drop 1) stored)))) named cells in
-      let all = subst (IsPermutation (map (name_pair grants) kept)) (sym (pairs_are tree tests params cells_pass same stored)) those in
-      sure_sorted tree tests host_shows 1 false (lit (Int (pos 100))) params old.now rows (map (name_pair grants) kept) s.tables.host.1.low (names_rise grants kept (kept_rise below (is_behind after) hosts (once grants))) all h
+      let all = subst (IsPermutation (map (name_pair grants) kept)) (sym (behind_rowid (passes tree tests params cells_pass) cells_pass (row_pair tree tests params cells_pass) host_pair same (pair_is tree tests params cells_pass) stored)) those in
+      sure_sorted tree tests host_shows 1 false (lit (Int (pos 100))) params old.now rows (map (name_pair grants) kept) s.tables.host.1.low (names_rise grants kept (ascending-filter below (is_behind after) hosts (once grants))) all h
       ∙ ap (take 100) (names_shown grants kept)
 
 -- ---- the first of all

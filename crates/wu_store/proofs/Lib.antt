@@ -1,6 +1,7 @@
 pub mod InsertTexts
 pub mod OneOrder
 pub mod SelectTexts
+pub mod SpanTexts
 pub mod EqualLemmas
 pub mod OnceLemmas
 pub mod WorldOnce
@@ -19,6 +20,10 @@ pub mod QueueLemmas
 pub mod QueueAnswers
 pub mod UpdateLemmas
 pub mod UpdateEffect
+pub mod SetEffect
+mod SetLemmas
+mod SetInstance
+mod ReplaceLemmas
 pub mod ReadingLemmas
 pub mod DeleteTexts
 pub mod FallLemmas
@@ -44,8 +49,10 @@ mod ListingLemmas
 mod ViewAnswers
 mod PageLemmas
 mod PageAnswers
+mod SpanAnswers
 mod PageLines
 mod HostPageAnswers
 mod PageHosts
 mod PageResults
 mod CountLemmas
+mod CountedAnswers

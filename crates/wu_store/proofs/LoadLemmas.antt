@@ -138,24 +138,25 @@ module _ (k : ImportKind) (name : List ℕ) (world : World) (row : Row) (more : 
 
 -- ---- instances
 
--- one more row is one more instance
-pub instances_more : (are : List Instance) (rows : List Row) (i : ℕ) (one : Instance) (d : Row) → map instance_row are ≡ take i rows → i < length rows → get_or rows i d ≡ instance_row one → map instance_row (are ++ one ∷ []) ≡ take (i + 1) rows
-instances_more are rows i one d so_far low at =
-    map-append instance_row are (one ∷ []) ∙ ap (λ rs. rs ++ instance_row one ∷ []) so_far ∙ ap (λ r. take i rows ++ r ∷ []) (sym at) ∙ sym (take_more rows i d low)
+module _ {T : Type 0} (row_of : T → Row) where
+  -- one more row is one more value
+  pub rows_more : (are : List T) (rows : List Row) (i : ℕ) (one : T) (d : Row) → map row_of are ≡ take i rows → i < length rows → get_or rows i d ≡ row_of one → map row_of (are ++ one ∷ []) ≡ take (i + 1) rows
+  rows_more are rows i one d so_far low at =
+      map-append row_of are (one ∷ []) ∙ ap (λ rs. rs ++ row_of one ∷ []) so_far ∙ ap (λ r. take i rows ++ r ∷ []) (sym at) ∙ sym (take_more rows i d low)
 
--- a row that can't be read is that of no instance
-pub instance_unread : (rows : List Row) (i : ℕ) (d row : Row) (f : Fault) → i < length rows → get_or rows i d ≡ row → Restores instance_row IsStoredInstance row (Err f) → Restores (map instance_row) AreStoredInstances rows (Err f)
-instance_unread rows i d row f low at unread = record {
-  value = tt;
-  found = found;
-  refused = unread.refused;
-}
-  where
-    found : (others : List Instance) → AreStoredInstances others → rows ≡ map instance_row others → IsOrWantsMemory (Err f) (Ok others)
-    found [] are same = absurd (let none : length rows ≡ 0 = ap (λ rs. length rs) same in omega (arith, none, low))
-    found (one ∷ others) are same =
-        let within : i < length (one ∷ others) = subst (λ n. i < n) (ap (λ rs. length rs) same ∙ length-map (one ∷ others) instance_row) low in
-        not_ok f (get_or (one ∷ others) i one) (one ∷ others) (unread.found (get_or (one ∷ others) i one) (are.each i one within) (sym at ∙ ap (λ rs. get_or rs i d) same ∙ get_or-map instance_row (one ∷ others) i one d within))
+  -- a row that can't be read is that of none of such values
+  pub rows_unread : (IsValue : T → Type 0) (AreValues : List T → Type 0) → ((xs : List T) → AreValues xs → All IsValue xs) → (rows : List Row) (i : ℕ) (d row : Row) (f : Fault) → i < length rows → get_or rows i d ≡ row → Restores row_of IsValue row (Err f) → Restores (map row_of) AreValues rows (Err f)
+  rows_unread IsValue AreValues each rows i d row f low at unread = record {
+    value = tt;
+    found = found;
+    refused = unread.refused;
+  }
+    where
+      found : (others : List T) → AreValues others → rows ≡ map row_of others → IsOrWantsMemory (Err f) (Ok others)
+      found [] are same = absurd (let none : length rows ≡ 0 = ap (λ rs. length rs) same in omega (arith, none, low))
+      found (one ∷ others) are same =
+          let within : i < length (one ∷ others) = subst (λ n. i < n) (ap (λ rs. length rs) same ∙ length-map (one ∷ others) row_of) low in
+          not_ok f (get_or (one ∷ others) i one) (one ∷ others) (unread.found (get_or (one ∷ others) i one) (each (one ∷ others) are i one within) (sym at ∙ ap (λ rs. get_or rs i d) same ∙ get_or-map row_of (one ∷ others) i one d within))
 
 pub instances_restored : (rows : List Row) (are : List Instance) → map instance_row are ≡ rows → All IsStoredInstance are → length rows ≤ most_instances → Restores (map instance_row) AreStoredInstances rows (Ok are)
 instances_restored rows are is each few = record {

@@ -1,8 +1,9 @@
 -- What a SELECT in the order of the key answers.
-use Rattle.wu_schema.proofs.Words.{Binary, Bool, Database, Int, IsAnswerAs, IsAscending, IsPermutation, IsPermutation-refl, IsPermutation-trans, IsSorted, IsTable, Less, List, Null, Ordering, Output, Query, Row, Shown, Some, Refines, State, Term, Workunit, World, [], all_from, all_has, ap, col, column, cond, eval_all, false, filter, find, flat_map, has_filtered, has_mapped, holds, if◌then◌else◌, list_all, lit, map, map-map, nat_le, nat_lt, negsuc, number, on_total, option_map, option_to_list, output, overlay, pos, refl, rowid, stored_workunit, subst, sym, take, true, value_cmp, value_cmp_total, workunit_row, ℕ, ◌++◌, ◌^◌, ◌∙◌, ◌∷◌, ◌≡◌}
+use Rattle.wu_schema.proofs.Words.{drop, filter-map, Binary, Bool, Database, Int, IsAnswerAs, IsAscending, IsPermutation, IsPermutation-refl, IsPermutation-trans, IsTable, Less, List, Null, Ordering, Output, Query, Row, Shown, Some, Refines, State, Term, Workunit, World, [], all_from, all_has, ap, col, column, cond, eval_all, false, filter, find, flat_map, has_filtered, has_mapped, holds, if◌then◌else◌, list_all, lit, map, map-map, nat_le, nat_lt, negsuc, number, option_map, option_to_list, output, overlay, pos, refl, rowid, stored_workunit, subst, sym, take, true, value_cmp, workunit_row, ℕ, ◌++◌, ◌^◌, ◌∙◌, ◌∷◌, ◌≡◌}
 use Rattle.std.specs.Ordering.{on}
 use Rattle.sqlite_value.specs.Keys.{directed}
-use Rattle.sqlite_value.proofs.KeyLemmas.{directed_total}
+use Rattle.sqlite_value.specs.declared.keys.Key.{Key}
+use Rattle.sqlite_sql.proofs.QueryLemmas.{output_cmp_total}
 use Rattle.sqlite_value.proofs.OrderLemmas.{then-Equal}
 use Rattle.sqlite.specs.Query.{IsSureAnswer, output_cmp, page}
 use Rattle.wu_store.specs.Answers.{first_above}
@@ -11,7 +12,7 @@ use Rattle.wu_schema.proofs.QueryLemmas.{plain_query}
 use Rattle.wu_store.proofs.SelectTexts.{all_asked, all_fits, all_shows, above_asked, above_fits, above_tests}
 use Rattle.wu_schema.proofs.Parts.{Workunits}
 use Rattle.wu_store.proofs.ReadAnswers.{asked_answers}
-use Rattle.wu_schema.proofs.RowLemmas.{no_test, one_test}
+use Rattle.wu_schema.proofs.RowLemmas.{filter_same, no_test, one_test}
 use Rattle.wu_store.proofs.OneOrder.{one_order}
 
 -- the order in which a column rises, or falls
@@ -21,9 +22,52 @@ in_order falls = on (λ (o : Output). column o.0 0) (directed falls value_cmp)
 abbrev pub by_key : Output → Output → Ordering
 by_key = in_order false
 
+module _ (tree : ℕ) (test shows : List Term) (params : Row) where
+  abbrev pub passing_row : Row → Bool
+  passing_row r = list_all (holds (params ∷ r ∷ [])) test
+
+  -- in any order
+  module _ (order : List (Term × Key)) (limit : Term) where
+    abbrev pub ordered : Query
+    ordered = record (plain_query tree test shows) { order = order; limit = limit }
+
+    -- what is sorted by, and what is shown
+    abbrev pub ordered_pair : Row → Output
+    ordered_pair r = output ordered (params ∷ r ∷ [])
+
+    found_pairs : (rows : List Row) → map (output ordered) (flat_map (λ r. if passing_row r then (params ∷ r ∷ []) ∷ [] else []) rows) ≡ map ordered_pair (filter passing_row rows)
+    found_pairs [] = refl
+    found_pairs (r ∷ rows) = elim (passing_row r) as
+        (λ b. map (output ordered) ((if b then (params ∷ r ∷ []) ∷ [] else []) ++ flat_map (λ s. if passing_row s then (params ∷ s ∷ []) ∷ [] else []) rows) ≡ map ordered_pair (cond b (r ∷ filter passing_row rows) (filter passing_row rows))) [
+          | true ↦ ap (λ all. ordered_pair r ∷ all) (found_pairs rows)
+          | false ↦ found_pairs rows
+        ]
+
+    -- what is shown of the rows that pass, in the order in which these rise, as far as the limit goes
+    pub sure_ordered : (db : Database) (rows : List Row) (os : List Output) → nat_le (2 ^ 31) tree ≡ false → IsAscending (λ a b. output_cmp ordered a b ≡ Less) os → IsPermutation os (map ordered_pair (filter passing_row (db.trees tree)))
+        → IsSureAnswer ordered (overlay db.trees []) params rows → rows ≡ page ordered params (map (λ (o : Output). o.1) os)
+    sure_ordered db rows os low up same h =
+        let a : IsAnswerAs Null ordered (overlay db.trees []) params rows = h Null in
+        let base : overlay db.trees [] tree ≡ db.trees tree = rw low in
+        let kept : a.kept ≡ map ordered_pair (filter passing_row (db.trees tree)) = a.distinct ∙ ap (map (output ordered)) a.grouped ∙ found_pairs (overlay db.trees [] tree) ∙ ap (λ rs. map ordered_pair (filter passing_row rs)) base in
+        let sorts : a.ordered ≡ os = one_order (output_cmp ordered) (output_cmp_total ordered) os a.ordered up a.sorted (IsPermutation-trans _ _ _ same (subst (λ k. IsPermutation k a.ordered) kept a.same)) in
+        a.shown ∙ ap (λ os. page ordered params (map (λ (o : Output). o.1) os)) sorts
+
+-- tests and pairs that only look at what is behind the rowid
+pub behind_rowid : (passes cells_pass : Row → Bool) (pair cell_pair : Row → Output) → ((r : Row) → passes r ≡ cells_pass (drop 1 r)) → ((r : Row) → pair r ≡ cell_pair (drop 1 r)) → (rows : List Row)
+    → map pair (filter passes rows) ≡ map cell_pair (filter cells_pass (map (drop 1) rows))
+behind_rowid passes cells_pass pair cell_pair tested paired rows =
+    ap (map pair) (filter_same passes (λ r. cells_pass (drop 1 r)) rows (λ r has. tested r)) ∙ (λ i. map (λ r. paired r i) (filter (λ r. cells_pass (drop 1 r)) rows))
+    ∙ sym (map-map cell_pair (drop 1) (filter (λ r. cells_pass (drop 1 r)) rows)) ∙ ap (map cell_pair) (sym (filter-map cells_pass (drop 1) rows))
+
+-- ---- in the order of one column
+
 module _ (tree : ℕ) (test shows : List Term) (place : ℕ) (falls : Bool) (limit : Term) (params : Row) where
+  abbrev order : List (Term × Key)
+  order = (col 1 place, record { collation = Binary; descending = falls }) ∷ []
+
   abbrev pub sorted : Query
-  sorted = record (plain_query tree test shows) { order = (col 1 place, record { collation = Binary; descending = falls }) ∷ []; limit = limit }
+  sorted = ordered tree test shows params order limit
 
   abbrev shown : Row → Row
   shown r = eval_all shows (params ∷ r ∷ [])
@@ -33,30 +77,14 @@ module _ (tree : ℕ) (test shows : List Term) (place : ℕ) (falls : Bool) (lim
   pair r = (column r place ∷ [], shown r)
 
   abbrev pub passing : Row → Bool
-  passing r = list_all (holds (params ∷ r ∷ [])) test
+  passing = passing_row tree test shows params
 
-  found_pairs : (rows : List Row) → map (output sorted) (flat_map (λ r. if passing r then (params ∷ r ∷ []) ∷ [] else []) rows) ≡ map pair (filter passing rows)
-  found_pairs [] = refl
-  found_pairs (r ∷ rows) = elim (passing r) as
-      (λ b. map (output sorted) ((if b then (params ∷ r ∷ []) ∷ [] else []) ++ flat_map (λ s. if passing s then (params ∷ s ∷ []) ∷ [] else []) rows) ≡ map pair (cond b (r ∷ filter passing rows) (filter passing rows))) [
-        | true ↦ ap (λ all. pair r ∷ all) (found_pairs rows)
-        | false ↦ found_pairs rows
-      ]
+  same_cmp : in_order falls ≡ output_cmp sorted
+  same_cmp = λ i a b. sym (then-Equal (in_order falls a b)) i
 
-  same_cmp : output_cmp sorted ≡ in_order falls
-  same_cmp = λ i a b. then-Equal (in_order falls a b) i
-
-  -- what is shown of the rows that pass, in the order in which their columns rise or fall, as far as the limit goes
   pub sure_sorted : (db : Database) (rows : List Row) (os : List Output) → nat_le (2 ^ 31) tree ≡ false → IsAscending (λ a b. in_order falls a b ≡ Less) os → IsPermutation os (map pair (filter passing (db.trees tree)))
       → IsSureAnswer sorted (overlay db.trees []) params rows → rows ≡ page sorted params (map (λ (o : Output). o.1) os)
-  sure_sorted db rows os low up same h =
-      let a : IsAnswerAs Null sorted (overlay db.trees []) params rows = h Null in
-      let base : overlay db.trees [] tree ≡ db.trees tree = rw low in
-      let kept : a.kept ≡ map pair (filter passing (db.trees tree)) = a.distinct ∙ ap (map (output sorted)) a.grouped ∙ found_pairs (overlay db.trees [] tree) ∙ ap (λ rs. map pair (filter passing rs)) base in
-      let ordered : a.ordered ≡ os =
-      one_order (in_order falls) (on_total (λ (o : Output). column o.0 0) (directed_total falls value_cmp_total)) os a.ordered up (subst (λ c. IsSorted c a.ordered) same_cmp a.sorted)
-      (IsPermutation-trans _ _ _ same (subst (λ k. IsPermutation k a.ordered) kept a.same)) in
-      a.shown ∙ ap (λ os. page sorted params (map (λ (o : Output). o.1) os)) ordered
+  sure_sorted db rows os low up same h = sure_ordered tree test shows params order limit db rows os low (subst (λ c. IsAscending (λ a b. c a b ≡ Less) os) same_cmp up) same h
 
 -- ---- in the order of the key
 

@@ -1,12 +1,14 @@
 -- What the SELECTs of pages answer of the world that the tables stand for.
-use Rattle.wu_schema.proofs.Words.{Archived, Bool, Database, Expr-F, Int, List, ListsAll, Row, Shown, Some, Refines, State, Term, Text, Workunit, World, [], ap, archived_at, arith, codes, col, cond, eval_all, everything, filter, find, holds, list_all, lit, map, map-map, nat_le, number, option_map, option_to_list, pos, refl, roll-Expr, stored_archived, stored_workunit, take, true, false, workunit_at, workunit_row, ℕ, ℤ, ◌++◌, ◌^◌, ◌∙◌, ◌∷◌, ◌≡◌}
+use Rattle.wu_schema.proofs.Words.{Grant, grant_at, stored_grant, Archived, Bool, Database, Expr-F, Int, List, ListsAll, Row, Shown, Some, Refines, State, Term, Workunit, World, [], ap, archived_at, arith, codes, col, eval_all, everything, filter, holds, list_all, lit, map, map-map, nat_le, pos, refl, roll-Expr, stored_archived, stored_workunit, take, false, workunit_at, workunit_row, ℕ, ℤ, ◌++◌, ◌^◌, ◌∙◌, ◌∷◌, ◌≡◌}
 use Rattle.sqlite_sql.specs.declared.ops.CompareOp.TheVariants as compare
 use Rattle.sqlite.specs.Program.{overlay}
 use Rattle.sqlite.specs.Query.{IsSureAnswer}
-use Rattle.wu_schema.proofs.Parts.{Archive, Workunits}
+use Rattle.wu_schema.proofs.Parts.{Archive, Grants, Workunits}
 use Rattle.wu_schema.proofs.RowLemmas.{one_test}
 use Rattle.wu_schema.proofs.SelectLemmas.{Asked, Fits}
-use Rattle.wu_store.specs.Pages.{archive_of, archive_page, name_row_above, placed_archived_row, workunit_page}
+use Rattle.wu_store.specs.Answers.{credit_page, credit_row, placed_grants}
+use Rattle.wu_store.specs.Pages.{archive_of, archive_page, name_page, named_of, named_row, placed_archived_row, workunit_page}
+use Rattle.std.proofs.lemmas.List.{take-map}
 use Rattle.wu_store.proofs.EqualLemmas.{int_above}
 use Rattle.wu_store.proofs.OrderAnswers.{sorted, sure_in_order}
 use Rattle.wu_store.proofs.PageLemmas.{is_above}
@@ -52,34 +54,25 @@ module _ (old new : State) (world : World) (s : Refines old.now world) (key : �
       let read = asked_answers Workunits workunit_page_asked workunit_page_fits old new world s tt (Int key ∷ []) rows h in
       first_found s.trees.workunit all_shows key 100 stored_workunit workunit_row (is_above (λ (w : Workunit). w.number) key) world.workunits old.now rows s.tables.workunit.1.low s.rows.workunits (λ w. one_test _ ∙ int_above (pos w.number) key) (λ w. refl) read.answer
 
--- ---- the number and the name of the first workunit
+-- ---- numbers and names of workunits
 
-abbrev pub workunit_name_above_asked : Asked
-workunit_name_above_asked = page_asked (codes "SELECT number, name FROM workunit WHERE number > ?1 ORDER BY number LIMIT 1") (0 ∷ 1 ∷ []) (codes "1") 1
+abbrev pub name_page_asked : Asked
+name_page_asked = page_asked (codes "SELECT number, name FROM workunit WHERE number > ?1 ORDER BY number LIMIT 100") (0 ∷ 1 ∷ []) (codes "100") 100
 
-pub workunit_name_above_fits : (tree : ℕ) → Fits (codes "workunit") (workunit_at tree) workunit_name_above_asked
+pub name_page_fits : (tree : ℕ) → Fits (codes "workunit") (workunit_at tree) name_page_asked
 unfolding everything
-workunit_name_above_fits tree = record { shown = refl; tests = refl; strict = refl; order = refl; height = (698, refl); few = omega arith; limit = λ schema. refl; read = refl; typed = refl }
+name_page_fits tree = record { shown = refl; tests = refl; strict = refl; order = refl; height = (698, refl); few = omega arith; limit = λ schema. refl; read = refl; typed = refl }
 
 abbrev name_row : Workunit → Row
-name_row w = number w.number ∷ Text w.name ∷ []
-
--- the first of those that pass
-first_kept : {X : Type 0} (f : X → Row) (p : X → Bool) (xs : List X) → take 1 (map f (filter p xs)) ≡ option_to_list (option_map f (find p xs))
-first_kept f p [] = refl
-first_kept f p (x ∷ xs) = go (p x) (first_kept f p xs)
-  where
-    go : (b : Bool) → take 1 (map f (filter p xs)) ≡ option_to_list (option_map f (find p xs)) → take 1 (map f (cond b (x ∷ filter p xs) (filter p xs))) ≡ option_to_list (option_map f (cond b (Some x) (find p xs)))
-    go true again = refl
-    go false again = again
+name_row w = named_row (named_of w)
 
 module _ (old new : State) (world : World) (s : Refines old.now world) (key : ℤ) where
-  pub workunit_name_above_found : (rows : List Row) → Shown workunit_name_above_asked.text (Int key ∷ []) old new rows → rows ≡ option_to_list (name_row_above key world)
-  workunit_name_above_found rows h =
-      let read = asked_answers Workunits workunit_name_above_asked workunit_name_above_fits old new world s tt (Int key ∷ []) rows h in
+  pub name_page_found : (rows : List Row) → Shown name_page_asked.text (Int key ∷ []) old new rows → rows ≡ name_page key world
+  name_page_found rows h =
+      let read = asked_answers Workunits name_page_asked name_page_fits old new world s tt (Int key ∷ []) rows h in
       let above = is_above (λ (w : Workunit). w.number) key in
-      first_found s.trees.workunit (col 1 0 ∷ col 1 2 ∷ []) key 1 stored_workunit name_row above world.workunits old.now rows s.tables.workunit.1.low s.rows.workunits (λ w. one_test _ ∙ int_above (pos w.number) key) (λ w. refl) read.answer
-      ∙ first_kept name_row above world.workunits
+      first_found s.trees.workunit (col 1 0 ∷ col 1 2 ∷ []) key 100 stored_workunit name_row above world.workunits old.now rows s.tables.workunit.1.low s.rows.workunits (λ w. one_test _ ∙ int_above (pos w.number) key) (λ w. refl) read.answer
+      ∙ take-map name_row 100 (filter above world.workunits)
 
 -- ---- the archive
 
@@ -98,3 +91,18 @@ module _ (old new : State) (world : World) (s : Refines old.now world) (key : �
   archive_page_found rows h =
       let read = asked_answers Archive archive_page_asked archive_page_fits old new world s tt (Int key ∷ []) rows h in
       first_found s.trees.archived archive_page_shows key 100 stored_archived placed_archived_row (is_above (λ (p : ℕ × Archived). p.0) key) (archive_of world) old.now rows s.tables.archived.1.low s.rows.archived (λ p. one_test _ ∙ int_above (pos p.0) key) (λ p. refl) read.answer
+
+-- ---- credit
+
+abbrev pub credit_asked : Asked
+credit_asked = page_asked (codes "SELECT seq, credit FROM credit_grant WHERE seq > ?1 ORDER BY seq LIMIT 1000") (0 ∷ 4 ∷ []) (codes "1000") 1000
+
+pub credit_fits : (tree : ℕ) → Fits (codes "credit_grant") (grant_at tree) credit_asked
+unfolding everything
+credit_fits tree = record { shown = refl; tests = refl; strict = refl; order = refl; height = (698, refl); few = omega arith; limit = λ schema. refl; read = refl; typed = refl }
+
+module _ (old new : State) (world : World) (s : Refines old.now world) (key : ℤ) where
+  pub credit_found : (rows : List Row) → Shown credit_asked.text (Int key ∷ []) old new rows → rows ≡ credit_page key world
+  credit_found rows h =
+      let read = asked_answers Grants credit_asked credit_fits old new world s tt (Int key ∷ []) rows h in
+      first_found s.trees.grant (col 1 0 ∷ col 1 5 ∷ []) key 1000 stored_grant credit_row (is_above (λ (p : ℕ × Grant). p.0) key) (placed_grants world) old.now rows s.tables.grant.1.low s.rows.grants (λ p. one_test _ ∙ int_above (pos p.0) key) (λ p. refl) read.answer

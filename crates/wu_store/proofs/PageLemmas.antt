@@ -1,9 +1,11 @@
 -- The rows of a page, and what is left behind its last row.
-use Rattle.wu_schema.proofs.Words.{AllByRecursion, Bool, Fault, Has, IfErr, Int, IsAscending, List, NotAProject, None, Ok, Result, Row, Some, [], all_from, all_has, ap, arith, cases_Bool, column, cond, contains_had, drop, enumerate_from, false, filter, filter_all, has_filtered, has_left, has_right, inl, inr, length, map, map-append, negsuc, nat_tests, pos, refl, slice_get, subst, suc, sym, take, true, zero, ℕ, ℤ, ⊤, ◌++◌, ◌+◌, ◌-◌, ◌<◌, ◌∙◌, ◌∷◌, ◌≡◌, ◌≢◌, ◌⊎◌}
+use Rattle.wu_schema.proofs.Words.{append-nil, filter_none, has_either, not, ◌&&◌, AllByRecursion, Bool, Fault, Has, IfErr, Int, IsAscending, List, NotAProject, None, Ok, Result, Row, Some, [], all_from, all_has, ap, arith, cases_Bool, column, cond, contains_had, drop, enumerate_from, false, filter, filter_all, has_filtered, has_left, has_right, inl, inr, length, map, map-append, negsuc, nat_tests, pos, refl, slice_get, subst, suc, sym, take, true, zero, ℕ, ℤ, ⊤, ◌++◌, ◌+◌, ◌-◌, ◌<◌, ◌∙◌, ◌∷◌, ◌≡◌, ◌≢◌, ◌⊎◌}
 use Rattle.std.specs.Prelude.{int_lt}
 use Rattle.std.specs.List.{AllZip, Contains}
 use Rattle.std.proofs.Common.{append_assoc, length-append}
 use Rattle.std.proofs.lemmas.List.{take-map}
+use Rattle.std.proofs.lemmas.List.Elements.{filter-append}
+use Rattle.sqlite_trees.proofs.ListLemmas.{ascending-filter}
 use Rattle.wu_schema.specs.Restoring.{Restores}
 use Rattle.wu_store.specs.Pages.{IsRowOf, ReadsLastKey, TurnsTo}
 use Rattle.wu_store.proofs.LoadLemmas.{never_unread}
@@ -16,10 +18,39 @@ parted (x ∷ xs) = elim (parted xs) [
   | inr some ↦ inr (x ∷ some.0, some.1, ap (λ l. x ∷ l) some.2)
 ]
 
-cut : {X : Type 0} (n : ℕ) (xs : List X) → xs ≡ take n xs ++ drop n xs
+pub cut : {X : Type 0} (n : ℕ) (xs : List X) → xs ≡ take n xs ++ drop n xs
 cut zero xs = refl
 cut (suc n) [] = refl
 cut (suc n) (x ∷ xs) = ap (λ l. x ∷ l) (cut n xs)
+
+-- ---- lists
+
+-- where no first ones are there, none is
+pub none_taken : {X : Type 0} (n : ℕ) (xs : List X) → take (suc n) xs ≡ [] → xs ≡ []
+none_taken n [] none = refl
+none_taken n (x ∷ xs) none = absurd (cc)
+
+filter_both : {X : Type 0} (p q : X → Bool) (xs : List X) → filter (λ x. p x && q x) xs ≡ filter q (filter p xs)
+filter_both p q [] = refl
+filter_both p q (x ∷ xs) = go (p x) (filter_both p q xs)
+  where
+    go : (b : Bool) → filter (λ y. p y && q y) xs ≡ filter q (filter p xs) → cond (b && q x) (x ∷ filter (λ y. p y && q y) xs) (filter (λ y. p y && q y) xs) ≡ filter q (cond b (x ∷ filter p xs) (filter p xs))
+    go true again = ap (λ l. cond (q x) (x ∷ l) l) again
+    go false again = again
+
+before_one : {X : Type 0} (R : X → X → Type 0) (front : List X) (y : X) (rest : List X) → IsAscending R (front ++ y ∷ rest) → (x : X) → Has front x → R x y
+before_one R [] y rest up x has = absurd has
+before_one R (z ∷ front) y rest up x (inl same) = subst (λ w. R w y) (sym same) (all_has (R z) (front ++ y ∷ rest) y up.0 (has_right front (y ∷ rest) y (inl refl)))
+before_one R (z ∷ front) y rest up x (inr later) = before_one R front y rest up.1 x later
+
+-- two lists that are the same have the same last element
+pub last_same : {X : Type 0} (front before : List X) (x y : X) → front ++ x ∷ [] ≡ before ++ y ∷ [] → x ≡ y
+last_same [] [] x y is = cc
+last_same [] (z ∷ []) x y is = absurd (cc)
+last_same [] (z ∷ w ∷ before) x y is = absurd (cc)
+last_same (z ∷ []) [] x y is = absurd (cc)
+last_same (z ∷ w ∷ front) [] x y is = absurd (cc)
+last_same (z ∷ front) (w ∷ before) x y is = last_same front before x y (cc)
 
 -- ---- the last row
 
@@ -65,9 +96,15 @@ pub record Follows {X A : Type 0} (at : X → A) (a : A) (page : List X) (b : A)
   pub none : page ≡ [] → b ≡ a
   pub last : (front : List X) (y : X) → page ≡ front ++ y ∷ [] → b ≡ at y
 
--- the elements of a page are among all
+-- the elements of a page are among all, and pass
+pub in_page : {X : Type 0} (p : X → Bool) (n : ℕ) (xs : List X) (x : X) → Has (take n (filter p xs)) x → Has xs x × (p x ≡ true)
+in_page p n xs x has = has_filtered p xs x (subst (λ l. Has l x) (sym (cut n (filter p xs))) (has_left (take n (filter p xs)) (drop n (filter p xs)) x has))
+
+pub last_in_page : {X : Type 0} (p : X → Bool) (n : ℕ) (xs front : List X) (y : X) → take n (filter p xs) ≡ front ++ y ∷ [] → Has xs y × (p y ≡ true)
+last_in_page p n xs front y is = in_page p n xs y (subst (λ l. Has l y) (sym is) (has_right front (y ∷ []) y (inl refl)))
+
 pub among_all : {X : Type 0} (p : X → Bool) (n : ℕ) (xs : List X) (x : X) → Has (take n (filter p xs)) x → Contains xs x
-among_all p n xs x has = contains_had xs x (has_filtered p xs x (subst (λ l. Has l x) (sym (cut n (filter p xs))) (has_left (take n (filter p xs)) (drop n (filter p xs)) x has))).0
+among_all p n xs x has = contains_had xs x (in_page p n xs x has).0
 
 module _ {X A : Type 0} (R : X → X → Type 0) (above : A → X → Bool) (at : X → A) (orders : Orders R above at) where
   step : (a : A) (x : X) (xs : List X) (y : X) (rest : List X) → AllByRecursion (R x) xs → ((before : List X) → filter (above a) xs ≡ before ++ y ∷ rest → filter (above (at y)) xs ≡ rest)
@@ -105,6 +142,28 @@ module _ {X A : Type 0} (R : X → X → Type 0) (above : A → X → Bool) (at 
         ap (λ c. filter (above c) xs) (follows.last some.0 some.1 some.2)
         ∙ behind a xs some.1 (drop n (filter (above a) xs)) up some.0 (cut n (filter (above a) xs) ∙ ap (λ l. l ++ drop n (filter (above a) xs)) some.2 ∙ append_assoc some.0 (some.1 ∷ []) (drop n (filter (above a) xs)))
   ]
+
+  -- what is above a place, and not above the one behind a page, are the elements of the page
+  between : (n : ℕ) (a b : A) (xs : List X) → IsAscending R xs → Follows at a (take n (filter (above a) xs)) b → filter (λ x. above a x && not (above b x)) xs ≡ take n (filter (above a) xs)
+  between n a b xs up follows =
+      let all = filter (above a) xs in
+      let parts : all ≡ take n all ++ drop n all = cut n all in
+      let later : filter (λ x. not (above b x)) (drop n all) ≡ [] = filter_none _ (drop n all) (all_from (λ x. not (above b x) ≡ false) (drop n all) (λ x has. ap not (has_filtered (above b) xs x (subst (λ l. Has l x) (sym (left n a b xs up follows)) has)).1)) in
+      let kept : filter (λ x. not (above b x)) (take n all) ≡ take n all = filter_all _ (take n all) (all_from (λ x. not (above b x) ≡ true) (take n all) (λ x has. ap not (within parts (parted (take n all)) x has))) in
+      filter_both (above a) (λ x. not (above b x)) xs ∙ ap (filter (λ x. not (above b x))) parts ∙ filter-append (λ x. not (above b x)) (take n all) (drop n all) ∙ (λ i. kept i ++ later i) ∙ append-nil (take n all)
+    where
+      within : filter (above a) xs ≡ take n (filter (above a) xs) ++ drop n (filter (above a) xs) → (take n (filter (above a) xs) ≡ []) ⊎ ((front : List X) × (y : X) × (take n (filter (above a) xs) ≡ front ++ y ∷ []))
+          → (x : X) → Has (take n (filter (above a) xs)) x → above b x ≡ false
+      within parts (inl none) x has = absurd (subst (λ l. Has l x) none has)
+      within parts (inr (front, y, is)) x has =
+          let rest = drop n (filter (above a) xs) in
+          let all_is : filter (above a) xs ≡ front ++ y ∷ rest = parts ∙ ap (λ l. l ++ rest) is ∙ append_assoc front (y ∷ []) rest in
+          let rises : IsAscending R (front ++ y ∷ rest) = subst (IsAscending R) all_is (ascending-filter R (above a) xs up) in
+          ap (λ c. above c x) (follows.last front y is) ∙ (elim (has_either front (y ∷ []) x (subst (λ l. Has l x) is has)) [
+            | inl earlier ↦ orders.lower x y (before_one R front y rest rises x earlier)
+            | inr (inl same) ↦ subst (λ z. above (at y) z ≡ false) (sym same) (orders.itself y)
+            | inr (inr none) ↦ absurd none
+          ])
 
   module _ {T : Type 0} (row_of : X → Row) (line_of : X → T) where
     zipped : (xs page : List X) → ((x : X) → Has page x → Contains xs x) → AllZip (IsRowOf row_of line_of xs) (map row_of page) (map line_of page)
@@ -153,7 +212,7 @@ all_above key_of [] = refl
 all_above key_of (x ∷ xs) = ap (λ l. x ∷ l) (all_above key_of xs)
 
 module _ {X : Type 0} (key_of : X → ℕ) where
-  abbrev key_at : X → ℤ
+  abbrev pub key_at : X → ℤ
   key_at x = pos (key_of x)
 
   abbrev IsLower : X → X → Type 0
@@ -167,16 +226,21 @@ module _ {X : Type 0} (key_of : X → ℕ) where
     beyond = λ a x y on low. is_beyond a (key_of x) (key_of y) on low;
   }
 
-  -- above the key of the first one above a key are the others
-  pub keys_behind : (a : ℤ) (xs : List X) (y : X) (rest : List X) → IsAscending IsLower xs → filter (is_above key_of a) xs ≡ y ∷ rest → filter (is_above key_of (pos (key_of y))) xs ≡ rest
-  keys_behind a xs y rest up is = behind IsLower (is_above key_of) key_at orders_keys a xs y rest up [] is
+  module _ (n : ℕ) (a b : ℤ) (xs : List X) (up : IsAscending IsLower xs) (follows : Follows key_at a (take n (filter (is_above key_of a) xs)) b) where
+    -- above the last key of a page is what is behind it,
+    pub keys_behind : filter (is_above key_of b) xs ≡ drop n (filter (is_above key_of a) xs)
+    keys_behind = left IsLower (is_above key_of) key_at orders_keys n a b xs up follows
+
+    -- and what is not, and above that of the page before, is the page
+    pub keys_between : filter (λ x. is_above key_of a x && not (is_above key_of b x)) xs ≡ take n (filter (is_above key_of a) xs)
+    keys_between = between IsLower (is_above key_of) key_at orders_keys n a b xs up follows
 
   module _ {T : Type 0} (row_of : X → Row) (line_of : X → T) (keyed : (x : X) → column (row_of x) 0 ≡ Int (pos (key_of x))) where
     last_row : (page front : List X) (y : X) → page ≡ front ++ y ∷ [] → map row_of page ≡ map row_of front ++ row_of y ∷ []
     last_row page front y is = ap (map row_of) is ∙ map-append row_of front (y ∷ [])
 
     -- the key of the last row is that of the last element
-    follows : (a : ℤ) (page : List X) (b : ℤ) → ReadsLastKey a (map row_of page) (Ok b) → Follows key_at a page b
+    pub follows : (a : ℤ) (page : List X) (b : ℤ) → ReadsLastKey a (map row_of page) (Ok b) → Follows key_at a page b
     follows a page b reads = record { none = none; last = last }
       where
         none : page ≡ [] → b ≡ a

@@ -1,5 +1,5 @@
 -- A row of a page is read as the line that it stands for.
-use Rattle.std.proofs.Common.{◌≡◌, ◌≢◌, ◌∙◌, ℕ, ◌+◌, List, [], ◌∷◌, length, map, Result, Ok, Err, IfOk, IfErr, ap, inl, inr, refl, subst, sym}
+use Rattle.std.proofs.Common.{◌≡◌, ◌≢◌, ◌∙◌, ℕ, ◌+◌, ◌<◌, arith, List, [], ◌∷◌, length, map, Result, Ok, Err, IfOk, IfErr, ap, inl, inr, refl, subst, sym}
 use Rattle.std.specs.Prelude.{All}
 use Rattle.std.specs.List.{AllByRecursion, Contains, enumerate_from}
 use Rattle.std.proofs.lemmas.List.Elements.{recursion_from_All}
@@ -40,6 +40,12 @@ placed_has P k (x ∷ xs) p all (inr later) = placed_has P (k + 1) xs p all.1 la
 -- what holds of all holds of one of them with its place
 pub placed_held : {X : Type 0} (P : X → Type 0) (k : ℕ) (xs : List X) (p : ℕ × X) → All P xs → Contains (enumerate_from k xs) p → P p.1
 placed_held P k xs p all has = placed_has P k xs p (recursion_from_All P xs all) (has_contained (enumerate_from k xs) p has)
+
+-- places are small
+pub placed_under : {X : Type 0} (k : ℕ) (xs : List X) (p : ℕ × X) → Has (enumerate_from k xs) p → p.0 < k + length xs
+placed_under k [] p has = absurd has
+placed_under {X} k (x ∷ xs) p (inl same) = let here : p.0 ≡ k = ap (λ (q : ℕ × X). q.0) same in omega (arith, here)
+placed_under k (x ∷ xs) p (inr later) = let low = placed_under (k + 1) xs p later in omega (arith, low)
 
 -- ---- workunits
 

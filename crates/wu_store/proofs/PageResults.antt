@@ -1,182 +1,103 @@
--- The lines of results, a workunit after another.
-use Rattle.wu_schema.proofs.Words.{Bool, Database, Err, Fault, Has, IfErr, IfOk, List, None, NotAProject, Ok, Option, Refines, Result, Row, Some, Text, Vec, Workunit, World, [], ap, arith, cases_Bool, column, contains_had, enumerate_from, eqb-true, false, filter, find, flat_map, has_contained, if◌then◌else◌, inl, inr, instance_row, length, map, nat_tests, negsuc, number, of_z, option_map, pos, refl, subst, sym, to_z, to_z-of_z, true, w64, ℕ, ℤ, ◌++◌, ◌+◌, ◌<◌, ◌==◌, ◌∙◌, ◌∷◌, ◌≡◌, ◌≢◌, ◌≤◌, ◌^◌}
+-- The lines of results, by pages of the instances of many workunits.
+use Rattle.wu_schema.proofs.Words.{Blob, Database, eqb-true, Err, Fault, Has, IfErr, IfOk, Int, List, None, NotAProject, Ok, Option, Refines, Result, Row, Some, Vec, Workunit, World, [], ap, arith, cases_Bool, column, contains_had, drop, enumerate_from, eq-eqb, false, flat_map, has_contained, if◌then◌else◌, inl, inr, length, map, map-append, negsuc, number, pos, refl, slice_get, subst, sym, true, ℕ, ℤ, ⊤, ◌++◌, ◌-◌, ◌<◌, ◌==◌, ◌∙◌, ◌∷◌, ◌≡◌, ◌≢◌, ◌≤◌, ◌^◌, nat_tests, of_z, to_z, to_z-of_z, w64}
 use Rattle.std.specs.List.{AllZip, Contains}
-use Rattle.std.specs.Option.{option_map_or}
-use Rattle.std.specs.Prelude.{FitsSigned, int_lt}
+use Rattle.std.specs.Ordering.{int_eq}
+use Rattle.std.specs.Prelude.{FitsSigned, int_lt, option_and_then}
 use Rattle.std.specs.declared.alloc.Global.{Global}
-use Rattle.sqlite_rules.proofs.ListLemmas.{has_found}
+use Rattle.std.proofs.lemmas.List.Concat.{flat_map-append}
+use Rattle.std.proofs.lemmas.List.Elements.{All-from_recursion, All-map, All-take, All-weaker, recursion_from_All}
+use Rattle.sqlite_trees.proofs.ListLemmas.{all-filter}
+use Rattle.sqlite_rules.proofs.ListLemmas.{has_kept}
 use Rattle.wu_core.specs.declared.workunit.Instance.{Instance}
 use Rattle.wu_core.specs.Limits.{most_instances}
 use Rattle.wu_core.specs.Storable.{AreStorable, IsStorable, IsStoredInstance}
 use Rattle.wu_schema.specs.Restoring.{Restores}
-use Rattle.wu_store.specs.Answers.{numbered}
 use Rattle.wu_store.specs.Lines.{result_line_of, result_lines, result_lines_of}
-use Rattle.wu_store.specs.Pages.{FindsInstancesAbove, IsFoundAs, IsNamedAbove, IsRowOfResult, ReadsResult, TurnsTo, keys_left, name_row_above, named_row, placed_instance_row, placed_instances, result_lines_above, result_page, result_rows_of, workunit_above}
+use Rattle.wu_store.specs.Pages.{AreFoundAs, AreNamed, ReadsNamed, FindsPageAbove, IsNamed, IsRowOfResult, ReadsResult, TurnsTo, keys_left, name_among, name_page, named_of, named_row, next_workunits, number_of_last, placed_instances, result_lines_above, result_page, result_row, result_rows_of, workunits_above}
+use Rattle.wu_store.specs.Reading.{IsBareInstance, bare_instance_row, columns}
 use Rattle.wu_store.specs.declared.lines.ResultLine.{ResultLine}
 use Rattle.wu_store.specs.declared.pages.results.Named.{Named}
-use Rattle.wu_store.specs.declared.pages.results.OfWorkunit.{OfWorkunit}
-use Rattle.wu_store.specs.Reading.{columns}
-use Rattle.wu_store.proofs.LoadLemmas.{found_first, never_unread}
-use Rattle.wu_store.proofs.PageLemmas.{all_above, is_above, keys_behind}
-use Rattle.wu_store.proofs.PageLines.{held, placed_held}
-use Rattle.wu_store.proofs.PlacedLemmas.{world_rises}
+use Rattle.wu_store.specs.declared.pages.results.OfWorkunits.{OfWorkunits}
+use Rattle.wu_store.proofs.LoadLemmas.{never_unread}
+use Rattle.wu_store.proofs.ReadingLemmas.{is_bare}
+use Rattle.wu_store.proofs.PageLemmas.{Follows, all_above, in_page, at_last, cut, is_above, key_at, keys_behind, keys_between, last_in_page, last_same, none_taken, parted}
+use Rattle.wu_store.proofs.PageLines.{held, placed_held, placed_under}
+use Rattle.wu_store.proofs.PlacedLemmas.{Rises, world_rises}
 use Rattle.wu_store.proofs.SameWorld.{only_one, same_instances}
-
-module _ {X : Type 0} (p : X → Bool) where
-  -- the first that passes heads those that pass
-  first_of : (xs : List X) (y : X) → find p xs ≡ Some y → (rest : List X) × (filter p xs ≡ y ∷ rest)
-  first_of [] y is = absurd (cc)
-  first_of (x ∷ xs) y is = go (p x) (first_of xs y) is
-    where
-      go : (b : Bool) → (find p xs ≡ Some y → (rest : List X) × (filter p xs ≡ y ∷ rest)) → (if b then Some x else find p xs) ≡ Some y → (rest : List X) × ((if b then x ∷ filter p xs else filter p xs) ≡ y ∷ rest)
-      go true again one = (filter p xs, let same : x ≡ y = cc in ap (λ z. z ∷ filter p xs) same)
-      go false again later = again later
-
-  none_of : (xs : List X) → find p xs ≡ None → filter p xs ≡ []
-  none_of [] none = refl
-  none_of (x ∷ xs) none = elim (cases_Bool (p x)) [
-    | inl on ↦ absurd (let e : Some x ≡ None = subst (λ b. (if b then Some x else find p xs) ≡ None) on none in cc)
-    | inr off ↦ rw off (none_of xs (subst (λ b. (if b then Some x else find p xs) ≡ None) off none))
-  ]
-
--- numbers of instances are small
-placed_under : {X : Type 0} (k : ℕ) (xs : List X) (p : ℕ × X) → Has (enumerate_from k xs) p → p.0 < k + length xs
-placed_under k [] p has = absurd has
-placed_under {X} k (x ∷ xs) p (inl same) = let here : p.0 ≡ k = ap (λ (q : ℕ × X). q.0) same in omega (arith, here)
-placed_under k (x ∷ xs) p (inr later) = let low = placed_under (k + 1) xs p later in omega (arith, low)
-
-placed_low : (w : Workunit) (p : ℕ × Instance) → length w.instances ≤ most_instances → Contains (placed_instances w) p → p.0 < 2 ^ 32
-placed_low w p few has = let low = placed_under 0 w.instances p (has_contained (placed_instances w) p has) in omega (arith, few, low)
-
-abbrev above : ℤ → Workunit → Bool
-above = is_above (λ (w : Workunit). w.number)
 
 -- every number is above -1
 pub results_above : (world : World) → result_lines_above (negsuc 0) world ≡ result_lines world
 results_above world = ap (flat_map result_lines_of) (all_above (λ (w : Workunit). w.number) world.workunits)
 
-module _ (db : Database) (world : World) (s : Refines db world) where
-  -- the lines of the first workunit above a key, and those above it
-  pub lines_more : (key : ℤ) (w : Workunit) → workunit_above key world ≡ Some w → result_lines_above key world ≡ result_lines_of w ++ result_lines_above (pos w.number) world
-  lines_more key w found =
-      let it = first_of (above key) world.workunits w found in
-      ap (flat_map result_lines_of) it.1 ∙ ap (λ ws. result_lines_of w ++ flat_map result_lines_of ws) (sym (keys_behind (λ (v : Workunit). v.number) key world.workunits w it.0 (world_rises db world s) it.1))
+-- ---- numbers and names
 
-  pub lines_none : (key : ℤ) → workunit_above key world ≡ None → result_lines_above key world ≡ []
-  lines_none key none = ap (flat_map result_lines_of) (none_of (above key) world.workunits none)
+same_named : (a b : List Named) → map named_row a ≡ map named_row b → a ≡ b
+same_named [] [] is = refl
+same_named [] (w ∷ b) is = absurd (cc)
+same_named (v ∷ a) [] is = absurd (cc)
+same_named (v ∷ a) (w ∷ b) is =
+    let key : v.key ≡ w.key = cc in
+    let name : v.name ≡ w.name = cc in
+    let rest : map named_row a ≡ map named_row b = cc in
+    (λ i. record { key = key i; name = name i } ∷ same_named a b rest i)
 
-  module _ (key : ℤ) (w : Workunit) (found : OfWorkunit) (first : workunit_above key world ≡ Some w) (is : IsFoundAs w found) where
-    here : Contains world.workunits w
-    here = contains_had world.workunits w (has_found (above key) world.workunits w first).0
+pub named_unread : (rows : List Row) (f : Fault) → Restores (map named_row) AreNamed rows (Err f) → ReadsNamed rows (Err f)
+named_unread rows f reads = record { value = tt; found = λ all are is. never_unread (map named_row) AreNamed rows (Err f) all reads are is; refused = reads.refused }
 
-    -- a page with the rows of its instances
-    pub results_turned : (length found.rows.items == 0) ≡ false → TurnsTo (IsRowOfResult (Some found.workunit.name) world) (result_lines_above key world) found.rows.items (result_lines_above found.workunit.key world)
-    results_turned some = record {
-      lines = result_lines_of w;
-      each = subst (λ rs. AllZip (IsRowOfResult (Some found.workunit.name) world) rs (result_lines_of w)) (sym is.rows) (zipped (placed_instances w) (λ p has. has));
-      all = lines_more key w first ∙ ap (λ k. result_lines_of w ++ result_lines_above k world) (sym is.key);
-      end = λ none. absurd (let no : (length found.rows.items == 0) ≡ true = ap (λ rs. length rs == 0) none in cc);
-    }
-      where
-        zipped : (ps : List (ℕ × Instance)) → ((p : ℕ × Instance) → Has ps p → Has (placed_instances w) p) → AllZip (IsRowOfResult (Some found.workunit.name) world) (map placed_instance_row ps) (map (result_line_of w.name) ps)
-        zipped [] within = tt
-        zipped (p ∷ ps) within = (
-          record {
-            workunit = w;
-            present = here;
-            named = ap (λ name. Some name) is.name;
-            of = record { shown = p; there = contains_had (placed_instances w) p (within p (inl refl)); row_is = refl; line_is = refl };
-          },
-          zipped ps (λ q has. within q (inr has)),
-        )
+-- their names, where the world's workunits can be read
+storable_named : (key : ℤ) (world : World) → AreStorable world → AreNamed (map named_of (next_workunits key world))
+storable_named key world can =
+    let P : Workunit → Type 0 = λ w. IsNamed (named_of w) in
+    let all = All-weaker IsStorable P (λ w is. is.row.name) world.workunits can in
+    let above = is_above (λ (w : Workunit). w.number) key in
+    All-map IsNamed named_of (next_workunits key world) (All-take P 100 (workunits_above key world) (All-from_recursion P (workunits_above key world) (all-filter P above world.workunits (recursion_from_All P world.workunits all))))
 
-    -- a workunit without instances is passed over
-    pub passed_over : (length found.rows.items == 0) ≡ true → result_lines_above key world ≡ result_lines_above found.workunit.key world
-    passed_over none = lines_more key w first ∙ ap (λ ls. ls ++ result_lines_above (pos w.number) world) (empty w.instances (subst (λ rs. (length rs == 0) ≡ true) is.rows none)) ∙ ap (λ k. result_lines_above k world) (sym is.key)
-      where
-        empty : (is : List Instance) → (length (map placed_instance_row (enumerate_from 0 is)) == 0) ≡ true → map (result_line_of w.name) (enumerate_from 0 is) ≡ []
-        empty [] none = refl
-        empty (i ∷ is) none = absurd (let e = eqb-true _ _ none in omega (arith, e))
+named_rows : (ws : List Workunit) → map (λ (w : Workunit). named_row (named_of w)) ws ≡ map named_row (map named_of ws)
+named_rows [] = refl
+named_rows (w ∷ ws) = ap (λ rows. named_row (named_of w) ∷ rows) (named_rows ws)
 
--- ---- lines
+module _ (key : ℤ) (world : World) (rows : List Row) (are : rows ≡ name_page key world) where
+  pub named_unrefused : (r : Result (Vec Named Global) Fault) → ReadsNamed rows r → AreStorable world → IfErr r (λ fault. fault ≢ NotAProject)
+  named_unrefused r reads can = reads.found (map named_of (next_workunits key world)) (storable_named key world can) (are ∙ named_rows (next_workunits key world))
 
-module _ (name : List ℕ) (row : Row) where
-  -- the row of an instance alone is read as its line
-  pub result_line_read : (n : ℕ) (i : Instance) → Restores number (λ n. n < 2 ^ 32) (column row 9) (Ok n) → Restores instance_row IsStoredInstance (columns row 0 9) (Ok i) → ReadsResult name row (Ok (result_line_of name (n, i)))
-  result_line_read n i number_is instance_is = record { value = value; found = λ p low stored is. tt; refused = tt }
-    where
-      value : (p : ℕ × Instance) → row ≡ placed_instance_row p → result_line_of name (n, i) ≡ result_line_of name p
-      value p is =
-          let numbers : number n ≡ number p.0 = sym number_is.value.0 ∙ ap (λ r. column r 9) is in
-          let first : n ≡ p.0 = cc in
-          let cells : instance_row i ≡ instance_row p.1 = sym instance_is.value.0 ∙ ap (λ r. columns r 0 9) is in
-          let both : i ∷ [] ≡ p.1 ∷ [] = same_instances (i ∷ []) (p.1 ∷ []) (λ k. cells k ∷ []) in
-          let second : i ≡ p.1 = cc in
-          (λ k. result_line_of name (first k, second k))
+  pub named_found : (all : Vec Named Global) → ReadsNamed rows (Ok all) → all.items ≡ map named_of (next_workunits key world)
+  named_found all reads = same_named all.items (map named_of (next_workunits key world)) (sym reads.value ∙ are ∙ named_rows (next_workunits key world))
 
-  -- one whose number or whose columns can't be read is that of none that can be
-  pub number_unread : (f : Fault) → Restores number (λ n. n < 2 ^ 32) (column row 9) (Err f) → ReadsResult name row (Err f)
-  number_unread f reads = record { value = λ p is. tt; found = λ p low stored is. never_unread number (λ n. n < 2 ^ 32) (column row 9) (Err f) p.0 reads low (ap (λ r. column r 9) is); refused = reads.refused }
+-- ---- the last of them
 
-  pub instance_unread : (f : Fault) → Restores instance_row IsStoredInstance (columns row 0 9) (Err f) → ReadsResult name row (Err f)
-  instance_unread f reads = record { value = λ p is. tt; found = λ p low stored is. never_unread instance_row IsStoredInstance (columns row 0 9) (Err f) p.1 reads stored (ap (λ r. columns r 0 9) is); refused = reads.refused }
+last_of_named : (key : ℤ) (front : List Workunit) (y : Workunit) → int_lt key (pos y.number) ≡ true → number_of_last key (map named_of (front ++ y ∷ [])) ≡ Some (pos y.number)
+last_of_named key front y above =
+    let named : map named_of (front ++ y ∷ []) ≡ map named_of front ++ named_of y ∷ [] = map-append named_of front (y ∷ []) in
+    ap (number_of_last key) named ∙ ap (option_and_then (λ (w : Named). if int_lt key w.key then Some w.key else None)) (at_last (map named_of front) (named_of y)) ∙ rw above refl
 
--- where it is among the instances of the page, its line is that one
-module _ (name : List ℕ) (world : World) (row : Row) (line : ResultLine) (is : IsRowOfResult (Some name) world row line) where
-  same_name : name ≡ is.workunit.name
-  same_name = let some : Some name ≡ Some is.workunit.name = is.named in cc
+module _ (key : ℤ) (world : World) (all : List Named) (are : all ≡ map named_of (next_workunits key world)) where
+  is_higher : (front : List Workunit) (y : Workunit) → next_workunits key world ≡ front ++ y ∷ [] → int_lt key (pos y.number) ≡ true
+  is_higher front y is = (last_in_page (is_above (λ (w : Workunit). w.number) key) 100 world.workunits front y is).1
 
-  pub result_line : (r : Result ResultLine Fault) → ReadsResult name row r → IfOk r (λ read. read ≡ line)
-  result_line (Ok read) reads = reads.value is.of.shown is.of.row_is ∙ ap (λ of. result_line_of of is.of.shown) same_name ∙ sym is.of.line_is
-  result_line (Err f) reads = tt
+  -- where there is none above the key, there are none
+  pub none_last : number_of_last key all ≡ None → next_workunits key world ≡ []
+  none_last none = elim (parted (next_workunits key world)) [
+    | inl empty ↦ empty
+    | inr some ↦ absurd (let no : None ≡ Some (pos some.1.number) = sym none ∙ ap (number_of_last key) (are ∙ ap (map named_of) some.2) ∙ last_of_named key some.0 some.1 (is_higher some.0 some.1 some.2) in cc)
+  ]
 
-  pub result_unrefused : (r : Result ResultLine Fault) → ReadsResult name row r → AreStorable world → IfErr r (λ fault. fault ≢ NotAProject)
-  result_unrefused r reads can =
-      let stored = (held IsStorable world.workunits is.workunit can is.present).instances in
-      reads.found is.of.shown (placed_low is.workunit is.of.shown stored.few is.of.there) (placed_held IsStoredInstance 0 is.workunit.instances is.of.shown stored.each is.of.there) is.of.row_is
+  -- where there is one, it is the last of the page
+  pub some_last : (last : ℤ) → number_of_last key all ≡ Some last → (before : List Workunit) × (final : Workunit) × (next_workunits key world ≡ before ++ final ∷ []) × (last ≡ pos final.number)
+  some_last last some = elim (parted (next_workunits key world)) [
+    | inl empty ↦ absurd (let no : None ≡ Some last = sym (ap (number_of_last key) (are ∙ ap (map named_of) empty)) ∙ some in cc)
+    | inr there ↦ (there.0, there.1, there.2, let same : Some last ≡ Some (pos there.1.number) = sym some ∙ ap (number_of_last key) (are ∙ ap (map named_of) there.2) ∙ last_of_named key there.0 there.1 (is_higher there.0 there.1 there.2) in cc)
+  ]
 
--- ---- the first workunit above a key
-
--- no row, no workunit
-pub none_named : (key : ℤ) (world : World) → None ≡ name_row_above key world → workunit_above key world ≡ None
-none_named key world is = go (workunit_above key world) is
+-- it is above the key
+pub last_higher : (key : ℤ) (all : List Named) (last : ℤ) → number_of_last key all ≡ Some last → int_lt key last ≡ true
+last_higher key all last some = go (slice_get all (length all - 1)) some
   where
-    go : (o : Option Workunit) → None ≡ option_map (λ (w : Workunit). number w.number ∷ Text w.name ∷ []) o → o ≡ None
-    go None is = refl
-    go (Some w) is = absurd (cc)
-
-row_of_first : (key : ℤ) (world : World) (row : Row) → Some row ≡ name_row_above key world → (w : Workunit) × (workunit_above key world ≡ Some w) × (row ≡ number w.number ∷ Text w.name ∷ [])
-row_of_first key world row is = go (workunit_above key world) refl is
-  where
-    go : (o : Option Workunit) → workunit_above key world ≡ o → Some row ≡ option_map (λ (w : Workunit). number w.number ∷ Text w.name ∷ []) o → (w : Workunit) × (workunit_above key world ≡ Some w) × (row ≡ number w.number ∷ Text w.name ∷ [])
-    go None first none = absurd (cc)
-    go (Some w) first some = (w, first, cc)
-
-module _ (key : ℤ) (world : World) (row : Row) (is : Some row ≡ name_row_above key world) where
-  -- it can be read where all can
-  pub named_unrefused : (r : Result Named Fault) → Restores named_row (IsNamedAbove key) row r → AreStorable world → IfErr r (λ fault. fault ≢ NotAProject)
-  named_unrefused r reads can =
-      let it = row_of_first key world row is in
-      let has = has_found (above key) world.workunits it.0 it.1 in
-      let stored = held IsStorable world.workunits it.0 can (contained it.0 has.0) in
-      never_unread named_row (IsNamedAbove key) row r (record { key = pos it.0.number; name = it.0.name }) reads (record { name = stored.row.name; above = has.1 }) it.2
-    where
-      contained : (w : Workunit) → Has world.workunits w → Contains world.workunits w
-      contained w has = contains_had world.workunits w has
-
-  -- what is read is its number and its name
-  pub named_found : (it : Named) → Restores named_row (IsNamedAbove key) row (Ok it) → (w : Workunit) × (workunit_above key world ≡ Some w) × (it.key ≡ pos w.number) × (it.name ≡ w.name)
-  named_found it reads =
-      let one = row_of_first key world row is in
-      let same : named_row it ≡ number one.0.number ∷ Text one.0.name ∷ [] = sym reads.value.0 ∙ one.2 in
-      (one.0, one.1, cc, cc)
-
--- its instances are found by its number
-pub instances_named : (db : Database) (world : World) → Refines db world → (key : ℤ) (w : Workunit) → workunit_above key world ≡ Some w → result_page w.number world ≡ result_rows_of w
-instances_named db world s key w first =
-    let rises = world_rises db world s in
-    let present : numbered w.number world ≡ Some w = found_first (λ (v : Workunit). v.number == w.number) world.workunits w [] (only_one w world.workunits rises (has_found (above key) world.workunits w first).0) in
-    ap (λ o. option_map_or result_rows_of o []) present
+    go : (o : Option Named) → option_and_then (λ (w : Named). if int_lt key w.key then Some w.key else None) o ≡ Some last → int_lt key last ≡ true
+    go None some = absurd (cc)
+    go (Some w) some = elim (cases_Bool (int_lt key w.key)) [
+      | inl on ↦ let same : w.key ≡ last = (let one : Some w.key ≡ Some last = subst (λ b. (if b then Some w.key else None) ≡ Some last) on some in cc) in subst (λ k. int_lt key k ≡ true) same on
+      | inr off ↦ absurd (let none : None ≡ Some last = subst (λ b. (if b then Some w.key else None) ≡ Some last) off some in cc)
+    ]
 
 -- a higher key has fewer above it
 pub keys_shrink : (a b : ℤ) → int_lt a b ≡ true → FitsSigned w64 b → keys_left b < keys_left a
@@ -185,41 +106,208 @@ keys_shrink (pos m) (negsuc n) low fits = absurd (cc)
 keys_shrink (negsuc m) (pos n) low fits = omega arith
 keys_shrink (negsuc m) (negsuc n) low fits = grind (arith, nat_tests)
 
+-- ---- a page
+
+-- names are those of the numbers
+find_named : (w : Workunit) (vs : List Workunit) → ((v : Workunit) → Has vs v → v.number ≡ w.number → v ≡ w) → Has vs w → name_among (pos w.number) (map named_of vs) ≡ Some w.name
+find_named w [] once has = absurd has
+find_named w (v ∷ vs) once has = elim (cases_Bool (int_eq (pos v.number) (pos w.number))) [
+  | inl on ↦ rw on (let same : v ≡ w = once v (inl refl) (same_key on) in ap (λ (u : Workunit). Some u.name) same)
+  | inr off ↦ rw off (find_named w vs (λ u later. once u (inr later)) (elsewhere off has))
+]
+  where
+    same_key : int_eq (pos v.number) (pos w.number) ≡ true → v.number ≡ w.number
+    same_key on = grind (arith, nat_tests, on)
+
+    elsewhere : int_eq (pos v.number) (pos w.number) ≡ false → Has (v ∷ vs) w → Has vs w
+    elsewhere off (inl is) = absurd (let same : w.number ≡ v.number = ap (λ (u : Workunit). u.number) is in grind (arith, nat_tests, off, same))
+    elsewhere off (inr later) = later
+
+zip_append : {X Y : Type 0} (R : X → Y → Type 0) (xs us : List X) (ys vs : List Y) → AllZip R xs ys → AllZip R us vs → AllZip R (xs ++ us) (ys ++ vs)
+zip_append R [] us [] vs one two = two
+zip_append R [] us (y ∷ ys) vs one two = absurd one
+zip_append R (x ∷ xs) us [] vs one two = absurd one
+zip_append R (x ∷ xs) us (y ∷ ys) vs one two = (one.0, zip_append R xs us ys vs one.1 two)
+
+-- without rows there are no lines
+no_lines : (ws : List Workunit) → flat_map result_rows_of ws ≡ [] → flat_map result_lines_of ws ≡ []
+no_lines [] none = refl
+no_lines (w ∷ ws) none = go w.instances none (no_lines ws)
+  where
+    go : (is : List Instance) → map (result_row w.number) (enumerate_from 0 is) ++ flat_map result_rows_of ws ≡ [] → (flat_map result_rows_of ws ≡ [] → flat_map result_lines_of ws ≡ []) → map (result_line_of w.name) (enumerate_from 0 is) ++ flat_map result_lines_of ws ≡ []
+    go [] none again = again none
+    go (i ∷ is) none again = absurd (cc)
+
+module _ (db : Database) (world : World) (s : Refines db world) (key : ℤ) where
+  abbrev rises : Rises world.workunits
+  rises = world_rises db world s
+
+  abbrev number_of : Workunit → ℕ
+  number_of w = w.number
+
+  module _ (before : List Workunit) (final : Workunit) (parts : next_workunits key world ≡ before ++ final ∷ []) where
+    follows : Follows (key_at number_of) key (next_workunits key world) (pos final.number)
+    follows = record {
+      none = λ empty. absurd (let no : before ++ final ∷ [] ≡ [] = sym parts ∙ empty in ended before no);
+      last = λ front y is. let same : final ≡ y = last_same before front final y (sym parts ∙ is) in ap (λ (w : Workunit). pos w.number) same;
+    }
+      where
+        ended : (front : List Workunit) → front ++ final ∷ [] ≡ [] → ⊥
+        ended [] none = absurd (cc)
+        ended (w ∷ front) none = absurd (cc)
+
+    -- the rows of the instances between are those of the page
+    pub page_rows_are : result_page key (pos final.number) world ≡ flat_map result_rows_of (next_workunits key world)
+    page_rows_are = ap (flat_map result_rows_of) (keys_between number_of 100 key (pos final.number) world.workunits rises follows)
+
+    -- what is left behind it
+    lines_left : result_lines_above key world ≡ flat_map result_lines_of (next_workunits key world) ++ result_lines_above (pos final.number) world
+    lines_left =
+        ap (flat_map result_lines_of) (cut 100 (workunits_above key world)) ∙ flat_map-append result_lines_of (next_workunits key world) (drop 100 (workunits_above key world))
+        ∙ ap (λ ws. flat_map result_lines_of (next_workunits key world) ++ flat_map result_lines_of ws) (sym (keys_behind number_of 100 key (pos final.number) world.workunits rises follows))
+
+  -- where no workunit is left, no line is
+  pub none_left : next_workunits key world ≡ [] → result_lines_above key world ≡ []
+  none_left none = ap (flat_map result_lines_of) (none_taken 99 (workunits_above key world) none)
+
+  module _ (found : OfWorkunits) (is : AreFoundAs (next_workunits key world) found) where
+    abbrev page : List Workunit
+    page = next_workunits key world
+
+    abbrev named : Vec Named Global
+    named = found.workunits
+
+    left : result_lines_above key world ≡ flat_map result_lines_of page ++ result_lines_above found.last world
+    left = lines_left is.before is.final is.parts ∙ ap (λ k. flat_map result_lines_of page ++ result_lines_above k world) (sym is.last)
+
+    once : (w : Workunit) → Has world.workunits w → (v : Workunit) → Has page v → v.number ≡ w.number → v ≡ w
+    once w there v has same = single (subst (λ vs. Has vs v) (only_one w world.workunits rises there) (has_kept (λ (u : Workunit). u.number == w.number) world.workunits v (in_page (is_above number_of key) 100 world.workunits v has).0 (eq-eqb v.number w.number same)))
+      where
+        single : Has (w ∷ []) v → v ≡ w
+        single (inl is) = is
+        single (inr none) = absurd none
+
+    -- rows and lines of one workunit,
+    of_one : (w : Workunit) → Has page w → (ps : List (ℕ × Instance)) → ((p : ℕ × Instance) → Has ps p → Has (placed_instances w) p) → AllZip (IsRowOfResult (Some named) world) (map (result_row w.number) ps) (map (result_line_of w.name) ps)
+    of_one w has [] within = tt
+    of_one w has (p ∷ ps) within = (
+      (let there = (in_page (is_above number_of key) 100 world.workunits w has).0 in
+          record {
+            workunit = w;
+            present = contains_had world.workunits w there;
+            name = ap (name_among (pos w.number)) is.named ∙ find_named w page (once w there) has;
+            of = record { shown = p; there = contains_had (placed_instances w) p (within p (inl refl)); row_is = refl; line_is = refl };
+          }),
+      of_one w has ps (λ q later. within q (inr later)),
+    )
+
+    -- of some of the page, and so of all
+    of_some : (ws : List Workunit) → ((w : Workunit) → Has ws w → Has page w) → AllZip (IsRowOfResult (Some named) world) (flat_map result_rows_of ws) (flat_map result_lines_of ws)
+    of_some [] within = tt
+    of_some (w ∷ ws) within =
+        zip_append (IsRowOfResult (Some named) world) (result_rows_of w) (flat_map result_rows_of ws) (result_lines_of w) (flat_map result_lines_of ws)
+        (of_one w (within w (inl refl)) (placed_instances w) (λ p has. has)) (of_some ws (λ v later. within v (inr later)))
+
+    pub results_turned : (length found.rows.items == 0) ≡ false → TurnsTo (IsRowOfResult (Some named) world) (result_lines_above key world) found.rows.items (result_lines_above found.last world)
+    results_turned some = record {
+      lines = flat_map result_lines_of page;
+      each = subst (λ rs. AllZip (IsRowOfResult (Some named) world) rs (flat_map result_lines_of page)) (sym is.rows) (of_some page (λ w has. has));
+      all = left;
+      end = λ none. absurd (let no : (length found.rows.items == 0) ≡ true = ap (λ rs. length rs == 0) none in cc);
+    }
+
+    -- a page without instances is passed over
+    pub passed_over : (length found.rows.items == 0) ≡ true → result_lines_above key world ≡ result_lines_above found.last world
+    passed_over none = left ∙ ap (λ ls. ls ++ result_lines_above found.last world) (no_lines page (sym is.rows ∙ emptied found.rows.items none))
+      where
+        emptied : (rows : List Row) → (length rows == 0) ≡ true → rows ≡ []
+        emptied [] none = refl
+        emptied (r ∷ rows) none = absurd (let e = eqb-true _ _ none in omega (arith, e))
+
 -- ---- a turn
 
 -- what is found, at a key that fits its type
-module _ (key : ℤ) (fits : FitsSigned w64 key) (world : World) (o : Option OfWorkunit) where
+module _ (key : ℤ) (fits : FitsSigned w64 key) (world : World) (o : Option OfWorkunits) where
   same_key : to_z w64 (of_z w64 key) ≡ key
   same_key = to_z-of_z w64 key fits
 
-  pub found_at : (found : OfWorkunit) → o ≡ Some found → FindsInstancesAbove (to_z w64 (of_z w64 key)) (Ok o) world → (w : Workunit) × (workunit_above key world ≡ Some w) × IsFoundAs w found
-  found_at found is finds =
-      let it : (w : Workunit) × (workunit_above (to_z w64 (of_z w64 key)) world ≡ Some w) × IsFoundAs w found = subst (λ (p : Option OfWorkunit). FindsInstancesAbove (to_z w64 (of_z w64 key)) (Ok p) world) is finds in
-      (it.0, ap (λ k. workunit_above k world) (sym same_key) ∙ it.1, it.2)
+  pub found_at : (found : OfWorkunits) → o ≡ Some found → FindsPageAbove (to_z w64 (of_z w64 key)) (Ok o) world → AreFoundAs (next_workunits key world) found
+  found_at found is finds = subst (λ k. AreFoundAs (next_workunits k world) found) same_key (subst (λ (p : Option OfWorkunits). FindsPageAbove (to_z w64 (of_z w64 key)) (Ok p) world) is finds)
 
-  pub none_at : o ≡ None → FindsInstancesAbove (to_z w64 (of_z w64 key)) (Ok o) world → workunit_above key world ≡ None
-  none_at is finds =
-      let it : workunit_above (to_z w64 (of_z w64 key)) world ≡ None = subst (λ (p : Option OfWorkunit). FindsInstancesAbove (to_z w64 (of_z w64 key)) (Ok p) world) is finds in
-      ap (λ k. workunit_above k world) (sym same_key) ∙ it
+  pub none_at : o ≡ None → FindsPageAbove (to_z w64 (of_z w64 key)) (Ok o) world → next_workunits key world ≡ []
+  none_at is finds = ap (λ k. next_workunits k world) (sym same_key) ∙ subst (λ (p : Option OfWorkunits). FindsPageAbove (to_z w64 (of_z w64 key)) (Ok p) world) is finds
 
-module _ (db : Database) (world : World) (s : Refines db world) (from key : ℤ) (left : result_lines_above from world ≡ result_lines_above key world) where
-  -- to the first workunit with instances, where those before it have none
-  pub turned_page : (w : Workunit) (found : OfWorkunit) → workunit_above key world ≡ Some w → IsFoundAs w found → (rows : Vec Row Global) → rows ≡ found.rows → (length rows.items == 0) ≡ false → FitsSigned w64 found.workunit.key
-      → TurnsTo (IsRowOfResult (Some found.workunit.name) world) (result_lines_above from world) rows.items (result_lines_above (to_z w64 (of_z w64 found.workunit.key)) world)
-  turned_page w found first is rows same some fits =
-      let turn = results_turned db world s key w found first is (ap (λ (v : Vec Row Global). length v.items == 0) (sym same) ∙ some) in
-      record {
-        lines = turn.lines;
-        each = subst (λ (v : Vec Row Global). AllZip (IsRowOfResult (Some found.workunit.name) world) v.items turn.lines) (sym same) turn.each;
-        all = left ∙ turn.all ∙ ap (λ k. turn.lines ++ result_lines_above k world) (sym (to_z-of_z w64 found.workunit.key fits));
-        end = λ none. left ∙ turn.end (ap (λ (v : Vec Row Global). v.items) (sym same) ∙ none);
-      }
+module _ (db : Database) (world : World) (s : Refines db world) (from key : ℤ) (so_far : result_lines_above from world ≡ result_lines_above key world) where
+  -- to the first page with rows, where those before it have none
+  pub turned_page : (found : OfWorkunits) → AreFoundAs (next_workunits key world) found → (length found.rows.items == 0) ≡ false → FitsSigned w64 found.last
+      → TurnsTo (IsRowOfResult (Some found.workunits) world) (result_lines_above from world) found.rows.items (result_lines_above (to_z w64 (of_z w64 found.last)) world)
+  turned_page found is some fits =
+      let turn = results_turned db world s key found is some in
+      record { lines = turn.lines; each = turn.each; all = so_far ∙ turn.all ∙ ap (λ k. turn.lines ++ result_lines_above k world) (sym (to_z-of_z w64 found.last fits)); end = λ none. so_far ∙ turn.end none }
 
   -- to none
-  pub last_page : workunit_above key world ≡ None → (name : Option (List ℕ)) (rows : List Row) → rows ≡ [] → TurnsTo (IsRowOfResult name world) (result_lines_above from world) rows (result_lines_above key world)
-  last_page none name rows empty = record {
+  pub last_page : next_workunits key world ≡ [] → (named : Option (Vec Named Global)) (rows : List Row) → rows ≡ [] → TurnsTo (IsRowOfResult named world) (result_lines_above from world) rows (result_lines_above key world)
+  last_page none named rows empty = record {
     lines = [];
-    each = subst (λ rs. AllZip (IsRowOfResult name world) rs []) (sym empty) tt;
-    all = left;
-    end = λ _. left ∙ lines_none db world s key none;
+    each = subst (λ rs. AllZip (IsRowOfResult named world) rs []) (sym empty) tt;
+    all = so_far;
+    end = λ _. so_far ∙ none_left db world s key none;
   }
+
+-- ---- lines
+
+module _ (name : List ℕ) (row : Row) where
+  -- the row of an instance alone is read as its line
+  pub result_line_read : (n output : ℕ) (i : Instance) → Restores number (λ n. n < 2 ^ 32) (column row 8) (Ok n) → Restores number (λ _. ⊤) (column row 10) (Ok output)
+      → Restores bare_instance_row IsBareInstance (columns row 0 8) (Ok i) → ReadsResult name row (Ok (record (result_line_of name (n, i)) { output = output }))
+  result_line_read n output i number_is output_is instance_is = record { value = value; found = λ w p low stored is. tt; refused = tt }
+    where
+      value : (w : ℕ) (p : ℕ × Instance) → row ≡ result_row w p → record (result_line_of name (n, i)) { output = output } ≡ result_line_of name p
+      value w p is =
+          let numbers : number n ≡ number p.0 = sym number_is.value.0 ∙ ap (λ r. column r 8) is in
+          let first : n ≡ p.0 = cc in
+          let lengths : number output ≡ number (length p.1.output) = sym output_is.value.0 ∙ ap (λ r. column r 10) is in
+          let third : output ≡ length p.1.output = cc in
+          let cells : bare_instance_row i ≡ bare_instance_row p.1 = sym instance_is.value.0 ∙ ap (λ r. columns r 0 8) is in
+          let both : record i { output = [] } ∷ [] ≡ record p.1 { output = [] } ∷ [] = same_instances (record i { output = [] } ∷ []) (record p.1 { output = [] } ∷ []) (λ k. (cells k ++ Blob [] ∷ []) ∷ []) in
+          let second : record i { output = [] } ≡ record p.1 { output = [] } = cc in
+          (λ k. record (result_line_of name (first k, second k)) { output = third k })
+
+  -- one of which a column can't be read is that of none that can be
+  pub number_unread : (f : Fault) → Restores number (λ n. n < 2 ^ 32) (column row 8) (Err f) → ReadsResult name row (Err f)
+  number_unread f reads = record { value = λ w p is. tt; found = λ w p low stored is. never_unread number (λ n. n < 2 ^ 32) (column row 8) (Err f) p.0 reads low (ap (λ r. column r 8) is); refused = reads.refused }
+
+  pub length_unread : (f : Fault) → Restores number (λ _. ⊤) (column row 10) (Err f) → ReadsResult name row (Err f)
+  length_unread f reads = record { value = λ w p is. tt; found = λ w p low stored is. never_unread number (λ _. ⊤) (column row 10) (Err f) (length p.1.output) reads tt (ap (λ r. column r 10) is); refused = reads.refused }
+
+  pub bare_unread : (f : Fault) → Restores bare_instance_row IsBareInstance (columns row 0 8) (Err f) → ReadsResult name row (Err f)
+  bare_unread f reads = record { value = λ w p is. tt; found = λ w p low stored is. never_unread bare_instance_row IsBareInstance (columns row 0 8) (Err f) (record p.1 { output = [] }) reads (is_bare p.1 stored) (ap (λ r. columns r 0 8) is); refused = reads.refused }
+
+-- numbers of instances are small
+placed_low : (w : Workunit) (p : ℕ × Instance) → length w.instances ≤ most_instances → Contains (placed_instances w) p → p.0 < 2 ^ 32
+placed_low w p few has = let low = placed_under 0 w.instances p (has_contained (placed_instances w) p has) in omega (arith, few, low)
+
+module _ (named : Option (Vec Named Global)) (world : World) (row : Row) (line : ResultLine) (is : IsRowOfResult named world row line) where
+  -- the number of its workunit is read,
+  pub number_read : (r : Result ℤ Fault) → Restores Int (λ _. ⊤) (column row 9) r → IfErr r (λ fault. fault ≢ NotAProject)
+  number_read r reads = never_unread Int (λ _. ⊤) (column row 9) r (pos is.workunit.number) reads tt (ap (λ r. column r 9) is.of.row_is)
+
+  -- and the name that is found by it is its name
+  pub name_found : (page : Vec Named Global) → named ≡ Some page → (key : ℤ) → FitsSigned w64 key → Restores Int (λ _. ⊤) (column row 9) (Ok key) → (name : List ℕ) → Some name ≡ name_among (to_z w64 (of_z w64 key)) page.items → name ≡ is.workunit.name
+  name_found page given key fits reads name found =
+      let keys : Int key ≡ Int (pos is.workunit.number) = sym reads.value.0 ∙ ap (λ r. column r 9) is.of.row_is in
+      let same : key ≡ pos is.workunit.number = cc in
+      let there : name_among (pos is.workunit.number) page.items ≡ Some is.workunit.name = sym (ap (option_and_then (λ (all : Vec Named Global). name_among (pos is.workunit.number) all.items)) given) ∙ is.name in
+      let both : Some name ≡ Some is.workunit.name = found ∙ ap (λ k. name_among k page.items) (to_z-of_z w64 key fits ∙ same) ∙ there in
+      cc
+
+  module _ (name : List ℕ) (same : name ≡ is.workunit.name) where
+    -- its line is read
+    pub result_line : (r : Result ResultLine Fault) → ReadsResult name row r → IfOk r (λ read. read ≡ line)
+    result_line (Ok read) reads = reads.value is.workunit.number is.of.shown is.of.row_is ∙ ap (λ of. result_line_of of is.of.shown) same ∙ sym is.of.line_is
+    result_line (Err f) reads = tt
+
+    pub result_unrefused : (r : Result ResultLine Fault) → ReadsResult name row r → AreStorable world → IfErr r (λ fault. fault ≢ NotAProject)
+    result_unrefused r reads can =
+        let stored = (held IsStorable world.workunits is.workunit can is.present).instances in
+        reads.found is.workunit.number is.of.shown (placed_low is.workunit is.of.shown stored.few is.of.there) (placed_held IsStoredInstance 0 is.workunit.instances is.of.shown stored.each is.of.there) is.of.row_is

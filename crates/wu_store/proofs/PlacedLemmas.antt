@@ -310,3 +310,8 @@ others_kept n other (w ∷ ws) apart = elim (cases_Bool (w.number == n)) [
       rw (on, no) (others_kept n other ws apart)
   | inr off ↦ rw off (ap (λ o. if w.number == other then Some w else o) (others_kept n other ws apart))
 ]
+
+-- a workunit that is found by a number has it
+pub is_there : (n : ℕ) (was : Workunit) (ws : List Workunit) → find (λ (w : Workunit). w.number == n) ws ≡ Some was → HasNumber n ws
+is_there n was [] found = absurd (cc)
+is_there n was (v ∷ vs) found = elim (cases_Bool (v.number == n)) [ inl on ↦ rw on refl | inr off ↦ rw off (is_there n was vs (rw off at found)) ]

@@ -1,7 +1,7 @@
 -- How columns and rows read as values, step by step.
 use Rattle.wu_schema.proofs.Words.{IsErrAnd, Blob, Err, Fault, IsOrWantsMemory, IfErr, IfOk, ImportKind, Instance, Int, List, None, NotAProject, Null, Ok, Option, Result, Row, Some, Text, Value, Workunit, [], add-one, ap, arith, column, drop, get_or, inl, inr, instance_row, last_skip, length, length-map, map, map-append, number, number_or_null, pos, refl, subst, suc, sym, take, text_or_null, verdict_digits, workunit_row, zero, ℕ, ⊤, ◌++◌, ◌+◌, ◌-◌, ◌<◌, ◌^◌, ◌∙◌, ◌∷◌, ◌≡◌, ◌≢◌, ◌≤◌, ◌⊎◌}
 use Rattle.wu_core.specs.Formed.{IsInstance}
-use Rattle.wu_core.specs.Storable.{IsStoredInstance, AreVerdicts, IsHost, MayBeInstance, IsInput, IsName, IsPlace, IsStoredWorkunit, IsOutput, IsStoredArchived}
+use Rattle.wu_core.specs.Storable.{IsStoredInstance, AreVerdicts, IsHost, IsInput, IsName, IsPlace, IsStoredWorkunit, IsOutput, IsStoredArchived}
 use Rattle.wu_core.specs.declared.mask.ErrorMask.{ErrorMask}
 use Rattle.wu_core.specs.declared.workunit.Archived.{Archived}
 use Rattle.wu_store.specs.declared.lines.HostLine.{HostLine}
@@ -13,7 +13,7 @@ use Rattle.std.proofs.lemmas.List.{take_more, get_or-map}
 use Rattle.std.specs.List.{range_with_len}
 use Rattle.wu_core.specs.declared.fault.Fault.TheVariants.{Memory}
 use Rattle.wu_core.specs.Parameters.{Parameters, IsParameters}
-use Rattle.wu_core.specs.Limits.{last_moment, longest_output}
+use Rattle.wu_core.specs.Limits.{last_moment}
 use Rattle.wu_store.specs.declared.rows.Moments.{Moments}
 use Rattle.wu_store.specs.declared.rows.Progress.{Progress}
 use Rattle.wu_store.specs.declared.rows.States.{States}
@@ -24,7 +24,7 @@ use Rattle.wu_core.specs.declared.states.ServerState.{ServerState}
 use Rattle.wu_core.specs.declared.states.ValidateState.{ValidateState}
 use Rattle.wu_schema.specs.Stored.{parameter_cells}
 use Rattle.wu_schema.specs.Restoring.{Restores}
-use Rattle.wu_store.specs.Reading.{IsStoredImport, file_delete_cell, outcome_cell, server_state_cell, stored_import_row, validate_state_cell, verdicts_cell, moment_cells, state_cells, columns, progress_cells, IsProgress, host_row, IsStoredHost, mask_cell, HasMoments}
+use Rattle.wu_store.specs.Reading.{bare_instance_row, IsBareInstance, IsStoredImport, file_delete_cell, outcome_cell, server_state_cell, stored_import_row, validate_state_cell, verdicts_cell, moment_cells, state_cells, columns, progress_cells, IsProgress, host_row, IsStoredHost, mask_cell, HasMoments}
 
 -- a value that can't be read is none that is stored so
 pub unread : {T C : Type 0} (stored_as : T → C) (IsValue : T → Type 0) (stored : C) (fault : Fault)
@@ -197,11 +197,11 @@ states_of i = record { server_state = i.server_state; outcome = i.outcome; valid
 abbrev moments_of : Instance → Moments
 moments_of i = record { sent_at = i.sent_at; deadline = i.deadline; received_at = i.received_at }
 
-pub states_unread : (row : Row) (f : Fault) → Restores state_cells (λ _. ⊤) (columns row 0 4) (Err f) → Restores instance_row MayBeInstance row (Err f)
-states_unread row = part_unread states_of row 0 4 instance_row state_cells MayBeInstance (λ _. ⊤) (λ i is. tt) (λ i. refl)
+pub states_unread : (row : Row) (f : Fault) → Restores state_cells (λ _. ⊤) (columns row 0 4) (Err f) → Restores bare_instance_row IsBareInstance row (Err f)
+states_unread row = part_unread states_of row 0 4 bare_instance_row state_cells IsBareInstance (λ _. ⊤) (λ i is. tt) (λ i. refl)
 
-pub moments_unread : (row : Row) (f : Fault) → Restores moment_cells HasMoments (columns row 5 3) (Err f) → Restores instance_row MayBeInstance row (Err f)
-moments_unread row = part_unread moments_of row 5 3 instance_row moment_cells MayBeInstance HasMoments (λ i is. is.moments) (λ i. refl)
+pub moments_unread : (row : Row) (f : Fault) → Restores moment_cells HasMoments (columns row 5 3) (Err f) → Restores bare_instance_row IsBareInstance row (Err f)
+moments_unread row = part_unread moments_of row 5 3 bare_instance_row moment_cells IsBareInstance HasMoments (λ i is. is.stored.values.moments) (λ i. refl)
 
 -- four columns that read as these are those of these states alone
 pub states_read : (row : Row) (a : ServerState) (b : Outcome) (d : ValidateState) (e : FileDelete) → Restores server_state_cell (λ _. ⊤) (column row 0) (Ok a) → Restores outcome_cell (λ _. ⊤) (column row 1) (Ok b)
@@ -221,10 +221,10 @@ states_read row a b d e first second third fourth = record {
         let v = ok_is e s.file_delete (fourth.found s.file_delete tt (ap (λ r. column r 3) same)) in
         (λ i. record { server_state = p i; outcome = q i; validate_state = u i; file_delete = v i })
 
-joined_four : (a b d e : Value) (ps qs rs ts : Row) → ps ≡ qs → a ≡ b → rs ≡ ts → d ≡ e → ps ++ (a ∷ rs ++ (d ∷ [])) ≡ qs ++ (b ∷ ts ++ (e ∷ []))
-joined_four a b d e ps qs rs ts first second third fourth = rw (first, second, third, fourth) refl
+joined_three : (b : Value) (ps qs rs ts : Row) (d : Value) → ps ≡ qs → b ≡ d → rs ≡ ts → ps ++ (b ∷ rs) ≡ qs ++ (d ∷ ts)
+joined_three b ps qs rs ts d first second third = rw (first, second, third) refl
 
-module _ (row : Row) (states : States) (host : Option (List ℕ)) (moments : Moments) (output : List ℕ) where
+module _ (row : Row) (states : States) (host : Option (List ℕ)) (moments : Moments) (output : List ℕ) (empty : output ≡ []) where
   abbrev read_instance : Instance
   read_instance = record {
     server_state = states.server_state;
@@ -238,50 +238,64 @@ module _ (row : Row) (states : States) (host : Option (List ℕ)) (moments : Mom
     output = output;
   }
 
-  -- nine columns that read as these are those of this instance alone
-  pub instance_read : Restores state_cells (λ _. ⊤) (columns row 0 4) (Ok states) → Restores text_or_null IsHost (column row 4) (Ok host)
-      → Restores moment_cells HasMoments (columns row 5 3) (Ok moments) → Restores Blob (λ o. length o ≤ longest_output) (column row 8) (Ok output)
-      → Restores instance_row MayBeInstance (columns row 0 9) (Ok read_instance)
-  instance_read states_are host_is moments_are output_is = record {
-    value = (stored, record { host = host_is.value.1; moments = moments_are.value.1; output = output_is.value.1 });
-    found = λ i is same. inl (ap (λ i. Ok i) (only i is same));
+  module _ (states_are : Restores state_cells (λ _. ⊤) (columns row 0 4) (Ok states)) (host_is : Restores text_or_null IsHost (column row 4) (Ok host)) (moments_are : Restores moment_cells HasMoments (columns row 5 3) (Ok moments)) where
+    only_read : (i : Instance) → IsBareInstance i → columns row 0 8 ≡ bare_instance_row i → read_instance ≡ i
+    only_read i is same =
+        let a = ok_is states (states_of i) (states_are.found (states_of i) tt (ap (λ r. columns r 0 4) same)) in
+        let b = ok_is host i.host (host_is.found i.host is.stored.values.host (ap (λ r. column r 4) same)) in
+        let d = ok_is moments (moments_of i) (moments_are.found (moments_of i) is.stored.values.moments (ap (λ r. columns r 5 3) same)) in
+        rw (a, b, d, empty, ← is.bare) refl
+
+    -- eight columns that read as these are those of this instance alone, where it is well formed
+    pub formed_read : IsInstance read_instance → Restores bare_instance_row IsBareInstance (columns row 0 8) (Ok read_instance)
+    formed_read formed = record {
+      value = (
+        joined_three _ _ _ _ _ _ states_are.value.0 host_is.value.0 moments_are.value.0,
+        record { stored = record { values = record { host = host_is.value.1; moments = moments_are.value.1; output = subst IsOutput (sym empty) (omega arith) }; formed = formed }; bare = empty },
+      );
+      found = λ i is same. inl (ap (λ i. Ok i) (only_read i is same));
+      refused = tt;
+    }
+
+    -- and where it is not, those of none
+    pub unformed_read : (IsInstance read_instance → ⊥) → Restores bare_instance_row IsBareInstance (columns row 0 8) (Err NotAProject)
+    unformed_read unformed = record {
+      value = tt;
+      found = λ i is same. absurd (unformed (subst IsInstance (sym (only_read i is same)) is.stored.formed));
+      refused = inr refl;
+    }
+
+-- an instance with an output, and without it
+abbrev with_output : Instance → List ℕ → Instance
+with_output i output = record i { output = output }
+
+same_formed : (i : Instance) (output : List ℕ) → IsInstance i → IsInstance (with_output i output)
+same_formed i output is = record { sent_with_host = is.sent_with_host; due_with_host = is.due_with_host; unsent = is.unsent; in_progress = is.in_progress; success = is.success }
+
+pub is_bare : (i : Instance) → IsStoredInstance i → IsBareInstance (with_output i [])
+is_bare i is = record { stored = record { values = record { host = is.values.host; moments = is.values.moments; output = omega arith }; formed = same_formed i [] is.formed }; bare = refl }
+
+module _ (row : Row) where
+  pub instance_unread : (f : Fault) → Restores bare_instance_row IsBareInstance (columns row 0 8) (Err f) → Restores instance_row IsStoredInstance row (Err f)
+  instance_unread = part_unread (λ i. with_output i []) row 0 8 instance_row bare_instance_row IsStoredInstance IsBareInstance is_bare (λ i. refl)
+
+  -- a row whose columns read as these is that of this instance alone
+  pub instance_read : (i : Instance) (output : List ℕ) → length row ≡ 9 → Restores bare_instance_row IsBareInstance (columns row 0 8) (Ok i) → Restores Blob IsOutput (column row 8) (Ok output) → Restores instance_row IsStoredInstance row (Ok (with_output i output))
+  instance_read i output long instance_is output_is = record {
+    value = (
+      sym (whole_row 9 row long) ∙ (λ k. instance_is.value.0 k ++ output_is.value.0 k ∷ []),
+      let is = instance_is.value.1.stored in
+          record { values = record { host = is.values.host; moments = is.values.moments; output = output_is.value.1 }; formed = same_formed i output is.formed },
+    );
+    found = λ j is same. inl (ap (λ j. Ok j) (only j is same));
     refused = tt;
   }
     where
-      stored : columns row 0 9 ≡ instance_row read_instance
-      stored = joined_four _ _ _ _ _ _ _ _ states_are.value.0 host_is.value.0 moments_are.value.0 output_is.value.0
-
-      only : (i : Instance) → MayBeInstance i → columns row 0 9 ≡ instance_row i → read_instance ≡ i
-      only i is same =
-          let a = ok_is states (states_of i) (states_are.found (states_of i) tt (ap (λ r. columns r 0 4) same)) in
-          let b = ok_is host i.host (host_is.found i.host is.host (ap (λ r. column r 4) same)) in
-          let d = ok_is moments (moments_of i) (moments_are.found (moments_of i) is.moments (ap (λ r. columns r 5 3) same)) in
-          let e = ok_is output i.output (output_is.found i.output is.output (ap (λ r. column r 8) same)) in
-          rw (a, b, d, e) refl
-
--- cells of an instance that is well formed, or not
-module _ (cells : Row) where
-  pub formed_read : (i : Instance) → IsInstance i → Restores instance_row MayBeInstance cells (Ok i) → Restores instance_row IsStoredInstance cells (Ok i)
-  formed_read i formed reads = record {
-    value = (reads.value.0, record { values = reads.value.1; formed = formed });
-    found = λ j is same. reads.found j is.values same;
-    refused = tt;
-  }
-
-  pub unformed_read : (i : Instance) → (IsInstance i → ⊥) → Restores instance_row MayBeInstance cells (Ok i) → Restores instance_row IsStoredInstance cells (Err NotAProject)
-  unformed_read i unformed reads = record {
-    value = tt;
-    found = λ j is same. absurd (unformed (subst IsInstance (sym (ok_is i j (reads.found j is.values same))) is.formed));
-    refused = inr refl;
-  }
-
-  pub instance_refused : (fault : Fault) → Restores instance_row MayBeInstance cells (Err fault) → (r : Result Instance Fault) → IsErrAnd r (λ other. other ≡ fault) → Restores instance_row IsStoredInstance cells r
-  instance_refused fault reads (Ok i) same = absurd same
-  instance_refused fault reads (Err other) same = subst (λ f. Restores instance_row IsStoredInstance cells (Err f)) (sym same) (record {
-    value = tt;
-    found = λ j is shown. not_ok fault j j (reads.found j is.values shown);
-    refused = reads.refused;
-  })
+      only : (j : Instance) → IsStoredInstance j → row ≡ instance_row j → with_output i output ≡ j
+      only j is same =
+          let a = ok_is i (with_output j []) (instance_is.found (with_output j []) (is_bare j is) (ap (λ r. columns r 0 8) same)) in
+          let b = ok_is output j.output (output_is.found j.output is.values.output (ap (λ r. column r 8) same)) in
+          (λ k. with_output (a k) (b k))
 
 -- ---- a host, and an archived workunit
 

@@ -1,6 +1,7 @@
 -- What UPDATE does to the rows, over any schema.
-use Rattle.wu_schema.proofs.Words.{Answers, Database, Does, Enforced, Executes, Given, Has, HasTable, Int, IsCalm, IsDatabase, IsPermutation, List, Mode, None, Null, Ok, Option, OwnsTree, Program, Row, Some, State, Table, Tally, Term, Update, Written, [], all_has, ap, cast_row, codes, edit_of, given, ids_of, length, map, mode_of, one_permutation, pos, project_at, put_all, refl, runs_as, slice_get, statement_of, subst, sym, tied_itself, understood, value_cmp_total, without_all, ℕ, ℤ, ◌∙◌, ◌∷◌, ◌≡◌, ◌≢◌}
+use Rattle.wu_schema.proofs.Words.{Answers, Database, Does, Enforced, Executes, Given, Has, HasTable, Int, IsCalm, IsDatabase, IsPermutation, List, Mode, None, Null, Ok, Option, OwnsTree, Program, Row, Some, State, Table, Tally, Term, Update, Written, [], all_has, ap, cast_row, codes, edit_of, false, given, ids_of, length, length-map, map, mode_of, one_permutation, pos, project_at, put_all, refl, runs_as, slice_get, statement_of, subst, sym, tied_itself, understood, value_cmp_total, without_all, ℕ, ℤ, ◌==◌, ◌∙◌, ◌∷◌, ◌≡◌, ◌≢◌}
 use Rattle.sqlite_trees.specs.Tree.{rowid}
+use Rattle.wu_schema.specs.Calm.{IsSteady}
 use Rattle.sqlite_rules.specs.Action.{Writes as Edits}
 use Rattle.wu_schema.proofs.EffectLemmas.{went, same_value}
 use Rattle.wu_schema.proofs.QueryLemmas.{plain_query, alone}
@@ -45,6 +46,7 @@ pub record Sets (old new : Database) (table : Table) (test project : List Term) 
   pub shown : IsPermutation (showing project params (meeting test params (old.trees table.tree))) found
   pub rows : IsCalm old.schema Enforced table table.tree → new.trees table.tree ≡ resets table (old.trees table.tree) found
   pub others : (t : Table) → Has old.schema.tables t → t.tree ≢ table.tree → IsCalm old.schema Enforced t table.tree → new.trees t.tree ≡ old.trees t.tree
+  pub steady : (t : Table) → Has old.schema.tables t → t.tree ≢ table.tree → IsSteady old.schema Enforced t → (length found == 0) ≡ false → new.trees t.tree ≡ old.trees t.tree
   pub sound : IsDatabase new
 
 module _ (old new : Database) (limit : Option ℕ) (mode : Mode) (keys : mode.keys ≡ Enforced) (sound : IsDatabase new) (params : Row) (text name : List ℕ) (at : ℕ) (table : Table) (has : HasTable old.schema name at table) (stands : Has old.schema.tables table) where
@@ -53,12 +55,16 @@ module _ (old new : Database) (limit : Option ℕ) (mode : Mode) (keys : mode.ke
       let set = update_does limit mode params old text at table has.there tally new (alone (plain_query table.tree test project)) h in
       let edit = edit_of old.trees table (ids_of set.rows) Given 1 set.rows in
       let step = stepped old.schema Enforced old.trees new.trees edit (subst (λ k. Edits old.schema k old.trees edit (Ok new.trees)) keys set.wrote) in
+      let beside = λ (t : Table) (there : Has old.schema.tables t) (other : t.tree ≢ table.tree). all_has (λ (u : Table). u.tree ≢ table.tree → step.mid u.tree ≡ old.trees u.tree) old.schema.tables t step.applied.tables there other in
+      let made = map (λ s. cast_row table (Rattle.std.specs.Prelude.drop 1 s)) set.rows in
+      let news : length edit.news ≡ length set.rows = ap length (given (without_all (old.trees table.tree) (ids_of set.rows)) made) ∙ length-map set.rows (λ s. cast_row table (Rattle.std.specs.Prelude.drop 1 s)) in
       record {
         schema = set.schema;
         found = set.rows;
         shown = answers_are table.tree test project params old set.rows has.low set.found;
         rows = λ calm. step.calm table stands calm ∙ step.applied.rows ∙ ap (put_all (without_all (old.trees table.tree) (ids_of set.rows))) (given (without_all (old.trees table.tree) (ids_of set.rows)) (map (λ s. cast_row table (Rattle.std.specs.Prelude.drop 1 s)) set.rows));
-        others = λ t there other calm. step.calm t there calm ∙ all_has (λ (u : Table). u.tree ≢ table.tree → step.mid u.tree ≡ old.trees u.tree) old.schema.tables t step.applied.tables there other;
+        others = λ t there other calm. step.calm t there calm ∙ beside t there other;
+        steady = λ t there other s some. step.steady t there s (ap (λ n. n == 0) news ∙ some) ∙ beside t there other;
         sound = sound;
       }
 

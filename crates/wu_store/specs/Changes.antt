@@ -1,5 +1,5 @@
 -- What each change makes of a world.
-use Rattle.std.specs.Prelude.{◌≡◌, ◌≢◌, ℕ, ◌+◌, ◌==◌, true, false, not, List, [], ◌∷◌, ◌++◌, length, map, filter, find, Some, option_map, if◌then◌else◌}
+use Rattle.std.specs.Prelude.{◌≡◌, ◌≢◌, ℕ, ◌+◌, ◌==◌, true, false, not, List, [], ◌∷◌, ◌++◌, length, map, filter, find, take, drop, suc, slice_get, slice_set, Option, Some, option_map, ◌<◌, ◌≤◌, if◌then◌else◌}
 use Rattle.std.specs.List.{list_any}
 use Rattle.std.specs.Ordering.{nat_cmp, match_ordering}
 use Rattle.sqlite.specs.Order.{Row}
@@ -17,6 +17,7 @@ use Rattle.wu_schema.specs.Stored.{stored_grant}
 use Rattle.wu_schema.specs.Tables.{ProjectTrees, HasTables}
 use Rattle.wu_schema.specs.Refines.{Refines, HoldsAll, host_of}
 use Rattle.wu_schema.specs.Queue.{HasQueue}
+use Rattle.wu_store.specs.Answers.{numbered}
 use Rattle.wu_store.specs.StandsFor.{IsQueued, StandsFor, marked as marks_in}
 use Rattle.wu_core.specs.declared.marks.Marks.{Marks}
 use Rattle.wu_schema.specs.Made.{PutsOne}
@@ -55,13 +56,34 @@ WasFree number old new = (world : World) → Refines old world → LacksNumber n
 abbrev pub with_replaced : Workunit → World → World
 with_replaced w world = record world { workunits = map (λ v. if v.number == w.number then w else v) world.workunits }
 
+-- with its row in place of that of its number, whose instances stay
+abbrev pub and_row : Workunit → Workunit → Workunit
+and_row w v = if v.number == w.number then record w { instances = v.instances } else v
+
+abbrev pub with_row : Workunit → World → World
+with_row w world = record world { workunits = map (and_row w) world.workunits }
+
+-- the row is set, where a workunit has its number
+abbrev pub SetsRow : Workunit → Database → Database → Type 0
+SetsRow w old new = (world : World) → Refines old world → HasNumber w.number world.workunits → Refines new (with_row w world)
+
+-- a queue beside it is as it was, where a workunit has this number
+abbrev pub LeavesMarks : ℕ → Database → Database → Type 0
+LeavesMarks number old new =
+    (world : World) (marked : List (ℕ × Marks)) → Refines old world → HasNumber number world.workunits → HasQueue old marked → HasQueue new marked
+
 -- the workunit is at its place
 abbrev pub Places : Workunit → Database → Database → Type 0
 Places w old new = (world : World) → IsQueued world → StandsFor old world → StandsFor new (with_placed w world)
 
 -- the workunit takes the place of the present one of its number
-abbrev pub Replaces : Workunit → Database → Database → Type 0
-Replaces w old new =
+abbrev pub Replaces : Workunit → Workunit → Database → Database → Type 0
+Replaces was w old new =
+    (world : World) → IsQueued world → StandsFor old world → numbered w.number world ≡ Some was → StandsFor new (with_replaced w world)
+
+-- it takes the place of whichever is there
+abbrev pub ReplacesAny : Workunit → Database → Database → Type 0
+ReplacesAny w old new =
     (world : World) → IsQueued world → StandsFor old world → HasNumber w.number world.workunits → StandsFor new (with_replaced w world)
 
 -- without the workunit of this number, and so without its instances
@@ -83,6 +105,65 @@ HasInstances number n ws = option_map (λ (w : Workunit). length w.instances) (f
 -- the instance is added, where its number is the next one of its workunit
 abbrev pub AddsInstance : ℕ → ℕ → Instance → Database → Database → Type 0
 AddsInstance number n i old new = (world : World) → Refines old world → HasInstances number n world.workunits → Refines new (with_instance number i world)
+
+-- the workunit, with this instance at a place where it has this number
+abbrev pub and_set : ℕ → ℕ → Instance → Workunit → Workunit
+and_set number n i w = if w.number == number then record w { instances = slice_set w.instances n i } else w
+
+-- with this instance at a place among those of the workunit of this number
+abbrev pub with_set : ℕ → ℕ → Instance → World → World
+with_set number n i world = record world { workunits = map (and_set number n i) world.workunits }
+
+-- the instance is set, where its workunit has one of its number
+abbrev pub SetsInstance : ℕ → ℕ → Instance → Database → Database → Type 0
+SetsInstance number n i old new =
+    (world : World) (w : Workunit) → Refines old world → numbered number world ≡ Some w → n < length w.instances → Refines new (with_set number n i world)
+
+-- a queue beside it is as it was then
+abbrev pub InstanceLeavesMarks : ℕ → ℕ → Database → Database → Type 0
+InstanceLeavesMarks number n old new =
+    (world : World) (w : Workunit) (marked : List (ℕ × Marks)) → Refines old world → numbered number world ≡ Some w → n < length w.instances
+    → HasQueue old marked → HasQueue new marked
+
+-- the list with this instance at a place: in place of the one that is there, or behind the last
+abbrev pub put_at : ℕ → Instance → List Instance → List Instance
+put_at n i is = take n is ++ i ∷ drop (suc n) is
+
+abbrev pub and_put : ℕ → ℕ → Instance → Workunit → Workunit
+and_put number n i w = if w.number == number then record w { instances = put_at n i w.instances } else w
+
+-- the workunit of this number has this instance at a place
+abbrev pub with_put : ℕ → ℕ → Instance → World → World
+with_put number n i world = record world { workunits = map (and_put number n i) world.workunits }
+
+-- the tables stand for this world, and a queue beside it has the same rows
+abbrev pub StandsBeside : World → Database → Database → Type 0
+StandsBeside world old new = Refines new world × ((marked : List (ℕ × Marks)) → HasQueue old marked → HasQueue new marked)
+
+-- an instance is at its place, where this one was there, or none and it is the next
+abbrev pub PutsInstance : ℕ → ℕ → Option Instance → Instance → Database → Database → Type 0
+PutsInstance number n was i old new =
+    (world : World) (w : Workunit) → Refines old world → numbered number world ≡ Some w → n ≤ length w.instances → slice_get w.instances n ≡ was
+    → StandsBeside (with_put number n i world) old new
+
+-- all instances of the workunit are, where it had these
+abbrev pub PutsInstances : Workunit → List Instance → Database → Database → Type 0
+PutsInstances w was old new =
+    (world : World) (v : Workunit) → numbered w.number world ≡ Some v → length was ≤ length w.instances
+    → Refines old (with_replaced (record w { instances = was }) world) → StandsBeside (with_replaced w world) old new
+
+-- the row of the workunit is, where this one was there
+abbrev pub PutsRow : Workunit → Workunit → Database → Database → Type 0
+PutsRow was w old new =
+    (world : World) → Refines old world → numbered w.number world ≡ Some was
+    → StandsBeside (with_replaced (record w { instances = was.instances }) world) old new
+
+-- its marks are in the queue, where those of this one were, which had its number at first
+abbrev pub PutsMarks : Workunit → Workunit → Database → Database → Type 0
+PutsMarks was w old new =
+    (first : Database) (world : World) → Refines first world → numbered w.number world ≡ Some was
+    → Refines old (with_replaced w world) → HasQueue old (marks_in world)
+    → Refines new (with_replaced w world) × HasQueue new (marks_in (with_replaced w world))
 
 -- the instances of a new workunit are added, where its row stands without them
 abbrev pub AddsInstances : Workunit → Database → Database → Type 0

@@ -1,12 +1,13 @@
 -- What the changes of a command make of a world, and of the tables that stand for it.
-use Rattle.std.specs.Prelude.{◌≡◌, ℕ, List, [], ◌∷◌, map, ⊤}
+use Rattle.std.specs.Prelude.{◌≡◌, ℕ, List, [], ◌∷◌, map, Some, ⊤}
 use Rattle.std.specs.List.{enumerate_from}
 use Rattle.sqlite.specs.Effect.{Database}
 use Rattle.wu_core.specs.declared.workunit.Archived.{Archived}
 use Rattle.wu_core.specs.declared.workunit.Grant.{Grant}
 use Rattle.wu_core.specs.World.{World, Import}
-use Rattle.wu_store.specs.Changes.{with_workunit, with_replaced, without_workunit, with_grant, with_archived, with_import, with_next, with_version, HasNumber, IsNextPlace}
+use Rattle.wu_store.specs.Changes.{with_workunit, with_replaced, without_workunit, with_grant, with_archived, with_import, with_next, with_version, IsNextPlace}
 use Rattle.wu_core.specs.Storable.{IsAbove}
+use Rattle.wu_store.specs.Answers.{numbered}
 use Rattle.wu_store.specs.StandsFor.{IsQueued, StandsFor, marked}
 use Rattle.wu_store.specs.declared.changes.Change.{Change}
 use Rattle.wu_store.specs.declared.changes.Change.TheVariants.{Add, Replace, Remove, Granted, Archive, Next, Keep, Upgrade}
@@ -26,7 +27,7 @@ import_of_change kept = record {
 -- the world with one change
 abbrev pub made : Change → World → World
 made (Add w) world = with_workunit w world
-made (Replace w) world = with_replaced w world
+made (Replace was w) world = with_replaced w world
 made (Remove number) world = without_workunit number world
 made (Granted _ g) world = with_grant g world
 made (Archive _ a) world = with_archived a world
@@ -39,11 +40,11 @@ abbrev pub made_all : List Change → World → World
 made_all [] world = world
 made_all (change ∷ more) world = made_all more (made change world)
 
--- a workunit that is added has a number above all, one that takes a place has that of a present one, each in a world with
--- a queue; a grant and an archived row have the next place of their list; an upgrade has the marks of all workunits
+-- a workunit that is added has a number above all, one that takes a place has that of the present one that it is said to
+-- take it from, each in a world with a queue; a grant and an archived row have the next place of their list; an upgrade has the marks of all workunits
 abbrev pub IsRight : Change → World → Type 0
 IsRight (Add w) world = IsQueued world × IsAbove w.number world.workunits
-IsRight (Replace w) world = IsQueued world × HasNumber w.number world.workunits
+IsRight (Replace was w) world = IsQueued world × (numbered w.number world ≡ Some was)
 IsRight (Remove number) world = ⊤
 IsRight (Granted place g) world = IsNextPlace place world.grants
 IsRight (Archive place a) world = IsNextPlace place world.archived

@@ -11,3 +11,4 @@ pub mod Lines
 pub mod Pages
 pub mod Summaries
 pub mod Queues
+pub mod Differences

@@ -1,9 +1,9 @@
 -- What is left of a view behind some of its pages, and what a page of each view is.
-use Rattle.std.specs.Prelude.{◌≡◌, ◌≢◌, ℕ, ◌+◌, ◌-◌, ◌<◌, ◌^◌, suc, ℤ, pos, negsuc, int_lt, Bool, true, List, [], ◌∷◌, ◌++◌, map, filter, find, take, Option, None, Some, option_map, MatchOption, Result, Ok, IfErr, IfOk, ⊤}
+use Rattle.std.specs.Prelude.{◌≡◌, ◌≢◌, ℕ, ◌+◌, ◌-◌, ◌<◌, ◌^◌, suc, ℤ, pos, negsuc, int_lt, Bool, true, List, [], ◌∷◌, ◌++◌, ◌&&◌, not, if◌then◌else◌, length, slice_get, All, map, filter, find, take, Option, None, Some, option_map, option_and_then, MatchOption, Vec, Result, Ok, IfErr, IfOk, ⊤}
 use Rattle.std.specs.Cmp.Lexicographic.{slice_cmp}
 use Rattle.std.specs.List.{AllZip, Contains, enumerate_from, flat_map}
-use Rattle.std.specs.Option.{option_map_or}
-use Rattle.std.specs.Ordering.{is_gt, nat_cmp}
+use Rattle.std.specs.Ordering.{int_eq, is_gt, nat_cmp}
+use Rattle.std.specs.declared.alloc.Global.{Global}
 use Rattle.sqlite.specs.Order.{Row, column}
 use Rattle.sqlite.specs.declared.types.Value.TheVariants.{Int, Text}
 use Rattle.wu_core.specs.declared.fault.Fault.{Fault}
@@ -16,15 +16,14 @@ use Rattle.wu_core.specs.Storable.{IsName, IsStoredInstance}
 use Rattle.wu_core.specs.World.{World}
 use Rattle.wu_schema.specs.Refines.{host_of}
 use Rattle.wu_schema.specs.Restoring.{Restores}
-use Rattle.wu_schema.specs.Stored.{archived_cells, instance_row, number, workunit_row}
-use Rattle.wu_store.specs.Answers.{numbered}
+use Rattle.wu_schema.specs.Stored.{archived_cells, number, workunit_row}
 use Rattle.wu_store.specs.Lines.{host_line_of, line_of, result_line_of, result_lines_of}
-use Rattle.wu_store.specs.Reading.{IsReadFault}
+use Rattle.wu_store.specs.Reading.{bare_instance_row, IsReadFault}
 use Rattle.wu_store.specs.declared.lines.HostLine.{HostLine}
 use Rattle.wu_store.specs.declared.lines.ResultLine.{ResultLine}
 use Rattle.wu_store.specs.declared.lines.WorkunitLine.{WorkunitLine}
 use Rattle.wu_store.specs.declared.pages.results.Named.{Named}
-use Rattle.wu_store.specs.declared.pages.results.OfWorkunit.{OfWorkunit}
+use Rattle.wu_store.specs.declared.pages.results.OfWorkunits.{OfWorkunits}
 
 -- The rows of a page are those of the first of these lines, in order, and these others are left behind it. A page without
 -- rows stands behind the last line.
@@ -47,7 +46,7 @@ pub record ReadsLastKey (key : ℤ) (rows : List Row) (result : Result ℤ Fault
   pub last : (before : List Row) (row : Row) → rows ≡ before ++ row ∷ [] → Restores Int (λ _. ⊤) (column row 0) result
   pub refused : IfErr result IsReadFault
 
--- how many rows a page has, but for the last one
+-- how many rows a page has, or of how many workunits the instances, but for the last one
 abbrev pub page_rows : ℕ
 page_rows = 100
 
@@ -124,27 +123,56 @@ IsRowOfHost world = IsRowOf (host_of world.grants) (host_line_of world.grants) (
 abbrev pub named_row : Named → Row
 named_row w = Int w.key ∷ Text w.name ∷ []
 
--- the workunit has a name, and its number is above a key
-pub record IsNamedAbove (key : ℤ) (w : Named) : Type 0 where
-  pub name : IsName w.name
-  pub above : int_lt key w.key ≡ true
+-- it has a name
+abbrev pub IsNamed : Named → Type 0
+IsNamed w = IsName w.name
+
+-- each of these has one
+abbrev pub AreNamed : List Named → Type 0
+AreNamed = All IsNamed
+
+-- the number and the name of a workunit
+abbrev pub named_of : Workunit → Named
+named_of w = record { key = pos w.number; name = w.name }
+
+-- the number of the last of these, where it is above a key
+abbrev pub number_of_last : ℤ → List Named → Option ℤ
+number_of_last key all = option_and_then (λ (w : Named). if int_lt key w.key then Some w.key else None) (slice_get all (length all - 1))
+
+-- the one of a number among these, and its name
+abbrev pub named_among : ℤ → List Named → Option Named
+named_among number all = find (λ (w : Named). int_eq w.key number) all
+
+abbrev pub name_among : ℤ → List Named → Option (List ℕ)
+name_among number all = option_map (λ (w : Named). w.name) (named_among number all)
+
+-- rows are read as those of numbers and names
+pub record ReadsNamed (rows : List Row) (result : Result (Vec Named Global) Fault) : Type 0 where
+  pub value : IfOk result (λ all. rows ≡ map named_row all.items)
+  -- those of names are, want of memory aside
+  pub found : (all : List Named) → AreNamed all → rows ≡ map named_row all → IfErr result (λ fault. fault ≢ NotAProject)
+  pub refused : IfErr result IsReadFault
 
 -- how many keys of 64 bits, of which half are below 0, are above one
 abbrev pub keys_left : ℤ → ℕ
 keys_left (pos n) = 2 ^ 63 - n
 keys_left (negsuc n) = 2 ^ 63 + suc n
 
--- the first workunit above a key
-abbrev pub workunit_above : ℤ → World → Option Workunit
-workunit_above key world = find (λ (w : Workunit). int_lt key (pos w.number)) world.workunits
+-- the workunits of a page: the next ones above a key
+abbrev pub next_workunits : ℤ → World → List Workunit
+next_workunits key world = take page_rows (workunits_above key world)
 
--- the row of its number and its name
-abbrev pub name_row_above : ℤ → World → Option Row
-name_row_above key world = option_map (λ (w : Workunit). number w.number ∷ Text w.name ∷ []) (workunit_above key world)
+-- their numbers and names, as they are asked for
+abbrev pub name_page : ℤ → World → List Row
+name_page key world = map (λ (w : Workunit). named_row (named_of w)) (next_workunits key world)
 
--- an instance with its number, as a page shows it
-abbrev pub placed_instance_row : ℕ × Instance → Row
-placed_instance_row p = instance_row p.1 ++ number p.0 ∷ []
+-- the workunits whose numbers are above a key, and not above a last one
+abbrev pub workunits_between : ℤ → ℤ → World → List Workunit
+workunits_between key last world = filter (λ (w : Workunit). int_lt key (pos w.number) && not (int_lt last (pos w.number))) world.workunits
+
+-- an instance of a workunit, by its number there, as a page shows it: with the length of its output
+abbrev pub result_row : ℕ → ℕ × Instance → Row
+result_row workunit p = bare_instance_row p.1 ++ number p.0 ∷ number workunit ∷ number (length p.1.output) ∷ []
 
 -- the instances of a workunit with their numbers
 abbrev pub placed_instances : Workunit → List (ℕ × Instance)
@@ -152,37 +180,40 @@ placed_instances w = enumerate_from 0 w.instances
 
 -- their rows
 abbrev pub result_rows_of : Workunit → List Row
-result_rows_of w = map placed_instance_row (placed_instances w)
+result_rows_of w = map (result_row w.number) (placed_instances w)
 
--- those of the workunit of this number; none where it is not there
-abbrev pub result_page : ℕ → World → List Row
-result_page n world = option_map_or result_rows_of (numbered n world) []
+-- those of the workunits above a key, and not above a last one
+abbrev pub result_page : ℤ → ℤ → World → List Row
+result_page key last world = flat_map result_rows_of (workunits_between key last world)
 
 -- the lines of the instances of the workunits above a key
 abbrev pub result_lines_above : ℤ → World → List ResultLine
 result_lines_above key world = flat_map result_lines_of (workunits_above key world)
 
--- a workunit is found, with the rows of its instances
-pub record IsFoundAs (w : Workunit) (found : OfWorkunit) : Type 0 where
-  pub key : found.workunit.key ≡ pos w.number
-  pub name : found.workunit.name ≡ w.name
-  pub rows : found.rows.items ≡ result_rows_of w
+-- these workunits, of which there are some, are found with the rows of their instances
+pub record AreFoundAs (ws : List Workunit) (found : OfWorkunits) : Type 0 where
+  pub before : List Workunit
+  pub final : Workunit
+  pub parts : ws ≡ before ++ final ∷ []
+  pub last : found.last ≡ pos final.number
+  pub named : found.workunits.items ≡ map named_of ws
+  pub rows : found.rows.items ≡ flat_map result_rows_of ws
 
--- the first workunit above a key is found, with the rows of its instances, or none where there is none
-abbrev pub FindsInstancesAbove : ℤ → Result (Option OfWorkunit) Fault → World → Type 0
-FindsInstancesAbove key result world =
-    IfOk result (λ found. MatchOption found (workunit_above key world ≡ None) (λ next. (w : Workunit) × (workunit_above key world ≡ Some w) × IsFoundAs w next))
+-- the next workunits above a key are found so, or none where there are none
+abbrev pub FindsPageAbove : ℤ → Result (Option OfWorkunits) Fault → World → Type 0
+FindsPageAbove key result world =
+    IfOk result (λ found. MatchOption found (next_workunits key world ≡ []) (AreFoundAs (next_workunits key world)))
 
--- a row and a line are those of an instance of the workunit of this name
-pub record IsRowOfResult (name : Option (List ℕ)) (world : World) (row : Row) (line : ResultLine) : Type 0 where
+-- a row and a line are those of an instance of a workunit, whose name these give
+pub record IsRowOfResult (named : Option (Vec Named Global)) (world : World) (row : Row) (line : ResultLine) : Type 0 where
   pub workunit : Workunit
   pub present : Contains world.workunits workunit
-  pub named : name ≡ Some workunit.name
-  pub of : IsRowOf placed_instance_row (result_line_of workunit.name) (placed_instances workunit) row line
+  pub name : option_and_then (λ (all : Vec Named Global). name_among (pos workunit.number) all.items) named ≡ Some workunit.name
+  pub of : IsRowOf (result_row workunit.number) (result_line_of workunit.name) (placed_instances workunit) row line
 
 -- a row is read as the line of an instance of a workunit of this name
 pub record ReadsResult (name : List ℕ) (row : Row) (result : Result ResultLine Fault) : Type 0 where
-  pub value : (p : ℕ × Instance) → row ≡ placed_instance_row p → IfOk result (λ line. line ≡ result_line_of name p)
+  pub value : (workunit : ℕ) (p : ℕ × Instance) → row ≡ result_row workunit p → IfOk result (λ line. line ≡ result_line_of name p)
   -- that of each instance that can be read is, want of memory aside
-  pub found : (p : ℕ × Instance) → p.0 < 2 ^ 32 → IsStoredInstance p.1 → row ≡ placed_instance_row p → IfErr result (λ fault. fault ≢ NotAProject)
+  pub found : (workunit : ℕ) (p : ℕ × Instance) → p.0 < 2 ^ 32 → IsStoredInstance p.1 → row ≡ result_row workunit p → IfErr result (λ fault. fault ≢ NotAProject)
   pub refused : IfErr result IsReadFault

@@ -1,5 +1,5 @@
 -- What each statement makes of the queue, and what is asked of it.
-use Rattle.std.specs.Prelude.{codes, ◌≡◌, ◌≢◌, ℕ, ◌==◌, nat_le, Bool, false, not, List, [], ◌∷◌, filter, map, take, None, Result, Vec, IfErr}
+use Rattle.std.specs.Prelude.{codes, ◌≡◌, ◌≢◌, ℕ, ◌==◌, nat_le, Bool, false, not, List, [], ◌∷◌, filter, map, take, None, Result, Vec, IfErr, if◌then◌else◌}
 use Rattle.std.specs.Option.{option_map_or}
 use Rattle.std.specs.Ordering.{nat_cmp, match_ordering}
 use Rattle.sqlite.specs.Effect.{Database}
@@ -30,6 +30,10 @@ with_marks number marks marked = at_place (λ (p : ℕ × Marks). p.0) (number, 
 -- without those of the workunit of this number
 abbrev pub without_marks : ℕ → List (ℕ × Marks) → List (ℕ × Marks)
 without_marks number marked = filter (λ (p : ℕ × Marks). not (p.0 == number)) marked
+
+-- with these marks in place of those of the workunit of this number
+abbrev pub with_set_marks : ℕ → Marks → List (ℕ × Marks) → List (ℕ × Marks)
+with_set_marks number marks marked = map (λ (p : ℕ × Marks). if p.0 == number then (number, marks) else p) marked
 
 -- a queue beside a world has these rows then
 abbrev pub ChangesQueue : (List (ℕ × Marks) → List (ℕ × Marks)) → Database → Database → Type 0

@@ -1,5 +1,5 @@
 -- How stored columns and rows read as values: exactly as those that they stand for, want of memory aside.
-use Rattle.std.specs.Prelude.{◌≡◌, ◌⊎◌, ℕ, ◌-◌, ◌≤◌, ◌^◌, List, [], ◌∷◌, map, Option}
+use Rattle.std.specs.Prelude.{◌≡◌, ◌⊎◌, ℕ, ◌-◌, ◌≤◌, ◌^◌, List, [], ◌∷◌, map, take, Option}
 use Rattle.std.specs.List.{range_with_len}
 use Rattle.sqlite.specs.Order.{Row, column}
 use Rattle.wu_core.specs.declared.fault.Fault.{Fault}
@@ -11,9 +11,10 @@ use Rattle.wu_core.specs.declared.states.FileDelete.{FileDelete}
 use Rattle.wu_core.specs.declared.states.Outcome.{Outcome}
 use Rattle.wu_core.specs.declared.states.ServerState.{ServerState}
 use Rattle.wu_core.specs.declared.states.ValidateState.{ValidateState}
+use Rattle.wu_core.specs.declared.workunit.Instance.{Instance}
 use Rattle.wu_core.specs.Codes.{assimilate_code, file_delete_code, outcome_code, server_state_code, validate_state_code}
 use Rattle.wu_core.specs.Mask.{error_mask_code}
-use Rattle.wu_schema.specs.Stored.{host_cells, number, number_or_null, verdict_digits}
+use Rattle.wu_schema.specs.Stored.{host_cells, instance_row, number, number_or_null, verdict_digits}
 use Rattle.wu_store.specs.Answers.{last_of}
 use Rattle.wu_store.specs.declared.lines.HostLine.{HostLine}
 use Rattle.wu_store.specs.declared.rows.Progress.{Progress}
@@ -22,7 +23,7 @@ use Rattle.wu_store.specs.declared.rows.States.{States}
 use Rattle.wu_store.specs.declared.rows.StoredImport.{StoredImport}
 use Rattle.sqlite.specs.declared.types.Value.{Value}
 use Rattle.sqlite.specs.declared.types.Value.TheVariants.{Text, Blob}
-use Rattle.wu_core.specs.Storable.{IsName, IsPlace, IsStamped, AreMoments, AreVerdicts}
+use Rattle.wu_core.specs.Storable.{IsName, IsPlace, IsStoredInstance, IsStamped, AreMoments, AreVerdicts}
 
 -- so many columns from this one on
 abbrev pub columns : Row → ℕ → ℕ → Row
@@ -71,6 +72,15 @@ moment_cells m = number_or_null m.sent_at ∷ number_or_null m.deadline ∷ numb
 
 abbrev pub HasMoments : Moments → Type 0
 HasMoments m = AreMoments m.sent_at m.deadline m.received_at
+
+-- the columns of an instance but for its output, the last one
+abbrev pub bare_instance_row : Instance → Row
+bare_instance_row i = take 8 (instance_row i)
+
+-- what these stand for: an instance without its output
+pub record IsBareInstance (i : Instance) : Type 0 where
+  pub stored : IsStoredInstance i
+  pub bare : i.output ≡ []
 
 -- what a row of an import keeps, as it is read
 abbrev pub stored_import_row : StoredImport → Row

@@ -1,10 +1,12 @@
 //! Changes of a project's tables, and lists of them inside a transaction.
 
-ghost use Rattle.std.specs.Prelude.{[], ◌∷◌};
+ghost use Rattle.std.specs.Prelude.{[], ◌∷◌, option_map};
 ghost use Rattle.wu_schema.specs.Calls.{StatementFrame, TransactionFrame, Does};
-ghost use Rattle.wu_store.specs.Changes.{AddsInstances, FillsQueue, LeavesQueue, Places, Replaces, Upgrades};
+ghost use Rattle.wu_store.specs.Changes.{AddsInstances, FillsQueue, LeavesQueue, Places, PutsInstance, PutsInstances, PutsMarks, PutsRow, Replaces, ReplacesAny, Upgrades};
 ghost use Rattle.wu_store.specs.Changing.{MakesWorlds};
 
+use crate::differences::{is_same_instance, is_same_marks, is_same_row};
+use crate::sets::{set_instance, set_marks, set_workunit};
 use crate::statements::{
     delete_workunit, insert_archived, insert_grant, insert_import, insert_instance, insert_marks,
     insert_workunit, set_next_number, set_version,
@@ -12,7 +14,7 @@ use crate::statements::{
 use crate::verdicts::Verdicts;
 use sqlite::{Alter, Error, Transaction};
 use std::alloc::Global;
-use wu_core::{Archived, Grant, ImportKind, Marks, Name, Workunit};
+use wu_core::{Archived, Grant, ImportKind, Instance, Marks, Name, Workunit};
 use wu_rules::marks_of;
 use wu_schema::make_queue;
 
@@ -32,8 +34,8 @@ pub struct Import<'a> {
 pub enum Change<'a> {
     /// A workunit of a new number is added, with its instances.
     Add(Workunit),
-    /// A workunit takes the place of the present one of its number, with its instances.
-    Replace(Workunit),
+    /// The second workunit, with its instances, takes the place of the first, which is the present one of its number.
+    Replace(Workunit, Workunit),
     /// The workunit of this number goes, with its instances.
     Remove(u64),
     /// A grant is kept at this place of the grants, and added to its host's sums.
@@ -55,7 +57,8 @@ const QUEUE_VERSION: u64 = 2;
 impl Drop for Change<'_> {
     fn drop(self) {
         match self {
-            Change::Add(_workunit) | Change::Replace(_workunit) => {}
+            Change::Add(_workunit) => {}
+            Change::Replace(_was, _now) => {}
             Change::Granted(_seq, _grant) => {}
             Change::Archive(_seq, _archived) => {}
             Change::Remove(_number) | Change::Next(_number) => {}
@@ -90,13 +93,104 @@ fn add<S: Alter>(tx: &mut Transaction<'_, S>, workunit: &Workunit) -> Result<(),
     insert_marks(tx, workunit.number, &marks_of(workunit))
 }
 
-/// Puts a workunit in the place of the present one of its number, with its instances and marks in place of those.
-fn replace<S: Alter>(tx: &mut Transaction<'_, S>, workunit: &Workunit) -> Result<(), Error>
+/// Puts a workunit in the place of the present one of its number by deleting that one, with its instances and marks.
+fn replace_whole<S: Alter>(tx: &mut Transaction<'_, S>, workunit: &Workunit) -> Result<(), Error>
     ensures writes { StatementFrame S.Store tx.old tx.new result }
-    ensures replaces { Does S.Store tx.old tx.new result (Replaces workunit.now) }
+    ensures replaces { Does S.Store tx.old tx.new result (ReplacesAny workunit.now) }
 {
     delete_workunit(tx, workunit.number)?;
     add(tx, workunit)
+}
+
+/// Sets the instance of this number where it is not as it was, or adds it where there was none.
+fn put_instance<S: Alter>(
+    tx: &mut Transaction<'_, S>,
+    workunit: u64,
+    n: u32,
+    was: Option<&Instance>,
+    instance: &Instance,
+) -> Result<(), Error>
+    ensures works { TransactionFrame S.Store tx.old tx.new result }
+    ensures puts { Does S.Store tx.old tx.new result
+        (PutsInstance workunit n (option_map (λ i. i.now) was.entry) instance.now) }
+{
+    match was {
+        None => insert_instance(tx, workunit, n, instance),
+        Some(was) => {
+            if is_same_instance(was, instance) {
+                Ok(())
+            } else {
+                set_instance(tx, workunit, n, instance)
+            }
+        }
+    }
+}
+
+/// Makes the instances of a workunit what they are to be: those that are not as they were are set, new ones are added.
+fn put_instances<S: Alter>(
+    tx: &mut Transaction<'_, S>,
+    was: &[Instance],
+    workunit: &Workunit,
+) -> Result<(), Error>
+    ensures works { TransactionFrame S.Store tx.old tx.new result }
+    ensures puts { Does S.Store tx.old tx.new result (PutsInstances workunit.now was.now) }
+{
+    let instances = workunit.instances.as_slice();
+    let mut n = 0;
+    for instance in instances {
+        put_instance(tx, workunit.number, n, was.get(n as usize), instance)?;
+        n += 1;
+    }
+    Ok(())
+}
+
+/// Sets the row of a workunit, where it is not as it was.
+fn put_row<S: Alter>(
+    tx: &mut Transaction<'_, S>,
+    was: &Workunit,
+    workunit: &Workunit,
+) -> Result<(), Error>
+    ensures works { TransactionFrame S.Store tx.old tx.new result }
+    ensures puts { Does S.Store tx.old tx.new result (PutsRow was.now workunit.now) }
+{
+    if is_same_row(was, workunit) {
+        return Ok(());
+    }
+    set_workunit(tx, workunit)
+}
+
+/// Sets the marks of a workunit, where they are not as they were.
+fn put_marks<S: Alter>(
+    tx: &mut Transaction<'_, S>,
+    was: &Workunit,
+    workunit: &Workunit,
+) -> Result<(), Error>
+    ensures works { TransactionFrame S.Store tx.old tx.new result }
+    ensures puts { Does S.Store tx.old tx.new result (PutsMarks was.now workunit.now) }
+{
+    let marks = marks_of(workunit);
+    if is_same_marks(&marks_of(was), &marks) {
+        return Ok(());
+    }
+    set_marks(tx, workunit.number, &marks)
+}
+
+/// Puts a workunit in the place of the present one, with its instances and marks: what is not as it was is written where
+/// it stands. A workunit never has fewer instances than before; one that had would be deleted and added anew.
+fn replace<S: Alter>(
+    tx: &mut Transaction<'_, S>,
+    was: &Workunit,
+    workunit: &Workunit,
+) -> Result<(), Error>
+    ensures works { TransactionFrame S.Store tx.old tx.new result }
+    ensures replaces { Does S.Store tx.old tx.new result (Replaces was.now workunit.now) }
+{
+    if workunit.instances.len() < was.instances.len() {
+        return replace_whole(tx, workunit);
+    }
+    put_row(tx, was, workunit)?;
+    put_instances(tx, was.instances.as_slice(), workunit)?;
+    put_marks(tx, was, workunit)
 }
 
 /// Puts these rows into a queue that has none, in their order.
@@ -121,12 +215,12 @@ fn upgrade<S: Alter>(tx: &mut Transaction<'_, S>, rows: &[(u64, Marks)]) -> Resu
 }
 
 fn make<S: Alter>(tx: &mut Transaction<'_, S>, change: &Change<'_>) -> Result<(), Error>
-    ensures writes { StatementFrame S.Store tx.old tx.new result }
+    ensures works { TransactionFrame S.Store tx.old tx.new result }
     ensures makes { Does S.Store tx.old tx.new result (MakesWorlds (change.now ∷ [])) }
 {
     match change {
         Change::Add(workunit) => add(tx, workunit),
-        Change::Replace(workunit) => replace(tx, workunit),
+        Change::Replace(was, now) => replace(tx, was, now),
         Change::Remove(number) => delete_workunit(tx, *number),
         Change::Granted(seq, grant) => insert_grant(tx, *seq, grant),
         Change::Archive(seq, archived) => insert_archived(tx, *seq, archived),

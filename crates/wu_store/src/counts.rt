@@ -1,17 +1,16 @@
 //! The summary of a project: how much it holds.
 
-ghost use Rattle.std.specs.Prelude.{◌≤◌, ⊤, IfErr};
+ghost use Rattle.std.specs.Prelude.{◌≡◌, ◌≤◌, ⊤, int_lt, true, IfErr, IfOk, IfSome};
 ghost use Rattle.wu_store.specs.Answers.{count_in, import_count, result_count, workunit_count};
 ghost use Rattle.wu_store.specs.Lines.{summary_of};
-ghost use Rattle.wu_store.specs.Summaries.{FindsAt, granted_of, HasNumbers, IsCountable, IsCreditCountable, project_numbers, others_of, results_of, SumsCredit};
+ghost use Rattle.wu_store.specs.Summaries.{CountsOn, FindsAt, granted_of, HasNumbers, IsCountable, IsCreditCountable, MayCountOn, project_numbers, others_of, results_of, SumsCredit};
 ghost use Rattle.wu_store.specs.Loading.{Asks, IsStoreFault, NotRefusedIn, ForEachWorld, ServesUnlessFailed};
 
 use crate::lines::Summary;
 use crate::loading::{next_archived_place, next_number};
-use crate::statements::{
-    credit_rows, import_kind_rows, result_number_rows, result_number_rows_in, workunit_number_rows,
-};
-use sqlite::{Alter, Connection, Row};
+use crate::pages::last_key;
+use crate::statements::{ask_count, credit_rows};
+use sqlite::{Alter, Connection, Row, params};
 use wu_core::{Fault, ServerState};
 use wu_schema::{number_at, version_of};
 
@@ -23,8 +22,7 @@ fn count_workunits<S: Alter>(conn: &mut Connection<S>) -> Result<u64, Fault>
     ensures found { ForEachWorld S.Store conn.old conn.new (FindsAt workunit_count result) }
     ensures unrefused { NotRefusedIn S.Store conn.old conn.new result (λ _. ⊤) }
 {
-    let rows = workunit_number_rows(conn)?;
-    Ok(rows.len() as u64)
+    ask_count(conn, "SELECT count(*) FROM workunit", &[])
 }
 
 /// How many files were imported, each once.
@@ -35,8 +33,7 @@ fn count_imports<S: Alter>(conn: &mut Connection<S>) -> Result<u64, Fault>
     ensures found { ForEachWorld S.Store conn.old conn.new (FindsAt import_count result) }
     ensures unrefused { NotRefusedIn S.Store conn.old conn.new result (λ _. ⊤) }
 {
-    let rows = import_kind_rows(conn)?;
-    Ok(rows.len() as u64)
+    ask_count(conn, "SELECT count(*) FROM import", &[])
 }
 
 /// How many instances the present workunits have.
@@ -47,8 +44,7 @@ fn count_all_results<S: Alter>(conn: &mut Connection<S>) -> Result<u64, Fault>
     ensures found { ForEachWorld S.Store conn.old conn.new (FindsAt result_count result) }
     ensures unrefused { NotRefusedIn S.Store conn.old conn.new result (λ _. ⊤) }
 {
-    let rows = result_number_rows(conn)?;
-    Ok(rows.len() as u64)
+    ask_count(conn, "SELECT count(*) FROM result", &[])
 }
 
 /// How many of them are in this state.
@@ -59,8 +55,11 @@ fn count_results_in<S: Alter>(conn: &mut Connection<S>, wanted: ServerState) -> 
     ensures found { ForEachWorld S.Store conn.old conn.new (FindsAt (count_in wanted) result) }
     ensures unrefused { NotRefusedIn S.Store conn.old conn.new result (λ _. ⊤) }
 {
-    let rows = result_number_rows_in(conn, wanted)?;
-    Ok(rows.len() as u64)
+    ask_count(
+        conn,
+        "SELECT count(*) FROM result WHERE server_state = ?1",
+        params![wanted.code()],
+    )
 }
 
 /// How many instances there are, and how many in each state.
@@ -116,19 +115,51 @@ fn count_others<S: Alter>(conn: &mut Connection<S>) -> Result<Others, Fault>
     })
 }
 
-/// The sum of the credit in rows. `NotAProject` where it is not below 2^64, or where a row has no number.
-fn sum_of(rows: &[Row]) -> Result<u64, Fault>
-    ensures { SumsCredit rows.now result }
+/// A sum with the credit in the second columns of rows. `NotAProject` where it is not below 2^64, or where a row has no
+/// number there.
+fn sum_of(rows: &[Row], before: u64) -> Result<u64, Fault>
+    ensures { SumsCredit before rows.now result }
 {
-    let mut sum = 0u64;
+    let mut sum = before;
     for row in rows {
-        let credit = number_at(row, 0)?;
+        let credit = number_at(row, 1)?;
         sum = match sum.checked_add(credit) {
             Some(sum) => sum,
             None => return Err(Fault::NotAProject),
         };
     }
     Ok(sum)
+}
+
+/// How far the grants are counted.
+#[derive(Clone, Copy)]
+struct Counted {
+    /// The place of the last one so far; 0 before the first one.
+    last: i64,
+    /// The credit so far.
+    credit: u64,
+}
+
+/// How far they are counted with the next ones; none where there are no more.
+fn more_counted<S: Alter>(
+    conn: &mut Connection<S>,
+    so_far: Counted,
+) -> Result<Option<Counted>, Fault>
+    ensures rises { IfOk result (λ more. IfSome more
+        (λ next. int_lt so_far.last next.last ≡ true)) }
+    ensures asks { Asks S.Store conn.old conn.new result }
+    ensures opens { ServesUnlessFailed S.Store conn.new result }
+    ensures fault { IfErr result IsStoreFault }
+    ensures found { ForEachWorld S.Store conn.old conn.new (CountsOn so_far result) }
+    ensures unrefused { NotRefusedIn S.Store conn.old conn.new result (MayCountOn so_far) }
+{
+    let rows = credit_rows(conn, so_far.last)?;
+    let last = last_key(&rows, so_far.last)?;
+    if last <= so_far.last {
+        return Ok(None);
+    }
+    let credit = sum_of(&rows, so_far.credit)?;
+    Ok(Some(Counted { last, credit }))
 }
 
 /// How many grants were made, and their credit.
@@ -145,11 +176,13 @@ fn count_grants<S: Alter>(conn: &mut Connection<S>) -> Result<Granted, Fault>
     ensures found { ForEachWorld S.Store conn.old conn.new (FindsAt granted_of result) }
     ensures unrefused { NotRefusedIn S.Store conn.old conn.new result IsCreditCountable }
 {
-    let rows = credit_rows(conn)?;
-    let credit = sum_of(&rows)?;
+    let mut counted = Counted { last: 0, credit: 0 };
+    while let Some(more) = more_counted(conn, counted)? {
+        counted = more;
+    }
     Ok(Granted {
-        grants: rows.len() as u64,
-        credit,
+        grants: counted.last as u64,
+        credit: counted.credit,
     })
 }
 

@@ -3,12 +3,14 @@
 
 mod changes;
 mod counts;
+mod differences;
 mod due;
 pub mod laws;
 mod lines;
 mod loading;
 mod pages;
 pub mod rows;
+mod sets;
 mod statements;
 mod verdicts;
 

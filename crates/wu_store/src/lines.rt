@@ -4,7 +4,7 @@ ghost use Rattle.std.specs.Prelude.{◌≡◌};
 ghost use Rattle.wu_schema.specs.Restoring.{Restores};
 ghost use Rattle.wu_store.specs.Reading.{host_row, IsStoredHost};
 
-use crate::rows::{first_instance_from, instance_number_at, name_at, workunit_from};
+use crate::rows::{bare_instance_from, instance_number_at, name_at, workunit_from};
 use sqlite::Row;
 use std::alloc::Global;
 use wu_core::{
@@ -97,9 +97,9 @@ impl ResultLine {
     ghost use Rattle.wu_store.specs.Lines.{result_line_of};
     ghost use Rattle.wu_store.specs.Pages.{ReadsResult};
 
-    /// The line of an instance, by its number among those of the workunit of this name.
-    fn of(workunit: Name, n: u32, instance: Instance) -> Self
-        ensures { result ≡ result_line_of workunit (n, instance) }
+    /// The line of an instance, by its number among those of the workunit of this name, with an output of this length.
+    fn of(workunit: Name, n: u32, instance: Instance, output: u64) -> Self
+        ensures { result ≡ record (result_line_of workunit (n, instance)) { output = output } }
     {
         let Instance {
             server_state,
@@ -110,7 +110,7 @@ impl ResultLine {
             sent_at,
             deadline,
             received_at,
-            output,
+            output: _,
         } = instance;
         ResultLine {
             workunit,
@@ -123,21 +123,22 @@ impl ResultLine {
             sent_at,
             deadline,
             received_at,
-            output: output.len() as u64,
+            output,
         }
     }
 
-    /// The line of an instance of the workunit of this name, by a row with its columns from the third on and then its
-    /// number. A row that is that of none is `NotAProject`.
+    /// The line of an instance of the workunit of this name, by a row with its columns from the third on but for its
+    /// output, its number, its workunit's, and the length of its output. A row that is that of none is `NotAProject`.
     pub(crate) fn read(alloc: Global, workunit: &Name, row: &Row) -> Result<Self, Fault>
         ensures { ReadsResult workunit.now row.now result }
     {
-        if row.column_count() != 10 {
+        if row.column_count() != 11 {
             return Err(Fault::NotAProject);
         }
-        let n = instance_number_at(row, 9)?;
-        let instance = first_instance_from(alloc, row)?;
-        Ok(ResultLine::of(workunit.copy()?, n, instance))
+        let n = instance_number_at(row, 8)?;
+        let output = number_at(row, 10)?;
+        let instance = bare_instance_from(alloc, row)?;
+        Ok(ResultLine::of(workunit.copy()?, n, instance, output))
     }
 }
 

@@ -57,7 +57,7 @@ pub trait Pages: Drop {
 }
 
 /// The key in the first column of the last of these rows; where there is none, this one.
-fn last_key(rows: &[Row], key: i64) -> Result<i64, Fault>
+pub(crate) fn last_key(rows: &[Row], key: i64) -> Result<i64, Fault>
     ensures { ReadsLastKey key rows.now result }
 {
     match rows.last() {

@@ -11,8 +11,9 @@ ghost use Rattle.wu_core.specs.Parameters.{IsParameters};
 ghost use Rattle.wu_core.specs.World.{last_skip};
 ghost use Rattle.wu_schema.specs.Stored.{archived_cells, instance_row, number, number_or_null, text_or_null, parameter_cells, verdict_digits, workunit_row};
 ghost use Rattle.wu_schema.specs.Restoring.{Restores};
-ghost use Rattle.wu_store.specs.Reading.{assimilate_cell, file_delete_cell, mask_cell, outcome_cell, server_state_cell, validate_state_cell, verdicts_cell, columns, progress_cells, IsProgress, IsStoredImport, stored_import_row, IsPlaceToGive, moment_cells, row_before, state_cells, HasMoments};
-ghost use Rattle.wu_core.specs.Storable.{IsOutput, IsInput, IsMoment, IsName, IsPlace, IsStoredWorkunit, AreVerdicts, IsNextNumber, AreStoredInstances, IsDeadline, IsHost, IsStoredArchived, IsStoredInstance, MayBeInstance};
+ghost use Rattle.wu_store.specs.Answers.{ReadsCount};
+ghost use Rattle.wu_store.specs.Reading.{assimilate_cell, bare_instance_row, IsBareInstance, file_delete_cell, mask_cell, outcome_cell, server_state_cell, validate_state_cell, verdicts_cell, columns, progress_cells, IsProgress, IsStoredImport, stored_import_row, IsPlaceToGive, moment_cells, row_before, state_cells, HasMoments};
+ghost use Rattle.wu_core.specs.Storable.{IsOutput, IsInput, IsMoment, IsName, IsPlace, IsStoredWorkunit, AreVerdicts, IsNextNumber, AreStoredInstances, IsDeadline, IsHost, IsStoredArchived, IsStoredInstance};
 
 use sqlite::Row;
 use sqlite::types::ValueRef;
@@ -183,6 +184,18 @@ struct Moments {
     received_at: Option<Moment>,
 }
 
+/// A count of rows. `Memory` where it is 2^63 - 1, which stands for each greater number too.
+pub fn count_at(row: &Row, at: usize) -> Result<u64, Fault>
+    ensures { ReadsCount (column row.now at) result }
+{
+    let count = number_at(row, at)?;
+    if count < i64::MAX as u64 {
+        Ok(count)
+    } else {
+        Err(Fault::Memory)
+    }
+}
+
 pub fn server_state_at(row: &Row, at: usize) -> Result<ServerState, Fault>
     ensures { Restores server_state_cell (λ _. ⊤) (column row.now at) result }
 {
@@ -232,7 +245,7 @@ pub fn deadline_at(row: &Row, at: usize) -> Result<Option<Deadline>, Fault>
 
 /// The moments in the three columns from the sixth on.
 fn moments_from(row: &Row) -> Result<Moments, Fault>
-    requires { 9 ≤ length row.now }
+    requires { 8 ≤ length row.now }
     ensures { Restores moment_cells HasMoments (columns row.now 5 3) result }
 {
     Ok(Moments {
@@ -278,16 +291,15 @@ pub fn is_formed(instance: &Instance) -> bool
         && !(is_success && !has_host)
 }
 
-/// The instance in the first nine columns, well formed or not.
-fn any_instance_from(alloc: Global, row: &Row) -> Result<Instance, Fault>
-    requires { 9 ≤ length row.now }
-    ensures { Restores instance_row MayBeInstance (columns row.now 0 9) result }
+/// The instance in the first eight columns, those of the table `result` from the third on, without its output.
+pub(crate) fn bare_instance_from(alloc: Global, row: &Row) -> Result<Instance, Fault>
+    requires { 8 ≤ length row.now }
+    ensures { Restores bare_instance_row IsBareInstance (columns row.now 0 8) result }
 {
     let states = states_from(row)?;
     let moments = moments_from(row)?;
-    let output = output_at(row, 8)?;
     let host = host_at(alloc, row, 4)?;
-    Ok(Instance {
+    let instance = Instance {
         server_state: states.server_state,
         outcome: states.outcome,
         validate_state: states.validate_state,
@@ -296,16 +308,8 @@ fn any_instance_from(alloc: Global, row: &Row) -> Result<Instance, Fault>
         sent_at: moments.sent_at,
         deadline: moments.deadline,
         received_at: moments.received_at,
-        output,
-    })
-}
-
-/// The instance in the first nine columns: those of the table `result` from the third on, in their order.
-pub(crate) fn first_instance_from(alloc: Global, row: &Row) -> Result<Instance, Fault>
-    requires { 9 ≤ length row.now }
-    ensures { Restores instance_row IsStoredInstance (columns row.now 0 9) result }
-{
-    let instance = any_instance_from(alloc, row)?;
+        output: Bytes::new(alloc),
+    };
     if is_formed(&instance) {
         Ok(instance)
     } else {
@@ -320,7 +324,10 @@ pub fn instance_from(alloc: Global, row: &Row) -> Result<Instance, Fault>
     if row.column_count() != 9 {
         return Err(Fault::NotAProject);
     }
-    first_instance_from(alloc, row)
+    let output = output_at(row, 8)?;
+    let mut instance = bare_instance_from(alloc, row)?;
+    instance.output = output;
+    Ok(instance)
 }
 
 /// The number of an instance.

@@ -1,23 +1,23 @@
 //! The statements that change a project, and the questions of the passes and of the summary, each text in one function.
 
-ghost use Rattle.std.specs.Prelude.{ℕ, ◌≡◌, ◌<◌, ◌≤◌, ◌^◌, ⊤, [], None, Some, pos, option_map, IfOk, IfErr, OnOk};
+ghost use Rattle.std.specs.Prelude.{ℕ, ◌≡◌, ◌<◌, ◌≤◌, ◌^◌, ⊤, [], ◌∷◌, None, Some, pos, option_map, IfOk, IfErr, OnOk};
 ghost use Rattle.sqlite.specs.Values.{bound};
 ghost use Rattle.wu_store.specs.Changing.{import_of_change};
 ghost use Rattle.wu_store.specs.Changes.{with_placed, without_workunit, with_import, with_next, with_version, AddsArchived, AddsGrant, AddsInstance, WasFree};
 ghost use Rattle.wu_core.specs.Storable.{bare};
 ghost use Rattle.wu_core.specs.declared.fault.Fault.TheVariants.{NotAProject};
 ghost use Rattle.wu_schema.specs.Asking.{Asks, FailsAll, IsSelect};
-ghost use Rattle.wu_schema.specs.Calls.{Answers, AnswersRows, StatementFrame, Does, Changes};
+ghost use Rattle.wu_schema.specs.Calls.{Answers, AnswersRows, StatementFrame, Does, Changes, RunsText};
+ghost use Rattle.wu_schema.specs.Stored.{instance_cells, marks_cells, number, workunit_row};
 ghost use Rattle.wu_store.specs.Loading.{IsStoreFault, NotRefusedIn, ServesUnlessFailed};
 ghost use Rattle.wu_store.specs.Queues.{AnswersQueue, ChangesQueue, first_marked, is_marked, KeepsQueue, KeepsWorld, marked_text, NotRefusedQueue, wanted_mark, with_marks, without_marks};
-ghost use Rattle.wu_store.specs.Answers.{all_credit, AnswersSoMany, count_in, has_name, import_count, result_count, ShowsLast, was_archived, workunit_count};
+ghost use Rattle.wu_store.specs.Answers.{credit_page, FailsCount, has_name, ShowsCount, ShowsLast, was_archived};
 
 use crate::changes::Import;
+use crate::rows::count_at;
 use sqlite::types::ValueRef;
 use sqlite::{Alter, Connection, Error, Row, Transaction, params};
-use wu_core::{
-    Archived, Deadline, Fault, Grant, Instance, Marks, Moment, Name, ServerState, Workunit,
-};
+use wu_core::{Archived, Deadline, Fault, Grant, Instance, Marks, Moment, Name, Workunit};
 use wu_rules::Pass;
 use wu_schema::{execute, query};
 
@@ -104,6 +104,25 @@ pub fn ask_row<S: Alter>(
     Ok(rows.pop())
 }
 
+/// What a question counts whose answer is one count. `NotAProject` where it is anything else.
+pub fn ask_count<S: Alter>(
+    conn: &mut Connection<S>,
+    sql: &str,
+    params: &[ValueRef<'_>],
+) -> Result<u64, Fault>
+    ensures asks { IsSelect sql.now → Asks S.Store conn.old conn.new result }
+    ensures opens { IsSelect sql.now → ServesUnlessFailed S.Store conn.new result }
+    ensures shows { ShowsCount S.Store conn.old conn.new result sql.now (bound params.now) }
+    ensures fails { FailsCount S.Store conn.old conn.new result sql.now (bound params.now) }
+    ensures told { IfErr result IsStoreFault }
+{
+    let row = ask_row(conn, sql, params)?;
+    match row {
+        Some(row) => count_at(&row, 0),
+        None => Err(Fault::NotAProject),
+    }
+}
+
 /// Whether a workunit of this name is present.
 pub fn has_workunit<S: Alter>(conn: &mut Connection<S>, name: &Name) -> Result<bool, Fault>
     ensures asks { Asks S.Store conn.old conn.new result }
@@ -136,66 +155,19 @@ pub fn has_archived<S: Alter>(conn: &mut Connection<S>, name: &Name) -> Result<b
     Ok(!rows.is_empty())
 }
 
-/// The rows of the credit of all grants, in order of their making.
-pub fn credit_rows<S: Alter>(conn: &mut Connection<S>) -> Result<Vec<Row>, Fault>
+/// The places and the credit of the next grants behind a place, in order of their making.
+pub fn credit_rows<S: Alter>(conn: &mut Connection<S>, after: i64) -> Result<Vec<Row>, Fault>
     ensures asks { Asks S.Store conn.old conn.new result }
     ensures opens { ServesUnlessFailed S.Store conn.new result }
-    ensures answers { AnswersRows S.Store conn.old conn.new result all_credit }
-    ensures fault { IfErr result IsStoreFault }
-    ensures unrefused { NotRefusedIn S.Store conn.old conn.new result (λ _. ⊤) }
-{
-    query(conn, "SELECT credit FROM credit_grant ORDER BY seq", &[])
-}
-
-/// A row for each workunit, in some order.
-pub fn workunit_number_rows<S: Alter>(conn: &mut Connection<S>) -> Result<Vec<Row>, Fault>
-    ensures asks { Asks S.Store conn.old conn.new result }
-    ensures opens { ServesUnlessFailed S.Store conn.new result }
-    ensures answers { AnswersSoMany S.Store conn.old conn.new result workunit_count }
-    ensures fault { IfErr result IsStoreFault }
-    ensures unrefused { NotRefusedIn S.Store conn.old conn.new result (λ _. ⊤) }
-{
-    query(conn, "SELECT number FROM workunit", &[])
-}
-
-/// A row for each instance, in some order.
-pub fn result_number_rows<S: Alter>(conn: &mut Connection<S>) -> Result<Vec<Row>, Fault>
-    ensures asks { Asks S.Store conn.old conn.new result }
-    ensures opens { ServesUnlessFailed S.Store conn.new result }
-    ensures answers { AnswersSoMany S.Store conn.old conn.new result result_count }
-    ensures fault { IfErr result IsStoreFault }
-    ensures unrefused { NotRefusedIn S.Store conn.old conn.new result (λ _. ⊤) }
-{
-    query(conn, "SELECT n FROM result", &[])
-}
-
-/// A row for each instance in this state, in some order.
-pub fn result_number_rows_in<S: Alter>(
-    conn: &mut Connection<S>,
-    state: ServerState,
-) -> Result<Vec<Row>, Fault>
-    ensures asks { Asks S.Store conn.old conn.new result }
-    ensures opens { ServesUnlessFailed S.Store conn.new result }
-    ensures answers { AnswersSoMany S.Store conn.old conn.new result (count_in state) }
+    ensures answers { AnswersRows S.Store conn.old conn.new result (credit_page after) }
     ensures fault { IfErr result IsStoreFault }
     ensures unrefused { NotRefusedIn S.Store conn.old conn.new result (λ _. ⊤) }
 {
     query(
         conn,
-        "SELECT n FROM result WHERE server_state = ?1",
-        params![state.code()],
+        "SELECT seq, credit FROM credit_grant WHERE seq > ?1 ORDER BY seq LIMIT 1000",
+        params![after],
     )
-}
-
-/// A row for each import, in some order.
-pub fn import_kind_rows<S: Alter>(conn: &mut Connection<S>) -> Result<Vec<Row>, Fault>
-    ensures asks { Asks S.Store conn.old conn.new result }
-    ensures opens { ServesUnlessFailed S.Store conn.new result }
-    ensures answers { AnswersSoMany S.Store conn.old conn.new result import_count }
-    ensures fault { IfErr result IsStoreFault }
-    ensures unrefused { NotRefusedIn S.Store conn.old conn.new result (λ _. ⊤) }
-{
-    query(conn, "SELECT kind FROM import", &[])
 }
 
 /// The question by which a pass finds the numbers of workunits in the queue: those whose mark for it is set or has come,
@@ -251,23 +223,21 @@ pub fn marked_rows<S: Alter>(
     query(conn, marked_text(pass), params![mark, limit])
 }
 
-/// Adds the row of a workunit at its place in order of number, without its instances. The table's key refuses a number
-/// that is there.
-pub fn insert_workunit<S: Alter>(
+/// Runs a statement whose parameters are the cells of a workunit's row.
+pub fn run_workunit<S: Alter>(
     tx: &mut Transaction<'_, S>,
+    sql: &str,
     workunit: &Workunit,
 ) -> Result<(), Error>
     ensures writes { StatementFrame S.Store tx.old tx.new result }
-    ensures free { Does S.Store tx.old tx.new result (WasFree workunit.now.number) }
-    ensures puts { Changes S.Store tx.old tx.new result (with_placed (bare workunit.now)) }
-    ensures queue { Does S.Store tx.old tx.new result KeepsQueue }
+    ensures ran { RunsText S.Store tx.old tx.new result sql.now (workunit_row workunit.now) }
 {
     let params = workunit.params;
     let number = signed(workunit.number)?;
     let done_at = seconds_of(workunit.done_at);
     execute(
         tx,
-        "INSERT INTO workunit (number, name, min_quorum, target_nresults, max_error_results, max_total_results, max_success_results, delay_bound, credit, input, error_mask, canonical, assimilate, file_delete, done_at) VALUES (?1, ?2, ?3, ?4, ?5, ?6, ?7, ?8, ?9, ?10, ?11, ?12, ?13, ?14, ?15)",
+        sql,
         params![
             number,
             workunit.name.as_str(),
@@ -288,16 +258,35 @@ pub fn insert_workunit<S: Alter>(
     )
 }
 
-/// Adds the row of an instance, with the next number of its workunit's instances.
-pub fn insert_instance<S: Alter>(
+/// Adds the row of a workunit at its place in order of number, without its instances. The table's key refuses a number
+/// that is there.
+pub fn insert_workunit<S: Alter>(
     tx: &mut Transaction<'_, S>,
+    workunit: &Workunit,
+) -> Result<(), Error>
+    ensures writes { StatementFrame S.Store tx.old tx.new result }
+    ensures free { Does S.Store tx.old tx.new result (WasFree workunit.now.number) }
+    ensures puts { Changes S.Store tx.old tx.new result (with_placed (bare workunit.now)) }
+    ensures queue { Does S.Store tx.old tx.new result KeepsQueue }
+{
+    run_workunit(
+        tx,
+        "INSERT INTO workunit (number, name, min_quorum, target_nresults, max_error_results, max_total_results, max_success_results, delay_bound, credit, input, error_mask, canonical, assimilate, file_delete, done_at) VALUES (?1, ?2, ?3, ?4, ?5, ?6, ?7, ?8, ?9, ?10, ?11, ?12, ?13, ?14, ?15)",
+        workunit,
+    )
+}
+
+/// Runs a statement whose parameters are a workunit's number, the number of an instance and its cells.
+pub fn run_instance<S: Alter>(
+    tx: &mut Transaction<'_, S>,
+    sql: &str,
     workunit: u64,
     n: u32,
     instance: &Instance,
 ) -> Result<(), Error>
     ensures writes { StatementFrame S.Store tx.old tx.new result }
-    ensures puts { Does S.Store tx.old tx.new result (AddsInstance workunit n instance.now) }
-    ensures queue { Does S.Store tx.old tx.new result KeepsQueue }
+    ensures ran { RunsText S.Store tx.old tx.new result sql.now
+        (instance_cells workunit n instance.now) }
 {
     let workunit = signed(workunit)?;
     let host = host_of(&instance.host);
@@ -306,7 +295,7 @@ pub fn insert_instance<S: Alter>(
     let received_at = seconds_of(instance.received_at);
     execute(
         tx,
-        "INSERT INTO result (workunit, n, server_state, outcome, validate_state, file_delete, host, sent_at, deadline, received_at, output) VALUES (?1, ?2, ?3, ?4, ?5, ?6, ?7, ?8, ?9, ?10, ?11)",
+        sql,
         params![
             workunit,
             n,
@@ -320,6 +309,26 @@ pub fn insert_instance<S: Alter>(
             received_at,
             instance.output.as_slice()
         ],
+    )
+}
+
+/// Adds the row of an instance, with the next number of its workunit's instances.
+pub fn insert_instance<S: Alter>(
+    tx: &mut Transaction<'_, S>,
+    workunit: u64,
+    n: u32,
+    instance: &Instance,
+) -> Result<(), Error>
+    ensures writes { StatementFrame S.Store tx.old tx.new result }
+    ensures puts { Does S.Store tx.old tx.new result (AddsInstance workunit n instance.now) }
+    ensures queue { Does S.Store tx.old tx.new result KeepsQueue }
+{
+    run_instance(
+        tx,
+        "INSERT INTO result (workunit, n, server_state, outcome, validate_state, file_delete, host, sent_at, deadline, received_at, output) VALUES (?1, ?2, ?3, ?4, ?5, ?6, ?7, ?8, ?9, ?10, ?11)",
+        workunit,
+        n,
+        instance,
     )
 }
 
@@ -416,6 +425,34 @@ pub fn insert_import<S: Alter>(
     )
 }
 
+/// Runs a statement whose parameters are a workunit's number and its marks.
+pub fn run_marks<S: Alter>(
+    tx: &mut Transaction<'_, S>,
+    sql: &str,
+    workunit: u64,
+    marks: &Marks,
+) -> Result<(), Error>
+    ensures writes { StatementFrame S.Store tx.old tx.new result }
+    ensures ran { RunsText S.Store tx.old tx.new result sql.now
+        (number workunit ∷ marks_cells marks.now) }
+{
+    let workunit = signed(workunit)?;
+    let wake = signed_of(marks.wake)?;
+    let purge_from = seconds_of(marks.purge_from);
+    execute(
+        tx,
+        sql,
+        params![
+            workunit,
+            wake,
+            marks.to_validate,
+            marks.to_assimilate,
+            marks.to_delete,
+            purge_from
+        ],
+    )
+}
+
 /// Adds the marks of a workunit to the queue, at its place in order of number. The table's key refuses a number that is
 /// there, and its reference one that no workunit has.
 pub fn insert_marks<S: Alter>(
@@ -428,20 +465,11 @@ pub fn insert_marks<S: Alter>(
         (ChangesQueue (with_marks workunit marks.now)) }
     ensures stays { Does S.Store tx.old tx.new result KeepsWorld }
 {
-    let workunit = signed(workunit)?;
-    let wake = signed_of(marks.wake)?;
-    let purge_from = seconds_of(marks.purge_from);
-    execute(
+    run_marks(
         tx,
         "INSERT INTO queue (workunit, wake, to_validate, to_assimilate, to_delete, purge_from) VALUES (?1, ?2, ?3, ?4, ?5, ?6)",
-        params![
-            workunit,
-            wake,
-            marks.to_validate,
-            marks.to_assimilate,
-            marks.to_delete,
-            purge_from
-        ],
+        workunit,
+        marks,
     )
 }
 

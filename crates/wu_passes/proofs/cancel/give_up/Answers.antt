@@ -8,8 +8,8 @@ use Rattle.wu_passes.proofs.cancel.give_up.Goals as goal
 pub returns-clause-plan : goal.returns-clause-plan
 returns-clause-plan c =
     let image = c.in_ok-cancel.ensures.image in
-    let pushed : c.push.new.self.items ≡ Replace c.cancel.new.workunit ∷ [] = search rules in record {
+    let pushed : c.push.new.self.items ≡ Replace c.in_ok-was.was' c.cancel.new.workunit ∷ [] = search rules in record {
       undecided = search rules;
       answer = ap answer.Cancelled (c.in_ok-name.ensures ∙ ap (λ (v : Workunit). v.name) image ∙ same_name c.args.workunit);
-      changes = pushed ∙ ap (λ (v : Workunit). Replace v ∷ []) image;
+      changes = pushed ∙ (λ i. Replace (c.in_ok-was.ensures.copy i) (image i) ∷ []);
     }

@@ -10,11 +10,11 @@ loop-change-init g c = (refl, part_none _, λ _. (λ within. within, makes_none 
 pub loop-change-preserved : goal.loop-change-preserved
 loop-change-preserved g c =
     let before = c.loop-change.invariant in
-    let wrote = c.make.ensures.writes in (
+    let wrote = c.make.ensures.works in (
       wrote.same_reference ∙ before.0,
       part_then _ _ _ before.1 wrote.part,
       λ clean. (
-        λ within. c.in_ok-make.ensures.writes.inside clean,
+        λ within. c.in_ok-make.ensures.works.stays clean ((before.2 (omega (arith, wrote.part.survives.clean))).0 within),
         makes_more c.args.changes.now c.loop-change.change-index c.change-item.result c.change-item.result _ _ _ (search rules) (omega (arith, c.loop-change-test.true)) (before.2 (omega (arith, wrote.part.survives.clean))).1 (c.in_ok-make.ensures.makes clean),
       ),
     )
@@ -22,7 +22,7 @@ loop-change-preserved g c =
 pub returns-in_err-make-clause-works : goal.returns-in_err-make-clause-works
 returns-in_err-make-clause-works g c =
     let before = c.loop-change.invariant in
-    let wrote = c.make.ensures.writes in
+    let wrote = c.make.ensures.works in
     record { same_reference = wrote.same_reference ∙ before.0; part = part_then _ _ _ before.1 wrote.part; stays = λ clean. never_ok c.from_residual.result _ _ c.from_residual.ensures.1 }
 
 pub returns : goal.returns

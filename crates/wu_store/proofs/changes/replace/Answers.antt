@@ -1,20 +1,27 @@
-use Rattle.wu_schema.proofs.Words.{HasCleanDisk, arith, state}
+use Rattle.wu_schema.proofs.Words.{HasCleanDisk, arith, length, state, subst, ◌≤◌}
 use Rattle.wu_schema.proofs.CallLemmas.{ok_on}
-use Rattle.wu_schema.proofs.StepLemmas.{frame_then}
-use Rattle.wu_store.specs.Changes.{without_workunit}
-use Rattle.wu_store.proofs.MarkedLemmas.{stands_replaced, stands_without}
+use Rattle.wu_store.specs.Changes.{PutsInstances}
+use Rattle.wu_store.specs.StandsFor.{marked}
+use Rattle.wu_store.proofs.PlacedLemmas.{is_there}
 use Rattle.wu_store.proofs.changes.replace.Goals as goal
+
+pub returns-then-len-clause-replaces : goal.returns-then-len-clause-replaces
+returns-then-len-clause-replaces g c clean =
+    ok_on c.replace_whole.result _ _ (λ any world queued stands found. any world queued stands (is_there c.args.workunit.now.number c.args.was.now world.workunits found)) (c.replace_whole.ensures.replaces clean)
 
 pub returns-clause-replaces : goal.returns-clause-replaces
 returns-clause-replaces g c clean =
     let old = (state g.S.Store c.args.tx.now.conn.now).now in
-    let mid = (state g.S.Store c.delete_workunit.new.tx.conn.now).now in
-    let new = (state g.S.Store c.add.new.tx.conn.now).now in
+    let mid = (state g.S.Store c.put_row.new.tx.conn.now).now in
+    let next = (state g.S.Store c.put_instances.new.tx.conn.now).now in
+    let was = c.args.was.now in
     let w = c.args.workunit.now in
-    let still : HasCleanDisk (state g.S.Store c.delete_workunit.new.tx.conn.now) = omega (arith, c.add.ensures.writes.part.survives.clean) in
-    ok_on c.add.result _ _ (λ adds world queued stands there.
-    let gone = stands_without old mid world w.number stands (c.in_ok-delete_workunit.ensures.deletes still) (c.in_ok-delete_workunit.ensures.queue still) in
-    stands_replaced old new world w stands.refines there (adds (without_workunit w.number world) queued gone)) (c.add.ensures.adds clean)
-
-pub returns-clause-writes : goal.returns-clause-writes
-returns-clause-writes g c = frame_then g.S.Store _ _ _ tt c.in_ok-delete_workunit.ensures.writes c.add.result c.add.ensures.writes
+    let last : HasCleanDisk (state g.S.Store c.put_instances.new.tx.conn.now) = omega (arith, clean, c.put_marks.ensures.works.part.survives.clean) in
+    let first : HasCleanDisk (state g.S.Store c.put_row.new.tx.conn.now) = omega (arith, last, c.in_ok-put_instances.ensures.works.part.survives.clean) in
+    let few : length was.instances ≤ length w.instances = omega (arith, c.if-len.false, c.len.ensures.len, c.len-2.ensures.len) in
+    let instances : PutsInstances w was.instances mid next = subst (λ is. PutsInstances w is mid next) c.as_slice.ensures.items (c.in_ok-put_instances.ensures.puts last) in
+    ok_on c.put_marks.result _ _ (λ marks world queued stands found.
+    let row = c.in_ok-put_row.ensures.puts first world stands.refines found in
+    let all = instances world was found few row.0 in
+    let done = marks old world stands.refines found all.0 (all.1 (marked world) (row.1 (marked world) (stands.queue queued))) in
+    record { refines = done.0; queue = λ _. done.1 }) (c.put_marks.ensures.puts clean)

@@ -6,13 +6,13 @@ use Rattle.wu_store.proofs.counts.sum_of.Goals as goal
 pub returns-in_err-credit : goal.returns-in_err-credit
 returns-in_err-credit c =
     let p = err_from_is_err_and c.from_residual.result c.from_residual.ensures.1 in
-    rw (p.1, p.2) (credit_unread c.args.rows.now c.loop-row.row-index c.row-item.result c.row-item.result c.loop-row-test.true (sym c.row-item.is) _ c.in_err-credit.ensures)
+    rw (p.1, p.2) (credit_unread c.args.before c.args.rows.now c.loop-row.row-index c.row-item.result c.row-item.result c.loop-row-test.true (sym c.row-item.is) _ c.in_err-credit.ensures)
 
 pub returns-in-None : goal.returns-in-None
 returns-in-None c =
-    sum_past c.args.rows.now c.loop-row.row-index c.row-item.result c.row-item.result c.loop-row-test.true (sym c.row-item.is) c.loop-row.sum c.in_ok-credit.credit c.loop-row.invariant c.in_ok-credit.ensures.value.0 (omega (arith, c.in-None.ensures))
+    sum_past c.args.before c.args.rows.now c.loop-row.row-index c.row-item.result c.row-item.result c.loop-row-test.true (sym c.row-item.is) c.loop-row.sum c.in_ok-credit.credit c.loop-row.invariant c.in_ok-credit.ensures.value.0 (omega (arith, c.in-None.ensures))
 
 pub loop-row-preserved : goal.loop-row-preserved
-loop-row-preserved c grants same =
+loop-row-preserved c placed same =
     let added : c.in-Some.sum ≡ c.loop-row.sum + c.in_ok-credit.credit = search rules in
-    added ∙ sum_on c.args.rows.now c.loop-row.row-index c.row-item.result c.row-item.result c.loop-row-test.true (sym c.row-item.is) c.loop-row.sum c.in_ok-credit.credit c.loop-row.invariant c.in_ok-credit.ensures.value.0 grants same
+    added ∙ sum_on c.args.before c.args.rows.now c.loop-row.row-index c.row-item.result c.row-item.result c.loop-row-test.true (sym c.row-item.is) c.loop-row.sum c.in_ok-credit.credit c.loop-row.invariant c.in_ok-credit.ensures.value.0 placed same

@@ -1,36 +1,17 @@
-use Rattle.wu_schema.proofs.Words.{Blob, HasCleanDisk, OnOk, Text, ap, bound_value, number, state, workunit_row, ◌∙◌, ◌≡◌, Executes, Ok, ℕ}
-use Rattle.wu_store.proofs.InsertTexts.{workunit_put}
-use Rattle.wu_schema.proofs.InsertEffect.{also, no_more}
-use Rattle.wu_schema.proofs.CallLemmas.{ok_on, ran_as}
-use Rattle.wu_store.proofs.ChangeLemmas.{sent_number, bound_number_or_null, bound_seconds, puts_workunit}
+use Rattle.wu_schema.proofs.Words.{state}
+use Rattle.wu_schema.proofs.CallLemmas.{ok_on}
+use Rattle.wu_store.proofs.ChangeLemmas.{puts_workunit}
 use Rattle.wu_store.proofs.QueueLemmas.{workunit_leaves}
 use Rattle.wu_store.proofs.statements.insert_workunit.Goals as goal
 
 pub returns : goal.returns
 returns g c =
     let w = c.args.workunit.now in
-    let given : _ ≡ workunit_row w = also (sent_number w.number c.params-to_sql.ensures c.in_ok-number.ensures.value c.in_ok-number.ensures.within)
-    (also (ap bound_value c.params-to_sql-2.ensures ∙ ap (λ t. Text t) c.as_str.ensures)
-    (also (ap bound_value c.params-to_sql-3.ensures ∙ ap number c.min_quorum.ensures.value)
-    (also (ap bound_value c.params-to_sql-4.ensures ∙ ap number c.target_nresults.ensures.value)
-    (also (ap bound_value c.params-to_sql-5.ensures ∙ ap number c.max_error_results.ensures.value)
-    (also (ap bound_value c.params-to_sql-6.ensures ∙ ap number c.max_total_results.ensures.value)
-    (also (ap bound_value c.params-to_sql-7.ensures ∙ ap number c.max_success_results.ensures.value)
-    (also (ap bound_value c.params-to_sql-8.ensures ∙ ap number c.delay_bound.ensures.value)
-    (also (ap bound_value c.params-to_sql-9.ensures ∙ ap number c.credit.ensures.value)
-    (also (ap bound_value c.params-to_sql-10.ensures ∙ ap (λ t. Blob t) c.as_slice.ensures)
-    (also (ap bound_value c.params-to_sql-11.ensures ∙ ap number c.code.ensures)
-    (also (ap bound_value c.params-to_sql-12.ensures ∙ bound_number_or_null w.canonical)
-    (also (ap bound_value c.params-to_sql-13.ensures ∙ ap number c.code-2.ensures)
-    (also (ap bound_value c.params-to_sql-14.ensures ∙ ap number c.code-3.ensures)
-    (also (ap bound_value c.params-to_sql-15.ensures ∙ bound_seconds _ w.done_at c.seconds_of-done_at.ensures) no_more)))))))))))))) in
     let old = state g.S.Store c.args.tx.now.conn.now in
-    let new = state g.S.Store c.execute.new.tx.conn.now in
-    let ran : HasCleanDisk new → OnOk c.execute.result ((count : ℕ) × Executes workunit_put.text (workunit_row w) old new (Ok count)) =
-    λ clean. ran_as old new workunit_put.text _ _ given c.execute.result (c.execute.ensures.ran clean) (λ count ran. (count, ran)) in
+    let new = state g.S.Store c.run_workunit.new.tx.conn.now in
     record {
-      writes = c.execute.ensures.writes;
-      free = λ clean. ok_on c.execute.result _ _ (λ it world s. (puts_workunit old new world s w it.0 it.1).0) (ran clean);
-      puts = λ clean. ok_on c.execute.result _ _ (λ it world s. (puts_workunit old new world s w it.0 it.1).1) (ran clean);
-      queue = λ clean. ok_on c.execute.result _ _ (λ it world marked s q. workunit_leaves old new world s marked q w it.0 it.1) (ran clean);
+      writes = c.run_workunit.ensures.writes;
+      free = λ clean. ok_on c.run_workunit.result _ _ (λ it world s. (puts_workunit old new world s w it.0 it.1).0) (c.run_workunit.ensures.ran clean);
+      puts = λ clean. ok_on c.run_workunit.result _ _ (λ it world s. (puts_workunit old new world s w it.0 it.1).1) (c.run_workunit.ensures.ran clean);
+      queue = λ clean. ok_on c.run_workunit.result _ _ (λ it world marked s q. workunit_leaves old new world s marked q w it.0 it.1) (c.run_workunit.ensures.ran clean);
     }

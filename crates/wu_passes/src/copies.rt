@@ -1,0 +1,77 @@
+//! Copies of workunits, for want of memory an error.
+
+ghost use Rattle.std.specs.Prelude.{◌≡◌, IfErr, IfOk};
+ghost use Rattle.wu_core.specs.declared.fault.Fault.TheVariants.{Memory};
+
+use std::alloc::Global;
+use wu_core::{Bytes, Fault, Instance, Instances, Name, Workunit};
+
+fn copy_of_bytes(alloc: Global, bytes: &Bytes) -> Result<Bytes, Fault>
+    ensures copy { IfOk result (λ copy. copy ≡ bytes.now) }
+    ensures fault { IfErr result (λ fault. fault ≡ Memory) }
+{
+    Ok(Bytes::from_vec(Vec::from_slice(alloc, bytes.as_slice())?))
+}
+
+fn copy_of_host(host: &Option<Name>) -> Result<Option<Name>, Fault>
+    ensures copy { IfOk result (λ copy. copy ≡ host.now) }
+    ensures fault { IfErr result (λ fault. fault ≡ Memory) }
+{
+    match host {
+        Some(name) => Ok(Some(name.copy()?)),
+        None => Ok(None),
+    }
+}
+
+fn copy_of_instance(alloc: Global, instance: &Instance) -> Result<Instance, Fault>
+    ensures copy { IfOk result (λ copy. copy ≡ instance.now) }
+    ensures fault { IfErr result (λ fault. fault ≡ Memory) }
+{
+    let host = copy_of_host(&instance.host)?;
+    let output = copy_of_bytes(alloc, &instance.output)?;
+    Ok(Instance {
+        server_state: instance.server_state,
+        outcome: instance.outcome,
+        validate_state: instance.validate_state,
+        file_delete: instance.file_delete,
+        host,
+        sent_at: instance.sent_at,
+        deadline: instance.deadline,
+        received_at: instance.received_at,
+        output,
+    })
+}
+
+/// Copies of the instances, in their order.
+fn copies_of(alloc: Global, instances: &[Instance]) -> Result<Vec<Instance>, Fault>
+    ensures copies { IfOk result (λ copies. copies.items ≡ instances.now) }
+    ensures fault { IfErr result (λ fault. fault ≡ Memory) }
+{
+    let mut copies = Vec::new(alloc);
+    for instance in instances {
+        copies.push(copy_of_instance(alloc, instance)?)?;
+    }
+    Ok(copies)
+}
+
+/// The same workunit again, with its instances.
+pub fn copy_of(alloc: Global, workunit: &Workunit) -> Result<Workunit, Fault>
+    ensures copy { IfOk result (λ copy. copy ≡ workunit.now) }
+    ensures fault { IfErr result (λ fault. fault ≡ Memory) }
+{
+    let name = workunit.name.copy()?;
+    let input = copy_of_bytes(alloc, &workunit.input)?;
+    let instances = copies_of(alloc, workunit.instances.as_slice())?;
+    Ok(Workunit {
+        number: workunit.number,
+        name,
+        params: workunit.params,
+        input,
+        error_mask: workunit.error_mask,
+        canonical: workunit.canonical,
+        assimilate: workunit.assimilate,
+        file_delete: workunit.file_delete,
+        done_at: workunit.done_at,
+        instances: Instances::from_vec(instances),
+    })
+}

@@ -1,0 +1,55 @@
+use Rattle.wu_schema.proofs.Words.{HasCleanDisk, Refines, ap, arith, get_or, length, refl, slice_get, state, subst, suc, sym, ◌+◌, ◌<◌, ◌∙◌, ◌≡◌}
+use Rattle.wu_schema.proofs.CallLemmas.{never_ok, part_none, part_then}
+use Rattle.wu_store.specs.Changes.{StandsBeside, with_put, with_replaced}
+use Rattle.wu_store.proofs.ReplaceLemmas.{got_mixed, lent_at, listing, long_mixed, mixed, put_mixed, put_replaced, replaced_found, whole_mixed}
+use Rattle.wu_store.proofs.changes.put_instances.Goals as goal
+
+pub loop-instance-init : goal.loop-instance-init
+loop-instance-init g c = (refl, refl, part_none _, λ _. (λ within. within, λ world v found s. (s, λ marked q. q)))
+
+pub loop-instance-preserved : goal.loop-instance-preserved
+loop-instance-preserved g c =
+    let (place, same, part, before) = c.loop-instance.invariant in
+    let wrote = c.put_instance.ensures.works in
+    let w = c.args.workunit.now in
+    let was = c.args.was.now in
+    let k = c.loop-instance.instance-index in
+    let one = c.instance-item.result in
+    let items = c.as_slice-instances.ensures.items in
+    let low : k < length w.instances = omega (arith, c.loop-instance-test.true, ap (λ is. length is) items) in
+    let at : get_or w.instances k one ≡ one = ap (λ is. get_or is k one) (sym items) ∙ sym c.instance-item.is in
+    let next : suc k ≡ k + 1 = omega arith in (
+      ap (λ n. n + 1) place,
+      wrote.same_reference ∙ same,
+      part_then _ _ _ part wrote.part,
+      λ clean.
+          let still : HasCleanDisk (state g.S.Store c.loop-instance.tx.conn.now) = omega (arith, wrote.part.survives.clean) in
+          let puts = c.in_ok-put_instance.ensures.puts clean in (
+            λ within. c.in_ok-put_instance.ensures.works.stays clean ((before still).0 within),
+            λ world v found s.
+                let so_far = (before still).1 world v found s in
+                let is = mixed k w.instances was in
+                let long = long_mixed k w.instances was (omega (arith, low)) in
+                let got = ap (slice_get is) place ∙ got_mixed k w.instances was (omega (arith, low)) ∙ ap (slice_get was) (sym place) ∙ lent_at was c.loop-instance.n c.get.result c.get.ensures.lookup in
+                let done = puts (with_replaced (listing w is) world) (listing w is) so_far.0 (replaced_found w v world is found) (omega (arith, place, long)) got in
+                let put = ap (λ n. with_put w.number n one (with_replaced (listing w is) world)) place ∙ put_replaced w world is k one ∙ ap (λ js. with_replaced (listing w js) world) (put_mixed k w.instances was one one low at ∙ ap (λ n. mixed n w.instances was) next) in (
+                  subst (Refines (state g.S.Store c.put_instance.new.tx.conn.now).now) put done.0,
+                  λ marked q. done.1 marked (so_far.1 marked q),
+                ),
+          ),
+    )
+
+pub returns-in_err-put_instance-clause-works : goal.returns-in_err-put_instance-clause-works
+returns-in_err-put_instance-clause-works g c =
+    let (place, same, part, before) = c.loop-instance.invariant in
+    let wrote = c.put_instance.ensures.works in
+    record { same_reference = wrote.same_reference ∙ same; part = part_then _ _ _ part wrote.part; stays = λ clean. never_ok c.from_residual.result _ _ c.from_residual.ensures.1 }
+
+pub returns-clause-puts : goal.returns-clause-puts
+returns-clause-puts g c clean world v found few s =
+    let (place, same, part, before) = c.loop-instance.invariant in
+    let w = c.args.workunit.now in
+    let items = c.as_slice-instances.ensures.items in
+    let at_end : c.loop-instance.instance-index ≡ length w.instances = omega (arith, c.loop-instance-test.false, c.loop-instance.auto.instance-index-end, ap (λ is. length is) items) in
+    let whole = ap (λ n. mixed n w.instances c.args.was.now) at_end ∙ whole_mixed w.instances c.args.was.now few in
+    subst (λ is. StandsBeside (with_replaced (listing w is) world) (state g.S.Store c.args.tx.now.conn.now).now (state g.S.Store c.loop-instance.tx.conn.now).now) whole ((before clean).1 world v found s)

@@ -1,0 +1,61 @@
+//! The statements that set a row where it stands, each text in one function.
+
+ghost use Rattle.wu_schema.specs.Calls.{Does, StatementFrame};
+ghost use Rattle.wu_store.specs.Changes.{InstanceLeavesMarks, LeavesMarks, SetsInstance, SetsRow};
+ghost use Rattle.wu_store.specs.Queues.{ChangesQueue, KeepsWorld, with_set_marks};
+
+use crate::statements::{run_instance, run_marks, run_workunit};
+use sqlite::{Alter, Error, Transaction};
+use wu_core::{Instance, Marks, Workunit};
+
+/// Sets the row of the workunit of this number. Its instances stay.
+pub fn set_workunit<S: Alter>(tx: &mut Transaction<'_, S>, workunit: &Workunit) -> Result<(), Error>
+    ensures writes { StatementFrame S.Store tx.old tx.new result }
+    ensures sets { Does S.Store tx.old tx.new result (SetsRow workunit.now) }
+    ensures queue { Does S.Store tx.old tx.new result (LeavesMarks workunit.now.number) }
+{
+    run_workunit(
+        tx,
+        "UPDATE workunit SET name = ?2, min_quorum = ?3, target_nresults = ?4, max_error_results = ?5, max_total_results = ?6, max_success_results = ?7, delay_bound = ?8, credit = ?9, input = ?10, error_mask = ?11, canonical = ?12, assimilate = ?13, file_delete = ?14, done_at = ?15 WHERE number = ?1",
+        workunit,
+    )
+}
+
+/// Sets the row of an instance by its workunit's number and its own.
+pub fn set_instance<S: Alter>(
+    tx: &mut Transaction<'_, S>,
+    workunit: u64,
+    n: u32,
+    instance: &Instance,
+) -> Result<(), Error>
+    ensures writes { StatementFrame S.Store tx.old tx.new result }
+    ensures sets { Does S.Store tx.old tx.new result (SetsInstance workunit n instance.now) }
+    ensures queue { Does S.Store tx.old tx.new result (InstanceLeavesMarks workunit n) }
+{
+    run_instance(
+        tx,
+        "UPDATE result SET server_state = ?3, outcome = ?4, validate_state = ?5, file_delete = ?6, host = ?7, sent_at = ?8, deadline = ?9, received_at = ?10, output = ?11 WHERE workunit = ?1 AND n = ?2",
+        workunit,
+        n,
+        instance,
+    )
+}
+
+/// Sets the marks of a workunit in the queue.
+pub fn set_marks<S: Alter>(
+    tx: &mut Transaction<'_, S>,
+    workunit: u64,
+    marks: &Marks,
+) -> Result<(), Error>
+    ensures writes { StatementFrame S.Store tx.old tx.new result }
+    ensures sets { Does S.Store tx.old tx.new result
+        (ChangesQueue (with_set_marks workunit marks.now)) }
+    ensures stays { Does S.Store tx.old tx.new result KeepsWorld }
+{
+    run_marks(
+        tx,
+        "UPDATE queue SET wake = ?2, to_validate = ?3, to_assimilate = ?4, to_delete = ?5, purge_from = ?6 WHERE workunit = ?1",
+        workunit,
+        marks,
+    )
+}
