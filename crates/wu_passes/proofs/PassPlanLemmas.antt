@@ -1,6 +1,7 @@
 -- The plan of a pass: places in a row, and the changes of the workunits that it takes.
-use Rattle.std.proofs.Common.{◌≡◌, ℕ, ◌+◌, true, List, [], ◌∷◌, ◌++◌, length, map, Ok, refl, sym, ap, subst, ◌∙◌, append_assoc}
-use Rattle.std.proofs.lemmas.List.{map-append}
+use Rattle.std.proofs.Common.{◌≡◌, ℕ, ◌+◌, true, List, [], ◌∷◌, ◌++◌, length, map, Ok, refl, sym, ap, subst, ◌∙◌, append_assoc, append-nil}
+use Rattle.std.proofs.lemmas.List.{length-map, map-append}
+use Rattle.wu_schema.proofs.Words.{map-map}
 use Rattle.std.specs.List.{enumerate_from, flat_map}
 use Rattle.sqlite.specs.Effect.{Database}
 use Rattle.wu_core.specs.declared.workunit.Archived.{Archived}
@@ -16,7 +17,7 @@ use Rattle.wu_store.specs.Changing.{archived_from, AreRight, granted_from, made_
 use Rattle.wu_store.specs.StandsFor.{IsQueued}
 use Rattle.wu_rules.specs.Due.{chosen}
 use Rattle.wu_store.specs.declared.changes.Change.{Change}
-use Rattle.wu_store.specs.declared.changes.Change.TheVariants.{Archive, Granted}
+use Rattle.wu_store.specs.declared.changes.Change.TheVariants.{Archive, Granted, Remove}
 use Rattle.wu_rules.specs.declared.due.Pass.{Pass}
 use Rattle.wu_rules.specs.declared.due.Pass.TheVariants.{Transition, Validate, Assimilate, Delete, Purge}
 use Rattle.wu_machine.specs.declared.command.Answer.TheVariants as answer
@@ -97,4 +98,55 @@ module _ (db : Database) (world : World) (stands : Refines db world) (is : IsUpT
         idle = λ none. given.changes_are
             ∙ (λ i. all.changes i ++ granted_from given.place (all.grants i) ++ archived_from given.row_place (all.archived i))
             ∙ ap (λ ts. map (change_by ask.pass ask.moment) ts ++ granted_from given.place (flat_map (granted ask.pass) ts) ++ archived_from given.row_place (flat_map (archives ask.pass ask.moment) ts)) (are ∙ none);
+      }
+
+-- ---- a purge
+
+none_granted : (ts : List Workunit) → flat_map (granted Purge) ts ≡ []
+none_granted [] = refl
+none_granted (t ∷ ts) = none_granted ts
+
+none_archived : (now : ℕ) (ts : List Workunit) → flat_map (archives Purge now) ts ≡ []
+none_archived now [] = refl
+none_archived now (t ∷ ts) = none_archived now ts
+
+-- it takes workunits out, and grants and archives nothing
+module _ (now place row_place : ℕ) (ts : List Workunit) where
+  abbrev all_of : Pass → List Change
+  all_of p = map (change_by p now) ts ++ granted_from place (flat_map (granted p) ts) ++ archived_from row_place (flat_map (archives p now) ts)
+
+  only_removed : all_of Purge ≡ map (λ (w : Workunit). Remove w.number) ts
+  only_removed =
+      (λ i. map (change_by Purge now) ts ++ granted_from place (none_granted ts i) ++ archived_from row_place (none_archived now ts i))
+      ∙ append-nil (map (λ (w : Workunit). Remove w.number) ts ++ []) ∙ append-nil (map (λ (w : Workunit). Remove w.number) ts)
+
+  removed_all : (p : Pass) → p ≡ Purge → map (λ (w : Workunit). Remove w.number) ts ≡ all_of p
+  removed_all p is = sym only_removed ∙ ap all_of (sym is)
+
+module _ (db : Database) (world : World) (stands : Refines db world) (is : IsUpToDate world) (ask : Ask) (purge : ask.pass ≡ Purge) (right : is_limit_right ask.pass ask.limit ask.min_age ≡ true)
+    (numbers : List ℕ) (are : numbers ≡ map (λ (w : Workunit). w.number) (chosen ask.pass ask.moment ask.min_age ask.limit world)) where
+  abbrev place : ℕ
+  place = length world.grants + 1
+
+  abbrev row_place : ℕ
+  row_place = length world.archived + 1
+
+  removed_are : map Remove numbers ≡ all_changes db world stands ask.moment ask.min_age ask.limit place row_place ask.pass
+  removed_are =
+      let taken = chosen ask.pass ask.moment ask.min_age ask.limit world in
+      ap (map Remove) are ∙ map-map Remove (λ (w : Workunit). w.number) taken ∙ removed_all ask.moment place row_place taken ask.pass purge
+
+  pub purge_planned : (count : ℕ) → count ≡ length numbers → Plans world (asked ask) (answer.Passed ask.pass count) (map Remove numbers)
+  purge_planned count counted =
+      let taken = chosen ask.pass ask.moment ask.min_age ask.limit world in
+      let made : made_all (map Remove numbers) world ≡ passed ask.pass ask.moment ask.min_age ask.limit world =
+      ap (λ cs. made_all cs world) removed_are ∙ pass_all_makes db world stands ask.moment ask.min_age ask.limit place row_place ask.pass in
+      let number : handled ask.pass ask.moment ask.min_age ask.limit world ≡ count = sym (counted ∙ ap (λ ns. length ns) are ∙ length-map taken (λ (w : Workunit). w.number)) in
+      record {
+        done =
+            pass_asked world is ask.pass ask.moment ask.limit ask.min_age right
+            ∙ (λ i. Ok (Passed ask.pass (number i), sym made i));
+        right = subst (λ cs. AreRight cs world) (sym removed_are)
+            (pass_all_right db world stands ask.moment ask.min_age ask.limit place row_place (queued world is) refl refl ask.pass);
+        idle = λ none. ap (map Remove) (are ∙ ap (map (λ (w : Workunit). w.number)) none);
       }

@@ -1,7 +1,7 @@
 //! A pass: what it makes of the workunits that it takes, what it answers and what it changes, before anything is
 //! changed.
 
-ghost use Rattle.std.specs.Prelude.{◌≡◌, ◌+◌, ◌≤◌, ◌^◌, ◌++◌, [], true, length, None, IfErr, IfOk};
+ghost use Rattle.std.specs.Prelude.{◌≡◌, ◌+◌, ◌≤◌, ◌^◌, ◌++◌, [], true, length, map, None, IfErr, IfOk};
 ghost use Rattle.wu_core.specs.declared.fault.Fault.TheVariants.{Memory};
 ghost use Rattle.wu_machine.specs.Machine.{is_limit_right};
 ghost use Rattle.wu_passes.specs.PassPlans.{asked, AddsArchivedRows, AddsGrants, AddsGiven, HandlesAll, HandlesAlso, IsImageOf, PlansTaken};
@@ -10,6 +10,7 @@ ghost use Rattle.wu_machine.specs.Requests.{AskPass};
 ghost use Rattle.wu_store.specs.Changing.{archived_from, granted_from};
 ghost use Rattle.wu_store.specs.Loading.{Asks, IsStoreFault, ForEachWorld, ServesUnlessFailed};
 ghost use Rattle.wu_rules.specs.declared.due.Pass.TheVariants as pass;
+ghost use Rattle.wu_store.specs.declared.changes.Change.TheVariants.{Remove};
 
 use crate::copies::copy_of;
 use crate::plan::Plan;
@@ -18,7 +19,7 @@ use std::alloc::Global;
 use wu_core::{Archived, Fault, Grant, LONGEST_AGE, Moment, Workunit};
 use wu_machine::Answer;
 use wu_rules::{Pass, assimilate, delete_files, transition, validate};
-use wu_store::{Change, load_due, next_archived_place, next_grant_place};
+use wu_store::{Change, due_numbers, load_due, next_archived_place, next_grant_place};
 
 /// The most workunits that one pass may be asked to change.
 const HIGHEST_LIMIT: u64 = 1000;
@@ -337,6 +338,61 @@ fn plan_taken<'a, S: Alter>(
     })
 }
 
+/// A change for each number, which takes its workunit out.
+fn removals<'a>(alloc: Global, numbers: Vec<u64>) -> Result<Vec<Change<'a>>, Fault>
+    ensures all { IfOk result (λ changes. changes.items ≡ map Remove numbers.items) }
+    ensures fault { IfErr result (λ fault. fault ≡ Memory) }
+{
+    let mut changes = Vec::new(alloc);
+    for number in numbers {
+        changes.push(Change::Remove(number))?;
+    }
+    Ok(changes)
+}
+
+/// The plan of a purge. It grants and archives nothing, so it needs no more of a workunit than its number.
+fn plan_purge<'a, S: Alter>(
+    conn: &mut Connection<S>,
+    alloc: Global,
+    ask: &Ask,
+) -> Result<Plan<'a>, Fault>
+    requires right { is_limit_right ask.now.pass ask.now.limit ask.now.min_age ≡ true }
+    requires purge { ask.now.pass ≡ pass.Purge }
+    ensures asks { Asks S.Store conn.old conn.new result }
+    ensures opens { ServesUnlessFailed S.Store conn.new result }
+    ensures never { NeverEnded result }
+    ensures unrefused { NotRefusedOver S.Store conn.old conn.new result IsPresentProject }
+    ensures plan { ForEachProject S.Store conn.old conn.new (PlansNow (asked ask.now) result) }
+{
+    let numbers = due_numbers(conn, alloc, ask.pass, ask.moment, ask.min_age, ask.limit)?;
+    let count = numbers.len() as u32;
+    let changes = removals(alloc, numbers)?;
+    Ok(Plan {
+        answer: Answer::Passed {
+            pass: ask.pass,
+            handled: count,
+        },
+        changes,
+    })
+}
+
+/// The plan of a pass that puts the images of workunits in their places.
+fn plan_images<'a, S: Alter>(
+    conn: &mut Connection<S>,
+    alloc: Global,
+    ask: &Ask,
+) -> Result<Plan<'a>, Fault>
+    requires { is_limit_right ask.now.pass ask.now.limit ask.now.min_age ≡ true }
+    ensures asks { Asks S.Store conn.old conn.new result }
+    ensures opens { ServesUnlessFailed S.Store conn.new result }
+    ensures never { NeverEnded result }
+    ensures unrefused { NotRefusedOver S.Store conn.old conn.new result IsPresentProject }
+    ensures plan { ForEachProject S.Store conn.old conn.new (PlansNow (asked ask.now) result) }
+{
+    let taken = load_due(conn, alloc, ask.pass, ask.moment, ask.min_age, ask.limit)?;
+    plan_taken(conn, alloc, ask, taken)
+}
+
 /// What a pass answers and changes, over tables of the present version. It takes the first workunits that it changes,
 /// up to its limit: the first by number, where the tables stand for a world whose list is in that order.
 pub fn plan_pass<'a, S: Alter>(
@@ -351,6 +407,10 @@ pub fn plan_pass<'a, S: Alter>(
     ensures unrefused { NotRefusedOver S.Store conn.old conn.new result IsPresentProject }
     ensures plan { ForEachProject S.Store conn.old conn.new (PlansNow (asked ask.now) result) }
 {
-    let taken = load_due(conn, alloc, ask.pass, ask.moment, ask.min_age, ask.limit)?;
-    plan_taken(conn, alloc, ask, taken)
+    match ask.pass {
+        Pass::Purge => plan_purge(conn, alloc, ask),
+        Pass::Transition | Pass::Validate | Pass::Assimilate | Pass::Delete => {
+            plan_images(conn, alloc, ask)
+        }
+    }
 }

@@ -1,6 +1,7 @@
 -- The workunits that the queue has for a pass, and how they are found by their numbers.
 use Rattle.wu_schema.proofs.Words.{AllByRecursion, Bool, Database, Fault, IfErr, List, NotAProject, None, Ok, Option, Result, Row, Refines, Some, Workunit, World, [], ap, arith, column, cond, eq-eqb, false, filter, filter-map, find, get_or, inl, inr, length, length-map, map, map-map, nat_le, nat_tests, ne_eqb, number, refl, subst, sym, take, ℕ, ⊤, ◌+◌, ◌<◌, ◌==◌, ◌∙◌, ◌∷◌, ◌≡◌, ◌≢◌, ◌≤◌, ◌⊎◌}
-use Rattle.std.specs.Prelude.{All, IfSome}
+use Rattle.std.specs.Prelude.{All, Err, IfSome, IsErrAnd, MatchResult}
+use Rattle.wu_core.specs.declared.fault.Fault.TheVariants.{Memory}
 use Rattle.std.specs.Option.{option_map_or}
 use Rattle.std.proofs.lemmas.List.{get_or-map, length-take, take-map}
 use Rattle.std.proofs.lemmas.List.Elements.{All-filter, All-from_recursion, All-take}
@@ -15,7 +16,7 @@ use Rattle.wu_schema.specs.Restoring.{Restores}
 use Rattle.wu_schema.proofs.RowLemmas.{filter_same}
 use Rattle.wu_store.specs.Answers.{numbered}
 use Rattle.wu_store.specs.Due.{AreNumbersOf, IsNumberOf, IsRowOfStorable}
-use Rattle.wu_store.specs.Loading.{IsLoadable, LoadsNumbered}
+use Rattle.wu_store.specs.Loading.{IsLoadable, IsStoreFault, LoadsNumbered}
 use Rattle.wu_store.specs.Queues.{first_marked, is_marked, waits_since}
 use Rattle.wu_store.specs.StandsFor.{marked}
 use Rattle.wu_store.proofs.LoadLemmas.{never_unread}
@@ -119,12 +120,19 @@ module _ (db : Database) (world : World) (s : Refines db world) (pass : Pass) (n
 
 -- ---- a row that was read
 
+module _ (row : Row) (m : ℕ) (is : row ≡ number m ∷ []) where
+  pub told_by_row : (n : ℕ) → Restores number (λ _. ⊤) (column row 0) (Ok n) → n ≡ m
+  told_by_row n reads = let e : number n ≡ number m = sym reads.value.0 ∙ ap (λ (r : Row). column r 0) is in cc
+
+  pub read_by_row : (r : Result ℕ Fault) → Restores number (λ _. ⊤) (column row 0) r → IfErr r (λ fault. fault ≢ NotAProject)
+  read_by_row r reads = never_unread number (λ _. ⊤) (column row 0) r m reads tt (ap (λ (r : Row). column r 0) is)
+
 module _ (row : Row) (w : Workunit) (world : World) (of : IsNumberOf row w world) where
   pub number_told : (n : ℕ) → Restores number (λ _. ⊤) (column row 0) (Ok n) → n ≡ w.number
-  number_told n reads = let e : number n ≡ number w.number = sym reads.value.0 ∙ ap (λ (r : Row). column r 0) of.row_is in cc
+  number_told = told_by_row row w.number of.row_is
 
   pub number_read : (r : Result ℕ Fault) → Restores number (λ _. ⊤) (column row 0) r → IfErr r (λ fault. fault ≢ NotAProject)
-  number_read r reads = never_unread number (λ _. ⊤) (column row 0) r w.number reads tt (ap (λ (r : Row). column r 0) of.row_is)
+  number_read = read_by_row row w.number of.row_is
 
   -- what is found at the number
   pub told_present : (n : ℕ) → n ≡ w.number → (found : Option Workunit) → found ≡ numbered n world → found ≡ Some w
@@ -153,3 +161,31 @@ module _ (rows : List Row) (ws : List Workunit) (world : World) (are : AreNumber
       some_at : (xs : List Workunit) (i : ℕ) → i < length xs → Workunit
       some_at [] i low = absurd (omega (arith, low))
       some_at (x ∷ xs) i low = x
+
+-- rows that are numbers
+module _ (rows : List Row) (numbers : List ℕ) (are : rows ≡ map (λ n. number n ∷ []) numbers) where
+  pub as_many_numbers : length rows ≡ length numbers
+  as_many_numbers = ap (λ rs. length rs) are ∙ length-map numbers (λ n. number n ∷ [])
+
+  pub number_in : (i : ℕ) (row : Row) (d : ℕ) → i < length rows → get_or rows i row ≡ row → row ≡ number (get_or numbers i d) ∷ []
+  number_in i row d low at =
+      sym at ∙ ap (λ rs. get_or rs i row) are ∙ get_or-map (λ n. number n ∷ []) numbers i d row (omega (arith, low, as_many_numbers))
+
+-- the numbers of the workunits that a pass takes are those of the rows
+pub chosen_numbers : (pass : Pass) (now age limit : ℕ) (world : World) (rows : List Row) → rows ≡ first_marked limit (selects pass now age) (marked world)
+    → rows ≡ map (λ n. number n ∷ []) (map (λ (w : Workunit). w.number) (chosen pass now age limit world))
+chosen_numbers pass now age limit world rows are =
+    are ∙ numbers_chosen pass now age limit world ∙ sym (map-map (λ n. number n ∷ []) (λ (w : Workunit). w.number) (chosen pass now age limit world))
+
+-- what is found unless memory is wanted, is found unless the store has a fault
+pub found_or_store : {T : Type 0} (P : T → Type 0) (r : Result T Fault) → MatchResult r P (λ fault. fault ≡ Memory) → MatchResult r P IsStoreFault
+found_or_store P (Ok x) found = found
+found_or_store P (Err fault) memory = inl memory
+
+pub never_project : {T : Type 0} (P : T → Type 0) (r : Result T Fault) → MatchResult r P (λ fault. fault ≡ Memory) → IfErr r (λ fault. fault ≢ NotAProject)
+never_project P (Ok x) found = tt
+never_project P (Err fault) memory = λ refused. cc
+
+pub memory_handed : {T : Type 0} (P : T → Type 0) (r : Result T Fault) (fault : Fault) → IsErrAnd r (λ other. other ≡ fault) → fault ≡ Memory → MatchResult r P (λ other. other ≡ Memory)
+memory_handed P (Ok x) fault same is = absurd same
+memory_handed P (Err other) fault same is = same ∙ is

@@ -2,6 +2,7 @@
 use Rattle.std.specs.Prelude.{◌≡◌, ℕ, ◌-◌, ◌^◌, slice_get, All, List, map, [], ◌∷◌, Some, Option, Result, MatchResult, Vec}
 use Rattle.std.specs.Option.{option_map_or}
 use Rattle.wu_core.specs.declared.fault.Fault.{Fault}
+use Rattle.wu_core.specs.declared.fault.Fault.TheVariants.{Memory}
 use Rattle.wu_core.specs.declared.workunit.Workunit.{Workunit}
 use Rattle.wu_core.specs.World.{World}
 use Rattle.wu_rules.specs.declared.due.Pass.{Pass}
@@ -17,6 +18,16 @@ use Rattle.wu_core.specs.declared.marks.Marks.{Marks}
 -- these are found
 abbrev pub FindsDue : {A : Type 0} → Pass → ℕ → ℕ → ℕ → Result (Vec Workunit A) Fault → World → Type 0
 FindsDue pass now min_age limit result world = MatchResult result (λ due. due.items ≡ chosen pass now min_age limit world) IsStoreFault
+
+-- the numbers of these are found
+abbrev pub FindsDueNumbers : {A : Type 0} → Pass → ℕ → ℕ → ℕ → Result (Vec ℕ A) Fault → World → Type 0
+FindsDueNumbers pass now min_age limit result world =
+    MatchResult result (λ due. due.items ≡ map (λ (w : Workunit). w.number) (chosen pass now min_age limit world)) IsStoreFault
+
+-- where each row is a number, these are found, unless memory is wanted
+abbrev pub FindsNumbers : {A : Type 0} → List Row → Result (Vec ℕ A) Fault → Type 0
+FindsNumbers rows result = (numbers : List ℕ) → rows ≡ map (λ n. number n ∷ []) numbers
+    → MatchResult result (λ found. found.items ≡ numbers) (λ fault. fault ≡ Memory)
 
 -- the marks of all workunits are found, each with its number
 abbrev pub FindsMarks : {A : Type 0} → Result (Vec (ℕ × Marks) A) Fault → World → Type 0

@@ -1,6 +1,8 @@
 //! Changes of a project's tables, and lists of them inside a transaction.
 
-ghost use Rattle.std.specs.Prelude.{[], ◌∷◌, option_map};
+ghost use Rattle.std.specs.Prelude.{◌≡◌, [], ◌∷◌, option_map, Some};
+ghost use Rattle.wu_core.specs.Storable.{bare};
+ghost use Rattle.wu_rules.specs.Marks.{marks};
 ghost use Rattle.wu_schema.specs.Calls.{StatementFrame, TransactionFrame, Does};
 ghost use Rattle.wu_store.specs.Changes.{AddsInstances, FillsQueue, LeavesQueue, Places, PutsInstance, PutsInstances, PutsMarks, PutsRow, Replaces, ReplacesAny, Upgrades};
 ghost use Rattle.wu_store.specs.Changing.{MakesWorlds};
@@ -113,6 +115,7 @@ fn put_instance<S: Alter>(
     ensures works { TransactionFrame S.Store tx.old tx.new result }
     ensures puts { Does S.Store tx.old tx.new result
         (PutsInstance workunit n (option_map (λ i. i.now) was.entry) instance.now) }
+    ensures idle { option_map (λ i. i.now) was.entry ≡ Some instance.now → tx.new ≡ tx.old }
 {
     match was {
         None => insert_instance(tx, workunit, n, instance),
@@ -134,6 +137,7 @@ fn put_instances<S: Alter>(
 ) -> Result<(), Error>
     ensures works { TransactionFrame S.Store tx.old tx.new result }
     ensures puts { Does S.Store tx.old tx.new result (PutsInstances workunit.now was.now) }
+    ensures idle { was.now ≡ workunit.now.instances → tx.new ≡ tx.old }
 {
     let instances = workunit.instances.as_slice();
     let mut n = 0;
@@ -152,6 +156,7 @@ fn put_row<S: Alter>(
 ) -> Result<(), Error>
     ensures works { TransactionFrame S.Store tx.old tx.new result }
     ensures puts { Does S.Store tx.old tx.new result (PutsRow was.now workunit.now) }
+    ensures idle { bare was.now ≡ bare workunit.now → tx.new ≡ tx.old }
 {
     if is_same_row(was, workunit) {
         return Ok(());
@@ -167,6 +172,7 @@ fn put_marks<S: Alter>(
 ) -> Result<(), Error>
     ensures works { TransactionFrame S.Store tx.old tx.new result }
     ensures puts { Does S.Store tx.old tx.new result (PutsMarks was.now workunit.now) }
+    ensures idle { marks was.now ≡ marks workunit.now → tx.new ≡ tx.old }
 {
     let marks = marks_of(workunit);
     if is_same_marks(&marks_of(was), &marks) {
@@ -184,6 +190,7 @@ fn replace<S: Alter>(
 ) -> Result<(), Error>
     ensures works { TransactionFrame S.Store tx.old tx.new result }
     ensures replaces { Does S.Store tx.old tx.new result (Replaces was.now workunit.now) }
+    ensures idle { was.now ≡ workunit.now → tx.new ≡ tx.old }
 {
     if workunit.instances.len() < was.instances.len() {
         return replace_whole(tx, workunit);

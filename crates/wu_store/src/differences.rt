@@ -1,6 +1,6 @@
 //! Whether a workunit's row, an instance or the marks are as they were.
 
-ghost use Rattle.std.specs.Prelude.{◌≡◌, IsTrue};
+ghost use Rattle.std.specs.Prelude.{◌≡◌, ◌↔◌, IsTrue};
 ghost use Rattle.wu_core.specs.Storable.{bare};
 ghost use Rattle.wu_store.specs.Differences.{HasSameDecision, HasSameJob, HasSameProgress, HasSameReport, HasSameStates};
 
@@ -8,7 +8,7 @@ use wu_core::{Bytes, ErrorMask, Instance, Marks, Name, Params, Workunit};
 
 /// Whether two workunits have the same parameters.
 fn is_same_params(a: &Params, b: &Params) -> bool
-    ensures { IsTrue result → a.now ≡ b.now }
+    ensures { IsTrue result ↔ (a.now ≡ b.now) }
 {
     a.min_quorum() == b.min_quorum()
         && a.target_nresults() == b.target_nresults()
@@ -20,19 +20,19 @@ fn is_same_params(a: &Params, b: &Params) -> bool
 }
 
 fn is_same_bytes(a: &Bytes, b: &Bytes) -> bool
-    ensures { IsTrue result → a.now ≡ b.now }
+    ensures { IsTrue result ↔ (a.now ≡ b.now) }
 {
     a.as_slice() == b.as_slice()
 }
 
 fn is_same_name(a: &Name, b: &Name) -> bool
-    ensures { IsTrue result → a.now ≡ b.now }
+    ensures { IsTrue result ↔ (a.now ≡ b.now) }
 {
     a.as_str() == b.as_str()
 }
 
 fn is_same_host(a: &Option<Name>, b: &Option<Name>) -> bool
-    ensures { IsTrue result → a.now ≡ b.now }
+    ensures { IsTrue result ↔ (a.now ≡ b.now) }
 {
     match (a, b) {
         (Some(a), Some(b)) => is_same_name(a, b),
@@ -42,7 +42,7 @@ fn is_same_host(a: &Option<Name>, b: &Option<Name>) -> bool
 }
 
 fn is_same_job(a: &Workunit, b: &Workunit) -> bool
-    ensures { IsTrue result → HasSameJob a.now b.now }
+    ensures { IsTrue result ↔ HasSameJob a.now b.now }
 {
     a.number == b.number
         && is_same_name(&a.name, &b.name)
@@ -51,7 +51,7 @@ fn is_same_job(a: &Workunit, b: &Workunit) -> bool
 }
 
 fn is_same_mask(a: ErrorMask, b: ErrorMask) -> bool
-    ensures { IsTrue result → a ≡ b }
+    ensures { IsTrue result ↔ (a ≡ b) }
 {
     a.couldnt_send_result == b.couldnt_send_result
         && a.too_many_error_results == b.too_many_error_results
@@ -62,13 +62,13 @@ fn is_same_mask(a: ErrorMask, b: ErrorMask) -> bool
 }
 
 fn is_same_canonical(a: Option<u32>, b: Option<u32>) -> bool
-    ensures { IsTrue result → a ≡ b }
+    ensures { IsTrue result ↔ (a ≡ b) }
 {
     a == b
 }
 
 fn is_same_decision(a: &Workunit, b: &Workunit) -> bool
-    ensures { IsTrue result → HasSameDecision a.now b.now }
+    ensures { IsTrue result ↔ HasSameDecision a.now b.now }
 {
     is_same_mask(a.error_mask, b.error_mask)
         && is_same_canonical(a.canonical, b.canonical)
@@ -76,20 +76,20 @@ fn is_same_decision(a: &Workunit, b: &Workunit) -> bool
 }
 
 fn is_same_progress(a: &Workunit, b: &Workunit) -> bool
-    ensures { IsTrue result → HasSameProgress a.now b.now }
+    ensures { IsTrue result ↔ HasSameProgress a.now b.now }
 {
     a.file_delete == b.file_delete && a.done_at == b.done_at
 }
 
 /// Whether two workunits have the same row.
 pub fn is_same_row(a: &Workunit, b: &Workunit) -> bool
-    ensures { IsTrue result → bare a.now ≡ bare b.now }
+    ensures { IsTrue result ↔ (bare a.now ≡ bare b.now) }
 {
     is_same_job(a, b) && is_same_decision(a, b) && is_same_progress(a, b)
 }
 
 fn is_same_states(a: &Instance, b: &Instance) -> bool
-    ensures { IsTrue result → HasSameStates a.now b.now }
+    ensures { IsTrue result ↔ HasSameStates a.now b.now }
 {
     a.server_state == b.server_state
         && a.outcome == b.outcome
@@ -98,7 +98,7 @@ fn is_same_states(a: &Instance, b: &Instance) -> bool
 }
 
 fn is_same_report(a: &Instance, b: &Instance) -> bool
-    ensures { IsTrue result → HasSameReport a.now b.now }
+    ensures { IsTrue result ↔ HasSameReport a.now b.now }
 {
     is_same_host(&a.host, &b.host)
         && a.sent_at == b.sent_at
@@ -109,14 +109,14 @@ fn is_same_report(a: &Instance, b: &Instance) -> bool
 
 /// Whether two instances are the same.
 pub fn is_same_instance(a: &Instance, b: &Instance) -> bool
-    ensures { IsTrue result → a.now ≡ b.now }
+    ensures { IsTrue result ↔ (a.now ≡ b.now) }
 {
     is_same_states(a, b) && is_same_report(a, b)
 }
 
 /// Whether two workunits have the same marks.
 pub fn is_same_marks(a: &Marks, b: &Marks) -> bool
-    ensures { IsTrue result → a.now ≡ b.now }
+    ensures { IsTrue result ↔ (a.now ≡ b.now) }
 {
     a.wake == b.wake
         && a.to_validate == b.to_validate

@@ -1,13 +1,14 @@
 //! The workunits that a pass is to change, found by the queue; and the marks by which it finds them, of all workunits.
 
-ghost use Rattle.std.specs.Prelude.{◌≡◌, ◌≤◌, ◌<◌, ◌+◌, ◌++◌, ◌-◌, ◌^◌, ◌∷◌, [], false, None, length, IfErr, IfOk, IfSome};
+ghost use Rattle.std.specs.Prelude.{◌≡◌, ◌≤◌, ◌<◌, ◌+◌, ◌++◌, ◌-◌, ◌^◌, ◌∷◌, [], ⊤, false, None, length, IfErr, IfOk, IfSome};
 ghost use Rattle.wu_core.specs.declared.fault.Fault.TheVariants.{Memory};
 ghost use Rattle.wu_core.specs.declared.marks.Marks.{Marks};
 ghost use Rattle.wu_rules.specs.Marks.{marks, selects};
-ghost use Rattle.wu_store.specs.Due.{numbers_left, FindsDue, FindsFirst, AreRowsOfStorable, FindsAllPresent, FindsMarks, FindsPresent, IsRowOfStorable};
+ghost use Rattle.wu_store.specs.Due.{numbers_left, FindsDue, FindsDueNumbers, FindsFirst, FindsNumbers, AreRowsOfStorable, FindsAllPresent, FindsMarks, FindsPresent, IsRowOfStorable};
 ghost use Rattle.wu_store.specs.Queues.{AnswersQueue, first_marked, is_marked, NotRefusedQueue};
 ghost use Rattle.wu_store.specs.StandsFor.{ForEachQueued, NotRefusedQueued};
 ghost use Rattle.wu_store.specs.Loading.{Asks, FindsAbove, IsStoreFault, LoadsAbove, NotRefusedIn, ForEachWorld, ServesUnlessFailed};
+ghost use Rattle.wu_store.specs.Reading.{IsReadFault};
 ghost use Rattle.wu_core.specs.Storable.{AreStorable};
 
 use crate::loading::{load, load_above};
@@ -150,6 +151,43 @@ fn present<S: Alter>(conn: &mut Connection<S>, alloc: Global, row: &Row) -> Resu
     }
 }
 
+/// The same rows, which are never more than the limit. `NotAProject` where there are more.
+fn first_due_rows<S: Alter>(
+    conn: &mut Connection<S>,
+    pass: Pass,
+    now: Moment,
+    min_age: u64,
+    limit: u64,
+) -> Result<Vec<Row>, Fault>
+    ensures asks { Asks S.Store conn.old conn.new result }
+    ensures opens { limit < 2 ^ 63 → ServesUnlessFailed S.Store conn.new result }
+    ensures answers { AnswersQueue S.Store conn.old conn.new result
+        (first_marked limit (selects pass now min_age)) }
+    ensures few { IfOk result (λ rows. length rows.items ≤ limit) }
+    ensures fault { IfErr result IsStoreFault }
+    ensures unrefused { limit < 2 ^ 63 → NotRefusedQueue S.Store conn.old conn.new result }
+{
+    let rows = due_rows(conn, pass, now, min_age, limit)?;
+    if rows.len() as u64 > limit {
+        return Err(Fault::NotAProject);
+    }
+    Ok(rows)
+}
+
+/// The numbers in these rows of the queue, in their order. `NotAProject` where a row has none.
+fn numbers_in(alloc: Global, rows: &[Row]) -> Result<Vec<u64>, Fault>
+    ensures numbers { FindsNumbers rows.now result }
+    ensures fault { IfErr result IsReadFault }
+    ensures long { IfOk result (λ found. length found.items ≡ length rows.now) }
+{
+    let mut found = Vec::new(alloc);
+    for row in rows {
+        let number = number_at(row, 0)?;
+        found.push(number)?;
+    }
+    Ok(found)
+}
+
 /// The workunits of the numbers in these rows of the queue, in their order. `NotAProject` where one is not present.
 fn load_all<S: Alter>(
     conn: &mut Connection<S>,
@@ -192,9 +230,30 @@ pub fn load_due<S: Alter>(
     ensures unrefused { limit < 2 ^ 63
         → NotRefusedQueued S.Store conn.old conn.new result AreStorable }
 {
-    let rows = due_rows(conn, pass, now, min_age, limit)?;
-    if rows.len() as u64 > limit {
-        return Err(Fault::NotAProject);
-    }
+    let rows = first_due_rows(conn, pass, now, min_age, limit)?;
     load_all(conn, alloc, rows.as_slice())
+}
+
+/// The numbers of the workunits that the pass changes, in order: the first ones, up to the limit.
+///
+/// The queue tells them, and no workunit is loaded. `NotAProject` where the limit is not below 2^63.
+pub fn due_numbers<S: Alter>(
+    conn: &mut Connection<S>,
+    alloc: Global,
+    pass: Pass,
+    now: Moment,
+    min_age: u64,
+    limit: u64,
+) -> Result<Vec<u64>, Fault>
+    ensures asks { Asks S.Store conn.old conn.new result }
+    ensures opens { limit < 2 ^ 63 → ServesUnlessFailed S.Store conn.new result }
+    ensures fault { IfErr result IsStoreFault }
+    ensures due { ForEachQueued S.Store conn.old conn.new
+        (FindsDueNumbers pass now min_age limit result) }
+    ensures few { IfOk result (λ due. length due.items ≤ limit) }
+    ensures unrefused { limit < 2 ^ 63
+        → NotRefusedQueued S.Store conn.old conn.new result (λ _. ⊤) }
+{
+    let rows = first_due_rows(conn, pass, now, min_age, limit)?;
+    numbers_in(alloc, rows.as_slice())
 }

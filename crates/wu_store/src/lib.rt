@@ -16,7 +16,7 @@ mod verdicts;
 
 pub use changes::{Change, Import, apply};
 pub use counts::summary;
-pub use due::{load_due, load_marks};
+pub use due::{due_numbers, load_due, load_marks};
 pub use lines::{HostLine, ResultLine, Summary, WorkunitLine};
 pub use loading::{
     import_of, load, load_named, next_archived_place, next_grant_place, next_number,

@@ -19,7 +19,7 @@ returns-in-None-clause-puts g c clean =
 pub returns-then-is_same_instance-clause-puts : goal.returns-then-is_same_instance-clause-puts
 returns-then-is_same_instance-clause-puts g c clean world w s found low got =
     let old = (state g.S.Store c.args.tx.now.conn.now).now in
-    let here = got ∙ ap (option_map (λ i. i.now)) c.in-Some.is ∙ ap (λ (i : Instance). Some i) (c.is_same_instance.ensures c.if-is_same_instance.true) in
+    let here = got ∙ ap (option_map (λ i. i.now)) c.in-Some.is ∙ ap (λ (i : Instance). Some i) (c.is_same_instance.ensures.0 c.if-is_same_instance.true) in
     (subst (Refines old) (same_world_put old world s c.args.workunit w found c.args.n c.args.instance.now here) s, λ marked q. q)
 
 pub returns-else-is_same_instance-clause-puts : goal.returns-else-is_same_instance-clause-puts

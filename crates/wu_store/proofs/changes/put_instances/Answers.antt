@@ -1,15 +1,16 @@
-use Rattle.wu_schema.proofs.Words.{HasCleanDisk, Refines, ap, arith, get_or, length, refl, slice_get, state, subst, suc, sym, ◌+◌, ◌<◌, ◌∙◌, ◌≡◌}
+use Rattle.std.proofs.lemmas.Option.{slice_get-get_or}
+use Rattle.wu_schema.proofs.Words.{HasCleanDisk, Instance, Refines, Some, ap, arith, get_or, length, refl, slice_get, state, subst, suc, sym, ◌+◌, ◌<◌, ◌∙◌, ◌≡◌}
 use Rattle.wu_schema.proofs.CallLemmas.{never_ok, part_none, part_then}
 use Rattle.wu_store.specs.Changes.{StandsBeside, with_put, with_replaced}
 use Rattle.wu_store.proofs.ReplaceLemmas.{got_mixed, lent_at, listing, long_mixed, mixed, put_mixed, put_replaced, replaced_found, whole_mixed}
 use Rattle.wu_store.proofs.changes.put_instances.Goals as goal
 
 pub loop-instance-init : goal.loop-instance-init
-loop-instance-init g c = (refl, refl, part_none _, λ _. (λ within. within, λ world v found s. (s, λ marked q. q)))
+loop-instance-init g c = (refl, refl, part_none _, λ all. refl, λ _. (λ within. within, λ world v found s. (s, λ marked q. q)))
 
 pub loop-instance-preserved : goal.loop-instance-preserved
 loop-instance-preserved g c =
-    let (place, same, part, before) = c.loop-instance.invariant in
+    let (place, same, part, idle, before) = c.loop-instance.invariant in
     let wrote = c.put_instance.ensures.works in
     let w = c.args.workunit.now in
     let was = c.args.was.now in
@@ -22,6 +23,9 @@ loop-instance-preserved g c =
       ap (λ n. n + 1) place,
       wrote.same_reference ∙ same,
       part_then _ _ _ part wrote.part,
+      λ all.
+          let got = sym (lent_at was c.loop-instance.n c.get.result c.get.ensures.lookup) ∙ (λ i. slice_get (all i) (place i)) ∙ slice_get-get_or w.instances k one low ∙ ap (λ (j : Instance). Some j) at in
+          c.put_instance.ensures.idle got ∙ idle all,
       λ clean.
           let still : HasCleanDisk (state g.S.Store c.loop-instance.tx.conn.now) = omega (arith, wrote.part.survives.clean) in
           let puts = c.in_ok-put_instance.ensures.puts clean in (
@@ -41,15 +45,32 @@ loop-instance-preserved g c =
 
 pub returns-in_err-put_instance-clause-works : goal.returns-in_err-put_instance-clause-works
 returns-in_err-put_instance-clause-works g c =
-    let (place, same, part, before) = c.loop-instance.invariant in
+    let (place, same, part, idle, before) = c.loop-instance.invariant in
     let wrote = c.put_instance.ensures.works in
     record { same_reference = wrote.same_reference ∙ same; part = part_then _ _ _ part wrote.part; stays = λ clean. never_ok c.from_residual.result _ _ c.from_residual.ensures.1 }
 
 pub returns-clause-puts : goal.returns-clause-puts
 returns-clause-puts g c clean world v found few s =
-    let (place, same, part, before) = c.loop-instance.invariant in
+    let (place, same, part, idle, before) = c.loop-instance.invariant in
     let w = c.args.workunit.now in
     let items = c.as_slice-instances.ensures.items in
     let at_end : c.loop-instance.instance-index ≡ length w.instances = omega (arith, c.loop-instance-test.false, c.loop-instance.auto.instance-index-end, ap (λ is. length is) items) in
     let whole = ap (λ n. mixed n w.instances c.args.was.now) at_end ∙ whole_mixed w.instances c.args.was.now few in
     subst (λ is. StandsBeside (with_replaced (listing w is) world) (state g.S.Store c.args.tx.now.conn.now).now (state g.S.Store c.loop-instance.tx.conn.now).now) whole ((before clean).1 world v found s)
+
+pub returns-clause-idle : goal.returns-clause-idle
+returns-clause-idle g c all =
+    let (place, same, part, idle, before) = c.loop-instance.invariant in
+    idle all
+
+pub returns-in_err-put_instance-clause-idle : goal.returns-in_err-put_instance-clause-idle
+returns-in_err-put_instance-clause-idle g c all =
+    let (place, same, part, idle, before) = c.loop-instance.invariant in
+    let w = c.args.workunit.now in
+    let k = c.loop-instance.instance-index in
+    let one = c.instance-item.result in
+    let items = c.as_slice-instances.ensures.items in
+    let low : k < length w.instances = omega (arith, c.loop-instance-test.true, ap (λ is. length is) items) in
+    let at : get_or w.instances k one ≡ one = ap (λ is. get_or is k one) (sym items) ∙ sym c.instance-item.is in
+    let got = sym (lent_at c.args.was.now c.loop-instance.n c.get.result c.get.ensures.lookup) ∙ (λ i. slice_get (all i) (place i)) ∙ slice_get-get_or w.instances k one low ∙ ap (λ (j : Instance). Some j) at in
+    c.put_instance.ensures.idle got ∙ idle all

@@ -9,6 +9,7 @@ invariant-loop-instance g l =
     (l.n ≡ l.instance-index)
     × (l.tx.conn.ghost_name ≡ l.initial.tx.conn.ghost_name)
     × IsPart (state g.S.Store l.initial.tx.conn.now) (state g.S.Store l.tx.conn.now)
+    × (l.was ≡ l.workunit.instances → l.tx ≡ l.initial.tx)
     × (HasCleanDisk (state g.S.Store l.tx.conn.now) → (IsTrue l.initial.tx.conn.now.in_transaction → IsTrue l.tx.conn.now.in_transaction)
     × ((world : World) (v : Workunit) → numbered l.workunit.number world ≡ Some v → Refines (state g.S.Store l.initial.tx.conn.now).now (with_replaced (listing l.workunit l.was) world)
     → StandsBeside (with_replaced (listing l.workunit (mixed l.instance-index l.workunit.instances l.was)) world) (state g.S.Store l.initial.tx.conn.now).now (state g.S.Store l.tx.conn.now).now))

@@ -11,7 +11,7 @@ use Rattle.wu_store.proofs.changes.put_marks.Goals as goal
 pub returns-then-is_same_marks-clause-puts : goal.returns-then-is_same_marks-clause-puts
 returns-then-is_same_marks-clause-puts g c clean first world before found s q =
     let db = (state g.S.Store c.args.tx.now.conn.now).now in
-    let same = sym c.marks_of.ensures ∙ c.is_same_marks.ensures c.if-is_same_marks.true ∙ c.marks_of-marks.ensures in
+    let same = sym c.marks_of.ensures ∙ c.is_same_marks.ensures.0 c.if-is_same_marks.true ∙ c.marks_of-marks.ensures in
     (s, subst (HasQueue db) (marks_same c.args.workunit.now first world before c.args.was.now found same) q)
 
 pub returns-clause-puts : goal.returns-clause-puts

@@ -8,7 +8,7 @@ pub returns-then-is_same_row-clause-puts : goal.returns-then-is_same_row-clause-
 returns-then-is_same_row-clause-puts g c clean world s found =
     let db = (state g.S.Store c.args.tx.now.conn.now).now in
     let w = c.args.workunit.now in
-    (subst (Refines db) (row_same w db world s c.args.was.now found (c.is_same_row.ensures c.if-is_same_row.true)) s, λ marked q. q)
+    (subst (Refines db) (row_same w db world s c.args.was.now found (c.is_same_row.ensures.0 c.if-is_same_row.true)) s, λ marked q. q)
 
 pub returns-clause-puts : goal.returns-clause-puts
 returns-clause-puts g c clean =

@@ -7,15 +7,15 @@ use Rattle.wu_store.proofs.due.load_due.Goals as goal
 
 pub returns-clause-due : goal.returns-clause-due
 returns-clause-due g c clean world queued stands =
-    let before : HasCleanDisk (state g.S.Store c.due_rows.new.conn) = omega (arith, clean, c.load_all.ensures.asks.crash.clean) in
-    let still : Refines (state g.S.Store c.due_rows.new.conn).now world = asks_stands g.S.Store _ _ _ c.in_ok-rows.ensures.asks before world stands.refines in
+    let before : HasCleanDisk (state g.S.Store c.first_due_rows.new.conn) = omega (arith, clean, c.load_all.ensures.asks.crash.clean) in
+    let still : Refines (state g.S.Store c.first_due_rows.new.conn).now world = asks_stands g.S.Store _ _ _ c.in_ok-rows.ensures.asks before world stands.refines in
     let are = rows_chosen _ world stands.refines c.args.pass c.args.now c.args.min_age c.args.limit c.as_slice.result.now (c.as_slice.ensures.value ∙ c.in_ok-rows.ensures.answers before (marked world) (stands.queue queued)) in
     c.load_all.ensures.found clean world still (chosen c.args.pass c.args.now c.args.min_age c.args.limit world) are
 
 pub returns-clause-unrefused : goal.returns-clause-unrefused
 returns-clause-unrefused g c low clean world queued stands storable limit =
-    let before : HasCleanDisk (state g.S.Store c.due_rows.new.conn) = omega (arith, clean, c.load_all.ensures.asks.crash.clean) in
-    let still : Refines (state g.S.Store c.due_rows.new.conn).now world = asks_stands g.S.Store _ _ _ c.in_ok-rows.ensures.asks before world stands.refines in
+    let before : HasCleanDisk (state g.S.Store c.first_due_rows.new.conn) = omega (arith, clean, c.load_all.ensures.asks.crash.clean) in
+    let still : Refines (state g.S.Store c.first_due_rows.new.conn).now world = asks_stands g.S.Store _ _ _ c.in_ok-rows.ensures.asks before world stands.refines in
     let are = rows_chosen _ world stands.refines c.args.pass c.args.now c.args.min_age c.args.limit c.as_slice.result.now (c.as_slice.ensures.value ∙ c.in_ok-rows.ensures.answers before (marked world) (stands.queue queued)) in
     c.load_all.ensures.unrefused clean world still (chosen c.args.pass c.args.now c.args.min_age c.args.limit world, are, chosen_storable _ world stands.refines c.args.pass c.args.now c.args.min_age c.args.limit storable) (c.in_ok-rows.ensures.asks.crash.limit ∙ limit)
 
@@ -23,7 +23,7 @@ pub returns-clause-asks : goal.returns-clause-asks
 returns-clause-asks g c = asks_then g.S.Store _ _ _ c.in_ok-rows.rows c.in_ok-rows.ensures.asks c.load_all.result c.load_all.ensures.asks
 
 pub returns-clause-opens : goal.returns-clause-opens
-returns-clause-opens g c low = opens_then g.S.Store c.due_rows.new.conn c.load_all.new.conn (c.in_ok-rows.ensures.opens low) c.load_all.result c.load_all.ensures.asks
+returns-clause-opens g c low = opens_then g.S.Store c.first_due_rows.new.conn c.load_all.new.conn (c.in_ok-rows.ensures.opens low) c.load_all.result c.load_all.ensures.asks
 
 pub returns-in_err-rows : goal.returns-in_err-rows
 returns-in_err-rows g c =
@@ -32,18 +32,9 @@ returns-in_err-rows g c =
     let same = c.from_residual.ensures.1 in
     record {
       asks = asks_handed g.S.Store _ _ r fault same c.in_err-rows.ensures.asks;
-      opens = λ low. opens_handed r fault same g.S.Store c.due_rows.new.conn (c.in_err-rows.ensures.opens low);
+      opens = λ low. opens_handed r fault same g.S.Store c.first_due_rows.new.conn (c.in_err-rows.ensures.opens low);
       fault = fault_handed r fault same c.in_err-rows.ensures.fault;
       due = λ clean world queued stands. match_handed r fault same _ c.in_err-rows.ensures.fault;
       few = nothing_handed r fault same _;
       unrefused = λ low clean world queued stands storable limit. handed_on r fault same (c.in_err-rows.ensures.unrefused low clean (marked world) (stands.queue queued) limit);
     }
-
-pub returns-then-len-limit-clause-asks : goal.returns-then-len-limit-clause-asks
-returns-then-len-limit-clause-asks g c = asks_row g.S.Store _ _ c.in_ok-rows.rows (Err NotAProject) (inr refl) c.in_ok-rows.ensures.asks
-
-pub returns-then-len-limit-clause-opens : goal.returns-then-len-limit-clause-opens
-returns-then-len-limit-clause-opens g c low clean = inr (c.in_ok-rows.ensures.opens low clean)
-
-pub returns-then-len-limit-clause-due : goal.returns-then-len-limit-clause-due
-returns-then-len-limit-clause-due g c clean world queued stands = inr (inr refl)

@@ -2,7 +2,7 @@ use Rattle.std.proofs.Common.{rules, inr, ◌<◌, ◌^◌}
 use Rattle.wu_passes.proofs.AskLemmas.{asks_handed, asks_then, handed_is, handed_on}
 use Rattle.wu_passes.proofs.PlanLemmas.{queued}
 use Rattle.wu_passes.proofs.ExitLemmas.{handed_going, told_going}
-use Rattle.wu_passes.proofs.passes.plan_pass.Goals as goal
+use Rattle.wu_passes.proofs.passes.plan_images.Goals as goal
 
 pub returns-in_err-taken-clause-unrefused : goal.returns-in_err-taken-clause-unrefused
 returns-in_err-taken-clause-unrefused g c clean world stands (is, project) limit =
