@@ -36,10 +36,14 @@ CREATE INDEX queue_validate ON queue (to_validate, workunit);
 CREATE INDEX queue_assimilate ON queue (to_assimilate, workunit);
 CREATE INDEX queue_delete ON queue (to_delete, workunit);
 CREATE INDEX queue_purge ON queue (purge_from);
-INSERT INTO project VALUES (1, 2, 1);
+CREATE TABLE host_class (host TEXT PRIMARY KEY NOT NULL, class INTEGER NOT NULL) STRICT;
+CREATE TABLE workunit_class (workunit INTEGER PRIMARY KEY REFERENCES workunit (number) ON DELETE CASCADE, class INTEGER NOT NULL) STRICT;
+INSERT INTO project VALUES (1, 3, 1);
 """
 
 WORKUNIT = "number name min_quorum target_nresults max_error_results max_total_results max_success_results delay_bound credit input error_mask canonical assimilate file_delete done_at".split()
+# with its class, which has a row in a table of its own
+CLASSED = [*WORKUNIT, "class"]
 RESULT = "workunit n server_state outcome validate_state file_delete host sent_at deadline received_at output".split()
 
 
@@ -73,7 +77,8 @@ def batch(db, name, content):
         added.append((number, job, 2, 2, 3, 10, 6, 604800, 1, bytes.fromhex(data), 0, None, 0, 0, None))
         number += 1
     db.executemany("INSERT INTO workunit VALUES (" + ", ".join("?" * 15) + ")", added)
-    mark(db, [(dict(zip(WORKUNIT, row)), []) for row in added])
+    db.executemany("INSERT INTO workunit_class VALUES (?, 0)", [row[:1] for row in added])
+    mark(db, [(dict(zip(CLASSED, (*row, 0))), []) for row in added])
     db.execute("UPDATE project SET next_number = ?", (number,))
     keep(db, 1, name, content, first, "0" * len(added))
     db.execute("COMMIT")
@@ -82,9 +87,13 @@ def batch(db, name, content):
 def instance(db, text):
     name, n = text.rsplit("_", 1)
     return db.execute(
-        "SELECT r.workunit, r.n, r.server_state, r.outcome, r.host, r.sent_at, w.delay_bound FROM workunit w JOIN result r ON r.workunit = w.number WHERE w.name = ? AND r.n = ?",
+        "SELECT r.workunit, r.n, r.server_state, r.outcome, r.host, r.sent_at, w.delay_bound, c.class FROM workunit w JOIN result r ON r.workunit = w.number JOIN workunit_class c ON c.workunit = w.number WHERE w.name = ? AND r.n = ?",
         (name, int(n)),
     ).fetchone()
+
+
+# of an instance in progress, or a viable success
+ACTIVE = "(server_state = 4 OR server_state = 5 AND outcome = 1 AND validate_state IN (0, 4))"
 
 
 def sent(db, name, content):
@@ -98,14 +107,23 @@ def sent(db, name, content):
             verdicts.append("2")
         elif db.execute("SELECT 1 FROM result WHERE workunit = ? AND host = ?", (found[0], host)).fetchone():
             verdicts.append("3")
+        elif found[7] != class_of(db, host) and db.execute(f"SELECT 1 FROM result WHERE workunit = ? AND {ACTIVE}", found[:1]).fetchone():
+            verdicts.append("4")
         else:
             at = seconds(moment)
             db.execute("UPDATE result SET server_state = 4, host = ?, sent_at = ?, deadline = ? WHERE workunit = ? AND n = ?", (host, at, at + found[6], found[0], found[1]))
+            db.execute("UPDATE workunit_class SET class = ? WHERE workunit = ?", (class_of(db, host), found[0]))
             changed.add(found[0])
             verdicts.append("0")
     mark_all(db, changed)
     keep(db, 2, name, content, 0, "".join(verdicts))
     db.execute("COMMIT")
+
+
+def class_of(db, host):
+    """The class of a host, 0 where no file named it."""
+    (found,) = db.execute("SELECT coalesce(max(class), 0) FROM host_class WHERE host = ?", (host,)).fetchone()
+    return found
 
 
 def reported(db, name, content):
@@ -143,8 +161,8 @@ def load(db, selects, values):
     instances = {}
     for row in db.execute(f"SELECT * FROM result WHERE workunit IN ({first}) ORDER BY workunit, n", values):
         instances.setdefault(row[0], []).append(dict(zip(RESULT, row)))
-    found = db.execute(f"SELECT * FROM workunit WHERE number IN ({first}) ORDER BY number", values).fetchall()
-    return [(dict(zip(WORKUNIT, row)), instances.get(row[0], [])) for row in found]
+    found = db.execute(f"SELECT w.*, class FROM workunit w JOIN workunit_class ON workunit = number WHERE number IN ({first}) ORDER BY number", values).fetchall()
+    return [(dict(zip(CLASSED, row)), instances.get(row[0], [])) for row in found]
 
 
 def mark(db, workunits):
@@ -155,14 +173,19 @@ def mark_all(db, numbers):
     """The marks of these workunits, read anew."""
     found = []
     for number in sorted(numbers):
-        (row,) = db.execute("SELECT * FROM workunit WHERE number = ?", (number,))
+        (row,) = db.execute("SELECT w.*, class FROM workunit w JOIN workunit_class ON workunit = number WHERE number = ?", (number,))
         its = db.execute("SELECT * FROM result WHERE workunit = ? ORDER BY n", (number,))
-        found.append((dict(zip(WORKUNIT, row)), [dict(zip(RESULT, it)) for it in its]))
+        found.append((dict(zip(CLASSED, row)), [dict(zip(RESULT, it)) for it in its]))
     mark(db, found)
 
 
 def viable(instances):
     return [i for i in instances if i["server_state"] == OVER and i["outcome"] == SUCCESS and i["validate_state"] in (INIT, INCONCLUSIVE)]
+
+
+def is_bound_in_vain(w, instances):
+    """It has a class, and no instance in progress nor a viable success."""
+    return w["class"] > 0 and not viable(instances) and not any(i["server_state"] == IN_PROGRESS for i in instances)
 
 
 def close_unsent(instances):
@@ -182,6 +205,8 @@ def wants_validation(w, instances):
 
 def is_due(w, instances):
     """The transitioner has something to do, whatever the moment."""
+    if is_bound_in_vain(w, instances):
+        return True
     if w["error_mask"]:
         return w["assimilate"] == 0 or any(i["server_state"] == UNSENT for i in instances) or bool(viable(instances)) or is_to_ready(w, instances)
     if w["canonical"] is None:
@@ -246,6 +271,8 @@ def transition(w, instances, now):
             may = (over and not late) if i["n"] == w["canonical"] else (i["server_state"] == OVER and i not in late)
             if i["file_delete"] == 0 and may:
                 i["file_delete"], changed = READY, True
+    if is_bound_in_vain(w, instances):
+        w["class"], changed = 0, True
     return changed
 
 
@@ -317,6 +344,7 @@ def run_pass(db, change, limit, selects, *values):
         workunits.append(w)
         instances.extend(its)
     db.executemany("UPDATE workunit SET " + ", ".join(f"{c} = :{c}" for c in WORKUNIT[1:]) + " WHERE number = :number", workunits)
+    db.executemany("UPDATE workunit_class SET class = :class WHERE workunit = :number", workunits)
     db.executemany("INSERT OR REPLACE INTO result VALUES (" + ", ".join(":" + c for c in RESULT) + ")", instances)
     mark(db, found)
     return len(workunits)
@@ -376,9 +404,9 @@ def or_dash(value):
 
 
 def workunits(db):
-    for w in db.execute("SELECT * FROM workunit ORDER BY number"):
-        w = dict(zip(WORKUNIT, w))
-        yield f"{w['number']} {w['name']} input={len(w['input'])} quorum={w['min_quorum']} target={w['target_nresults']} max_error={w['max_error_results']} max_total={w['max_total_results']} max_success={w['max_success_results']} delay={w['delay_bound']} credit={w['credit']} mask={w['error_mask']} canonical={or_dash(w['canonical'])} assimilate={STEPS[w['assimilate']]} delete={STEPS[w['file_delete']]} done={moment(w['done_at'])}"
+    for w in db.execute("SELECT w.*, class FROM workunit w JOIN workunit_class ON workunit = number ORDER BY number"):
+        w = dict(zip(CLASSED, w))
+        yield f"{w['number']} {w['name']} input={len(w['input'])} quorum={w['min_quorum']} target={w['target_nresults']} max_error={w['max_error_results']} max_total={w['max_total_results']} max_success={w['max_success_results']} delay={w['delay_bound']} credit={w['credit']} mask={w['error_mask']} canonical={or_dash(w['canonical'])} assimilate={STEPS[w['assimilate']]} delete={STEPS[w['file_delete']]} done={moment(w['done_at'])} class={w['class']}"
 
 
 def results(db):
@@ -414,9 +442,15 @@ def summary(db):
     yield f"grants {count('credit_grant')}"
     yield f"credit {credit}"
     yield f"imports {count('import')}"
+    yield f"classes {count('host_class')}"
 
 
-VIEWS = [workunits, results, hosts, archive, summary]
+def classes(db):
+    for host, number in db.execute("SELECT host, class FROM host_class ORDER BY host"):
+        yield f"{host} class={number}"
+
+
+VIEWS = [workunits, results, hosts, archive, summary, classes]
 
 
 def view(db, lines):

@@ -85,4 +85,7 @@ sound_in_any_order world imports moved sound = record {
   grants = sound.grants;
   granted_once = sound.granted_once;
   imported_once = pairs_in_any_order AreOtherImports (λ x y other kind name. other (sym kind) (sym name)) world.imports imports moved sound.imported_once;
+  classed = sound.classed;
+  classes_in_order = sound.classes_in_order;
+  classes_in_time = sound.classes_in_time;
 }

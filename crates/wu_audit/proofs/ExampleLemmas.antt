@@ -98,7 +98,9 @@ storable_agreed = record {
     canonical = omega arith;
     stamped = record { moment = omega arith; done = λ e. refl; done_only = λ e. refl };
     bare = refl;
+    classless = refl;
   };
+  class = omega arith;
   instances = record { each = all_two IsStoredInstance _ _ (stored_success h1 refl) (stored_success h2 refl); few = omega arith };
 }
 
@@ -112,6 +114,7 @@ consistent_agreed = record {
   nothing_unsent = λ e. refl;
   undecided = λ e. absurd (false≢true e);
   canonical = (refl, refl);
+  classless = λ e. refl;
 }
 
 keys_agreed : HasKeys one_agreed
@@ -156,6 +159,9 @@ sound_agreed = record {
   grants = all_two (IsRightGrant one_agreed) _ _ ((omega arith, omega arith), omega arith, omega arith) ((omega arith, omega arith), omega arith, omega arith);
   granted_once = keys_agreed.granted_once;
   imported_once = λ i j d less lt. absurd (omega (arith, lt));
+  classed = λ k d lt. absurd (omega (arith, lt));
+  classes_in_order = λ i j d less lt. absurd (omega (arith, lt));
+  classes_in_time = λ low. absurd (omega (arith, low));
 }
 
 -- the second of two rows that are at odds is the first against
@@ -175,7 +181,7 @@ unstorable_wrong storable = absurd (omega (arith, storable.number))
 pub kept_too_late_wrong : ¬ IsStoredArchived kept_too_late
 kept_too_late_wrong stored = absurd (omega (arith, stored.done_at))
 
-pub verdict_wrong : ¬ IsRightImport (sent_with 4)
+pub verdict_wrong : ¬ IsRightImport (sent_with 5)
 verdict_wrong right = absurd (omega (arith, right.1 0 0 (omega arith)))
 
 pub decided_and_given_up_wrong : ¬ IsConsistent decided_and_given_up

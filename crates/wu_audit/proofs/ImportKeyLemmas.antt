@@ -4,7 +4,7 @@ use Rattle.std.specs.Bool.{Decides}
 use Rattle.std.specs.Borrow.{Bor}
 use Rattle.std.proofs.lemmas.Slice.Eq.{bytes_eq-Decides}
 use Rattle.wu_core.specs.declared.import.ImportKind.{ImportKind}
-use Rattle.wu_core.specs.declared.import.ImportKind.TheVariants.{Batch, Sent, Reported}
+use Rattle.wu_core.specs.declared.import.ImportKind.TheVariants.{Batch, Sent, Reported, Classes}
 use Rattle.wu_core.specs.Codes.{import_kind_code}
 use Rattle.wu_core.specs.World.{Import}
 use Rattle.wu_audit.specs.Keys.{AreOtherImports, IsImportKey}
@@ -15,12 +15,19 @@ kinds_decide : (one other : ImportKind) → Decides (eqb (import_kind_code one) 
 kinds_decide Batch Batch = (λ _. refl, λ _. refl)
 kinds_decide Batch Sent = (λ e. cc, λ e. cc)
 kinds_decide Batch Reported = (λ e. cc, λ e. cc)
+kinds_decide Batch Classes = (λ e. cc, λ e. cc)
 kinds_decide Sent Batch = (λ e. cc, λ e. cc)
 kinds_decide Sent Sent = (λ _. refl, λ _. refl)
 kinds_decide Sent Reported = (λ e. cc, λ e. cc)
+kinds_decide Sent Classes = (λ e. cc, λ e. cc)
 kinds_decide Reported Batch = (λ e. cc, λ e. cc)
 kinds_decide Reported Sent = (λ e. cc, λ e. cc)
 kinds_decide Reported Reported = (λ _. refl, λ _. refl)
+kinds_decide Reported Classes = (λ e. cc, λ e. cc)
+kinds_decide Classes Batch = (λ e. cc, λ e. cc)
+kinds_decide Classes Sent = (λ e. cc, λ e. cc)
+kinds_decide Classes Reported = (λ e. cc, λ e. cc)
+kinds_decide Classes Classes = (λ _. refl, λ _. refl)
 
 -- what the test of two keys says of their imports
 abbrev TestSays : Import → Import → ℕ → ℕ → List ℕ → List ℕ → Type 0

@@ -9,6 +9,7 @@ consistent w settable state canonical = record {
   deletable = settable.deletable;
   sendable = settable.sendable;
   decidable = settable.decidable;
+  classless = settable.classless;
   given_up_or_decided = state.given_up_or_decided;
   nothing_unsent = state.nothing_unsent;
   undecided = state.undecided;
@@ -16,7 +17,7 @@ consistent w settable state canonical = record {
 }
 
 pub settable : (w : Workunit) → IsConsistent w → IsSettable w
-settable w is = record { instances = is.instances; deletable = is.deletable; sendable = is.sendable; decidable = is.decidable }
+settable w is = record { instances = is.instances; deletable = is.deletable; sendable = is.sendable; decidable = is.decidable; classless = is.classless }
 
 pub in_one_state : (w : Workunit) → IsConsistent w → IsInOneState w
 in_one_state w is = record { given_up_or_decided = is.given_up_or_decided; nothing_unsent = is.nothing_unsent; undecided = is.undecided }

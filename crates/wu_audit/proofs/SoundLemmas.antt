@@ -51,11 +51,17 @@ stands_against world (wrong.GrantMissing place) stands sound = refuted _ _ place
 stands_against world (wrong.ArchivedAstray place) stands sound = refuted _ _ place stands.1 (backed_of world sound).rows
 stands_against world (wrong.ArchivedMissing place) stands sound = refuted _ _ place stands.1 (backed_of world sound).kept
 stands_against world (wrong.NameTaken place) stands sound = refuted _ _ place stands.1 (backed_of world sound).free
+stands_against world (wrong.ClassValues place) stands sound = refuted _ _ place stands.1 sound.classed
+stands_against world (wrong.ClassOrder place) stands sound = pair_refuted _ _ place stands.1 sound.classes_in_order
+stands_against world wrong.EarlyClasses stands sound = stands.1 sound.classes_in_time
 
 -- where all that is asked holds the world is sound
 pub sound_at_end : (world : World) → All (λ grant. IsName grant.host) world.grants → ToEnd world → IsSound world
 sound_at_end world hosts end =
-    let kept = end.0 in
+    let ordered = end.0 in
+    let classed = ordered.0 in
+    let all_rows = classed.0 in
+    let kept = all_rows.earlier in
     let rows = kept.0 in
     let granted = rows.0 in
     let backed = granted.earlier in
@@ -74,7 +80,7 @@ sound_at_end world hosts end =
     let storable = archivable.0 in
     let formed = storable.0 in
     let keys : HasKeys world = record { granted_once = once.1; archived_once = archived_once.1; archived_names = archived_names.1 } in
-    let agree : AreBacked world = record { grants = backed.1; granted = granted.granted; rows = rows.1; kept = kept.1; free = end.1 } in
+    let agree : AreBacked world = record { grants = backed.1; granted = granted.granted; rows = rows.1; kept = kept.1; free = all_rows.free } in
     record {
       next_number = formed.0;
       formed = formed.1;
@@ -93,6 +99,9 @@ sound_at_end world hosts end =
       grants = grants.1;
       granted_once = once.1;
       imported_once = imported.imported_once;
+      classed = classed.1;
+      classes_in_order = ordered.1;
+      classes_in_time = end.1;
     }
 
 -- what is found tells whether it is

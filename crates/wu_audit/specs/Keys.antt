@@ -1,8 +1,12 @@
 -- The keys of rows.
 use Rattle.std.specs.Prelude.{◌≡◌, ◌≢◌, ℕ, ◌<◌, List, length, slice_index_or}
 use Rattle.std.specs.Borrow.{Bor}
+use Rattle.std.specs.Cmp.Lexicographic.{slice_cmp}
+use Rattle.std.specs.Ordering.{nat_cmp}
+use Rattle.std.specs.declared.cmp.Ordering.TheVariants.{Less}
 use Rattle.wu_core.specs.declared.workunit.Archived.{Archived}
 use Rattle.wu_core.specs.declared.workunit.Grant.{Grant}
+use Rattle.wu_core.specs.declared.workunit.HostClass.{HostClass}
 use Rattle.wu_core.specs.declared.workunit.Workunit.{Workunit}
 use Rattle.wu_core.specs.Codes.{import_kind_code}
 use Rattle.wu_core.specs.World.{Import}
@@ -37,3 +41,7 @@ AreApart one other = one.workunit ≡ other.workunit → one.n ≢ other.n
 -- two imports are not of one kind and one name
 abbrev pub AreOtherImports : Import → Import → Type 0
 AreOtherImports one other = one.kind ≡ other.kind → one.name ≢ other.name
+
+-- the host's name is before the other's, by its bytes
+abbrev pub IsBefore : HostClass → HostClass → Type 0
+IsBefore one other = slice_cmp nat_cmp one.host other.host ≡ Less

@@ -32,12 +32,17 @@ pub record MayHaveVerdict (i : Instance) : Type 0 where
   pub refused : i.outcome ≡ outcome.ValidateError → (i.server_state ≡ server.Over) × (i.validate_state ≡ validate.Invalid)
   pub judged : is_success i ≡ false → i.outcome ≢ outcome.ValidateError → i.validate_state ≡ validate.Init
 
+-- where no instance has a host it has no class
+abbrev pub IsClasslessUnsent : Workunit → Type 0
+IsClasslessUnsent w = list_any (λ i. is_some i.host) w.instances ≡ false → w.class ≡ 0
+
 -- no state stands that this project never sets
 pub record IsSettable (w : Workunit) : Type 0 where
   pub instances : All IsPossible w.instances
   pub deletable : w.file_delete ≢ file_delete.Error
   pub sendable : w.error_mask.couldnt_send_result ≡ false
   pub decidable : w.error_mask.no_canonical_result ≡ false
+  pub classless : IsClasslessUnsent w
 
 -- it is undecided, given up or decided, and not two of them
 pub record IsInOneState (w : Workunit) : Type 0 where

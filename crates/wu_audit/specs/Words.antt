@@ -11,6 +11,7 @@ table_word table.Workunit = codes "workunit"
 table_word table.CreditGrant = codes "credit_grant"
 table_word table.Archived = codes "archived"
 table_word table.Import = codes "import"
+table_word table.HostClass = codes "host_class"
 
 -- the table whose row is wrong
 abbrev pub table_of : Wrong → Table
@@ -34,6 +35,9 @@ table_of (wrong.GrantMissing place) = table.Workunit
 table_of (wrong.ArchivedAstray place) = table.Archived
 table_of (wrong.ArchivedMissing place) = table.Workunit
 table_of (wrong.NameTaken place) = table.Workunit
+table_of (wrong.ClassValues place) = table.HostClass
+table_of (wrong.ClassOrder place) = table.HostClass
+table_of wrong.EarlyClasses = table.Project
 
 -- the place of that row
 abbrev pub place_of_wrong : Wrong → Option ℕ
@@ -57,6 +61,9 @@ place_of_wrong (wrong.GrantMissing place) = Some place
 place_of_wrong (wrong.ArchivedAstray place) = Some place
 place_of_wrong (wrong.ArchivedMissing place) = Some place
 place_of_wrong (wrong.NameTaken place) = Some place
+place_of_wrong (wrong.ClassValues place) = Some place
+place_of_wrong (wrong.ClassOrder place) = Some place
+place_of_wrong wrong.EarlyClasses = None
 
 -- what is wrong with it
 abbrev pub wrong_word : Wrong → List ℕ
@@ -80,3 +87,6 @@ wrong_word (wrong.GrantMissing place) = codes "has a valid instance without a gr
 wrong_word (wrong.ArchivedAstray place) = codes "is not what is kept of its workunit"
 wrong_word (wrong.ArchivedMissing place) = codes "is assimilated without an archived row"
 wrong_word (wrong.NameTaken place) = codes "has the name of an archived one"
+wrong_word (wrong.ClassValues place) = codes "has a class out of its range"
+wrong_word (wrong.ClassOrder place) = codes "has a name that is not above the one before"
+wrong_word wrong.EarlyClasses = codes "has classes that its version has not"

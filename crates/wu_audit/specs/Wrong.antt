@@ -1,13 +1,14 @@
 -- What is told of a world that is not sound, and in which order: the rows themselves, then their keys, then whether
--- they agree. Within one, the first row in the order of its table.
+-- they agree, and at last the classes of hosts. Within one, the first row in the order of its table.
 use Rattle.std.specs.Prelude.{◌≢◌, ◌<◌, All, AllPairs, Option, Some, None}
+use Rattle.wu_core.specs.Classes.{AreClassed, AreInOrder, IsClassed}
 use Rattle.wu_core.specs.Formed.{IsWorkunit}
 use Rattle.wu_core.specs.Storable.{AreStorable, IsArchiveStorable, IsStorable, IsStoredArchived, LoadsNext}
 use Rattle.wu_core.specs.World.{World, IsInOrder}
 use Rattle.wu_rules.specs.Consistent.{IsConsistent}
-use Rattle.wu_machine.specs.Sound.{IsGiven}
+use Rattle.wu_machine.specs.Sound.{HasClassesInTime, IsGiven}
 use Rattle.wu_audit.specs.Against.{IsFirstAgainst, IsFirstPairAgainst}
-use Rattle.wu_audit.specs.Keys.{AreApart, AreOtherImports}
+use Rattle.wu_audit.specs.Keys.{AreApart, AreOtherImports, IsBefore}
 use Rattle.wu_audit.specs.Records.{IsBackedGrant, IsBackedRow, IsGranted, IsArchivedIfDone, IsNameFree}
 use Rattle.wu_audit.specs.Rows.{IsRightGrant, IsRightImport}
 use Rattle.wu_audit.specs.declared.wrong.Wrong.{Wrong}
@@ -76,9 +77,20 @@ ToArchivedMissing world = ToArchivedAstray world × All (IsBackedRow world.worku
 abbrev pub ToNameTaken : World → Type 0
 ToNameTaken world = ToArchivedMissing world × All (IsArchivedIfDone world.archived) world.workunits
 
--- all that is asked, but that hosts have names
+-- and so do all rows
+pub record ToClassValues (world : World) : Type 0 where
+  pub earlier : ToNameTaken world
+  pub free : All (IsNameFree world.archived) world.workunits
+
+abbrev pub ToClassOrder : World → Type 0
+ToClassOrder world = ToClassValues world × AreClassed world.classes
+
+abbrev pub ToEarlyClasses : World → Type 0
+ToEarlyClasses world = ToClassOrder world × AreInOrder world.classes
+
+-- all that is asked, but that hosts of grants have names
 abbrev pub ToEnd : World → Type 0
-ToEnd world = ToNameTaken world × All (IsNameFree world.archived) world.workunits
+ToEnd world = ToEarlyClasses world × HasClassesInTime world
 
 -- ---- what is told
 
@@ -116,6 +128,9 @@ StandsAgainst world (wrong.ArchivedMissing place) =
     ToArchivedMissing world × IsFirstAgainst (IsArchivedIfDone world.archived) world.workunits place
 StandsAgainst world (wrong.NameTaken place) =
     ToNameTaken world × IsFirstAgainst (IsNameFree world.archived) world.workunits place
+StandsAgainst world (wrong.ClassValues place) = ToClassValues world × IsFirstAgainst IsClassed world.classes place
+StandsAgainst world (wrong.ClassOrder place) = ToClassOrder world × IsFirstPairAgainst IsBefore world.classes place
+StandsAgainst world wrong.EarlyClasses = ToEarlyClasses world × ¬ HasClassesInTime world
 
 -- nothing where so much holds, else the first that stands against the world
 abbrev pub FindsWrong : (World → Type 0) → World → Option Wrong → Type 0

@@ -1,26 +1,29 @@
 //! Whether a world is sound, and what is wrong with it if not.
 
-ghost use Rattle.std.specs.Prelude.{◌≡◌, ◌↔◌, IfErr, IfOk, IfSome, IsNone, IsTrue};
+ghost use Rattle.std.specs.Prelude.{◌≡◌, ◌↔◌, All, IfErr, IfOk, IfSome, IsNone, IsTrue};
 ghost use Rattle.wu_core.specs.Storable.{IsNextNumber};
 ghost use Rattle.wu_core.specs.World.{IsInOrder};
 ghost use Rattle.wu_core.specs.declared.fault.Fault.TheVariants.{Memory};
-ghost use Rattle.wu_machine.specs.Sound.{IsSound};
-ghost use Rattle.wu_audit.specs.Wrong.{FindsWrong, StandsAgainst, ToArchivedAstray, ToArchivedNumber, ToEnd, ToGrantAstray, ToGrantValues, ToNumber};
+ghost use Rattle.wu_machine.specs.Sound.{HasClassesInTime, IsClassless, IsSound};
+ghost use Rattle.wu_audit.specs.Wrong.{FindsWrong, StandsAgainst, ToArchivedAstray, ToArchivedNumber, ToClassValues, ToEnd, ToGrantAstray, ToGrantValues, ToNumber};
 
 use crate::firsts::{
-    first_inconsistent, first_unformed, first_ungiven, first_ungiven_archived, first_unstorable,
-    first_unstorable_archived, first_wrong_grant, first_wrong_import, know_hosts,
+    first_inconsistent, first_unclassed, first_unformed, first_ungiven, first_ungiven_archived,
+    first_unstorable, first_unstorable_archived, first_wrong_grant, first_wrong_import, know_hosts,
 };
 use crate::lacks::{first_taken, first_ungranted, first_unkept};
 use crate::loaded::Loaded;
 use crate::once::{
-    first_out_of_order, first_repeated_archived_name, first_repeated_grant, first_repeated_import,
-    first_repeated_name, first_repeated_number,
+    first_class_out_of_order, first_out_of_order, first_repeated_archived_name,
+    first_repeated_grant, first_repeated_import, first_repeated_name, first_repeated_number,
 };
 use crate::records::{first_unbacked_grant, first_unbacked_row};
 use crate::wrong::Wrong;
 use std::alloc::{AllocError, Global};
-use wu_core::{Fault, MOST_WORKUNITS};
+use wu_core::{Fault, MOST_WORKUNITS, Workunit};
+
+/// The first version with classes of hosts.
+const FIRST_WITH_CLASSES: u64 = 3;
 
 /// Whether the number is one that the next workunit may get, or that of none.
 fn is_next_number(number: u64) -> bool
@@ -140,7 +143,7 @@ fn wrong_credit(alloc: Global, loaded: &Loaded) -> Result<Option<Wrong>, AllocEr
 fn wrong_archive(alloc: Global, loaded: &Loaded) -> Result<Option<Wrong>, AllocError>
     requires credited { ToArchivedAstray loaded.now }
     requires order { IsInOrder loaded.now }
-    ensures { IfOk result (FindsWrong ToEnd loaded.now) }
+    ensures { IfOk result (FindsWrong ToClassValues loaded.now) }
 {
     let workunits = loaded.workunits();
     let archived = loaded.archived();
@@ -160,12 +163,51 @@ fn wrong_archive(alloc: Global, loaded: &Loaded) -> Result<Option<Wrong>, AllocE
 fn wrong_record(alloc: Global, loaded: &Loaded) -> Result<Option<Wrong>, AllocError>
     requires keyed { ToGrantAstray loaded.now }
     requires order { IsInOrder loaded.now }
-    ensures { IfOk result (FindsWrong ToEnd loaded.now) }
+    ensures { IfOk result (FindsWrong ToClassValues loaded.now) }
 {
     if let Some(wrong) = wrong_credit(alloc, loaded)? {
         return Ok(Some(wrong));
     }
     wrong_archive(alloc, loaded)
+}
+
+/// Whether no workunit has a class.
+fn have_no_class(workunits: &[Workunit]) -> bool
+    ensures { IsTrue result ↔ All (λ w. w.class ≡ 0) workunits.now }
+{
+    workunits.iter().all(|workunit| workunit.class == 0)
+}
+
+/// Whether neither a host nor a workunit has a class.
+fn is_classless(loaded: &Loaded) -> bool
+    ensures { IsTrue result ↔ IsClassless loaded.now }
+{
+    loaded.classes().is_empty() && have_no_class(loaded.workunits())
+}
+
+/// Whether there are classes only where the version has them.
+fn has_classes_in_time(loaded: &Loaded) -> bool
+    ensures { IsTrue result ↔ HasClassesInTime loaded.now }
+{
+    FIRST_WITH_CLASSES <= loaded.version() || is_classless(loaded)
+}
+
+/// The first host whose class is out of its range or that is out of order, or that the version has no classes.
+fn wrong_class(loaded: &Loaded) -> Option<Wrong>
+    requires { ToClassValues loaded.now }
+    ensures { FindsWrong ToEnd loaded.now result }
+{
+    let classes = loaded.classes();
+    if let Some(place) = first_unclassed(classes) {
+        return Some(Wrong::ClassValues(place));
+    }
+    if let Some(place) = first_class_out_of_order(classes) {
+        return Some(Wrong::ClassOrder(place));
+    }
+    if !has_classes_in_time(loaded) {
+        return Some(Wrong::EarlyClasses);
+    }
+    None
 }
 
 /// The first thing that is wrong in the written order, if there is one.
@@ -181,7 +223,10 @@ fn first_wrong(alloc: Global, loaded: &Loaded) -> Result<Option<Wrong>, AllocErr
     if let Some(wrong) = wrong_grant_or_import(alloc, loaded)? {
         return Ok(Some(wrong));
     }
-    wrong_record(alloc, loaded)
+    if let Some(wrong) = wrong_record(alloc, loaded)? {
+        return Ok(Some(wrong));
+    }
+    Ok(wrong_class(loaded))
 }
 
 /// What is wrong with the world: none exactly where it is sound, else the first thing that stands against it.

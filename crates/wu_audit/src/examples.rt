@@ -18,13 +18,13 @@ pub fn one_agreed_is_sound()
 {}
 
 /// Rows that are wrong by themselves: assimilated without a moment; a number of 2^63; decided and given up; archived in
-/// the year 2100; verdict 4 of a file of sends; a grant of instance 100.
+/// the year 2100; verdict 5 of a file of sends; a grant of instance 100.
 pub fn rows_may_be_wrong()
     ensures form { ¬ IsWorkunit unstamped }
     ensures values { ¬ IsStorable unstorable }
     ensures states { ¬ IsConsistent decided_and_given_up }
     ensures archived { ¬ IsStoredArchived kept_too_late }
-    ensures verdict { ¬ IsRightImport (sent_with 4) }
+    ensures verdict { ¬ IsRightImport (sent_with 5) }
     ensures grant { ¬ IsRightGrant one_agreed (credit 100 h1) }
 {}
 

@@ -1,6 +1,7 @@
-//! The first workunit, grant, archived row or import that may not stand in a world.
+//! The first workunit, grant, archived row, import or class of a host that may not stand in a world.
 
 ghost use Rattle.std.specs.Prelude.{◌≡◌, All};
+ghost use Rattle.wu_core.specs.Classes.{IsClassed};
 ghost use Rattle.wu_core.specs.Formed.{IsWorkunit};
 ghost use Rattle.wu_core.specs.Storable.{IsName, IsStorable, IsStoredArchived};
 ghost use Rattle.wu_rules.specs.Consistent.{IsConsistent};
@@ -9,9 +10,9 @@ ghost use Rattle.wu_audit.specs.Against.{FirstAgainst};
 ghost use Rattle.wu_audit.specs.Rows.{IsRightGrant, IsRightImport};
 
 use crate::loaded::{Imported, Loaded};
-use crate::rows::{is_given, is_right_grant, is_right_import, is_storable_archived};
+use crate::rows::{is_classed, is_given, is_right_grant, is_right_import, is_storable_archived};
 use crate::workunits::{is_consistent_workunit, is_formed_workunit, is_storable_workunit};
-use wu_core::{Archived, Grant, Workunit};
+use wu_core::{Archived, Grant, HostClass, Workunit};
 
 /// The first workunit that is not well formed.
 pub fn first_unformed(workunits: &[Workunit]) -> Option<usize>
@@ -115,6 +116,18 @@ pub fn first_wrong_grant(loaded: &Loaded) -> Option<usize>
     let grants = loaded.grants();
     for (place, grant) in grants.iter().enumerate() {
         if !is_right_grant(loaded, grant) {
+            return Some(place);
+        }
+    }
+    None
+}
+
+/// The first host whose class is out of its range.
+pub fn first_unclassed(classes: &[HostClass]) -> Option<usize>
+    ensures { FirstAgainst IsClassed classes.now result }
+{
+    for (place, it) in classes.iter().enumerate() {
+        if !is_classed(it) {
             return Some(place);
         }
     }

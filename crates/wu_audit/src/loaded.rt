@@ -5,7 +5,7 @@ ghost use Rattle.wu_core.specs.Names.{is_name};
 ghost use Rattle.wu_core.specs.World.{World, Import};
 
 use std::marker::Model;
-use wu_core::{Archived, Bytes, Grant, ImportKind, Name, Workunit};
+use wu_core::{Archived, Bytes, Grant, HostClass, ImportKind, Name, Workunit};
 
 /// What is kept for good of an imported file.
 #[derive(Drop)]
@@ -80,14 +80,15 @@ impl Imported {
     }
 }
 
-/// A world held in memory: workunits in order of number, grants and archived rows in order of their making, and imports
-/// in any order.
+/// A world held in memory: workunits in order of number, grants and archived rows in order of their making, imports in
+/// any order, and hosts that have a class in order of their names.
 #[derive(Drop)]
 pub struct Loaded {
     workunits: Vec<Workunit>,
     grants: Vec<Grant>,
     archived: Vec<Archived>,
     imports: Vec<Imported>,
+    classes: Vec<HostClass>,
     next_number: u64,
     version: u64,
 }
@@ -102,6 +103,7 @@ impl Model for Loaded {
       grants = loaded.grants.items;
       archived = loaded.archived.items;
       imports = loaded.imports.items;
+      classes = loaded.classes.items;
       next_number = loaded.next_number;
       version = loaded.version;
     } };
@@ -114,6 +116,7 @@ impl Loaded {
         grants: Vec<Grant>,
         archived: Vec<Archived>,
         imports: Vec<Imported>,
+        classes: Vec<HostClass>,
         next_number: u64,
         version: u64,
     ) -> Self
@@ -121,6 +124,7 @@ impl Loaded {
         ensures grants { result.grants ≡ grants.items }
         ensures archived { result.archived ≡ archived.items }
         ensures imports { result.imports ≡ imports.items }
+        ensures classes { result.classes ≡ classes.items }
         ensures next_number { result.next_number ≡ next_number }
         ensures version { result.version ≡ version }
     {
@@ -129,6 +133,7 @@ impl Loaded {
             grants,
             archived,
             imports,
+            classes,
             next_number,
             version,
         }
@@ -156,6 +161,12 @@ impl Loaded {
         ensures { result.now ≡ self.now.imports }
     {
         self.imports.as_slice()
+    }
+
+    pub fn classes(&self) -> &[HostClass]
+        ensures { result.now ≡ self.now.classes }
+    {
+        self.classes.as_slice()
     }
 
     pub fn next_number(&self) -> u64

@@ -1,17 +1,18 @@
 //! The first place of a table at which a key stands a second time.
 
-ghost use Rattle.std.specs.Prelude.{◌≡◌, ◌≢◌, ◌<◌, false, map, IfOk};
+ghost use Rattle.std.specs.Prelude.{◌≡◌, ◌≢◌, ◌<◌, ◌↔◌, false, map, IfOk, IsTrue};
 ghost use Rattle.wu_core.specs.declared.workunit.Workunit.{Workunit};
 ghost use Rattle.wu_core.specs.declared.workunit.Archived.{Archived};
 ghost use Rattle.wu_core.specs.declared.workunit.Grant.{Grant};
 ghost use Rattle.wu_audit.specs.Against.{FirstPairAgainst};
-ghost use Rattle.wu_audit.specs.Keys.{AreApart, AreKeysOf, AreOtherImports, IsArchivedName, IsImportKey, IsNameOf, granted_instance};
+ghost use Rattle.wu_audit.specs.Keys.{AreApart, AreKeysOf, AreOtherImports, IsArchivedName, IsBefore, IsImportKey, IsNameOf, granted_instance};
 
 use crate::loaded::Imported;
 use std::alloc::{AllocError, Global};
+use std::cmp::Ordering;
 use std::collections::HashSet;
 use std::hash::Hash;
-use wu_core::{Archived, Grant, Workunit};
+use wu_core::{Archived, Grant, HostClass, Workunit};
 
 /// The first workunit whose number is not above that of the one before it.
 pub fn first_out_of_order(workunits: &[Workunit]) -> Option<usize>
@@ -19,6 +20,28 @@ pub fn first_out_of_order(workunits: &[Workunit]) -> Option<usize>
 {
     for place in 1..workunits.len() {
         if workunits[place].number <= workunits[place - 1].number {
+            return Some(place);
+        }
+    }
+    None
+}
+
+/// Whether the host's name is before the other's, by its bytes.
+fn is_before(one: &HostClass, other: &HostClass) -> bool
+    ensures { IsTrue result ↔ IsBefore one.now other.now }
+{
+    match one.host.as_bytes().cmp(other.host.as_bytes()) {
+        Ordering::Less => true,
+        _ => false,
+    }
+}
+
+/// The first host whose name is not above that of the one before it.
+pub fn first_class_out_of_order(classes: &[HostClass]) -> Option<usize>
+    ensures { FirstPairAgainst IsBefore classes.now result }
+{
+    for place in 1..classes.len() {
+        if !is_before(&classes[place - 1], &classes[place]) {
             return Some(place);
         }
     }

@@ -1,6 +1,7 @@
-//! Whether a grant, an archived row and an import may stand in a world.
+//! Whether a grant, an archived row, an import and a host's class may stand in a world.
 
 ghost use Rattle.std.specs.Prelude.{◌≡◌, ◌↔◌, ◌≤◌, IsTrue, All};
+ghost use Rattle.wu_core.specs.Classes.{IsClassed};
 ghost use Rattle.wu_core.specs.Storable.{AreVerdicts, IsName, IsPlace, IsStoredArchived};
 ghost use Rattle.wu_core.specs.World.{last_skip};
 ghost use Rattle.wu_machine.specs.Sound.{IsGiven};
@@ -8,7 +9,10 @@ ghost use Rattle.wu_audit.specs.Rows.{IsRightGrant, IsRightImport};
 
 use crate::loaded::{Imported, Loaded};
 use crate::workunits::know_place;
-use wu_core::{Archived, Grant, ImportKind, LONGEST_OUTPUT, MOST_CREDIT, MOST_INSTANCES};
+use wu_core::{
+    Archived, Grant, HIGHEST_CLASS, HostClass, ImportKind, LONGEST_OUTPUT, MOST_CREDIT,
+    MOST_INSTANCES,
+};
 
 /// Whether the number was given to a workunit.
 pub fn is_given(loaded: &Loaded, number: u64) -> bool
@@ -42,8 +46,9 @@ fn last_skip(kind: ImportKind) -> u8
 {
     match kind {
         ImportKind::Batch => 0,
-        ImportKind::Sent => 3,
+        ImportKind::Sent => 4,
         ImportKind::Reported => 5,
+        ImportKind::Classes => 0,
     }
 }
 
@@ -61,4 +66,12 @@ pub fn is_right_import(import: &Imported) -> bool
 {
     import.name().as_bytes();
     are_verdicts(import.kind(), import.verdicts().as_slice())
+}
+
+/// Whether the class of the host is in its range.
+pub fn is_classed(it: &HostClass) -> bool
+    ensures { IsTrue result ↔ IsClassed it.now }
+{
+    it.host.as_bytes();
+    1 <= it.class && it.class <= HIGHEST_CLASS
 }

@@ -9,12 +9,12 @@ ghost use Rattle.wu_core.specs.declared.states.Assimilate.TheVariants as assimil
 ghost use Rattle.wu_rules.specs.Consistent.{IsConsistent, IsPossible};
 ghost use Rattle.wu_rules.specs.Counts.{is_clear};
 ghost use Rattle.wu_rules.specs.Instances.{is_unsent};
-ghost use Rattle.wu_audit.specs.Parts.{HasFormedInstances, IsCanonicalPlace, IsCanonicalValid, IsDoneWithMoment, IsInOneState, IsSettable, IsValidSuccess};
+ghost use Rattle.wu_audit.specs.Parts.{HasFormedInstances, IsCanonicalPlace, IsCanonicalValid, IsClasslessUnsent, IsDoneWithMoment, IsInOneState, IsSettable, IsValidSuccess};
 
 use crate::instances::{is_formed_instance, is_possible_instance, is_stored_instance, is_success};
 use wu_core::{
-    Assimilate, ErrorMask, FileDelete, Instance, Instances, LONGEST_INPUT, Moment, Params,
-    ServerState, ValidateState, Workunit,
+    Assimilate, ErrorMask, FileDelete, HIGHEST_CLASS, Instance, Instances, LONGEST_INPUT, Moment,
+    Params, ServerState, ValidateState, Workunit,
 };
 
 /// The parameters of a workunit are in their ranges.
@@ -99,7 +99,7 @@ pub(crate) fn know_place(place: Option<u32>)
     }
 }
 
-/// Whether the values of the workunit but its instances are in their ranges.
+/// Whether the values of the workunit but its instances and its class are in their ranges.
 fn is_stored_workunit(workunit: &Workunit) -> bool
     ensures { IsTrue result ↔ IsStoredWorkunit (bare workunit.now) }
 {
@@ -116,6 +116,7 @@ pub fn is_storable_workunit(workunit: &Workunit) -> bool
 {
     workunit.number <= i64::MAX as u64
         && is_stored_workunit(workunit)
+        && workunit.class <= HIGHEST_CLASS
         && is_all_stored(&workunit.instances)
 }
 
@@ -164,6 +165,20 @@ fn is_canonical_valid(workunit: &Workunit) -> bool
     }
 }
 
+/// Whether an instance has a host.
+fn has_hosted(instances: &Instances) -> bool
+    ensures { result ≡ list_any (λ i. is_some i.host) instances.now }
+{
+    instances.iter().any(|instance| instance.host.is_some())
+}
+
+/// Whether the workunit has no class where no instance of it has a host.
+fn is_classless_unsent(workunit: &Workunit) -> bool
+    ensures { IsTrue result ↔ IsClasslessUnsent workunit.now }
+{
+    workunit.class == 0 || has_hosted(&workunit.instances)
+}
+
 /// Whether no state stands that this project never sets.
 fn is_settable(workunit: &Workunit) -> bool
     ensures { IsTrue result ↔ IsSettable workunit.now }
@@ -172,6 +187,7 @@ fn is_settable(workunit: &Workunit) -> bool
         && workunit.file_delete != FileDelete::Error
         && !workunit.error_mask.couldnt_send_result
         && !workunit.error_mask.no_canonical_result
+        && is_classless_unsent(workunit)
 }
 
 /// Whether the workunit has neither a canonical result nor an error.

@@ -11,6 +11,7 @@ pub enum Table {
     CreditGrant,
     Archived,
     Import,
+    HostClass,
 }
 
 impl Table {
@@ -24,12 +25,13 @@ impl Table {
             Table::CreditGrant => "credit_grant",
             Table::Archived => "archived",
             Table::Import => "import",
+            Table::HostClass => "host_class",
         }
     }
 }
 
-/// What is wrong with a world: one thing that a sound world has not. Each but the first tells a row by its place in its
-/// table, from 0.
+/// What is wrong with a world: one thing that a sound world has not. Each but the first and the last tells a row by its
+/// place in its table, from 0.
 #[derive(Clone, Copy)]
 pub enum Wrong {
     /// The next number is 0, or more than one above the greatest that there may be.
@@ -72,6 +74,12 @@ pub enum Wrong {
     ArchivedMissing(usize),
     /// The workunit is not assimilated, and an archived row has its name.
     NameTaken(usize),
+    /// The class of the host is out of its range.
+    ClassValues(usize),
+    /// The name of the host is not above that of the one before it.
+    ClassOrder(usize),
+    /// A host or a workunit has a class, which the version has not.
+    EarlyClasses,
 }
 
 impl Wrong {
@@ -80,7 +88,7 @@ impl Wrong {
         ensures { result ≡ table_of self }
     {
         match self {
-            Wrong::NextNumber => Table::Project,
+            Wrong::NextNumber | Wrong::EarlyClasses => Table::Project,
             Wrong::WorkunitForm(_)
             | Wrong::WorkunitValues(_)
             | Wrong::WorkunitStates(_)
@@ -98,6 +106,7 @@ impl Wrong {
             | Wrong::ArchivedNameTwice(_)
             | Wrong::ArchivedAstray(_) => Table::Archived,
             Wrong::ImportVerdicts(_) | Wrong::ImportTwice(_) => Table::Import,
+            Wrong::ClassValues(_) | Wrong::ClassOrder(_) => Table::HostClass,
         }
     }
 
@@ -106,7 +115,7 @@ impl Wrong {
         ensures { result ≡ place_of_wrong self }
     {
         match self {
-            Wrong::NextNumber => None,
+            Wrong::NextNumber | Wrong::EarlyClasses => None,
             Wrong::WorkunitForm(place)
             | Wrong::WorkunitValues(place)
             | Wrong::ArchivedValues(place)
@@ -125,7 +134,9 @@ impl Wrong {
             | Wrong::GrantMissing(place)
             | Wrong::ArchivedAstray(place)
             | Wrong::ArchivedMissing(place)
-            | Wrong::NameTaken(place) => Some(place),
+            | Wrong::NameTaken(place)
+            | Wrong::ClassValues(place)
+            | Wrong::ClassOrder(place) => Some(place),
         }
     }
 
@@ -154,6 +165,9 @@ impl Wrong {
             Wrong::ArchivedAstray(_) => "is not what is kept of its workunit",
             Wrong::ArchivedMissing(_) => "is assimilated without an archived row",
             Wrong::NameTaken(_) => "has the name of an archived one",
+            Wrong::ClassValues(_) => "has a class out of its range",
+            Wrong::ClassOrder(_) => "has a name that is not above the one before",
+            Wrong::EarlyClasses => "has classes that its version has not",
         }
     }
 }

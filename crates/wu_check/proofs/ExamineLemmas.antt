@@ -1,9 +1,9 @@
 -- From question to question.
-use Rattle.wu_schema.proofs.Words.{Database, Err, Fault, Ghosts, HasCleanDisk, HasTables, Held, IfErr, IfOk, IsErrAnd, Ok, Option, ProjectTrees, Refines, Result, World, arith, inl, inr, refl, state, subst, sym, ℕ, ◌∙◌, ◌≡◌, ◌≢◌}
+use Rattle.wu_schema.proofs.Words.{Database, Err, Fault, Ghosts, HasCleanDisk, HasTables, Held, IfErr, IfOk, IsErrAnd, Ok, Option, ProjectTrees, Refines, Result, Schema, World, arith, inl, inr, refl, state, subst, sym, ℕ, ◌∙◌, ◌≡◌, ◌≢◌}
 use Rattle.sqlite.specs.State.{IsLive}
 use Rattle.std.proofs.lemmas.Result.{IfOk-weaker}
 use Rattle.wu_core.specs.declared.fault.Fault.TheVariants.{Broken, Memory}
-use Rattle.wu_loader.specs.Asked.{IsAnsweredUnlessFailed}
+use Rattle.wu_loader.specs.Asked.{IsAnsweredUnlessFailed, Looks}
 use Rattle.wu_loader.specs.Finding.{FindsNone, FindsWorld}
 use Rattle.wu_schema.specs.Faults.{IsStoreFault}
 use Rattle.wu_store.specs.StandsFor.{IsQueued}
@@ -14,10 +14,14 @@ use Rattle.wu_schema.proofs.AskingLemmas.{asks_fault, asks_made, asks_none, asks
 use Rattle.wu_store.specs.Loading.{StaysUnlessFailed}
 use Rattle.sqlite_trees.specs.View.{IsShaped}
 use Rattle.sqlite_trees.specs.declared.store.Shape.TheVariants as shape
-use Rattle.wu_tables.specs.Found.{HasQueueIn}
+use Rattle.wu_tables.specs.Found.{HasQueueIn, StandsAgainst}
+use Rattle.wu_tables.specs.declared.project.Misfit.{Misfit}
+use Rattle.wu_schema.specs.Tables.{IsClassedVersion}
+use Rattle.wu_check.specs.declared.finding.Finding.{Finding}
 use Rattle.wu_check.specs.Queues.{HasMarks, LooksInQueue}
 use Rattle.wu_check.specs.Examining.{Examines, IsLegible}
-use Rattle.wu_check.specs.Findings.{Tells}
+use Rattle.wu_check.specs.Findings.{LacksTables, Tells}
+use Rattle.wu_check.specs.Versions.{IsVersionOf}
 use Rattle.wu_check.specs.declared.finding.Finding.TheVariants as finding
 
 pub never_broken : {T : Type 0} (x : T) → ◌≢◌ {A = Result T Fault} (Ok x) (Err Broken)
@@ -99,18 +103,41 @@ abbrev pub Finds : Database → Found → Type 0
 Finds db (found.World world) = Refines db world
 Finds db (found.Wrong wrong) = Tells db (finding.Row wrong)
 
-module _ {S : Type 0} (g : Ghosts S) (a b : Held S) (trees : ProjectTrees) (tables : HasTables (state g a).now.schema trees) where
-  says_found : (r : Result Found Fault) → FindsWorld g a b r → FindsNone g a b r → HasCleanDisk (state g b) → IsLegible (state g a).now → IfOk r (Finds (state g a).now)
-  says_found (Ok (found.World world)) is none clean legible = is clean trees (record { tables = tables; arranged = legible.project trees tables }) (legible.workunits trees.workunit tables.workunit)
-  says_found (Ok (found.Wrong wrong)) is none clean legible = none clean
+-- the same, where each world has this version
+abbrev pub FindsOf : ℕ → Database → Found → Type 0
+FindsOf version db found = IsVersionOf db version → Finds db found
+
+-- so is what is told of it
+abbrev pub TellsOfVersion : ℕ → Database → Finding → Type 0
+TellsOfVersion version db finding = IsVersionOf db version → Tells db finding
+
+module _ {S : Type 0} (version : ℕ) (g : Ghosts S) (a b : Held S) (trees : ProjectTrees) (tables : HasTables version (state g a).now.schema trees) where
+  says_found : (r : Result Found Fault) → FindsWorld version g a b r → FindsNone version g a b r → HasCleanDisk (state g b) → IsLegible (state g a).now → IfOk r (FindsOf version (state g a).now)
+  says_found (Ok (found.World world)) is none clean legible = λ told. is clean trees (record { tables = tables; arranged = legible.project version told trees tables }) (legible.workunits trees.workunit tables.workunit)
+  says_found (Ok (found.Wrong wrong)) is none clean legible = λ told world readable stands. none clean world readable (told world stands) stands
   says_found (Err fault) is none clean legible = tt
 
-  pub examines_world : (r : Result Found Fault) → Asks g a b r → IfErr r IsStoreFault → IsAnsweredUnlessFailed g a b r → FindsWorld g a b r → FindsNone g a b r → Examines g a b r Finds
+  pub examines_world : (r : Result Found Fault) → Asks g a b r → IfErr r IsStoreFault → IsAnsweredUnlessFailed version g a b r → FindsWorld version g a b r → FindsNone version g a b r → Examines g a b r (FindsOf version)
   examines_world r asks fault answered world none = record {
     asks = asks;
     says = says_found r world none;
     fault = fault;
     answered = λ clean unlimited. answered clean trees tables unlimited;
+  }
+
+-- ---- the version that is told
+
+module _ {S : Type 0} (g : Ghosts S) (a b : Held S) (trees : ProjectTrees) (tables : HasTables 1 (state g a).now.schema trees) where
+  says_version : (r : Result ℕ Fault) → Looks 1 g a b r (λ db trees version. IsVersionOf db version) → HasCleanDisk (state g b) → IsLegible (state g a).now → IfOk r (IsVersionOf (state g a).now)
+  says_version (Ok version) it clean legible = it.says clean trees (record { tables = tables; arranged = legible.plain trees tables })
+  says_version (Err fault) it clean legible = tt
+
+  pub examines_version : (r : Result ℕ Fault) → Looks 1 g a b r (λ db trees version. IsVersionOf db version) → Examines g a b r IsVersionOf
+  examines_version r it = record {
+    asks = it.asks;
+    says = says_version r it;
+    fault = it.fault;
+    answered = λ clean unlimited. it.answered clean trees tables unlimited;
   }
 
 -- ---- the rows of the queue
@@ -138,3 +165,14 @@ module _ {S : Type 0} (g : Ghosts S) (a b : Held S) (world : World) (queued : Is
     fault = it.fault;
     answered = λ clean unlimited. it.answered clean tree has.table unlimited;
   }
+
+-- ---- the tables that are not there
+
+pub lacks : (version : ℕ) (db : Database) (schema : Schema) → schema ≡ db.schema → (misfit : Misfit) → StandsAgainst version schema misfit → ((trees : ProjectTrees) → HasTables version schema trees → ⊥)
+    → ((world : World) → Refines db world → IsClassedVersion version → IsClassedVersion world.version) → LacksTables db misfit
+lacks version db schema same misfit told none needed = record {
+  version = version;
+  told = subst (λ (s : Schema). StandsAgainst version s misfit) same told;
+  none = subst (λ (s : Schema). (trees : ProjectTrees) → HasTables version s trees → ⊥) same none;
+  needed = needed;
+}

@@ -18,6 +18,7 @@ rows_in world table.Workunit = length world.workunits
 rows_in world table.CreditGrant = length world.grants
 rows_in world table.Archived = length world.archived
 rows_in world table.Import = length world.imports
+rows_in world table.HostClass = length world.classes
 
 below : (place n count : ℕ) → ◌≡◌ {A = Option ℕ} (Some place) (Some n) → place < count → n < count
 below place n count is low = let same : place ≡ n = cc in omega (arith, same, low)
@@ -43,6 +44,9 @@ stands_within world (wrong.GrantMissing place) stands n is = below place n _ is 
 stands_within world (wrong.ArchivedAstray place) stands n is = below place n _ is stands.1.within
 stands_within world (wrong.ArchivedMissing place) stands n is = below place n _ is stands.1.within
 stands_within world (wrong.NameTaken place) stands n is = below place n _ is stands.1.within
+stands_within world (wrong.ClassValues place) stands n is = below place n _ is stands.1.within
+stands_within world (wrong.ClassOrder place) stands n is = below place n _ is stands.1.within
+stands_within world wrong.EarlyClasses stands n is = absurd cc
 
 -- the row that is told of, in the table that is told of
 pub row_within : (world : World) (told : Wrong) (t : Table) (n : ℕ) → StandsAgainst world told → table_of told ≡ t → place_of_wrong told ≡ Some n → n < rows_in world t
@@ -73,3 +77,6 @@ key_of_none world (wrong.GrantMissing place) is = absurd cc
 key_of_none world (wrong.ArchivedAstray place) is = absurd cc
 key_of_none world (wrong.ArchivedMissing place) is = absurd cc
 key_of_none world (wrong.NameTaken place) is = absurd cc
+key_of_none world (wrong.ClassValues place) is = absurd cc
+key_of_none world (wrong.ClassOrder place) is = absurd cc
+key_of_none world wrong.EarlyClasses is = refl

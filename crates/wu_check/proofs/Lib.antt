@@ -1,4 +1,5 @@
 pub mod KeptLemmas
+pub mod VersionLemmas
 pub mod ExamineLemmas
 pub mod VerdictLemmas
 pub mod SizeLemmas

@@ -1,22 +1,23 @@
 -- What is found keeps a database from holding a sound project.
-use Rattle.wu_schema.proofs.Words.{Database, Err, Fault, HasNamed, IfOk, List, None, Ok, Refines, Result, Row, Some, Table, World, ap, arith, codes, length, map, refl, slice_get, stored_workunit, subst, sym, ℕ, [], ◌∷◌, ◌+◌, ◌-◌, ◌∙◌, ◌≡◌, ◌≤◌}
+use Rattle.wu_schema.proofs.Words.{Database, Err, Fault, IfOk, List, None, Ok, Refines, Result, Row, Some, World, ap, arith, codes, length, map, refl, slice_get, stored_workunit, subst, sym, ℕ, [], ◌∷◌, ◌+◌, ◌-◌, ◌∙◌, ◌≡◌, ◌≤◌}
 use Rattle.wu_audit.proofs.SoundLemmas.{stands_against}
 use Rattle.wu_audit.specs.Laws.{SoundInAnyOrder}
 use Rattle.wu_core.specs.declared.workunit.Workunit.{Workunit}
 use Rattle.wu_loader.proofs.StandLemmas.{stands_arranged}
-use Rattle.wu_loader.specs.Shown.{AreWhole, IsArranged}
+use Rattle.wu_loader.specs.Shown.{AreArranged, AreWhole, IsArranged}
 use Rattle.wu_loader.specs.Worlds.{IsReadable}
 use Rattle.wu_machine.specs.Sound.{IsSound}
 use Rattle.wu_rules.specs.Marks.{marks}
 use Rattle.wu_schema.specs.Queue.{HasQueue}
 use Rattle.wu_schema.specs.Stored.{stored_marks}
-use Rattle.wu_schema.specs.Tables.{queue_at, workunit_at}
+use Rattle.wu_schema.specs.Tables.{HasTables, IsClassedVersion, ProjectTrees, queue_at, workunit_at}
 use Rattle.wu_store.specs.StandsFor.{IsQueued, marked}
 use Rattle.wu_store.specs.Worlds.{SameWorld}
 use Rattle.wu_store.proofs.SameWorld.{one_world}
 use Rattle.wu_tables.specs.Found.{HasQueueIn}
 use Rattle.sqlite_trees.specs.View.{IsShaped}
 use Rattle.sqlite_trees.specs.declared.store.Shape.TheVariants as shape
+use Rattle.wu_check.proofs.VersionLemmas.{fewer_tables, one_table}
 use Rattle.wu_check.specs.Queues.{HasMarks}
 use Rattle.wu_check.specs.Checking.{IsCounted, IsKnown, IsSoundProject}
 use Rattle.wu_check.specs.Examining.{IsLegible}
@@ -26,15 +27,6 @@ use Rattle.wu_check.specs.declared.finding.Finding.TheVariants as finding
 use Rattle.wu_check.specs.declared.finding.Verdict.{Verdict}
 use Rattle.wu_check.specs.declared.finding.Verdict.TheVariants as verdict
 
--- a name finds one table, and so one list of rows
-one_table : (db : Database) (name : List ℕ) (s t : Table) → HasNamed db.schema name s → HasNamed db.schema name t → db.trees s.tree ≡ db.trees t.tree
-one_table db name s t has_s has_t =
-    let at : has_s.0 ≡ has_t.0 = same_some (sym has_s.1.named ∙ has_t.1.named) in
-    ap (λ (u : Table). db.trees u.tree) (same_some (sym has_s.1.there ∙ ap (slice_get db.schema.tables) at ∙ has_t.1.there))
-  where
-    same_some : {X : Type 0} {x y : X} → Some x ≡ Some y → x ≡ y
-    same_some e = cc
-
 -- the values of a sound world are such as rows are read as
 pub readable : (world : World) → IsSound world → 1 ≤ world.version → IsReadable world
 readable world sound first = record {
@@ -43,6 +35,7 @@ readable world sound first = record {
   grants = λ k d low. record { host = sound.granted_to k d low; n = let few = (sound.grants k d low).1 in omega (arith, few) };
   archived = sound.archivable;
   imports = λ k d low. record { name = (sound.imports k d low).0; verdicts = (sound.imports k d low).1 };
+  classes = λ k d low. record { host = (sound.classed k d low).host; class = (sound.classed k d low).within };
 }
 
 all_whole : {X : Type 0} (count : ℕ) (stored : X → Row) → ((x : X) → length (stored x) ≡ count + 1) → (xs : List X) → AreWhole count (map stored xs)
@@ -62,6 +55,7 @@ module _ (any_order : SoundInAnyOrder) (db : Database) (p : IsSoundProject db) w
         grants = it.grants i;
         archived = it.archived i;
         imports = world.imports;
+        classes = it.classes i;
         next_number = it.next_number i;
         version = it.version i;
       } in
@@ -75,7 +69,7 @@ module _ (any_order : SoundInAnyOrder) (db : Database) (p : IsSoundProject db) w
       subst (λ (ws : List Workunit). HasQueue db (map (λ (w : Workunit). (w.number, marks w)) ws)) it.workunits (p.stands.queue (omega (arith, queued, version)))
 
   refuted : (found : Finding) → Tells db found → ⊥
-  refuted (finding.Tables misfit) told = told.none p.stands.refines.trees p.stands.refines.tables
+  refuted (finding.Tables misfit) told = told.none p.stands.refines.trees (fewer_tables p.world.version told.version (told.needed p.world p.stands.refines) db p.stands.refines.trees p.stands.refines.tables)
   refuted (finding.Row wrong) told = told p.world (readable p.world p.sound p.known.first) p.stands.refines
   refuted (finding.Version version) told = told.other (subst IsKnown (told.stands p.world p.stands.refines) p.known)
   refuted (finding.World wrong key) told = stands_against told.world wrong told.against (sound_of told.world told.refines)
@@ -87,21 +81,30 @@ module _ (any_order : SoundInAnyOrder) (db : Database) (p : IsSoundProject db) w
       let rows = one_table db (codes "queue") (queue_at told.tree) (queue_at q.tree) told.queue.table q.table ∙ q.rows.same in
       told.differs.other (ap (λ (rs : List Row). slice_get rs (place - 1)) rows)
 
-  -- what questions show of it is all that is there
-  sound_legible : IsLegible db
-  sound_legible =
+  -- its tables, and those of an older version, are in order
+  arranged : (version : ℕ) → (IsClassedVersion version → IsClassedVersion p.world.version) → (trees : ProjectTrees) → HasTables version db.schema trees → AreArranged version db.trees trees
+  arranged version within trees has =
       let there = stands_arranged db p.stands.refines.trees p.world p.stands.refines.rows in
       let tables = p.stands.refines.tables in
       record {
-        project = λ trees has. record {
-          project = subst IsArranged (one_table db _ _ _ tables.project has.project) there.project;
-          workunit = subst IsArranged (one_table db _ _ _ tables.workunit has.workunit) there.workunit;
-          result = subst IsArranged (one_table db _ _ _ tables.result has.result) there.result;
-          grant = subst IsArranged (one_table db _ _ _ tables.grant has.grant) there.grant;
-          host = subst IsArranged (one_table db _ _ _ tables.host has.host) there.host;
-          archived = subst IsArranged (one_table db _ _ _ tables.archived has.archived) there.archived;
-          import = subst IsArranged (one_table db _ _ _ tables.import has.import) there.import;
-        };
+        project = subst IsArranged (one_table db _ _ _ tables.project has.project) there.project;
+        workunit = subst IsArranged (one_table db _ _ _ tables.workunit has.workunit) there.workunit;
+        result = subst IsArranged (one_table db _ _ _ tables.result has.result) there.result;
+        grant = subst IsArranged (one_table db _ _ _ tables.grant has.grant) there.grant;
+        host = subst IsArranged (one_table db _ _ _ tables.host has.host) there.host;
+        archived = subst IsArranged (one_table db _ _ _ tables.archived has.archived) there.archived;
+        import = subst IsArranged (one_table db _ _ _ tables.import has.import) there.import;
+        host_class = λ known. subst IsArranged (one_table db _ _ _ (tables.host_class (within known)) (has.host_class known)) (there.host_class (within known));
+        workunit_class = λ known. subst IsArranged (one_table db _ _ _ (tables.workunit_class (within known)) (has.workunit_class known)) (there.workunit_class (within known));
+      }
+
+  -- what questions show of it is all that is there
+  sound_legible : IsLegible db
+  sound_legible =
+      let tables = p.stands.refines.tables in
+      record {
+        plain = arranged 1 (λ known. absurd (omega (arith, known)));
+        project = λ version told. arranged version (subst IsClassedVersion (sym (told p.world p.stands.refines)));
         workunits = λ tree has.
             subst (AreWhole 15) (sym p.stands.refines.rows.workunits.same ∙ one_table db _ _ (workunit_at tree) tables.workunit has) (all_whole 15 stored_workunit (λ w. refl) p.world.workunits);
         queue = λ world stands queued tree has.

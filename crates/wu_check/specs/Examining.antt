@@ -14,6 +14,7 @@ use Rattle.wu_schema.specs.Tables.{HasNamed, HasTables, ProjectTrees, queue_at, 
 use Rattle.wu_store.specs.StandsFor.{IsQueued}
 use Rattle.wu_check.specs.Checking.{IsKept}
 use Rattle.wu_check.specs.Queues.{IsKeptQueue}
+use Rattle.wu_check.specs.Versions.{IsVersionOf}
 
 -- with an answer, this holds of the database that was shown and of the answer, where its tables are kept in order
 abbrev pub OnKept : {S T : Type 0} → Ghosts S → Held S → Held S → Result T Fault → (Database → T → Type 0) → Type 0
@@ -25,7 +26,9 @@ AnswersUnlessFailed g old new result = HasCleanDisk (state g new) → old.step_l
 
 -- of the tables of a project, and of its queue where it has one, questions show all that is in them
 pub record IsLegible (db : Database) : Type 0 where
-  pub project : (trees : ProjectTrees) → HasTables db.schema trees → AreArranged db.trees trees
+  -- of those that every version has, and of those of the version that the project has
+  pub plain : (trees : ProjectTrees) → HasTables 1 db.schema trees → AreArranged 1 db.trees trees
+  pub project : (version : ℕ) → IsVersionOf db version → (trees : ProjectTrees) → HasTables version db.schema trees → AreArranged version db.trees trees
   pub workunits : (tree : ℕ) → HasNamed db.schema (codes "workunit") (workunit_at tree) → AreWhole 15 (db.trees tree)
   pub queue : (world : World) → Refines db world → IsQueued world → (tree : ℕ) → HasNamed db.schema (codes "queue") (queue_at tree) → IsKeptQueue (db.trees tree)
 

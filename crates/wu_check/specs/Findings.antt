@@ -3,6 +3,7 @@ use Rattle.std.specs.Prelude.{◌≡◌, ℕ, ◌+◌, ⊤, List, map, Option, S
 use Rattle.sqlite.specs.Effect.{Database}
 use Rattle.sqlite.specs.Schema.{Schema}
 use Rattle.wu_core.specs.World.{World, Import}
+use Rattle.wu_core.specs.declared.workunit.HostClass.{HostClass}
 use Rattle.wu_core.specs.declared.workunit.Workunit.{Workunit}
 use Rattle.wu_audit.specs.Words.{place_of_wrong, table_of}
 use Rattle.wu_audit.specs.Wrong as audit
@@ -14,12 +15,13 @@ use Rattle.wu_loader.specs.Worlds.{IsReadable}
 use Rattle.wu_schema.specs.Queue.{HasQueue}
 use Rattle.wu_schema.specs.Refines.{Refines}
 use Rattle.wu_schema.specs.Stored.{stored_marks}
-use Rattle.wu_schema.specs.Tables.{HasTables, ProjectTrees}
+use Rattle.wu_schema.specs.Tables.{HasTables, IsClassedVersion, ProjectTrees}
 use Rattle.wu_store.specs.StandsFor.{IsQueued, marked}
 use Rattle.wu_tables.specs.Found as tables
 use Rattle.wu_tables.specs.declared.project.Misfit.{Misfit}
 use Rattle.wu_check.specs.Checking.{IsCounted, IsKnown, IsSoundProject}
 use Rattle.wu_check.specs.Queues.{DiffersAt}
+use Rattle.wu_check.specs.Versions.{IsVersionOf}
 use Rattle.wu_check.specs.declared.finding.Finding.{Finding}
 use Rattle.wu_check.specs.declared.finding.Finding.TheVariants as finding
 use Rattle.wu_check.specs.declared.finding.Key.{Key}
@@ -42,6 +44,7 @@ IsKeyAt world table.Workunit place k = (w : Workunit) × IsAt world.workunits pl
 IsKeyAt world table.CreditGrant place k = (n : ℕ) × (place ≡ Some n) × (k ≡ key.Grant (n + 1))
 IsKeyAt world table.Archived place k = (n : ℕ) × (place ≡ Some n) × (k ≡ key.Archived (n + 1))
 IsKeyAt world table.Import place k = (i : Import) × IsAt world.imports place i × (k ≡ key.Import i.kind i.name)
+IsKeyAt world table.HostClass place k = (it : HostClass) × IsAt world.classes place it × (k ≡ key.HostClass it.host)
 
 -- the key of the row that is told of
 abbrev pub IsKeyOf : World → Wrong → Key → Type 0
@@ -49,14 +52,16 @@ IsKeyOf world wrong = IsKeyAt world (table_of wrong) (place_of_wrong wrong)
 
 -- ---- what is wrong
 
--- the tables of a project are not all there, and this is why
-pub record LacksTables (schema : Schema) (misfit : Misfit) : Type 0 where
-  pub told : tables.StandsAgainst schema misfit
-  pub none : (trees : ProjectTrees) → HasTables schema trees → ⊥
+-- the tables of a project are not all there, and this is why: they are those of a version of which each world has all
+pub record LacksTables (db : Database) (misfit : Misfit) : Type 0 where
+  pub version : ℕ
+  pub told : tables.StandsAgainst version db.schema misfit
+  pub none : (trees : ProjectTrees) → HasTables version db.schema trees → ⊥
+  pub needed : (world : World) → Refines db world → IsClassedVersion version → IsClassedVersion world.version
 
 -- each world that the tables stand for has this version, which this program does not know
 pub record HasOtherVersion (db : Database) (version : ℕ) : Type 0 where
-  pub stands : (world : World) → Refines db world → world.version ≡ version
+  pub stands : IsVersionOf db version
   pub other : ¬ IsKnown version
 
 -- the tables stand for a world of which this is told, at the row with this key
@@ -84,7 +89,7 @@ pub record HasOtherMarks (db : Database) (place : ℕ) : Type 0 where
 
 -- the finding is true of the database
 abbrev pub Tells : Database → Finding → Type 0
-Tells db (finding.Tables misfit) = LacksTables db.schema misfit
+Tells db (finding.Tables misfit) = LacksTables db misfit
 Tells db (finding.Row wrong) = (world : World) → IsReadable world → Refines db world → ⊥
 Tells db (finding.Version version) = HasOtherVersion db version
 Tells db (finding.World wrong row) = HasUnsoundWorld db wrong row
@@ -124,6 +129,10 @@ Says db (verdict.Unsound found) = Tells db found
 abbrev pub IsBasis : Database → Basis → Type 0
 IsBasis db (basis.World world) = Refines db world
 IsBasis db (basis.Unsound found) = Tells db found
+
+-- the same, where each world has this version
+abbrev pub IsBasisOf : ℕ → Database → Basis → Type 0
+IsBasisOf version db found = IsVersionOf db version → IsBasis db found
 
 -- the world is sound, of a version that this program knows, and has its queue where it has one
 pub record IsRightWorld (schema : Schema) (world : World) : Type 0 where

@@ -1,4 +1,5 @@
 pub mod Checking
 pub mod Queues
+pub mod Versions
 pub mod Examining
 pub mod Findings

@@ -2,7 +2,7 @@
 
 ghost use Rattle.std.specs.Prelude.{IfErr};
 ghost use Rattle.wu_check.specs.Examining.{AnswersUnlessFailed, Examines, OnKept};
-ghost use Rattle.wu_check.specs.Findings.{IsBasis, Says, SaysSound, SaysUnsound, SaysWhy, Tells};
+ghost use Rattle.wu_check.specs.Findings.{IsBasis, IsBasisOf, Says, SaysSound, SaysUnsound, SaysWhy, Tells};
 ghost use Rattle.wu_schema.specs.Asking.{Asks, ServesUnlessFailed};
 ghost use Rattle.wu_schema.specs.Calls.{OnAnswer};
 ghost use Rattle.wu_schema.specs.Faults.{IsStoreFault};
@@ -10,6 +10,7 @@ ghost use Rattle.wu_schema.specs.Faults.{IsStoreFault};
 use crate::counts::count_results;
 use crate::finding::{Finding, Verdict};
 use crate::judging::{is_known, judge};
+use crate::version::{FIRST_VERSION, version_told};
 use sqlite::{Alter, Connection};
 use std::alloc::Global;
 use wu_audit::Loaded;
@@ -40,22 +41,39 @@ fn unless_later<S: Alter>(conn: &mut Connection<S>, finding: Finding) -> Result<
     }
 }
 
-/// The world that the tables stand for, or what keeps them from it.
-fn find_world<S: Alter>(conn: &mut Connection<S>, alloc: Global) -> Result<Basis, Fault>
-    ensures examines { Examines S.Store conn.old conn.new result IsBasis }
+/// The world of this version that the tables stand for, or what keeps them from it.
+fn find_world_of<S: Alter>(
+    conn: &mut Connection<S>,
+    alloc: Global,
+    version: u64,
+) -> Result<Basis, Fault>
+    ensures examines { Examines S.Store conn.old conn.new result (IsBasisOf version) }
     ensures opens { ServesUnlessFailed S.Store conn.new result }
 {
-    if let Err(misfit) = project_trees(conn.schema()) {
+    if let Err(misfit) = project_trees(conn.schema(), version) {
         let finding = unless_later(conn, Finding::Tables(misfit))?;
         return Ok(Basis::Unsound(finding));
     }
-    match load_world(conn, alloc)? {
+    match load_world(conn, alloc, version)? {
         Found::World(loaded) => Ok(Basis::World(loaded)),
         Found::Wrong(wrong) => {
             let finding = unless_later(conn, Finding::Row(wrong))?;
             Ok(Basis::Unsound(finding))
         }
     }
+}
+
+/// The world that the tables stand for, or what keeps them from it.
+fn find_world<S: Alter>(conn: &mut Connection<S>, alloc: Global) -> Result<Basis, Fault>
+    ensures examines { Examines S.Store conn.old conn.new result IsBasis }
+    ensures opens { ServesUnlessFailed S.Store conn.new result }
+{
+    if let Err(misfit) = project_trees(conn.schema(), FIRST_VERSION) {
+        let finding = unless_later(conn, Finding::Tables(misfit))?;
+        return Ok(Basis::Unsound(finding));
+    }
+    let version = version_told(conn)?;
+    find_world_of(conn, alloc, version)
 }
 
 /// The verdict, for what is found first.

@@ -18,6 +18,8 @@ pub enum Key {
     Archived(u64),
     /// The import of this kind and name.
     Import(ImportKind, Name),
+    /// The class of the host of this name.
+    HostClass(Name),
 }
 
 /// What keeps a database from holding a sound project.

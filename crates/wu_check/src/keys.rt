@@ -27,6 +27,16 @@ fn import_key(loaded: &Loaded, place: usize) -> Result<Key, Fault>
     Ok(Key::Import(import.kind(), import.name().copy()?))
 }
 
+/// The key of the host at this place among those that have a class.
+fn class_key(loaded: &Loaded, place: usize) -> Result<Key, Fault>
+    requires { place < length loaded.now.classes }
+    ensures key { IfOk result (IsKeyAt loaded.now Table.HostClass (Some place)) }
+    ensures memory { IfErr result (λ fault. fault ≡ Memory) }
+{
+    let one = &loaded.classes()[place];
+    Ok(Key::HostClass(one.host.copy()?))
+}
+
 /// The key of the row that is wrong.
 pub fn key_of(loaded: &Loaded, wrong: Wrong) -> Result<Key, Fault>
     requires { StandsAgainst loaded.now wrong }
@@ -42,5 +52,6 @@ pub fn key_of(loaded: &Loaded, wrong: Wrong) -> Result<Key, Fault>
         Table::CreditGrant => Ok(Key::Grant(counted(place, loaded.grants().len()))),
         Table::Archived => Ok(Key::Archived(counted(place, loaded.archived().len()))),
         Table::Import => import_key(loaded, place),
+        Table::HostClass => class_key(loaded, place),
     }
 }

@@ -7,6 +7,7 @@ mod finding;
 mod judging;
 mod keys;
 mod marks;
+mod version;
 
 pub use checking::check;
 pub use finding::{Finding, Key, Verdict};

@@ -1,5 +1,5 @@
 -- What goes out for an action, for the steps of a script and for work over an open database.
-use Rattle.std.proofs.Common.{◌≡◌, ◌∙◌, ◌++◌, ◌∷◌, [], ℕ, List, Option, Some, None, Result, refl, sym, ap, subst, arith, inl, inr, append_assoc, take, drop, take-append-drop}
+use Rattle.std.proofs.Common.{◌≡◌, ◌∙◌, ◌++◌, ◌∷◌, [], ℕ, List, Option, Some, None, IfSome, IsSome, Result, refl, sym, ap, subst, arith, inl, inr, append_assoc, take, drop, take-append-drop}
 use Rattle.std.proofs.KnownBytes.{Appends-nil, Appends-trans}
 use Rattle.std.proofs.Math.Seq.{take-length}
 use Rattle.std.specs.Io.KnownBytes.{Appends}
@@ -7,24 +7,27 @@ use Rattle.sqlite.specs.Held.{Held, state}
 use Rattle.sqlite.specs.State.{HasCleanDisk}
 use Rattle.sqlite.specs.Store.{Ghosts}
 use Rattle.wu_core.specs.declared.fault.Fault.{Fault}
-use Rattle.wu_core.specs.declared.fault.Fault.TheVariants.{Output}
+use Rattle.wu_core.specs.declared.fault.Fault.TheVariants.{OldSchema, Output}
 use Rattle.wu_core.specs.World.{World}
 use Rattle.wu_machine.specs.declared.command.Answer.{Answer}
 use Rattle.wu_machine.specs.declared.command.Command.{Command}
 use Rattle.wu_machine.specs.Commands.{request_of}
-use Rattle.wu_machine.specs.Machine.{reply, step}
+use Rattle.wu_machine.specs.Machine.{IsUpToDate, reply, step}
 use Rattle.wu_passes.specs.declared.project.Project.{Project}
-use Rattle.wu_passes.specs.Projects.{IsKnownTo, IsSessionOpen, state_of}
+use Rattle.wu_passes.specs.Projects.{IsKnownTo, IsSessionOpen, older_version, state_of}
 use Rattle.wu_passes.specs.Standing.{GoesOn}
+use Rattle.wu_store.specs.StandsFor.{KnowsClasses}
+use Rattle.wu_report.specs.Texts.{view_text}
+use Rattle.wu_report.specs.Views.{RefusesWith}
 use Rattle.wu_report.specs.Writing.{AppendsFront, WritesTo}
-use Rattle.wu_report.proofs.WritingLemmas.{AppendsFront-after, AppendsFront-longer}
+use Rattle.wu_report.proofs.WritingLemmas.{AppendsFront-after, AppendsFront-longer, AppendsFront-nothing}
 use Rattle.wu_drive.specs.Driving.{AnswerAll}
 use Rattle.wu_drive.specs.Writing.{answer_text, answers_text}
 use Rattle.wu_words.specs.declared.action.Action.{Action}
 use Rattle.wu_words.specs.declared.action.Action.TheVariants.{Commands, Look}
 use Rattle.wu_words.specs.declared.step.LineFault.{LineFault}
 use Rattle.wu_words.specs.declared.step.Step.{Step}
-use Rattle.wu_cli.specs.Performing.{Performs}
+use Rattle.wu_cli.specs.Performing.{as_result, Performs}
 use Rattle.wu_cli.specs.Printing.{printed_action, printed_replies, printed_reply, printed_steps, printed_work, PrintsAction, PrintsOver, PrintsSteps}
 use Rattle.wu_cli.specs.Repeating.{commands_of_action, commands_of_steps, unrolled, world_behind}
 use Rattle.wu_cli.specs.Scripting.{PerformsEach, PerformsScript, PerformsSteps}
@@ -32,7 +35,7 @@ use Rattle.wu_cli.specs.Working.{DoesOver, PerformsWork, script_outcome}
 use Rattle.wu_cli.specs.declared.trouble.Trouble.{Trouble}
 use Rattle.wu_cli.specs.declared.work.Work.{Work}
 use Rattle.wu_cli.specs.declared.work.Work.TheVariants as work
-use Rattle.wu_cli.proofs.ScriptLemmas.{each_clean, each_done, each_goes, one_clean, one_done, one_goes, world_both, world_of}
+use Rattle.wu_cli.proofs.ScriptLemmas.{each_clean, each_done, each_goes, one_clean, one_done, one_goes, shown_present, world_both, world_of}
 use Rattle.wu_cli.proofs.WorkLemmas.{begins, work_clean}
 
 -- ---- texts of answers
@@ -65,7 +68,17 @@ steps_both world (x ∷ xs) ys =
 
 -- ---- one action
 
+-- a world of the present version has classes
+with_classes : (world : World) → IsUpToDate world → KnowsClasses world
+with_classes world is = omega (arith, is)
+
 module _ {S W : Type 0} {store : Ghosts S} (contents : W → Option (List ℕ)) (old new : Project S store) (out_old out_new : W) where
+  -- over an older version a view writes nothing
+  none_written : (fault : Fault) (older : Option ℕ) → IsSome older → IfSome older (λ version. RefusesWith contents old new out_old out_new (as_result (Some fault)) (OldSchema version))
+      → contents out_new ≡ contents out_old
+  none_written fault None some refused = absurd cc
+  none_written fault (Some version) some refused = refused.2
+
   pub one_prints : (action : Action) (end : Option Fault) → Performs contents old new out_old out_new action end → PrintsAction contents old new out_old out_new action end
   one_prints (Commands commands) None (run, runs, is) going clean world known goes =
       let (answers, written, drives) = runs.answers in
@@ -87,8 +100,14 @@ module _ {S W : Type 0} {store : Ghosts S} (contents : W → Option (List ℕ)) 
       subst (AppendsFront (contents out_old) (contents out_new)) (sym whole)
       (AppendsFront-longer (contents out_old) (contents out_new) (printed_replies world done) (printed_replies (world_of world done) left)
       (subst (AppendsFront (contents out_old) (contents out_new)) texts front))
-  one_prints (Look view) None sees going clean world known goes = sees.text going clean world goes
-  one_prints (Look view) (Some fault) sees going clean world known goes = sees.text going clean world goes
+  one_prints (Look view) None sees going clean world known goes =
+      sees.text going clean world (with_classes world (shown_present contents old new out_old out_new view sees going world known.0)) goes
+  one_prints (Look view) (Some fault) sees going clean world known goes = elim known.0 [
+    | inl is ↦ sees.text going clean world (with_classes world is) goes
+    | inr some ↦
+        subst (λ c. AppendsFront (contents out_old) c (view_text world view)) (sym (none_written fault (older_version old) some (sees.refused.older going)))
+        (AppendsFront-nothing (contents out_old) (view_text world view))
+  ]
 
 -- ---- all steps
 

@@ -1,7 +1,7 @@
 -- From step to step of a script.
-use Rattle.std.proofs.Common.{◌≡◌, inl, inr, ℕ, zero, suc, ◌+◌, ◌<◌, ◌≤◌, Bool, false, IfSome, IsSome, List, [], ◌∷◌, ◌++◌, length, drop, get_or, map, take, Option, Some, None, refl, sym, ap, subst, ◌∙◌, arith, append_assoc, length-append, take-append-drop}
+use Rattle.std.proofs.Common.{◌≡◌, inl, inr, ℕ, zero, suc, ◌+◌, ◌≤◌, Bool, false, IfSome, IsSome, List, [], ◌∷◌, ◌++◌, length, map, take, Option, Some, None, refl, sym, ap, subst, ◌∙◌, arith, append_assoc, length-append}
 use Rattle.std.proofs.Math.Seq.{take-append-add, take-length}
-use Rattle.std.proofs.lemmas.List.{drop_more, map-append, take-append-le, take_more}
+use Rattle.std.proofs.lemmas.List.{map-append, take-append-le}
 use Rattle.std.proofs.lemmas.List.Concat.{flat_map-append}
 use Rattle.std.proofs.lemmas.Bool.{cases_Bool}
 use Rattle.std.specs.Prelude.{slice_get}
@@ -188,7 +188,7 @@ module _ {S W : Type 0} {store : Ghosts S} (contents : W → Option (List ℕ)) 
   never_refused (Some version) some refused = absurd (let no = refused.0 in cc)
 
   -- a view is shown of a world of the present version alone
-  shown_present : (view : View) → Sees contents old new out_old out_new view (as_result None) → IsSessionOpen old → (world : World) → KnowsItsVersion old world → IsUpToDate world
+  pub shown_present : (view : View) → Sees contents old new out_old out_new view (as_result None) → IsSessionOpen old → (world : World) → KnowsItsVersion old world → IsUpToDate world
   shown_present view sees going world (inl is) = is
   shown_present view sees going world (inr some) = absurd (never_refused (older_version old) some (sees.refused.older going))
 

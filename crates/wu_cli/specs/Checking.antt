@@ -1,5 +1,5 @@
 -- What a check of an open database says, and how it is told.
-use Rattle.std.specs.Prelude.{◌≡◌, ℕ, List, MatchResult, IsOkUnless, Option, Result, Ok, Err}
+use Rattle.std.specs.Prelude.{◌≡◌, ℕ, List, MatchResult, IsOkUnless, Option, Result, Err}
 use Rattle.sqlite.specs.Held.{Held}
 use Rattle.sqlite.specs.Store.{Ghosts}
 use Rattle.wu_core.specs.declared.fault.Fault.{Fault}

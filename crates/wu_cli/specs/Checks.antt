@@ -1,31 +1,21 @@
 -- What a check tells: a line on the outcome, or what keeps the database from holding a sound project.
-use Rattle.std.specs.Prelude.{◌≡◌, ℕ, List, ◌++◌, codes, Option, Result, Ok, Err}
+use Rattle.std.specs.Prelude.{ℕ, List, ◌++◌, codes}
 use Rattle.std.specs.Fmt.{decimal}
 use Rattle.std.specs.declared.io.ErrorKind.{ErrorKind}
 use Rattle.std.specs.declared.io.ErrorKind.TheVariants.{NotFound, OutOfMemory, WouldBlock}
-use Rattle.sqlite.specs.Held.{Held, state}
-use Rattle.sqlite.specs.Store.{Ghosts}
 use Rattle.sqlite.specs.declared.error.Error.{Error}
 use Rattle.sqlite.specs.declared.error.Error.TheVariants.{SqliteFailure}
 use Rattle.sqlite.specs.declared.error.ErrorCode.TheVariants as code
-use Rattle.wu_core.specs.declared.fault.Fault.{Fault}
-use Rattle.wu_core.specs.declared.fault.Fault.TheVariants as fault
 use Rattle.wu_core.specs.declared.import.ImportKind.{ImportKind}
 use Rattle.wu_core.specs.declared.import.ImportKind.TheVariants as kind
 use Rattle.wu_audit.specs.Words.{wrong_word}
-use Rattle.wu_check.specs.Examining.{AnswersUnlessFailed, OnKept}
-use Rattle.wu_check.specs.Findings.{Says}
 use Rattle.wu_check.specs.declared.finding.Finding.{Finding}
 use Rattle.wu_check.specs.declared.finding.Finding.TheVariants as finding
 use Rattle.wu_check.specs.declared.finding.Key.{Key}
 use Rattle.wu_check.specs.declared.finding.Key.TheVariants as key
-use Rattle.wu_check.specs.declared.finding.Verdict.{Verdict}
-use Rattle.wu_check.specs.declared.finding.Verdict.TheVariants as verdict
 use Rattle.wu_loader.specs.declared.finding.Table.{Table}
 use Rattle.wu_loader.specs.declared.finding.Table.TheVariants as table
 use Rattle.wu_report.specs.Texts.{line_end}
-use Rattle.wu_report.specs.Writing.{WritesTo}
-use Rattle.wu_schema.specs.Asking.{Asks, ServesUnlessFailed}
 use Rattle.wu_tables.specs.Known.{name_of}
 use Rattle.wu_tables.specs.declared.project.Misfit.{Misfit}
 use Rattle.wu_tables.specs.declared.project.Misfit.TheVariants as misfit
@@ -44,6 +34,7 @@ abbrev pub kind_word : ImportKind → List ℕ
 kind_word kind.Batch = codes "batch"
 kind_word kind.Sent = codes "sent"
 kind_word kind.Reported = codes "reported"
+kind_word kind.Classes = codes "classes"
 
 -- the name of a table before a row's place
 abbrev pub row_front : Table → List ℕ
@@ -54,6 +45,8 @@ row_front table.CreditGrant = codes "credit_grant row "
 row_front table.Host = codes "host row "
 row_front table.Archived = codes "archived row "
 row_front table.Import = codes "import row "
+row_front table.HostClass = codes "host_class row "
+row_front table.WorkunitClass = codes "workunit_class row "
 
 -- a table and the key of one of its rows
 abbrev pub key_text : Key → List ℕ
@@ -62,6 +55,7 @@ key_text (key.Workunit number) = codes "workunit " ++ decimal number
 key_text (key.Grant place) = codes "credit_grant " ++ decimal place
 key_text (key.Archived place) = codes "archived " ++ decimal place
 key_text (key.Import kind name) = codes "import " ++ kind_word kind ++ codes " " ++ name
+key_text (key.HostClass host) = codes "host_class " ++ host
 
 abbrev pub misfit_line : Misfit → List ℕ
 misfit_line (misfit.Missing table) = codes "table " ++ name_of table ++ codes " is missing" ++ line_end

@@ -7,7 +7,6 @@ use Rattle.wu_core.specs.declared.fault.Fault.{Fault}
 use Rattle.wu_drive.specs.declared.runs.Run.{Run}
 use Rattle.wu_drive.specs.Driving.{Drives, Lengthens, session_of}
 use Rattle.wu_machine.specs.declared.command.Answer.{Answer}
-use Rattle.wu_machine.specs.declared.command.Command.{Command}
 use Rattle.wu_passes.specs.declared.project.Project.{Project}
 use Rattle.wu_passes.specs.Projects.{IsKnownTo, IsSessionOpen, state_of}
 use Rattle.wu_machine.specs.Sessions.{Lived, world_of_life}

@@ -25,6 +25,7 @@ fn kind_word(kind: ImportKind) -> &'static str
         ImportKind::Batch => "batch",
         ImportKind::Sent => "sent",
         ImportKind::Reported => "reported",
+        ImportKind::Classes => "classes",
     }
 }
 
@@ -40,6 +41,8 @@ fn row_front(table: Table) -> &'static str
         Table::Host => "host row ",
         Table::Archived => "archived row ",
         Table::Import => "import row ",
+        Table::HostClass => "host_class row ",
+        Table::WorkunitClass => "workunit_class row ",
     }
 }
 
@@ -67,6 +70,10 @@ fn write_key<W: Write>(out: &mut W, key: &Key) -> Result<(), Fault>
                 Piece::Text(" "),
                 Piece::Text(name.as_str()),
             ],
+        ),
+        Key::HostClass(host) => write_pieces(
+            out,
+            &[Piece::Text("host_class "), Piece::Text(host.as_str())],
         ),
     }
 }

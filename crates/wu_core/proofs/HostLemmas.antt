@@ -1,13 +1,14 @@
 -- What one grant more makes of the hosts.
-use Rattle.std.proofs.Common.{◌≡◌, ℕ, ◌+◌, List, [], ◌∷◌, ◌++◌, length, zero-add, map, filter, bytes_eq, Bool, true, false, cond, if◌then◌else◌, ◌||◌, Ordering, Less, Equal, Greater, nat_cmp, is_eq, IsPermutation, sum_by, refl, sym, ap, subst, ◌∙◌, arith}
+use Rattle.std.proofs.Common.{◌≡◌, ℕ, suc, ◌+◌, List, [], ◌∷◌, ◌++◌, length, zero-add, map, filter, bytes_eq, Bool, true, false, cond, if◌then◌else◌, ◌||◌, Ordering, Less, Equal, Greater, nat_cmp, is_eq, IsPermutation, sum_by, refl, sym, ap, subst, ◌∙◌, arith}
 use Rattle.std.specs.Prelude.{⊤}
-use Rattle.std.specs.List.{list_any, AllByRecursion}
+use Rattle.std.specs.List.{list_any, AllByRecursion, AllPairs}
 use Rattle.std.specs.Cmp.Lexicographic.{slice_cmp, texts_ties}
 use Rattle.std.specs.Ordering.{ordering_reverse}
 use Rattle.std.proofs.lemmas.Bool.{or_parts}
 use Rattle.std.proofs.lemmas.Cmp.{nat_list_cmp_total, nat_list_eq_equiv, alike_right}
 use Rattle.std.proofs.lemmas.List.{map-append}
-use Rattle.std.proofs.lemmas.List.Elements.{filter-append}
+use Rattle.std.proofs.lemmas.List.Elements.{All-from_recursion, filter-append, recursion_from_All}
+use Rattle.std.proofs.lemmas.List.Kept.{AllPairs-cons}
 use Rattle.std.proofs.lemmas.List.Sums.{sum_by-append, sum_by_push, length-filter}
 use Rattle.std.proofs.lemmas.List.Sorted.{IsPermutation-cons, IsPermutation-refl, IsPermutation-to_front, IsPermutation-map}
 use Rattle.std.proofs.lemmas.Slice.Eq.{bytes_eq-Decides}
@@ -18,6 +19,18 @@ use Rattle.wu_core.specs.Hosts.{is_to, credit_of, grants_of, with_host, hosts_of
 abbrev pub Ascends : {X : Type 0} → (X → X → Type 0) → List X → Type 0
 Ascends R [] = ⊤
 Ascends R (x ∷ xs) = AllByRecursion (R x) xs × Ascends R xs
+
+-- by the places of two elements, or by recursion
+pub pairs_ascend : {X : Type 0} (R : X → X → Type 0) (xs : List X) → AllPairs R xs → Ascends R xs
+pairs_ascend R [] pairs = tt
+pairs_ascend R (x ∷ xs) pairs = (
+  recursion_from_All (R x) xs (λ i d low. pairs 0 (suc i) d (omega arith) (omega (arith, low))),
+  pairs_ascend R xs (λ i j d less low. pairs (suc i) (suc j) d (omega (arith, less)) (omega (arith, low))),
+)
+
+pub ascend_pairs : {X : Type 0} (R : X → X → Type 0) (xs : List X) → Ascends R xs → AllPairs R xs
+ascend_pairs R [] up = λ i j d less low. absurd (omega (arith, low))
+ascend_pairs R (x ∷ xs) up = AllPairs-cons R x xs (All-from_recursion (R x) xs up.0) (ascend_pairs R xs up.1)
 
 -- names by their bytes
 abbrev pub order : List ℕ → List ℕ → Ordering
@@ -31,19 +44,19 @@ abbrev pub is_among : List ℕ → List (List ℕ) → Bool
 is_among name hosts = list_any (λ h. bytes_eq h name) hosts
 
 -- the three ways in which two names may stand
-by_order : {G : Type 0} (o : Ordering) → (o ≡ Less → G) → (o ≡ Equal → G) → (o ≡ Greater → G) → G
+pub by_order : {G : Type 0} (o : Ordering) → (o ≡ Less → G) → (o ≡ Equal → G) → (o ≡ Greater → G) → G
 by_order Less less equal greater = less refl
 by_order Equal less equal greater = equal refl
 by_order Greater less equal greater = greater refl
 
 -- names that tie are one name
-one_name : (a b : List ℕ) → order a b ≡ Equal → a ≡ b
+pub one_name : (a b : List ℕ) → order a b ≡ Equal → a ≡ b
 one_name a b tie = (bytes_eq-Decides a b).0 (texts_ties a b ∙ ap is_eq tie)
 
-turned : (a b : List ℕ) (o : Ordering) → order a b ≡ o → order b a ≡ ordering_reverse o
+pub turned : (a b : List ℕ) (o : Ordering) → order a b ≡ o → order b a ≡ ordering_reverse o
 turned a b o is = nat_list_cmp_total.antisymm b a ∙ ap ordering_reverse is
 
-matches : (a b : List ℕ) (o : Ordering) → order a b ≡ o → bytes_eq b a ≡ is_eq (ordering_reverse o)
+pub matches : (a b : List ℕ) (o : Ordering) → order a b ≡ o → bytes_eq b a ≡ is_eq (ordering_reverse o)
 matches a b o is = texts_ties b a ∙ ap is_eq (turned a b o is)
 
 -- ---- names at their places
@@ -79,9 +92,9 @@ each_with P name (h ∷ hosts) new all = by_order (order name h)
     (λ high. rw high (all.0, each_with P name hosts new all.1))
 
 -- where each has P, and P gives Q, each has Q
-each_so : (P Q : List ℕ → Type 0) → ((h : List ℕ) → P h → Q h) → (hosts : List (List ℕ)) → AllByRecursion P hosts → AllByRecursion Q hosts
+pub each_so : {X : Type 0} (P Q : X → Type 0) → ((x : X) → P x → Q x) → (xs : List X) → AllByRecursion P xs → AllByRecursion Q xs
 each_so P Q so [] all = tt
-each_so P Q so (h ∷ hosts) all = (so h all.0, each_so P Q so hosts all.1)
+each_so P Q so (x ∷ xs) all = (so x all.0, each_so P Q so xs all.1)
 
 above : (a b : List ℕ) → below a b → (hosts : List (List ℕ)) → AllByRecursion (below b) hosts → AllByRecursion (below a) hosts
 above a b low = each_so (below b) (below a) (λ h. nat_list_cmp_total.trans a b h low)

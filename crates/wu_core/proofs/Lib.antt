@@ -1,3 +1,4 @@
+pub mod ClassLemmas
 pub mod HostLemmas
 pub mod MaskLemmas
 mod NameLemmas

@@ -63,3 +63,4 @@ abbrev pub import_kind_code : ImportKind → ℕ
 import_kind_code kind.Batch = 1
 import_kind_code kind.Sent = 2
 import_kind_code kind.Reported = 3
+import_kind_code kind.Classes = 4

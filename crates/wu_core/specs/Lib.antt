@@ -1,3 +1,4 @@
+pub mod Classes
 pub mod Codes
 pub mod Formed
 pub mod Hosts

@@ -37,6 +37,10 @@ most_instances = 100
 abbrev pub highest_target : ℕ
 highest_target = 101
 
+-- the class of a host
+abbrev pub highest_class : ℕ
+highest_class = 65535
+
 -- workunits ever
 abbrev pub most_workunits : ℕ
 most_workunits = 1000000000

@@ -8,7 +8,7 @@ use Rattle.wu_core.specs.declared.workunit.Archived.{Archived}
 use Rattle.wu_core.specs.declared.workunit.Instance.{Instance}
 use Rattle.wu_core.specs.declared.workunit.Workunit.{Workunit}
 use Rattle.wu_core.specs.Formed.{IsInstance}
-use Rattle.wu_core.specs.Limits.{last_deadline, last_moment, longest_input, longest_output, most_instances, most_workunits}
+use Rattle.wu_core.specs.Limits.{highest_class, last_deadline, last_moment, longest_input, longest_output, most_instances, most_workunits}
 use Rattle.wu_core.specs.Names.{is_name}
 use Rattle.wu_core.specs.Parameters.{IsParameters}
 use Rattle.wu_core.specs.World.{World, last_skip}
@@ -69,11 +69,11 @@ pub record IsStamped (state : Assimilate) (done_at : Option ℕ) : Type 0 where
   pub done : state ≡ assimilate.Done → is_some done_at ≡ true
   pub done_only : is_some done_at ≡ true → state ≡ assimilate.Done
 
--- a workunit without its instances
+-- a workunit without what has rows of its own: its instances and its class
 abbrev pub bare : Workunit → Workunit
-bare w = record w { instances = [] }
+bare w = record w { instances = []; class = 0 }
 
--- what a row of a workunit stands for: one without its instances
+-- what a row of a workunit stands for: one without its instances and its class
 pub record IsStoredWorkunit (w : Workunit) : Type 0 where
   pub name : IsName w.name
   pub parameters : IsParameters w.params
@@ -81,11 +81,16 @@ pub record IsStoredWorkunit (w : Workunit) : Type 0 where
   pub canonical : IsPlace w.canonical
   pub stamped : IsStamped w.assimilate w.done_at
   pub bare : w.instances ≡ []
+  pub classless : w.class ≡ 0
+
+abbrev pub IsClass : ℕ → Type 0
+IsClass class = class ≤ highest_class
 
 -- the values of a workunit and of its instances are such as their rows are read as
 pub record IsStorable (w : Workunit) : Type 0 where
   pub number : w.number < 2 ^ 63
   pub row : IsStoredWorkunit (bare w)
+  pub class : IsClass w.class
   pub instances : AreStoredInstances w.instances
 
 -- each workunit that is present can be read

@@ -3,6 +3,7 @@ use Rattle.std.specs.Prelude.{ℕ, ◌<◌, ◌==◌, Bool, ◌&&◌, List, [], 
 use Rattle.wu_core.specs.declared.workunit.Workunit.{Workunit}
 use Rattle.wu_core.specs.declared.workunit.Grant.{Grant}
 use Rattle.wu_core.specs.declared.workunit.Archived.{Archived}
+use Rattle.wu_core.specs.declared.workunit.HostClass.{HostClass}
 use Rattle.wu_core.specs.declared.import.ImportKind.{ImportKind}
 use Rattle.wu_core.specs.declared.import.ImportKind.TheVariants as kind
 use Rattle.wu_core.specs.Codes.{import_kind_code}
@@ -25,16 +26,18 @@ is_import kind name import = import_kind_code import.kind == import_kind_code ki
 -- the greatest number of a skip
 abbrev pub last_skip : ImportKind → ℕ
 last_skip kind.Batch = 0
-last_skip kind.Sent = 3
+last_skip kind.Sent = 4
 last_skip kind.Reported = 5
+last_skip kind.Classes = 0
 
 -- workunits in order of number, grants and archived rows in order of their making, imports in order of their first
--- coming
+-- coming, hosts that have a class in order of their names
 pub record World : Type 0 where
   pub workunits : List Workunit
   pub grants : List Grant
   pub archived : List Archived
   pub imports : List Import
+  pub classes : List HostClass
   -- the number that the next workunit gets
   pub next_number : ℕ
   -- of the schema
@@ -42,7 +45,7 @@ pub record World : Type 0 where
 
 -- before any command, at the present version
 abbrev pub empty_world : World
-empty_world = record { workunits = []; grants = []; archived = []; imports = []; next_number = 1; version = 2 }
+empty_world = record { workunits = []; grants = []; archived = []; imports = []; classes = []; next_number = 1; version = 3 }
 
 -- its workunits are in order of their numbers, and no two have one
 abbrev pub IsInOrder : World → Type 0

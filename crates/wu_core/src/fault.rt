@@ -67,6 +67,7 @@ pub enum FileCause {
     Moment,
     Status,
     Output,
+    Class,
 }
 
 impl FileCause {
@@ -87,6 +88,7 @@ impl FileCause {
             FileCause::Moment => "moment",
             FileCause::Status => "status",
             FileCause::Output => "output",
+            FileCause::Class => "class",
         }
     }
 }

@@ -1,4 +1,4 @@
-//! What is imported: a batch of jobs, or a file of sends or of reports.
+//! What is imported: a batch of jobs, or a file of sends, of reports or of classes of hosts.
 
 ghost use Rattle.std.specs.Prelude.{◌≡◌};
 ghost use Rattle.wu_core.specs.Codes.{Decodes, import_kind_code};
@@ -9,6 +9,7 @@ pub enum ImportKind {
     Batch = 1,
     Sent = 2,
     Reported = 3,
+    Classes = 4,
 }
 
 impl ImportKind {
@@ -27,6 +28,7 @@ impl ImportKind {
             1 => Some(ImportKind::Batch),
             2 => Some(ImportKind::Sent),
             3 => Some(ImportKind::Reported),
+            4 => Some(ImportKind::Classes),
             _ => None,
         }
     }

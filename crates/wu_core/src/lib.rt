@@ -17,8 +17,9 @@ pub use bytes::Bytes;
 pub use fault::{Fault, FileCause, TemplateKey};
 pub use import::ImportKind;
 pub use limits::{
-    HIGHEST_QUORUM, HIGHEST_TARGET, LAST_DEADLINE, LAST_MOMENT, LONGEST_AGE, LONGEST_DELAY,
-    LONGEST_INPUT, LONGEST_NAME, LONGEST_OUTPUT, MOST_CREDIT, MOST_INSTANCES, MOST_WORKUNITS,
+    HIGHEST_CLASS, HIGHEST_QUORUM, HIGHEST_TARGET, LAST_DEADLINE, LAST_MOMENT, LONGEST_AGE,
+    LONGEST_DELAY, LONGEST_INPUT, LONGEST_NAME, LONGEST_OUTPUT, MOST_CREDIT, MOST_INSTANCES,
+    MOST_WORKUNITS,
 };
 pub use marks::Marks;
 pub use mask::ErrorMask;
@@ -26,4 +27,4 @@ pub use moment::{Deadline, Moment};
 pub use name::{Name, ResultName};
 pub use params::Params;
 pub use states::{Assimilate, FileDelete, Outcome, ServerState, Status, ValidateState};
-pub use workunit::{Archived, Grant, Instance, Instances, Workunit};
+pub use workunit::{Archived, Grant, HostClass, Instance, Instances, Workunit};

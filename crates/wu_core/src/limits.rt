@@ -31,6 +31,9 @@ pub const LONGEST_AGE: u64 = 31_536_000;
 /// The most credit that a valid result may be worth.
 pub const MOST_CREDIT: u32 = 1_000_000;
 
+/// The greatest class of a host.
+pub const HIGHEST_CLASS: u32 = 65_535;
+
 /// The last moment, in seconds since 1970-01-01T00:00:00Z: 2099-12-31T23:59:59Z.
 pub const LAST_MOMENT: u64 = 4_102_444_799;
 

@@ -187,7 +187,18 @@ pub struct Workunit {
     pub file_delete: FileDelete,
     /// When it was assimilated.
     pub done_at: Option<Moment>,
+    /// 0 to 65535: that of the host that an instance was last sent to. A transition makes it 0 where none is in
+    /// progress or a viable success.
+    pub class: u32,
     pub instances: Instances,
+}
+
+/// A host and its class. The results of hosts of one class can be compared.
+#[derive(Drop)]
+pub struct HostClass {
+    pub host: Name,
+    /// 1 to 65535. A host that no file named has class 0.
+    pub class: u32,
 }
 
 /// Credit for one valid result.

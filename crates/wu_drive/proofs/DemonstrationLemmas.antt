@@ -1,8 +1,9 @@
 -- What the demonstration asks for and prints.
-use Rattle.std.proofs.Common.{◌≡◌, ◌∙◌, ℕ, List, [], ◌∷◌, ◌++◌, append-nil, Option, None, Result, Ok, Err, inl, inr, refl, sym, ap, subst, take}
+use Rattle.std.proofs.Common.{◌≡◌, ◌∙◌, ℕ, List, [], ◌∷◌, ◌++◌, append-nil, Option, None, Result, Ok, Err, inl, inr, refl, sym, ap, subst, take, arith}
 use Rattle.std.specs.Prelude.{OnOk, codes}
 use Rattle.std.proofs.KnownBytes.{Appends-trans}
 use Rattle.std.proofs.lemmas.Bool.{cases_Bool}
+use Rattle.std.proofs.lemmas.Bool.Decides.{nat_tests}
 use Rattle.std.specs.Io.KnownBytes.{Appends}
 use Rattle.sqlite.specs.State.{State, HasCleanDisk}
 use Rattle.sqlite.specs.Steps.{IsEmpty}
@@ -11,6 +12,7 @@ use Rattle.wu_core.specs.Names.{name_of}
 use Rattle.wu_core.specs.Reads.{IsOrWantsMemory}
 use Rattle.wu_core.specs.World.{empty_world}
 use Rattle.wu_core.specs.declared.fault.Fault.{Fault}
+use Rattle.wu_machine.proofs.ImportLemmas.{stays_step}
 use Rattle.wu_machine.specs.Commands.{reply_of_answer, request_of}
 use Rattle.wu_machine.specs.Machine.{reply, step}
 use Rattle.wu_machine.specs.Requests.{AskBatch}
@@ -23,6 +25,7 @@ use Rattle.wu_passes.specs.declared.project.Project.{Project}
 use Rattle.wu_passes.specs.Adopting.{IsVacant}
 use Rattle.wu_passes.specs.Projects.{IsSessionOpen, IsSessionEnded, has_ended, state_of}
 use Rattle.wu_passes.specs.Standing.{GoesOn, MayEnd}
+use Rattle.wu_store.specs.StandsFor.{KnowsClasses}
 use Rattle.wu_report.specs.Texts.{line_end, view_text}
 use Rattle.wu_report.specs.Views.{Shows}
 use Rattle.wu_report.specs.Writing.{WritesTo}
@@ -85,13 +88,16 @@ module _ {S W : Type 0} {store : Ghosts S} (contents : W → Option (List ℕ)) 
   goes : GoesOn (state_of mid) (step empty_world demonstration)
   goes = subst (λ r. GoesOn (state_of mid) (step empty_world r)) asked (subst (λ n. GoesOn (state_of mid) (world_after empty_world (command ∷ []) n)) one (driven.goes still))
 
+  knows : KnowsClasses (step empty_world demonstration)
+  knows = let still = (stays_step empty_world demonstration).version refl in grind (arith, nat_tests)
+
   answer_out : Appends (contents out_old) (contents out_mid) (reply_text (reply_of_answer answered.0))
   answer_out =
       subst (Appends (contents out_old) (contents out_mid)) (ap answers_text answered.1 ∙ append-nil (reply_text (reply_of_answer answered.0)))
       (answers.1.whole (λ is. let no = sym whole ∙ is in cc))
 
   pub demonstrated : {T : Type 0} (result : Result T Fault) → Shows contents mid new out_mid out_new Workunits result → OnOk result (IsDemonstrated (contents out_old) (contents out_new))
-  demonstrated {T} result shows = by result (shows still new_clean (step empty_world demonstration) goes)
+  demonstrated {T} result shows = by result (shows still new_clean (step empty_world demonstration) knows goes)
     where
       by : (result : Result T Fault) → WritesTo contents out_mid out_new (view_text (step empty_world demonstration) Workunits) result
           → OnOk result (IsDemonstrated (contents out_old) (contents out_new))

@@ -11,6 +11,7 @@ use Rattle.wu_schema.specs.Faults.{IsFailure}
 use Rattle.wu_core.specs.declared.fault.Fault.{Fault}
 use Rattle.wu_core.specs.declared.fault.Fault.TheVariants.{BadLimit, Ended, Memory, OldSchema, Output}
 use Rattle.std.proofs.lemmas.List.Elements.{All-nil}
+use Rattle.wu_core.specs.Classes.{IsClassed}
 use Rattle.wu_core.specs.World.{Import, World, empty_world}
 use Rattle.wu_core.specs.Storable.{AreVerdicts, IsStorable}
 use Rattle.wu_machine.specs.declared.command.Answer.{Answer}
@@ -29,7 +30,7 @@ use Rattle.wu_machine.proofs.Versions.{done_older, done_upgrade, up_to_date}
 use Rattle.std.proofs.lemmas.Bool.Decides.{nat_tests}
 use Rattle.wu_machine.specs.Laws.{KeepsProjects}
 use Rattle.wu_passes.specs.declared.project.Project.{Project}
-use Rattle.wu_machine.specs.Requests.{AskBatch, AskCancel, AskPass, AskReported, AskSent, AskUpgrade, Reply, Request}
+use Rattle.wu_machine.specs.Requests.{AskBatch, AskCancel, AskClasses, AskPass, AskReported, AskSent, AskUpgrade, Reply, Request}
 use Rattle.wu_machine.specs.Sound.{IsProject}
 use Rattle.wu_passes.specs.Standing.{GoesOn, Runs, RefinesAfterFault, FailureCause}
 
@@ -62,6 +63,8 @@ empty_project = (
     verdicts = All-nil (λ (i : Import). AreVerdicts i.kind i.verdicts);
     storable = All-nil IsStorable;
     names = λ i j d order low. absurd (omega (arith, low));
+    classed = All-nil IsClassed;
+    classes_in_time = λ low. absurd (omega (arith, low));
   },
 )
 
@@ -70,6 +73,7 @@ upgraded : (world : World) (request : Request) → is_upgrade request ≡ true �
 upgraded world (AskBatch name template file) up = absurd cc
 upgraded world (AskSent name file) up = absurd cc
 upgraded world (AskReported name file) up = absurd cc
+upgraded world (AskClasses name file) up = absurd cc
 upgraded world (AskPass pass now limit min_age) up = absurd cc
 upgraded world (AskCancel name) up = absurd cc
 upgraded world AskUpgrade up = ap (λ d. (world_of world d).version) (done_upgrade world)

@@ -4,7 +4,7 @@ use Rattle.std.specs.Prelude.{codes, Option}
 use Rattle.std.proofs.lemmas.List.FromFn.{get_or-enumerate_from}
 use Rattle.std.proofs.lemmas.Grind.{get_or_default_zero}
 use Rattle.std.specs.List.{enumerate_from}
-use Rattle.wu_drive.specs.Texts.{applied_count, batch_text, number_or_dash, reply_text, rows_text, skip_lines}
+use Rattle.wu_drive.specs.Texts.{applied_count, batch_text, classes_text, number_or_dash, reply_text, rows_text, skip_lines}
 use Rattle.wu_machine.specs.Requests.{Cancelled}
 
 pub cancel_pieces-are : (name word : List ℕ) → word ≡ name → reply_text (Cancelled name) ≡ codes "cancel " ++ (word ++ (codes ": done" ++ (codes "\n" ++ [])))
@@ -13,6 +13,10 @@ cancel_pieces-are name word e = rw e (simp append_assoc)
 pub batch_pieces-are : (name : List ℕ) (first : ℕ) (verdicts word number : List ℕ) → word ≡ name → number ≡ number_or_dash first
     → batch_text name first verdicts ≡ codes "batch " ++ (word ++ (codes ": " ++ (decimal (length verdicts) ++ (codes " added, first " ++ (number ++ (codes "\n" ++ []))))))
 batch_pieces-are name first verdicts word number e1 e2 = rw (e1, e2) (simp append_assoc)
+
+pub classes_pieces-are : (name verdicts word : List ℕ) → word ≡ name
+    → classes_text name verdicts ≡ codes "classes " ++ (word ++ (codes ": " ++ (decimal (length verdicts) ++ (codes " applied\n" ++ []))))
+classes_pieces-are name verdicts word e = rw e (simp append_assoc)
 
 -- the first line of the answer to a file of rows
 abbrev pub rows_pieces : (word name : List ℕ) (applied skipped : ℕ) → List ℕ

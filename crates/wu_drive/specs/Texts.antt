@@ -45,7 +45,7 @@ number_or_dash n = if n == 0 then codes "-" else decimal n
 -- the verdict of this number on a row of sends, if it is the number of one
 abbrev pub send_verdict_numbered : ℕ → Option SendVerdict
 send_verdict_numbered number =
-    find (λ verdict. send_verdict_code verdict == number) (send.Applied ∷ send.Unknown ∷ send.NotUnsent ∷ send.SameHost ∷ [])
+    find (λ verdict. send_verdict_code verdict == number) (send.Applied ∷ send.Unknown ∷ send.NotUnsent ∷ send.SameHost ∷ send.Class ∷ [])
 
 -- the verdict of this number on a row of reports
 abbrev pub report_verdict_numbered : ℕ → Option ReportVerdict
@@ -85,10 +85,15 @@ abbrev pub batch_text : List ℕ → ℕ → List ℕ → List ℕ
 batch_text name first verdicts =
     codes "batch " ++ name ++ codes ": " ++ decimal (length verdicts) ++ codes " added, first " ++ number_or_dash first ++ line_end
 
+-- how many rows a file of classes had, each of which set the class of its host
+abbrev pub classes_text : List ℕ → List ℕ → List ℕ
+classes_text name verdicts = codes "classes " ++ name ++ codes ": " ++ decimal (length verdicts) ++ codes " applied" ++ line_end
+
 abbrev pub import_text : ImportKind → List ℕ → ℕ → List ℕ → List ℕ
 import_text kind.Batch name first verdicts = batch_text name first verdicts
 import_text kind.Sent name first verdicts = rows_text (codes "sent") name send_skip_word verdicts
 import_text kind.Reported name first verdicts = rows_text (codes "reported") name report_skip_word verdicts
+import_text kind.Classes name first verdicts = classes_text name verdicts
 
 abbrev pub pass_word : Pass → List ℕ
 pass_word Transition = codes "transition"

@@ -2,9 +2,9 @@
 
 ghost use Rattle.std.specs.Prelude.{◌≡◌, ◌∷◌, ◌++◌, [], codes};
 ghost use Rattle.wu_core.specs.declared.fault.Fault.TheVariants.{BadFile, BadTemplate};
-ghost use Rattle.wu_core.specs.declared.fault.FileCause.TheVariants.{TooManyRows};
+ghost use Rattle.wu_core.specs.declared.fault.FileCause.TheVariants.{Class, TooManyRows};
 ghost use Rattle.wu_core.specs.declared.fault.TemplateKey.TheVariants.{TargetNresults};
-ghost use Rattle.wu_core.specs.declared.import.ImportKind.TheVariants.{Batch, Sent, Reported};
+ghost use Rattle.wu_core.specs.declared.import.ImportKind.TheVariants.{Batch, Classes, Reported, Sent};
 ghost use Rattle.wu_drive.specs.Texts.{fault_text, import_text};
 
 /// The answer to a batch, and to one without rows.
@@ -13,11 +13,20 @@ pub fn prints_batches()
     ensures none { import_text Batch (codes "b0") 0 [] ≡ codes "batch b0: 0 added, first -\n" }
 {}
 
+/// The answer to a file of classes.
+pub fn prints_classes()
+    ensures { import_text Classes (codes "c1") 0 (0 ∷ 0 ∷ 0 ∷ [])
+        ≡ codes "classes c1: 3 applied\n" }
+{}
+
 /// The answers to a file of sends and to one of reports, with why rows were skipped.
 pub fn prints_skipped_rows()
     ensures sends { import_text Sent (codes "s1") 0 (0 ∷ 3 ∷ [])
         ≡ codes "sent s1: 1 applied, 1 skipped\n"
         ++ codes "  row 3: same_host\n" }
+    ensures classes { import_text Sent (codes "s1") 0 (0 ∷ 4 ∷ [])
+        ≡ codes "sent s1: 1 applied, 1 skipped\n"
+        ++ codes "  row 3: class\n" }
     ensures reports { import_text Reported (codes "r1") 0 (1 ∷ 2 ∷ 3 ∷ 4 ∷ 0 ∷ 5 ∷ [])
         ≡ codes "reported r1: 1 applied, 5 skipped\n"
         ++ codes "  row 2: unknown\n"
@@ -30,6 +39,7 @@ pub fn prints_skipped_rows()
 /// The lines of two faults.
 pub fn prints_faults()
     ensures rows { fault_text (BadFile 1002 TooManyRows) ≡ codes "F3 BadFile 1002 too_many_rows" }
+    ensures class { fault_text (BadFile 2 Class) ≡ codes "F3 BadFile 2 class" }
     ensures target { fault_text (BadTemplate TargetNresults)
         ≡ codes "F2 BadTemplate target_nresults" }
 {}

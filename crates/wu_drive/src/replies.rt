@@ -2,7 +2,7 @@
 
 ghost use Rattle.std.specs.Prelude.{◌≡◌, IsOkUnless, option_map};
 ghost use Rattle.wu_core.specs.declared.fault.Fault.TheVariants.{Output};
-ghost use Rattle.wu_drive.specs.Texts.{applied_count, batch_text, import_text, number_or_dash, pass_word, reply_text, report_skip_word, send_skip_word};
+ghost use Rattle.wu_drive.specs.Texts.{applied_count, batch_text, classes_text, import_text, number_or_dash, pass_word, reply_text, report_skip_word, send_skip_word};
 ghost use Rattle.wu_machine.specs.Requests.{Cancelled, Passed, Upgraded};
 ghost use Rattle.wu_drive.specs.Writing.{answer_text, applied_text, file_word, skip_word, skipped_line, skipped_lines};
 ghost use Rattle.wu_report.specs.Writing.{piece_text, WritesTo};
@@ -153,6 +153,24 @@ fn write_batch<W: Write>(out: &mut W, name: &Name, first: u64, verdicts: &[u8]) 
     )
 }
 
+/// Writes how many rows of a file of classes were applied: all are.
+fn write_classes<W: Write>(out: &mut W, name: &Name, verdicts: &[u8]) -> Result<(), Fault>
+    ensures bytes { WritesTo W.contents out.old out.new
+        (classes_text name.now verdicts.now) result }
+    ensures fault { IsOkUnless result Output }
+{
+    write_pieces(
+        out,
+        &[
+            Piece::Text("classes "),
+            Piece::Text(name.as_str()),
+            Piece::Text(": "),
+            Piece::Number(verdicts.len() as u64),
+            Piece::Text(" applied\n"),
+        ],
+    )
+}
+
 /// Writes the text of an import's answer.
 fn write_import<W: Write>(
     out: &mut W,
@@ -169,6 +187,7 @@ fn write_import<W: Write>(
         ImportKind::Batch => write_batch(out, name, first, verdicts),
         ImportKind::Sent => write_applied(out, AppliedFile::Sends, name, verdicts),
         ImportKind::Reported => write_applied(out, AppliedFile::Reports, name, verdicts),
+        ImportKind::Classes => write_classes(out, name, verdicts),
     }
 }
 

@@ -41,6 +41,18 @@ Each row finds what the rows before it left; one that does not fit is skipped:
 explain skips. Why the file is refused: explain causes.
 ",
         ),
+        "classes" => Some(
+            "A file of classes: CSV with the header
+host,class
+and at most 1,000 rows, in at most 1,048,576 bytes
+  host          whose results are comparable with those of its class alone
+  class         1 to 65535, in decimal without leading zeros; a host that no file
+                named has class 0
+Each row sets the class of its host, a later row over an earlier one. While an
+instance of a workunit is in progress, or a success that may still count, its
+others go to hosts of the same class. Why the file is refused: explain causes.
+",
+        ),
         _ => None,
     }
 }

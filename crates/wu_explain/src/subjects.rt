@@ -11,8 +11,9 @@ pub fn subject_text<'a>(name: &str) -> Option<&'a str>
             "lintelthyme explain TOPIC tells what is meant, what stands afterwards, what to do
   F1 to F17     a fault, as it is told: explain F3
   0 to 5        the status that the program ends with: explain 3
-  view VIEW     workunits, results, hosts, archive or summary: explain view hosts
-  file FILE     jobs, sends or reports: explain file jobs
+  view VIEW     workunits, results, hosts, archive, summary or classes: explain view
+                hosts
+  file FILE     jobs, sends, reports or classes: explain file jobs
   causes        why a file is refused
   skips         why a row of sends or reports is skipped
   template      the keys of a template, with their ranges and defaults
@@ -38,6 +39,7 @@ the first of
                 of a send or a report: no instance's name, no name, no moment
   status output of a report: no status; no hex, too long, or an output where the
                 status has none
+  class         of a host: no number from 1 to 65535, or one with leading zeros
 ",
         ),
         "skips" => Some(
@@ -46,6 +48,8 @@ the first of
 and of sends
   not_unsent    it does not wait to be sent
   same_host     it would go to a host that has an instance of the workunit
+  class         the workunit has instances in progress, or successes that may still
+                count, and the host is not of their class
 and of reports
   not_sent      it was never sent
   wrong_host    it was sent to another host
@@ -90,11 +94,11 @@ time that exist, from 1970 to 2099: 2026-03-01T13:00:00Z
 ",
         ),
         "imports" => Some(
-            "An import is known by its kind (batch, sent, reported) and its name. The same name
-and content again, and for a batch the same template, answers what it answered
-first and changes nothing of the project; other content under the name is F4. A
-name that was refused is not used up. So after a stop an import may be repeated
-under its name: it acts once.
+            "An import is known by its kind (batch, sent, reported, classes) and its name. The
+same name and content again, and for a batch the same template, answers what it
+answered first and changes nothing of the project; other content under the name is
+F4. A name that was refused is not used up. So after a stop an import may be
+repeated under its name: it acts once.
 ",
         ),
         "passes" => Some(
@@ -133,7 +137,7 @@ as a command of its own, and at most a million times:
         "checks" => Some(
             "Whether a database holds a sound project
 lintelthyme check --db PATH reads all tables whole, and answers with status 0
-  ok version=2 workunits=4 results=8
+  ok version=3 workunits=4 results=8
 or tells with status 1 the first thing that is wrong: the table, the key of the
 row or its place in order of the key, and what is the matter; or with status 3
 why the database can't be opened. It changes no table and makes no database, and

@@ -18,6 +18,8 @@ pub fn view_text<'a>(name: &str) -> Option<&'a str>
   assimilate=   INIT, READY to be assimilated, DONE
   delete=       of its input: INIT, READY to be deleted, DONE
   done=         when it was assimilated
+  class=        of the host that an instance was sent to last; 0 once a transition
+                finds none in progress, and no success that may still count
 A value that is not there is -.
 ",
         ),
@@ -56,14 +58,23 @@ Archived rows stay when their workunits are purged.
 ",
         ),
         "summary" => Some(
-            "show --view summary: eleven lines
+            "show --view summary: twelve lines
   version       of the tables
   next          the number that the next workunit gets
   workunits results unsent in_progress over
                 how many are present, and of the results how many are so
   archived      workunits that were assimilated, purged ones too
   grants credit how many grants there are, and the sum of their credit
-  imports       batches, files of sends and of reports
+  imports       batches, files of sends, of reports and of classes
+  classes       hosts that have a class
+",
+        ),
+        "classes" => Some(
+            "show --view classes: a line for each host that has a class, in order of the bytes
+of its name
+  name
+  class=        1 to 65535: explain file classes
+A host that no file named has class 0, and no line.
 ",
         ),
         _ => None,

@@ -6,6 +6,7 @@ use Rattle.wu_core.specs.ResultNames.{result_name_of}
 use Rattle.wu_core.specs.Statuses.{status_of}
 use Rattle.wu_core.specs.declared.name.ResultName.{ResultName}
 use Rattle.wu_core.specs.declared.states.Status.{Status}
+use Rattle.wu_core.specs.declared.workunit.HostClass.{HostClass}
 use Rattle.wu_core.specs.Parameters.{Parameters}
 use Rattle.wu_core.specs.Reads.{IsOrWantsMemory}
 use Rattle.wu_core.specs.Templates.{parameters_of, range_tests, template_parameters, unless_failed}
@@ -14,6 +15,7 @@ use Rattle.wu_core.specs.declared.fault.Fault.TheVariants.{BadFile, BadTemplate}
 use Rattle.wu_core.specs.declared.fault.FileCause.TheVariants as cause
 use Rattle.wu_core.specs.declared.fault.TemplateKey.{TemplateKey}
 use Rattle.wu_core.specs.declared.fault.TemplateKey.TheVariants as key
+use Rattle.wu_feed.specs.Classes.{class_written, classes_header, classes_of_file, host_class_of, host_class_of_fields, host_class_of_two}
 use Rattle.wu_feed.specs.Fields.{two_of}
 use Rattle.wu_feed.specs.Inputs.{input_of}
 use Rattle.wu_feed.specs.Jobs.{job_of, job_of_two, job_with, jobs_header, jobs_of_file}
@@ -111,6 +113,19 @@ send_told number (a ∷ b ∷ c ∷ d ∷ more) = inr (number, cause.Fields, ref
 -- a file of sends
 pub sends_told : (file : List ℕ) (result : Result (List SendRow) Fault) → IsOrWantsMemory result (sends_of_file file) → IfErr result IsFileFault
 sends_told = read_told send_of send_told sends_header
+
+host_class_fields_told : (number : ℕ) (host : Result (List ℕ) Fault) (class : Option ℕ) → IfErr (host_class_of_fields number host class) IsFileFault
+host_class_fields_told number (Ok host) (Some class) = tt
+host_class_fields_told number (Ok host) None = inr (number, cause.Class, refl)
+host_class_fields_told number (Err why) class = inr (number, cause.Host, refl)
+
+host_class_told : (number : ℕ) (two : Option (List ℕ × List ℕ)) → IfErr (host_class_of_two number two) IsFileFault
+host_class_told number (Some pair) = host_class_fields_told number (name_of pair.0) (class_written pair.1)
+host_class_told number None = inr (number, cause.Fields, refl)
+
+-- a file of classes
+pub classes_told : (file : List ℕ) (result : Result (List HostClass) Fault) → IsOrWantsMemory result (classes_of_file file) → IfErr result IsFileFault
+classes_told = read_told host_class_of (λ number fields. host_class_told number (two_of fields)) classes_header
 
 report_with_told : (number : ℕ) (sent : SendRow) (how : Status) (output : Option (List ℕ)) → IfErr (report_with number sent how output) IsFileFault
 report_with_told number sent how (Some output) = tt

@@ -1,3 +1,4 @@
+mod ClassLemmas
 mod FieldLemmas
 mod InputLemmas
 mod JobLemmas

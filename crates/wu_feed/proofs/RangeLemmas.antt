@@ -5,7 +5,8 @@ use Rattle.std.proofs.lemmas.Bool.Decides.{nat_tests}
 use Rattle.std.specs.Char.{is_ascii_digit}
 use Rattle.std.specs.List.{AllByRecursion, before_last, after_last, list_any}
 use Rattle.hex.specs.Hex.{decode_of}
-use Rattle.wu_core.specs.Limits.{highest_quorum, highest_target, last_moment, longest_input, longest_delay, longest_output, most_credit, most_instances}
+use Rattle.wu_core.specs.Classes.{AreClassed, IsClassed}
+use Rattle.wu_core.specs.Limits.{highest_class, highest_quorum, highest_target, last_moment, longest_input, longest_delay, longest_output, most_credit, most_instances}
 use Rattle.wu_core.specs.Names.{is_name, name_of, place_of}
 use Rattle.wu_core.specs.Parameters.{IsParameters, Parameters, is_between}
 use Rattle.wu_core.specs.Reads.{IsOrWantsMemory}
@@ -20,7 +21,9 @@ use Rattle.wu_core.specs.declared.fault.TemplateKey.TheVariants as key
 use Rattle.wu_core.specs.declared.name.ResultName.{ResultName}
 use Rattle.wu_core.specs.declared.states.Status.{Status}
 use Rattle.wu_core.specs.declared.states.Status.TheVariants as status
+use Rattle.wu_core.specs.declared.workunit.HostClass.{HostClass}
 use Rattle.toml.specs.Data.{Members}
+use Rattle.wu_feed.specs.Classes.{class_written, classed, classes_header, classes_of_file, host_class_of, host_class_of_fields, host_class_of_two}
 use Rattle.wu_feed.specs.Fields.{two_of}
 use Rattle.wu_feed.specs.Inputs.{input_of}
 use Rattle.wu_feed.specs.Jobs.{job_of, job_of_two, job_with, jobs_header, jobs_of_file}
@@ -32,6 +35,7 @@ use Rattle.wu_feed.specs.Templates.{document_of, has_only_keys, parameters_if, t
 use Rattle.wu_feed.specs.declared.jobs.Job.{Job}
 use Rattle.wu_feed.specs.declared.reports.ReportRow.{ReportRow}
 use Rattle.wu_feed.specs.declared.sends.SendRow.{SendRow}
+use Rattle.wu_feed.proofs.ClassLemmas.{class_within}
 use Rattle.wu_feed.proofs.InputLemmas.{short_enough-short}
 use Rattle.wu_feed.proofs.RowLemmas.{rows_of_file-each}
 
@@ -152,6 +156,30 @@ sends_read = rows_of_file-each send_of IsSendRow send_of-ranged sends_header
 -- the sends of a file
 pub sends_ranged : (file : List ℕ) (sends : List SendRow) → sends_of_file file ≡ Ok sends → All IsSendRow sends
 sends_ranged file sends is = sends_read file (Ok sends) (inl (sym is))
+
+-- ---- classes
+
+host_class_fields-ranged : (row : ℕ) (host : Result (List ℕ) Fault) (class : Option ℕ) (it : HostClass) → ((is : List ℕ) → host ≡ Ok is → is_name is ≡ true)
+    → ((is : ℕ) → class ≡ Some is → (1 ≤ is) × (is ≤ highest_class)) → host_class_of_fields row host class ≡ Ok it → IsClassed it
+host_class_fields-ranged row (Ok host) (Some class) it named within e =
+    let same : classed host class ≡ it = cc e in
+    rw (← same) (record { host = named host refl; named = (within class refl).0; within = (within class refl).1 })
+host_class_fields-ranged row (Ok host) None it named within e = cc e
+host_class_fields-ranged row (Err why) class it named within e = cc e
+
+host_class_of-ranged : (row : ℕ) (fields : List (List ℕ)) (it : HostClass) → host_class_of row fields ≡ Ok it → IsClassed it
+host_class_of-ranged row fields it e = two (two_of fields) e
+  where
+    two : (o : Option (List ℕ × List ℕ)) → host_class_of_two row o ≡ Ok it → IsClassed it
+    two (Some pair) e = host_class_fields-ranged row (name_of pair.0) (class_written pair.1) it (name_is_one pair.0) (class_within pair.1) e
+    two None e = cc e
+
+pub classes_read : (file : List ℕ) (result : Result (List HostClass) Fault) → IsOrWantsMemory result (classes_of_file file) → IfOk result AreClassed
+classes_read = rows_of_file-each host_class_of IsClassed host_class_of-ranged classes_header
+
+-- the hosts and their classes of a file
+pub classes_ranged : (file : List ℕ) (classes : List HostClass) → classes_of_file file ≡ Ok classes → AreClassed classes
+classes_ranged file classes is = classes_read file (Ok classes) (inl (sym is))
 
 -- ---- reports
 

@@ -1,6 +1,10 @@
-//! Worked examples, computed on the definitions: each function's contract is what a small script reads as.
+//! Worked examples, computed on the definitions: each function's contract is what a small script or
+//! a small file reads as.
 
-ghost use Rattle.std.specs.Prelude.{◌≡◌, ◌∷◌, ◌++◌, [], Ok, codes, replicate};
+ghost use Rattle.std.specs.Prelude.{◌≡◌, ◌∷◌, ◌++◌, [], Err, Ok, codes, replicate};
+ghost use Rattle.wu_core.specs.declared.fault.Fault.TheVariants.{BadFile};
+ghost use Rattle.wu_core.specs.declared.fault.FileCause.TheVariants.{Class};
+ghost use Rattle.wu_feed.specs.Classes.{classed, classes_of_file};
 ghost use Rattle.wu_feed.specs.Scripts.{at_fault, script_of, with_words};
 ghost use Rattle.wu_feed.specs.declared.script.LineCause.TheVariants.{NotText, OpenQuote, TooManyLines};
 
@@ -35,4 +39,14 @@ pub fn reads_faulty_lines()
 pub fn reads_no_line()
     ensures empty { script_of [] ≡ Ok [] }
     ensures blank { script_of (codes " \n\n  # \n") ≡ Ok (with_words 3 (codes "#" ∷ []) ∷ []) }
+{}
+
+/// A class is written in decimal, from 1 to 65535, without leading zeros.
+#[tactic(auto, unfolding(crate::proofs::OnLiterals::rows_on_literals))]
+pub fn reads_classes()
+    ensures read { classes_of_file (codes "host,class\nh1,1\nh2,65535\n")
+        ≡ Ok (classed (codes "h1") 1 ∷ classed (codes "h2") 65535 ∷ []) }
+    ensures zero { classes_of_file (codes "host,class\nh1,0\n") ≡ Err (BadFile 2 Class) }
+    ensures high { classes_of_file (codes "host,class\nh1,65536\n") ≡ Err (BadFile 2 Class) }
+    ensures padded { classes_of_file (codes "host,class\nh1,01\n") ≡ Err (BadFile 2 Class) }
 {}

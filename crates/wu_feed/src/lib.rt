@@ -1,7 +1,8 @@
-//! The readers of what a BOINC project is fed with: moments, templates, files of jobs, of sends and of
-//! reports, and scripts.
+//! The readers of what a BOINC project is fed with: moments, templates, files of jobs, of sends, of
+//! reports and of classes of hosts, and scripts.
 #![tactic(auto)]
 
+mod classes;
 mod examples;
 mod inputs;
 mod jobs;
@@ -15,7 +16,8 @@ mod sends;
 mod template;
 mod words;
 
-pub use examples::{reads_a_script, reads_faulty_lines, reads_no_line};
+pub use classes::{Classes, read_classes};
+pub use examples::{reads_a_script, reads_classes, reads_faulty_lines, reads_no_line};
 pub use jobs::{Job, Jobs, read_jobs};
 pub use limits::{LAST_ROW, LONGEST_FILE, LONGEST_TEMPLATE, MOST_LINES, MOST_RECORDS, MOST_ROWS};
 pub use moment::read_moment;

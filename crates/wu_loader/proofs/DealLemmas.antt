@@ -4,10 +4,9 @@ use Rattle.std.specs.Prelude.{All}
 use Rattle.std.proofs.lemmas.List.{append_assoc, length-append}
 use Rattle.std.proofs.lemmas.List.Elements.{All-nil, All-push, recursion_from_All}
 use Rattle.wu_core.specs.Limits.{most_instances}
-use Rattle.wu_core.specs.Storable.{bare}
 use Rattle.std.proofs.lemmas.Cmp.{nat_cmp_total, then_total}
 use Rattle.std.specs.Cmp.{IsTotalOrder}
-use Rattle.wu_loader.specs.Dealing.{by_place, placed_from, placed_of, AreDealt, IsNext}
+use Rattle.wu_loader.specs.Dealing.{lone, by_place, placed_from, placed_of, AreDealt, IsNext}
 use Rattle.wu_loader.specs.Worlds.{IsOrdered}
 use Rattle.wu_loader.specs.declared.rows.Placed.{Placed}
 
@@ -80,7 +79,7 @@ cancelled (x ∷ xs) ys zs same = cancelled xs ys zs (ap (drop 1) same)
 -- so far: what was yielded is dealt, and these are left
 pub record IsDealing (workunits : List Workunit) (placed : List Placed) (yielded rest dealt : List Workunit) (left : List Placed) : Type 0 where
   pub whole : yielded ++ rest ≡ workunits
-  pub bare : map bare dealt ≡ map bare yielded
+  pub bare : map lone dealt ≡ map lone yielded
   pub all : flat_map placed_of dealt ++ left ≡ placed
   pub few : All (λ (w : Workunit). length w.instances ≤ most_instances) dealt
   -- it could not be otherwise
@@ -102,14 +101,14 @@ module _ (workunits : List Workunit) (placed : List Placed) (yielded rest dealt 
       go : (more : List Workunit) → ws ≡ dealt ++ more → IsFollowed ws
       go more split = from more split bares
         where
-          bares : map bare more ≡ bare w ∷ map bare rest
-          bares = cancelled (map bare dealt) (map bare more) (bare w ∷ map bare rest)
-              (sym (map-append bare dealt more) ∙ ap (map bare) (sym split) ∙ are.bare ∙ ap (map bare) (sym so_far.whole) ∙ map-append bare yielded (w ∷ rest) ∙ ap (λ bs. bs ++ (bare w ∷ map bare rest)) (sym so_far.bare))
+          bares : map lone more ≡ lone w ∷ map lone rest
+          bares = cancelled (map lone dealt) (map lone more) (lone w ∷ map lone rest)
+              (sym (map-append lone dealt more) ∙ ap (map lone) (sym split) ∙ are.bare ∙ ap (map lone) (sym so_far.whole) ∙ map-append lone yielded (w ∷ rest) ∙ ap (λ bs. bs ++ (lone w ∷ map lone rest)) (sym so_far.bare))
 
-          from : (more : List Workunit) → ws ≡ dealt ++ more → map bare more ≡ bare w ∷ map bare rest → IsFollowed ws
+          from : (more : List Workunit) → ws ≡ dealt ++ more → map lone more ≡ lone w ∷ map lone rest → IsFollowed ws
           from [] split bares = absurd cc
           from (v ∷ more) split bares =
-              let one : bare v ≡ bare w = cc in
+              let one : lone v ≡ lone w = cc in
               let number : w.number ≡ v.number = ap (λ (u : Workunit). u.number) (sym one) in
               let lists : left ≡ placed_of v ++ flat_map placed_of more =
               cancelled (flat_map placed_of dealt) left (placed_of v ++ flat_map placed_of more) (so_far.all ∙ sym are.all ∙ ap (flat_map placed_of) split ∙ flat_append dealt (v ∷ more)) in
@@ -124,7 +123,7 @@ module _ (workunits : List Workunit) (placed : List Placed) (yielded rest dealt 
   pub deals_more : length is ≤ most_instances → IsDealing workunits placed (yielded ++ w ∷ []) rest (dealt ++ record w { instances = is } ∷ []) next
   deals_more few = record {
     whole = append_assoc yielded (w ∷ []) rest ∙ so_far.whole;
-    bare = map-append bare dealt (record w { instances = is } ∷ []) ∙ ap (λ bs. bs ++ bare w ∷ []) so_far.bare ∙ sym (map-append bare yielded (w ∷ []));
+    bare = map-append lone dealt (record w { instances = is } ∷ []) ∙ ap (λ bs. bs ++ lone w ∷ []) so_far.bare ∙ sym (map-append lone yielded (w ∷ []));
     all =
         ap (λ ps. ps ++ next) (flat_append dealt (record w { instances = is } ∷ []) ∙ ap (λ ps. flat_map placed_of dealt ++ ps) (append-nil (placed_from w.number is)))
         ∙ append_assoc (flat_map placed_of dealt) (placed_from w.number is) next ∙ ap (λ ps. flat_map placed_of dealt ++ ps) (sym taken) ∙ so_far.all;
@@ -145,7 +144,7 @@ module _ (workunits : List Workunit) (placed : List Placed) (yielded rest dealt 
 module _ (workunits : List Workunit) (placed : List Placed) (yielded dealt : List Workunit) (left : List Placed) (so_far : IsDealing workunits placed yielded [] dealt left) where
   pub deals_all : left ≡ [] → AreDealt workunits placed dealt
   deals_all none = record {
-    bare = so_far.bare ∙ ap (map bare) (sym (append-nil yielded) ∙ so_far.whole);
+    bare = so_far.bare ∙ ap (map lone) (sym (append-nil yielded) ∙ so_far.whole);
     all = sym (append-nil (flat_map placed_of dealt)) ∙ ap (λ ps. flat_map placed_of dealt ++ ps) (sym none) ∙ so_far.all;
     few = so_far.few;
   }
@@ -156,12 +155,12 @@ module _ (workunits : List Workunit) (placed : List Placed) (yielded dealt : Lis
       go : (more : List Workunit) → ws ≡ dealt ++ more → ⊥
       go [] split = some (cancelled (flat_map placed_of dealt) left [] (so_far.all ∙ sym are.all ∙ ap (flat_map placed_of) split ∙ flat_append dealt []))
       go (v ∷ more) split =
-          let counts : length (map bare dealt) ≡ length (map bare yielded) = ap (λ bs. length bs) so_far.bare in
-          let all : length (map bare ws) ≡ length (map bare workunits) = ap (λ bs. length bs) are.bare in
-          let a = length-map dealt bare in
-          let b = length-map yielded bare in
-          let d = length-map ws bare in
-          let e = length-map workunits bare in
+          let counts : length (map lone dealt) ≡ length (map lone yielded) = ap (λ bs. length bs) so_far.bare in
+          let all : length (map lone ws) ≡ length (map lone workunits) = ap (λ bs. length bs) are.bare in
+          let a = length-map dealt lone in
+          let b = length-map yielded lone in
+          let d = length-map ws lone in
+          let e = length-map workunits lone in
           let f : length ws ≡ length (dealt ++ v ∷ more) = ap (λ bs. length bs) split in
           let g = length-append dealt (v ∷ more) in
           let h : length (yielded ++ []) ≡ length workunits = ap (λ bs. length bs) so_far.whole in

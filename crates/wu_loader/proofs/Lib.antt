@@ -10,3 +10,4 @@ pub mod WorkLemmas
 pub mod GrantLemmas
 pub mod RunLemmas
 pub mod ListedLemmas
+pub mod ClassLemmas

@@ -55,7 +55,7 @@ archived_reads row place first a long at first_is number_is name_is mask_is cano
 -- ---- imports
 
 abbrev kind_of : ℕ → ImportKind
-kind_of n = if n == 1 then kind.Batch else if n == 2 then kind.Sent else kind.Reported
+kind_of n = if n == 1 then kind.Batch else if n == 2 then kind.Sent else if n == 3 then kind.Reported else kind.Classes
 
 kind_again : (k : ImportKind) → kind_of (import_kind_code k) ≡ k
 kind_again kind.Batch = refl

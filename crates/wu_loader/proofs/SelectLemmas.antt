@@ -1,7 +1,7 @@
 -- The questions about whole tables: each text, what it asks for, and what its answer shows of any rows.
-use Rattle.wu_schema.proofs.Words.{Answers, Database, Error, FailsToQuery, Fault, Ghosts, HasTables, Held, IfErr, IsFailure, ProjectTrees, Result, Vec, fault_of, false, length, state, HasTable, Int, IsPermutation, IsTable, List, None, Row, Shown, Some, State, Table, Name, [], ap, archived_at, arith, codes, eval_all, everything, grant_at, host_at, import_at, lit, map, negsuc, project_at, refl, result_at, subst, sym, workunit_at, ℕ, ◌++◌, ◌∙◌, ◌∷◌, ◌≡◌}
+use Rattle.wu_schema.proofs.Words.{Answers, Database, Error, FailsToQuery, Fault, Ghosts, HasTables, Held, IfErr, IsFailure, ProjectTrees, Result, Vec, fault_of, false, length, state, HasTable, Int, IsPermutation, IsTable, List, None, Row, Shown, Some, State, Table, Name, [], ap, archived_at, arith, codes, eval_all, everything, grant_at, host_at, import_at, lit, map, negsuc, project_at, refl, result_at, subst, sym, host_class_at, workunit_at, workunit_class_at, ℕ, ◌++◌, ◌∙◌, ◌∷◌, ◌≡◌}
 use Rattle.wu_schema.proofs.AnswerLemmas.{answers_are, shown_answers}
-use Rattle.wu_schema.proofs.Parts.{Part, in_all, name_of, parts_in, table_in}
+use Rattle.wu_schema.proofs.Parts.{IsIn, Part, name_of, parts_in, table_in}
 use Rattle.wu_schema.proofs.QueryLemmas.{alone, plain_query}
 use Rattle.wu_schema.proofs.ReadLemmas.{if_err, if_ok}
 use Rattle.wu_schema.proofs.RowLemmas.{no_test}
@@ -39,7 +39,7 @@ module _ (title : Name) (table : Table) (q : Asked) (fits : Fits title table q) 
 
 -- ---- what such a question does, and what it says
 
-module _ (p : Part) (q : Asked) (fits : (tree : ℕ) → Fits (name_of p) (table_in p tree) q) (none : q.parameters ≡ []) where
+module _ (version : ℕ) (p : Part) (in_p : IsIn p version) (q : Asked) (fits : (tree : ℕ) → Fits (name_of p) (table_in p tree) q) (none : q.parameters ≡ []) where
   selects : IsSelect q.text
   selects = record { parsed = parsed_of (name_of p) (table_in p 0) q; select = select_of (name_of p) (table_in p 0) q; read = (fits 0).read; is = refl }
 
@@ -47,14 +47,14 @@ module _ (p : Part) (q : Asked) (fits : (tree : ℕ) → Fits (name_of p) (table
     abbrev before : State
     before = state g old
 
-    told : (trees : ProjectTrees) → HasTables before.now.schema trees → old.step_limit ≡ None → (fault : Fault) (error : Error) → fault ≡ fault_of error → FailsToQuery q.text given before (state g new) error → IsFailure fault
+    told : (trees : ProjectTrees) → HasTables version before.now.schema trees → old.step_limit ≡ None → (fault : Fault) (error : Error) → fault ≡ fault_of error → FailsToQuery q.text given before (state g new) error → IsFailure fault
     told trees has unlimited fault error is failed =
-        let there = parts_in 0 before.now.schema trees has p (in_all 0 p) in
+        let there = parts_in version before.now.schema trees has p in_p in
         subst IsFailure (sym is) (asked_told (name_of p) there.0 _ q (fits _) before (state g new) there.1 [] error (sym (ap (λ ps. length ps) none)) (fits _).typed unlimited (subst (λ ps. FailsToQuery q.text ps before (state g new) error) same failed))
 
-    pub looks_whole : {A : Type 0} (Is : Database → ProjectTrees → List Row → Type 0) → ((trees : ProjectTrees) → HasArranged before.now trees → (rows : List Row) → Shown q.text [] before (state g new) rows → Is before.now trees rows)
+    pub looks_whole : {A : Type 0} (Is : Database → ProjectTrees → List Row → Type 0) → ((trees : ProjectTrees) → HasArranged version before.now trees → (rows : List Row) → Shown q.text [] before (state g new) rows → Is before.now trees rows)
         → (r : Result (Vec Row A) Fault) → (IsSelect q.text → Asks g old new r) → (IsSelect q.text → ServesUnlessFailed g new r) → ShowsAll g old new r q.text given → FailsAll g old new r q.text given → IfErr r IsStoreFault
-        → Looks g old new r (λ db trees rows. Is db trees rows.items)
+        → Looks version g old new r (λ db trees rows. Is db trees rows.items)
     looks_whole Is says r asks opens shows fails store = record {
       asks = asks selects;
       opens = opens selects;
@@ -113,3 +113,17 @@ imports_asked = record (whole_table (codes "SELECT kind, name, template, content
 pub imports_fits : (tree : ℕ) → Fits (codes "import") (import_at tree) imports_asked
 unfolding everything
 imports_fits tree = record { shown = refl; tests = refl; strict = refl; order = tt; height = (0, tt); few = omega arith; limit = λ schema. refl; read = refl; typed = refl }
+
+abbrev pub host_classes_asked : Asked
+host_classes_asked = record (whole_table (codes "SELECT host, class FROM host_class") (0 ∷ 1 ∷ [])) { order = None }
+
+pub host_classes_fits : (tree : ℕ) → Fits (codes "host_class") (host_class_at tree) host_classes_asked
+unfolding everything
+host_classes_fits tree = record { shown = refl; tests = refl; strict = refl; order = tt; height = (0, tt); few = omega arith; limit = λ schema. refl; read = refl; typed = refl }
+
+abbrev pub work_classes_asked : Asked
+work_classes_asked = record (whole_table (codes "SELECT workunit, class FROM workunit_class ORDER BY workunit") (0 ∷ 1 ∷ [])) { order = Some 0 }
+
+pub work_classes_fits : (tree : ℕ) → Fits (codes "workunit_class") (workunit_class_at tree) work_classes_asked
+unfolding everything
+work_classes_fits tree = record { shown = refl; tests = refl; strict = refl; order = refl; height = (0, tt); few = omega arith; limit = λ schema. refl; read = refl; typed = refl }

@@ -1,16 +1,21 @@
 -- When the rows that tables show are those of a world, the tables are what it holds, and the other way round.
-use Rattle.wu_schema.proofs.Words.{Archived, Bool, Column, Contains-permutation, Database, Grant, Has, HasNamed, HoldsAll, Import, ImportKind, Int, IsAscending, IsDatabase, IsPermutation, IsPermutation-filter, IsPermutation-sym, IsPermutation-trans, List, ListsAll, Null, ProjectTrees, Row, Some, Table, Text, Workunit, World, [], all_has, ap, archived_at, arith, column, contains_had, drop, enumerate_from, false, flat_map, grant_at, has_contained, has_mapped, host_at, import_at, import_cells, inl, inr, instances_of, length, length-map, map, map-map, mapped_has, number, project_at, refl, result_at, stored_archived, stored_grant, stored_project, stored_workunit, subst, suc, sym, true, workunit_at, workunit_row, ℕ, ◌+◌, ◌∙◌, ◌∷◌, ◌≡◌, ◌≢◌, hosts_of, instance_cells, Instance, Binary, equal, has_either, import_kind_code, is_import, Blob, verdict_digits, Less, IsTrue, all_from, and_from, and_parts, bytes_eq-Decides, cond, eq-eqb, eqb-true, false_from_ne_true, filter, filter-map, first_key, is_eq, is_int, length_permutation, rowid, value_cmp, ℤ, ◌&&◌, ◌<◌, ◌==◌, ◌≤◌}
+use Rattle.wu_schema.proofs.Words.{None, Option, class_cells, host_class_at, stored_class, workunit_class_at, Archived, Bool, Column, Contains-permutation, Database, Grant, Has, HasNamed, HoldsAll, Import, ImportKind, Int, IsAscending, IsDatabase, IsPermutation, IsPermutation-filter, IsPermutation-sym, IsPermutation-trans, List, ListsAll, Null, ProjectTrees, Row, Some, Table, Text, Workunit, World, [], all_has, ap, archived_at, arith, column, contains_had, drop, enumerate_from, false, flat_map, grant_at, has_contained, has_mapped, host_at, import_at, import_cells, inl, inr, instances_of, length, length-map, map, map-map, mapped_has, number, project_at, refl, result_at, stored_archived, stored_grant, stored_project, stored_workunit, subst, suc, sym, true, workunit_at, workunit_row, ℕ, ◌+◌, ◌∙◌, ◌∷◌, ◌≡◌, ◌≢◌, hosts_of, instance_cells, Instance, Binary, equal, has_either, import_kind_code, is_import, Blob, verdict_digits, Less, IsTrue, all_from, and_from, and_parts, bytes_eq-Decides, cond, eq-eqb, eqb-true, false_from_ne_true, filter, filter-map, first_key, is_eq, is_int, length_permutation, rowid, value_cmp, ℤ, ◌&&◌, ◌<◌, ◌==◌, ◌≤◌}
 use Rattle.sqlite_schema.specs.Rules.{are_typed}
 use Rattle.wu_core.specs.Hosts.{grants_of}
-use Rattle.wu_schema.specs.Refines.{HasRows, host_of}
+use Rattle.wu_schema.specs.Refines.{HasClasses, HasRows, IsClassless, host_of}
+use Rattle.wu_schema.specs.Tables.{IsClassedVersion}
+use Rattle.std.specs.Prelude.{MatchOption}
+use Rattle.wu_core.specs.Classes.{AreInOrder}
 use Rattle.wu_schema.proofs.RowLemmas.{filter_same, int_value, one_test}
 use Rattle.wu_schema.proofs.StandsLemmas.{is_there}
 use Rattle.wu_store.proofs.EqualLemmas.{number_equal, text_equal}
 use Rattle.wu_store.proofs.OnceLemmas.{key_once, kind_in, one_passes}
 use Rattle.wu_loader.specs.Asked.{HasArranged}
-use Rattle.wu_loader.specs.Rows.{archived_row, grant_row, project_row}
-use Rattle.wu_loader.specs.Shown.{behind_key, keyed, unkeyed, AreArranged, AreWhole, IsArranged, Shows}
-use Rattle.wu_loader.specs.Worlds.{AreRowsOf, project_of}
+use Rattle.wu_loader.specs.Rows.{archived_row, classed_of, classed_row, grant_row, project_row}
+use Rattle.wu_loader.specs.Shown.{behind_key, keyed, unkeyed, AreArranged, AreWhole, IsArranged, Shows, ShowsClasses, ShowsPlain}
+use Rattle.wu_loader.specs.Worlds.{project_of, AreAnyClassRowsOf, AreClassRowsOf, ArePlainRowsOf, AreRowsOf}
+use Rattle.wu_loader.specs.declared.tables.ClassRows.{ClassRows}
+use Rattle.wu_loader.specs.declared.tables.PlainRows.{PlainRows}
 use Rattle.wu_loader.specs.declared.tables.TableRows.{TableRows}
 use Rattle.wu_loader.proofs.CellLemmas.{keyed_is, row_typed, unkeyed_is, whole_last}
 
@@ -173,7 +178,7 @@ module _ (db : Database) (tree : ℕ) (sound : IsDatabase db) (listed : Has db.s
   pub imports_once : IsAscending (λ (a b : Import). is_import a.kind a.name b ≡ false) imports
   imports_once = once_from imports few_of
 
-module _ (db : Database) (trees : ProjectTrees) (rows : TableRows) (world : World) (sound : IsDatabase db) (has : HasArranged db trees) (shown : Shows db.trees trees rows) (are : AreRowsOf rows world) where
+module _ (version : ℕ) (db : Database) (trees : ProjectTrees) (rows : PlainRows) (world : World) (sound : IsDatabase db) (has : HasArranged version db trees) (shown : ShowsPlain db.trees trees rows) (are : ArePlainRowsOf rows world) where
   there : {name : List ℕ} {t : Table} → HasNamed db.schema name t → Has db.schema.tables t
   there {name} {t} named = is_there db.schema name t named
 
@@ -248,9 +253,34 @@ module _ (db : Database) (trees : ProjectTrees) (rows : TableRows) (world : Worl
         same = stored_unkeyed db sound table listed 6 (whole_unkeyed db sound table listed 5 refl (λ row. refl) _ rows.imports.items shown.imports are.imports (mapped_some import_cells world.imports 5 (λ import. text_some (verdict_digits import.verdicts)))) _ rows.imports.items shown.imports are.imports;
       }
 
+  -- the tables of classes
+  module _ (known : IsClassedVersion version) (classes : ClassRows) (shows : ShowsClasses db.trees trees classes) (same : AreClassRowsOf classes world) where
+    host_classes_stand : HoldsAll (db.trees trees.host_class) (map class_cells world.classes)
+    host_classes_stand =
+        let table = host_class_at trees.host_class in
+        let listed = there (has.tables.host_class known) in
+        record {
+          shaped = has.arranged.host_class known;
+          same = stored_unkeyed db sound table listed 2 (whole_unkeyed db sound table listed 1 refl (λ row. refl) _ classes.hosts.items shows.hosts same.hosts (mapped_some class_cells world.classes 1 (λ it. number_some it.class))) _ classes.hosts.items shows.hosts same.hosts;
+        }
+
+    work_classes_stand : ListsAll (db.trees trees.workunit_class) (map stored_class world.workunits)
+    work_classes_stand =
+        let table = workunit_class_at trees.workunit_class in
+        let listed = there (has.tables.workunit_class known) in
+        let mapped : classes.workunits.items ≡ map (λ (w : Workunit). classed_row (classed_of w)) world.workunits = same.workunits ∙ map-map classed_row classed_of world.workunits in
+        let some : (cell : Row) → Has classes.workunits.items cell → column cell 1 ≢ Null = λ cell in_rows.
+        mapped_some (λ (w : Workunit). classed_row (classed_of w)) world.workunits 1 (λ w. number_some w.class) cell (subst (λ rs. Has rs cell) mapped in_rows) in
+        record {
+          shaped = has.arranged.workunit_class known;
+          same =
+              stored_keyed db sound table listed _ _ 1 refl refl (whole_keyed db sound table listed 1 refl (λ row. refl) classes.workunits.items shows.workunits some) classes.workunits.items shows.workunits
+              ∙ ap (map behind_key) mapped ∙ map-map behind_key (λ (w : Workunit). classed_row (classed_of w)) world.workunits;
+        }
+
   -- the tables are what the world holds
-  pub rows_stand : AreWhole 15 (db.trees trees.workunit) → HasRows db.trees trees world
-  rows_stand whole = record {
+  pub rows_stand : AreWhole 15 (db.trees trees.workunit) → (classes : Option ClassRows) → MatchOption classes (¬ IsClassedVersion version) (λ found. IsClassedVersion version × ShowsClasses db.trees trees found) → AreAnyClassRowsOf classes world → AreInOrder world.classes → world.version ≡ version → HasRows db.trees trees world
+  rows_stand whole classes shows same in_order is = record {
     project = project_stands;
     workunits = workunits_stand whole;
     instances = instances_stand;
@@ -259,7 +289,18 @@ module _ (db : Database) (trees : ProjectTrees) (rows : TableRows) (world : Worl
     archived = archived_stand;
     imports = imports_stand;
     imported_once = imports_once db trees.import sound (there has.tables.import) has.arranged.import world.imports imports_stand.same;
+    classes = λ on. with_classes classes shows same (subst IsClassedVersion is on);
+    classless = λ off. without classes shows same (λ on. off (subst IsClassedVersion (sym is) on));
+    classes_in_order = in_order;
   }
+    where
+      with_classes : (classes : Option ClassRows) → MatchOption classes (¬ IsClassedVersion version) (λ found. IsClassedVersion version × ShowsClasses db.trees trees found) → AreAnyClassRowsOf classes world → IsClassedVersion version → HasClasses db.trees trees world
+      with_classes None shows same on = absurd (shows on)
+      with_classes (Some found) shows same on = record { hosts = host_classes_stand on found shows.1 same; workunits = work_classes_stand on found shows.1 same }
+
+      without : (classes : Option ClassRows) → MatchOption classes (¬ IsClassedVersion version) (λ found. IsClassedVersion version × ShowsClasses db.trees trees found) → AreAnyClassRowsOf classes world → ¬ IsClassedVersion version → IsClassless world
+      without None shows same off = same
+      without (Some found) shows same off = absurd (off shows.0)
 
 -- ---- from what is stored to what is shown
 
@@ -286,7 +327,7 @@ instances_long (w ∷ ws) cell has = elim (has_either (instances_of w) (flat_map
 
 module _ (db : Database) (trees : ProjectTrees) (world : World) (stands : HasRows db.trees trees world) where
   -- the rows of such tables are in order of their rowids
-  pub stands_arranged : AreArranged db.trees trees
+  pub stands_arranged : AreArranged world.version db.trees trees
   stands_arranged = record {
     project = subst IsArranged (sym stands.project) ((tt, tt), (refl, tt));
     workunit = stands.workunits.shaped;
@@ -295,10 +336,12 @@ module _ (db : Database) (trees : ProjectTrees) (world : World) (stands : HasRow
     host = stands.hosts.shaped;
     archived = stands.archived.shaped;
     import = stands.imports.shaped;
+    host_class = λ known. (stands.classes known).hosts.shaped;
+    workunit_class = λ known. (stands.classes known).workunits.shaped;
   }
 
-  pub stands_shown : (read : TableRows) → Shows db.trees trees read → AreRowsOf read world
-  stands_shown read shown = record {
+  plain_shown : (read : PlainRows) → ShowsPlain db.trees trees read → ArePlainRowsOf read world
+  plain_shown read shown = record {
     project = shown.project ∙ ap (map (keyed 3)) stands.project;
     workunits = shown.workunits ∙ ap (map (keyed 15)) stands.workunits.same ∙ map-map (keyed 15) stored_workunit world.workunits;
     instances = IsPermutation-trans _ _ _ (shown_unkeyed 10 (db.trees trees.result) (flat_map instances_of world.workunits) (instances_long world.workunits) stands.instances.same) shown.instances;
@@ -307,3 +350,15 @@ module _ (db : Database) (trees : ProjectTrees) (world : World) (stands : HasRow
     archived = shown.archived ∙ ap (map (keyed 7)) stands.archived.same ∙ map-map (keyed 7) stored_archived (enumerate_from 1 world.archived);
     imports = IsPermutation-trans _ _ _ (shown_unkeyed 5 (db.trees trees.import) _ (mapped_long import_cells world.imports 6 (λ import. refl)) stands.imports.same) shown.imports;
   }
+
+  classes_shown : (classes : Option ClassRows) → MatchOption classes (¬ IsClassedVersion world.version) (λ found. IsClassedVersion world.version × ShowsClasses db.trees trees found) → AreAnyClassRowsOf classes world
+  classes_shown None older = stands.classless older
+  classes_shown (Some found) (known, shown) =
+      let has = stands.classes known in
+      record {
+        hosts = IsPermutation-trans _ _ _ (shown_unkeyed 1 (db.trees trees.host_class) _ (mapped_long class_cells world.classes 2 (λ it. refl)) has.hosts.same) shown.hosts;
+        workunits = shown.workunits ∙ ap (map (keyed 2)) has.workunits.same ∙ map-map (keyed 2) stored_class world.workunits ∙ sym (map-map classed_row classed_of world.workunits);
+      }
+
+  pub stands_shown : (read : TableRows) → Shows world.version db.trees trees read → AreRowsOf world.version read world
+  stands_shown read shown = record { plain = plain_shown read.plain shown.plain; classes = classes_shown read.classes shown.classes; in_order = stands.classes_in_order; version = refl }

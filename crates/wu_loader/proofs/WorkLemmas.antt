@@ -1,5 +1,5 @@
 -- The workunits that rows are those of.
-use Rattle.wu_schema.proofs.Words.{AllByRecursion, Equal, Has, Instance, IsAscending, IsPermutation, IsPermutation-map, IsPermutation-sym, IsPermutation-trans, IsSorted, Less, List, Ordering, Row, Workunit, [], all_from, all_has, ap, arith, column, enumerate_from, flat_map, get_or, has_mapped, inl, inr, instance_cells, instances_of, length, length-map, map, map-append, map-map, on_total, refl, subst, sym, workunit_row, ℕ, ◌++◌, ◌+◌, ◌<◌, ◌∙◌, ◌∷◌, ◌≡◌, ◌≤◌}
+use Rattle.wu_schema.proofs.Words.{AllByRecursion, Equal, Has, Instance, IsAscending, IsPermutation, IsPermutation-map, IsPermutation-sym, IsPermutation-trans, IsSorted, Less, List, Ordering, Row, Workunit, [], all_from, ap, arith, column, enumerate_from, flat_map, get_or, has_mapped, inl, inr, instance_cells, instances_of, length, length-map, map, map-append, map-map, on_total, refl, subst, sym, workunit_row, ℕ, ◌++◌, ◌+◌, ◌<◌, ◌∙◌, ◌∷◌, ◌≡◌, ◌≤◌}
 use Rattle.std.specs.Prelude.{All}
 use Rattle.std.specs.Cmp.{IsTotalOrder}
 use Rattle.std.specs.Ordering.{is_lt, nat_cmp, on, ordering_then, then_cmp}
@@ -11,7 +11,8 @@ use Rattle.wu_core.specs.Limits.{most_instances}
 use Rattle.wu_core.specs.Storable.{bare, IsStorable, IsStoredInstance, IsStoredWorkunit}
 use Rattle.wu_store.proofs.OneOrder.{one_order}
 use Rattle.wu_store.proofs.SameWorld.{read_number, same_workunit}
-use Rattle.wu_loader.specs.Dealing.{by_place, placed_of, AreDealt}
+use Rattle.wu_loader.specs.Dealing.{by_place, lone, placed_of, AreDealt}
+use Rattle.wu_loader.specs.Classing.{unclassed}
 use Rattle.wu_loader.specs.Rows.{placed_row, IsStoredPlaced}
 use Rattle.wu_loader.specs.Whole.{rows_of, IsNoRow}
 use Rattle.wu_loader.specs.Worlds.{AreRowsOfWorks, IsOrdered}
@@ -117,6 +118,31 @@ same_bares (v ∷ vs) (w ∷ ws) same =
 bare_rows : (ws : List Workunit) → map workunit_row (map bare ws) ≡ map workunit_row ws
 bare_rows ws = map-map workunit_row bare ws
 
+lone_rows : (ws : List Workunit) → map workunit_row (map lone ws) ≡ map workunit_row ws
+lone_rows ws = map-map workunit_row lone ws
+
+-- ---- without their classes
+
+placed_unclassed : (ws : List Workunit) → flat_map placed_of (map unclassed ws) ≡ flat_map placed_of ws
+placed_unclassed [] = refl
+placed_unclassed (w ∷ ws) = ap (λ ps. placed_of w ++ ps) (placed_unclassed ws)
+
+pub ordered_unclassed : (ws : List Workunit) → IsOrdered ws → IsOrdered (map unclassed ws)
+ordered_unclassed [] up = tt
+ordered_unclassed (w ∷ ws) up = (above ws up.0, ordered_unclassed ws up.1)
+  where
+    above : (vs : List Workunit) → AllByRecursion (λ (u : Workunit). w.number < u.number) vs → AllByRecursion (λ (u : Workunit). w.number < u.number) (map unclassed vs)
+    above [] all = tt
+    above (v ∷ vs) all = (all.0, above vs all.1)
+
+few_unclassed : (ws : List Workunit) → AllByRecursion IsStorable ws → AllByRecursion (λ (w : Workunit). length w.instances ≤ most_instances) (map unclassed ws)
+few_unclassed [] all = tt
+few_unclassed (w ∷ ws) all = (all.0.instances.few, few_unclassed ws all.1)
+
+lone_bares : (bares : List Workunit) → AllByRecursion IsStoredWorkunit bares → map lone bares ≡ map bare bares
+lone_bares [] all = refl
+lone_bares (w ∷ ws) all = λ i. record (lone w) { class = all.0.classless i } ∷ lone_bares ws all.1 i
+
 -- ---- the workunits of the rows
 
 module _ (rows instances : List Row) (bares : List Workunit) (workunits_are : rows ≡ rows_of (λ _. workunit_row) bares) where
@@ -129,18 +155,18 @@ module _ (rows instances : List Row) (bares : List Workunit) (workunits_are : ro
 
     pub works_are : (dealt : List Workunit) → AreDealt bares sorted dealt → AreRowsOfWorks rows instances dealt
     works_are dealt are = record {
-      workunits_are = bare_is ∙ sym (bare_rows bares) ∙ ap (map workunit_row) (sym are.bare) ∙ bare_rows dealt;
+      workunits_are = bare_is ∙ sym (lone_rows bares) ∙ ap (map workunit_row) (sym are.bare) ∙ lone_rows dealt;
       instances_are =
           subst (λ rs. IsPermutation rs instances) (ap (map placed_row) (sym are.all) ∙ sym (flat_rows dealt))
           (subst (IsPermutation (map placed_row sorted)) (sym placed_is) (IsPermutation-map placed_row sorted placed (IsPermutation-sym placed sorted moved)));
     }
 
-    -- no others are dealt so
-    pub works_dealt : IsSorted by_place sorted → (ws : List Workunit) → IsOrdered ws → All IsStorable ws → AreRowsOfWorks rows instances ws → AreDealt bares sorted ws
-    works_dealt up ws ordered storable are = record {
-      bare = same_bares ws bares (sym are.workunits_are ∙ bare_is);
-      all = one_list placed_row one_placed (flat_map placed_of ws) sorted (sym (flat_rows ws) ∙ sym same);
-      few = All-from_recursion (λ (w : Workunit). length w.instances ≤ most_instances) ws (all_from (λ (w : Workunit). length w.instances ≤ most_instances) ws (λ w has. (all_has IsStorable ws w (recursion_from_All IsStorable ws storable) has).instances.few));
+    -- no others are dealt so, their classes aside
+    pub works_dealt : All IsStoredWorkunit bares → IsSorted by_place sorted → (ws : List Workunit) → IsOrdered ws → All IsStorable ws → AreRowsOfWorks rows instances ws → AreDealt bares sorted (map unclassed ws)
+    works_dealt each up ws ordered storable are = record {
+      bare = map-map lone unclassed ws ∙ same_bares ws bares (sym are.workunits_are ∙ bare_is) ∙ sym (lone_bares bares (recursion_from_All IsStoredWorkunit bares each));
+      all = placed_unclassed ws ∙ one_list placed_row one_placed (flat_map placed_of ws) sorted (sym (flat_rows ws) ∙ sym same);
+      few = All-from_recursion (λ (w : Workunit). length w.instances ≤ most_instances) (map unclassed ws) (few_unclassed ws (recursion_from_All IsStorable ws storable));
     }
       where
         same : map placed_row sorted ≡ flat_map instances_of ws

@@ -4,7 +4,6 @@ use Rattle.std.specs.List.{enumerate_from, flat_map}
 use Rattle.std.specs.Ordering.{nat_cmp, on, then_cmp}
 use Rattle.std.specs.declared.cmp.Ordering.{Ordering}
 use Rattle.wu_core.specs.Limits.{most_instances}
-use Rattle.wu_core.specs.Storable.{bare}
 use Rattle.wu_core.specs.declared.workunit.Instance.{Instance}
 use Rattle.wu_core.specs.declared.workunit.Workunit.{Workunit}
 use Rattle.wu_loader.specs.declared.rows.Placed.{Placed}
@@ -25,9 +24,13 @@ abbrev pub IsNext : ℕ → ℕ → List Placed → Type 0
 IsNext workunit n [] = ⊥
 IsNext workunit n (p ∷ more) = (p.workunit ≡ workunit) × (p.n ≡ n)
 
+-- without its instances
+abbrev pub lone : Workunit → Workunit
+lone w = record w { instances = [] }
+
 -- these are the workunits with these instances
 pub record AreDealt (workunits : List Workunit) (placed : List Placed) (dealt : List Workunit) : Type 0 where
-  pub bare : map bare dealt ≡ map bare workunits
+  pub bare : map lone dealt ≡ map lone workunits
   pub all : flat_map placed_of dealt ≡ placed
   -- a workunit has at most so many
   pub few : All (λ (w : Workunit). length w.instances ≤ most_instances) dealt

@@ -1,5 +1,5 @@
 -- What is found in the tables of a project.
-use Rattle.std.specs.Prelude.{Result, IfOk, ⊤}
+use Rattle.std.specs.Prelude.{◌≡◌, ℕ, Result, IfOk, ⊤}
 use Rattle.sqlite.specs.Held.{Held, state}
 use Rattle.sqlite.specs.State.{HasCleanDisk}
 use Rattle.sqlite.specs.Store.{Ghosts}
@@ -23,14 +23,14 @@ abbrev pub IfWrong : Found → Type 0 → Type 0
 IfWrong (found.World world) Holds = ⊤
 IfWrong (found.Wrong wrong) Holds = Holds
 
--- Where the seven tables are there and their rows in order of their rowids, and each row of a workunit is whole, they
+-- Where the tables of this version are there and their rows in order of their rowids, and each row of a workunit is whole, they
 -- stand for a world that is found.
-abbrev pub FindsWorld : {S : Type 0} → Ghosts S → Held S → Held S → Result Found Fault → Type 0
-FindsWorld g old new result =
-    HasCleanDisk (state g new) → (trees : ProjectTrees) → HasArranged (state g old).now trees → AreWhole 15 ((state g old).now.trees trees.workunit)
+abbrev pub FindsWorld : {S : Type 0} → ℕ → Ghosts S → Held S → Held S → Result Found Fault → Type 0
+FindsWorld version g old new result =
+    HasCleanDisk (state g new) → (trees : ProjectTrees) → HasArranged version (state g old).now trees → AreWhole 15 ((state g old).now.trees trees.workunit)
     → IfOk result (λ found. IfWorld found (Refines (state g old).now))
 
--- Where a row is told, the tables stand for no world with values that rows may have.
-abbrev pub FindsNone : {S : Type 0} → Ghosts S → Held S → Held S → Result Found Fault → Type 0
-FindsNone g old new result =
-    HasCleanDisk (state g new) → IfOk result (λ found. IfWrong found ((world : World) → IsReadable world → ¬ Refines (state g old).now world))
+-- Where a row is told, the tables stand for no world of this version with values that rows may have.
+abbrev pub FindsNone : {S : Type 0} → ℕ → Ghosts S → Held S → Held S → Result Found Fault → Type 0
+FindsNone version g old new result =
+    HasCleanDisk (state g new) → IfOk result (λ found. IfWrong found ((world : World) → IsReadable world → world.version ≡ version → ¬ Refines (state g old).now world))

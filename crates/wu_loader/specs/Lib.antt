@@ -7,4 +7,5 @@ pub mod Whole
 pub mod Worlds
 pub mod Dealing
 pub mod Granting
+pub mod Classing
 pub mod Finding

@@ -1,9 +1,9 @@
 -- The question about each table, and what its answer shows.
-use Rattle.std.specs.Prelude.{◌≡◌, ℕ, List, codes, map}
+use Rattle.std.specs.Prelude.{◌≡◌, ℕ, List, codes, map, ⊤}
 use Rattle.std.specs.List.Sorted.{IsPermutation}
 use Rattle.sqlite.specs.Order.{Row}
 use Rattle.sqlite.specs.Tree.{Trees}
-use Rattle.wu_schema.specs.Tables.{ProjectTrees}
+use Rattle.wu_schema.specs.Tables.{IsClassedVersion, ProjectTrees}
 use Rattle.wu_loader.specs.Shown.{keyed, unkeyed}
 use Rattle.wu_loader.specs.declared.finding.Table.{Table}
 use Rattle.wu_loader.specs.declared.finding.Table.TheVariants as table
@@ -19,6 +19,14 @@ question table.CreditGrant = codes "SELECT seq, workunit, n, host, credit FROM c
 question table.Host = codes "SELECT name, total, grants FROM host"
 question table.Archived = codes "SELECT seq, number, name, error_mask, canonical, output, done_at FROM archived ORDER BY seq"
 question table.Import = codes "SELECT kind, name, template, content, first_number, verdicts FROM import"
+question table.HostClass = codes "SELECT host, class FROM host_class"
+question table.WorkunitClass = codes "SELECT workunit, class FROM workunit_class ORDER BY workunit"
+
+-- a version has the table
+abbrev pub IsTableIn : ℕ → Table → Type 0
+IsTableIn version table.HostClass = IsClassedVersion version
+IsTableIn version table.WorkunitClass = IsClassedVersion version
+IsTableIn version _ = ⊤
 
 -- these are the rows that are shown
 abbrev pub ShowsTable : Table → Trees → ProjectTrees → List Row → Type 0
@@ -29,3 +37,5 @@ ShowsTable table.CreditGrant db trees rows = rows ≡ map (keyed 5) (db trees.gr
 ShowsTable table.Host db trees rows = IsPermutation (map (unkeyed 3) (db trees.host)) rows
 ShowsTable table.Archived db trees rows = rows ≡ map (keyed 7) (db trees.archived)
 ShowsTable table.Import db trees rows = IsPermutation (map (unkeyed 6) (db trees.import)) rows
+ShowsTable table.HostClass db trees rows = IsPermutation (map (unkeyed 2) (db trees.host_class)) rows
+ShowsTable table.WorkunitClass db trees rows = rows ≡ map (keyed 2) (db trees.workunit_class)

@@ -1,11 +1,14 @@
 -- The rows of the tables as questions show them, and the values that they may stand for.
 use Rattle.std.specs.Prelude.{ℕ, ◌<◌, ◌≤◌, ◌^◌, [], ◌∷◌}
 use Rattle.sqlite.specs.Order.{Row}
-use Rattle.wu_core.specs.Storable.{AreVerdicts, IsName, IsNextNumber, IsStoredInstance}
+use Rattle.wu_core.specs.Storable.{AreVerdicts, IsClass, IsName, IsNextNumber, IsStoredInstance}
 use Rattle.wu_core.specs.World.{Import}
 use Rattle.wu_core.specs.declared.workunit.Archived.{Archived}
 use Rattle.wu_core.specs.declared.workunit.Grant.{Grant}
+use Rattle.wu_core.specs.declared.workunit.HostClass.{HostClass}
+use Rattle.wu_core.specs.declared.workunit.Workunit.{Workunit}
 use Rattle.wu_schema.specs.Stored.{archived_cells, grant_cells, host_cells, instance_cells, number}
+use Rattle.wu_loader.specs.declared.rows.Classed.{Classed}
 use Rattle.wu_loader.specs.declared.rows.Host.{Host}
 use Rattle.wu_loader.specs.declared.rows.Placed.{Placed}
 use Rattle.wu_loader.specs.declared.rows.ProjectRow.{ProjectRow}
@@ -20,6 +23,13 @@ placed_row p = instance_cells p.workunit p.n p.instance
 
 abbrev pub host_row : Host → Row
 host_row h = host_cells h.name h.total h.grants
+
+-- the number of a workunit and its class
+abbrev pub classed_row : Classed → Row
+classed_row c = number c.workunit ∷ number c.class ∷ []
+
+abbrev pub classed_of : Workunit → Classed
+classed_of w = record { workunit = w.number; class = w.class }
 
 -- by the place in the list, from 1
 abbrev pub grant_row : ℕ → Grant → Row
@@ -48,3 +58,10 @@ pub record IsStoredGrant (g : Grant) : Type 0 where
 pub record IsStoredImport (i : Import) : Type 0 where
   pub name : IsName i.name
   pub verdicts : AreVerdicts i.kind i.verdicts
+
+abbrev pub IsStoredClass : Classed → Type 0
+IsStoredClass c = IsClass c.class
+
+pub record IsStoredHostClass (it : HostClass) : Type 0 where
+  pub host : IsName it.host
+  pub class : IsClass it.class

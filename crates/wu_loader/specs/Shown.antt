@@ -1,5 +1,5 @@
 -- What a question about a whole table shows of its rows, and which rows of a tree it shows as they are.
-use Rattle.std.specs.Prelude.{◌≡◌, ℕ, ◌+◌, ◌-◌, List, [], ◌∷◌, map, length}
+use Rattle.std.specs.Prelude.{◌≡◌, ℕ, ◌+◌, ◌-◌, List, [], ◌∷◌, map, length, MatchOption}
 use Rattle.std.specs.List.{AllByRecursion, range_with_len}
 use Rattle.std.specs.List.Sorted.{IsPermutation}
 use Rattle.sqlite.specs.Order.{Row, column}
@@ -7,7 +7,9 @@ use Rattle.sqlite.specs.Tree.{Trees}
 use Rattle.sqlite.specs.declared.types.Value.TheVariants.{Null}
 use Rattle.sqlite_trees.specs.View.{IsShaped}
 use Rattle.sqlite_trees.specs.declared.store.Shape.TheVariants as shape
-use Rattle.wu_schema.specs.Tables.{ProjectTrees}
+use Rattle.wu_schema.specs.Tables.{IsClassedVersion, ProjectTrees}
+use Rattle.wu_loader.specs.declared.tables.ClassRows.{ClassRows}
+use Rattle.wu_loader.specs.declared.tables.PlainRows.{PlainRows}
 use Rattle.wu_loader.specs.declared.tables.TableRows.{TableRows}
 
 -- a row of a table with so many columns whose key is the rowid: its key, and the columns behind the key's own
@@ -27,8 +29,8 @@ behind_key (key ∷ cells) = key ∷ Null ∷ cells
 abbrev pub IsArranged : List Row → Type 0
 IsArranged rows = IsShaped shape.Table rows
 
--- so do those of the seven tables
-pub record AreArranged (db : Trees) (trees : ProjectTrees) : Type 0 where
+-- so do those of the tables of a version
+pub record AreArranged (version : ℕ) (db : Trees) (trees : ProjectTrees) : Type 0 where
   pub project : IsArranged (db trees.project)
   pub workunit : IsArranged (db trees.workunit)
   pub result : IsArranged (db trees.result)
@@ -36,14 +38,17 @@ pub record AreArranged (db : Trees) (trees : ProjectTrees) : Type 0 where
   pub host : IsArranged (db trees.host)
   pub archived : IsArranged (db trees.archived)
   pub import : IsArranged (db trees.import)
+  pub host_class : IsClassedVersion version → IsArranged (db trees.host_class)
+  pub workunit_class : IsClassedVersion version → IsArranged (db trees.workunit_class)
 
 -- each row has a cell for its rowid and one for each of so many columns. A question shows a last cell that a row lacks
 -- as one with nothing in it, so of a column that may be empty it does not tell
 abbrev pub AreWhole : ℕ → List Row → Type 0
 AreWhole count rows = AllByRecursion (λ row. length row ≡ count + 1) rows
 
--- the rows that the tables show: those of a table whose key is the rowid in order of the key, others in any order
-pub record Shows (db : Trees) (trees : ProjectTrees) (rows : TableRows) : Type 0 where
+-- the rows that the tables of every version show: those of a table whose key is the rowid in order of the key, others in
+-- any order
+pub record ShowsPlain (db : Trees) (trees : ProjectTrees) (rows : PlainRows) : Type 0 where
   pub project : rows.project.items ≡ map (keyed 3) (db trees.project)
   pub workunits : rows.workunits.items ≡ map (keyed 15) (db trees.workunit)
   pub instances : IsPermutation (map (unkeyed 11) (db trees.result)) rows.instances.items
@@ -51,3 +56,13 @@ pub record Shows (db : Trees) (trees : ProjectTrees) (rows : TableRows) : Type 0
   pub hosts : IsPermutation (map (unkeyed 3) (db trees.host)) rows.hosts.items
   pub archived : rows.archived.items ≡ map (keyed 7) (db trees.archived)
   pub imports : IsPermutation (map (unkeyed 6) (db trees.import)) rows.imports.items
+
+-- those that the tables of classes show
+pub record ShowsClasses (db : Trees) (trees : ProjectTrees) (rows : ClassRows) : Type 0 where
+  pub hosts : IsPermutation (map (unkeyed 2) (db trees.host_class)) rows.hosts.items
+  pub workunits : rows.workunits.items ≡ map (keyed 2) (db trees.workunit_class)
+
+-- those that the tables of a version show: there are none of classes before their version
+pub record Shows (version : ℕ) (db : Trees) (trees : ProjectTrees) (rows : TableRows) : Type 0 where
+  pub plain : ShowsPlain db trees rows.plain
+  pub classes : MatchOption rows.classes (¬ IsClassedVersion version) (λ classes. IsClassedVersion version × ShowsClasses db trees classes)

@@ -1,19 +1,25 @@
 -- When the rows that the tables show are those of a world, and which worlds have values that rows may stand for.
-use Rattle.std.specs.Prelude.{◌≡◌, ◌<◌, List, [], ◌∷◌, map, All}
+use Rattle.std.specs.Prelude.{◌≡◌, ◌<◌, ℕ, List, [], ◌∷◌, map, All, MatchOption, Option}
 use Rattle.std.specs.List.{flat_map}
 use Rattle.std.specs.List.Sorted.{IsPermutation}
 use Rattle.sqlite.specs.Order.{Row}
 use Rattle.sqlite.specs.Tree.{IsAscending}
+use Rattle.wu_core.specs.Classes.{AreInOrder}
 use Rattle.wu_core.specs.Hosts.{hosts_of}
 use Rattle.wu_core.specs.Storable.{AreStorable, IsArchiveStorable}
 use Rattle.wu_core.specs.World.{World}
 use Rattle.wu_core.specs.declared.workunit.Workunit.{Workunit}
-use Rattle.wu_schema.specs.Refines.{host_of, instances_of}
-use Rattle.wu_schema.specs.Stored.{import_cells, workunit_row}
-use Rattle.wu_loader.specs.Rows.{archived_row, grant_row, project_row, IsStoredGrant, IsStoredImport, IsStoredProject}
+use Rattle.wu_schema.specs.Refines.{IsClassless, host_of, instances_of}
+use Rattle.wu_schema.specs.Stored.{class_cells, import_cells, workunit_row}
+use Rattle.wu_loader.specs.Rows.{archived_row, classed_of, classed_row, grant_row, project_row, IsStoredGrant, IsStoredHostClass, IsStoredImport, IsStoredProject}
 use Rattle.wu_loader.specs.Whole.{rows_of}
 use Rattle.wu_loader.specs.declared.rows.ProjectRow.{ProjectRow}
+use Rattle.wu_loader.specs.declared.tables.ClassRows.{ClassRows}
+use Rattle.wu_loader.specs.declared.tables.PlainRows.{PlainRows}
 use Rattle.wu_loader.specs.declared.tables.TableRows.{TableRows}
+use Rattle.wu_loader.specs.declared.world.Plain.{Plain}
+use Rattle.wu_loader.specs.declared.world.WithClasses.{WithClasses}
+use Rattle.wu_loader.specs.Classing.{unclassed}
 
 abbrev pub project_of : World → ProjectRow
 project_of world = record { version = world.version; next_number = world.next_number }
@@ -22,8 +28,8 @@ project_of world = record { version = world.version; next_number = world.next_nu
 abbrev pub IsOrdered : List Workunit → Type 0
 IsOrdered workunits = IsAscending (λ (one other : Workunit). one.number < other.number) workunits
 
--- the rows are those of what the world holds
-pub record AreRowsOf (rows : TableRows) (world : World) : Type 0 where
+-- the rows of the tables that every version has are those of what the world holds
+pub record ArePlainRowsOf (rows : PlainRows) (world : World) : Type 0 where
   pub project : rows.project.items ≡ project_row (project_of world) ∷ []
   pub workunits : rows.workunits.items ≡ map workunit_row world.workunits
   pub instances : IsPermutation (flat_map instances_of world.workunits) rows.instances.items
@@ -32,6 +38,22 @@ pub record AreRowsOf (rows : TableRows) (world : World) : Type 0 where
   pub archived : rows.archived.items ≡ rows_of archived_row world.archived
   pub imports : IsPermutation (map import_cells world.imports) rows.imports.items
 
+-- so are those of the tables of classes
+pub record AreClassRowsOf (rows : ClassRows) (world : World) : Type 0 where
+  pub hosts : IsPermutation (map class_cells world.classes) rows.hosts.items
+  pub workunits : rows.workunits.items ≡ map classed_row (map classed_of world.workunits)
+
+-- without tables of classes it has none
+abbrev pub AreAnyClassRowsOf : Option ClassRows → World → Type 0
+AreAnyClassRowsOf rows world = MatchOption rows (IsClassless world) (λ classes. AreClassRowsOf classes world)
+
+-- the rows are those of what the world holds, which is of this version
+pub record AreRowsOf (told : ℕ) (rows : TableRows) (world : World) : Type 0 where
+  pub plain : ArePlainRowsOf rows.plain world
+  pub classes : AreAnyClassRowsOf rows.classes world
+  pub in_order : AreInOrder world.classes
+  pub version : world.version ≡ told
+
 -- each value of the world is such as rows are read as
 pub record IsReadable (world : World) : Type 0 where
   pub project : IsStoredProject (project_of world)
@@ -39,8 +61,27 @@ pub record IsReadable (world : World) : Type 0 where
   pub grants : All IsStoredGrant world.grants
   pub archived : IsArchiveStorable world
   pub imports : All IsStoredImport world.imports
+  pub classes : All IsStoredHostClass world.classes
 
 -- the rows of workunits and of instances are those of these workunits
 pub record AreRowsOfWorks (rows instances : List Row) (workunits : List Workunit) : Type 0 where
   pub workunits_are : rows ≡ map workunit_row workunits
   pub instances_are : IsPermutation (flat_map instances_of workunits) instances
+
+-- what was read of the tables that every version has, as a world without classes of hosts
+abbrev pub plain_world : Plain → World
+plain_world plain = record {
+  workunits = plain.workunits.items;
+  grants = plain.grants.items;
+  archived = plain.archived.items;
+  imports = plain.imports.items;
+  classes = [];
+  next_number = plain.project.next_number;
+  version = plain.project.version;
+}
+
+-- these are the workunits but for their classes, which the rows give, as they do those of the hosts
+pub record HasClassesOf (workunits : List Workunit) (rows : Option ClassRows) (found : WithClasses) : Type 0 where
+  pub same : map unclassed found.workunits.items ≡ map unclassed workunits
+  pub classes : (world : World) → world.workunits ≡ found.workunits.items → world.classes ≡ found.hosts.items → AreAnyClassRowsOf rows world
+  pub in_order : AreInOrder found.hosts.items

@@ -1,6 +1,7 @@
 //! The rows of a project's tables, read whole, as a world.
 #![tactic(auto)]
 
+mod classes;
 mod columns;
 mod dealing;
 pub mod finding;

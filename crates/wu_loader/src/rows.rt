@@ -1,23 +1,23 @@
 //! Rows of the tables as values.
 
 ghost use Rattle.std.specs.Prelude.{◌≡◌, ◌≤◌, ⊤, ℕ, length};
-ghost use Rattle.sqlite.specs.Order.{Row};
-ghost use Rattle.wu_core.specs.Storable.{IsStoredArchived, IsStoredWorkunit, MayBeInstance};
+ghost use Rattle.sqlite.specs.Order.{Row, column};
+ghost use Rattle.wu_core.specs.Storable.{IsClass, IsStoredArchived, IsStoredWorkunit, MayBeInstance};
 ghost use Rattle.wu_schema.specs.Restoring.{Restores};
-ghost use Rattle.wu_schema.specs.Stored.{import_cells, instance_row, workunit_row};
+ghost use Rattle.wu_schema.specs.Stored.{class_cells, import_cells, instance_row, number, workunit_row};
 ghost use Rattle.wu_store.specs.Reading.{columns};
 ghost use Rattle.wu_loader.specs.Cells.{moment_cells, state_cells, HasMoments};
-ghost use Rattle.wu_loader.specs.Rows.{archived_row, grant_row, host_row, placed_row, project_row, IsStoredGrant, IsStoredHost, IsStoredImport, IsStoredPlaced, IsStoredProject};
+ghost use Rattle.wu_loader.specs.Rows.{archived_row, classed_row, grant_row, host_row, placed_row, project_row, IsStoredClass, IsStoredGrant, IsStoredHost, IsStoredHostClass, IsStoredImport, IsStoredPlaced, IsStoredProject};
 
 use crate::columns::kind_at;
 use sqlite::Row;
 use std::alloc::Global;
 use wu_audit::Imported;
 use wu_core::{
-    Archived, Deadline, Fault, FileDelete, Grant, Instance, MOST_WORKUNITS, Moment, Name, Outcome,
-    ServerState, ValidateState, Workunit,
+    Archived, Deadline, Fault, FileDelete, Grant, HIGHEST_CLASS, HostClass, Instance,
+    MOST_WORKUNITS, Moment, Name, Outcome, ServerState, ValidateState, Workunit,
 };
-use wu_schema::number_at;
+use wu_schema::{number_at, read_column};
 use wu_store::rows::{
     bytes_at, deadline_at, file_delete_at, host_at, instance_number_at, is_formed, mask_at,
     moment_at, name_at, outcome_at, output_at, place_at, server_state_at, stamp_at,
@@ -176,6 +176,54 @@ impl FromRow for Workunit {
     /// The workunit of the row, with no instances.
     fn from_row(alloc: Global, place: u64, row: &Row) -> Result<Self, Fault> {
         workunit_from(alloc, row)
+    }
+}
+
+/// A workunit, by its number, and its class.
+#[derive(Clone, Copy)]
+pub struct Classed {
+    pub workunit: u64,
+    pub class: u32,
+}
+
+/// The class in a column.
+fn class_at(row: &Row, at: usize) -> Result<u32, Fault>
+    ensures { Restores number IsClass (column row.now at) result }
+{
+    let class: u32 = read_column(row, at)?;
+    if class > HIGHEST_CLASS {
+        return Err(Fault::NotAProject);
+    }
+    Ok(class)
+}
+
+impl FromRow for Classed {
+    ghost cells = { λ _. classed_row };
+
+    ghost is_value = { IsStoredClass };
+
+    fn from_row(alloc: Global, place: u64, row: &Row) -> Result<Self, Fault> {
+        if row.column_count() != 2 {
+            return Err(Fault::NotAProject);
+        }
+        let workunit = number_at(row, 0)?;
+        let class = class_at(row, 1)?;
+        Ok(Classed { workunit, class })
+    }
+}
+
+impl FromRow for HostClass {
+    ghost cells = { λ _. class_cells };
+
+    ghost is_value = { IsStoredHostClass };
+
+    fn from_row(alloc: Global, place: u64, row: &Row) -> Result<Self, Fault> {
+        if row.column_count() != 2 {
+            return Err(Fault::NotAProject);
+        }
+        let class = class_at(row, 1)?;
+        let host = name_at(alloc, row, 0)?;
+        Ok(HostClass { host, class })
     }
 }
 

@@ -1,9 +1,10 @@
-//! The rows of the seven tables, each read whole.
+//! The rows of the tables, each read whole.
 
-ghost use Rattle.std.specs.Prelude.{◌≡◌};
+ghost use Rattle.std.specs.Prelude.{◌≡◌, ℕ};
+ghost use Rattle.wu_schema.specs.Tables.{IsClassedVersion};
 ghost use Rattle.wu_loader.specs.Asked.{Looks};
-ghost use Rattle.wu_loader.specs.Questions.{question, ShowsTable};
-ghost use Rattle.wu_loader.specs.Shown.{Shows};
+ghost use Rattle.wu_loader.specs.Questions.{IsTableIn, question, ShowsTable};
+ghost use Rattle.wu_loader.specs.Shown.{Shows, ShowsClasses, ShowsPlain};
 
 use crate::finding::Table;
 use sqlite::{Alter, Connection, Row};
@@ -11,8 +12,8 @@ use std::alloc::Global;
 use wu_core::Fault;
 use wu_schema::query;
 
-/// The rows of a project's tables, as questions show them.
-pub struct TableRows {
+/// The rows of the tables that every version has, as questions show them.
+pub struct PlainRows {
     pub project: Vec<Row>,
     pub workunits: Vec<Row>,
     pub instances: Vec<Row>,
@@ -23,9 +24,9 @@ pub struct TableRows {
 }
 
 // It is written out, so that a caller does not prove again how each part is dropped.
-impl Drop for TableRows {
+impl Drop for PlainRows {
     fn drop(self) {
-        let TableRows {
+        let PlainRows {
             project: _project,
             workunits: _workunits,
             instances: _instances,
@@ -36,6 +37,24 @@ impl Drop for TableRows {
         } = self;
     }
 }
+
+/// The rows of the tables of classes.
+#[derive(Drop)]
+pub struct ClassRows {
+    pub hosts: Vec<Row>,
+    pub workunits: Vec<Row>,
+}
+
+/// The rows of all tables of a project.
+#[derive(Drop)]
+pub struct TableRows {
+    pub plain: PlainRows,
+    /// None where the version has no classes.
+    pub classes: Option<ClassRows>,
+}
+
+/// The version of the schema from which on there are classes.
+const CLASS_VERSION: u64 = 3;
 
 /// The question about all rows of a table: in order of the key where that is the rowid, else in any order.
 fn question(table: Table) -> &'static str
@@ -53,22 +72,25 @@ fn question(table: Table) -> &'static str
         Table::Archived =>
             "SELECT seq, number, name, error_mask, canonical, output, done_at FROM archived ORDER BY seq",
         Table::Import => "SELECT kind, name, template, content, first_number, verdicts FROM import",
+        Table::HostClass => "SELECT host, class FROM host_class",
+        Table::WorkunitClass => "SELECT workunit, class FROM workunit_class ORDER BY workunit",
     }
 }
 
 /// All rows of a table.
 fn rows_of<S: Alter>(conn: &mut Connection<S>, table: Table) -> Result<Vec<Row>, Fault>
-    ensures { Looks S.Store conn.old conn.new result (λ db trees rows. ShowsTable table db.trees
-        trees rows.items) }
+    ensures { (version : ℕ) → IsTableIn version table → Looks version S.Store conn.old conn.new
+        result (λ db trees rows. ShowsTable table db.trees trees rows.items) }
 {
     query(conn, question(table), &[])
 }
 
-/// The rows of all tables. Nothing is changed.
-pub fn table_rows<S: Alter>(conn: &mut Connection<S>) -> Result<TableRows, Fault>
-    ensures { Looks S.Store conn.old conn.new result (λ db trees rows. Shows db.trees trees rows) }
+/// The rows of the tables that every version has. Nothing is changed.
+fn plain_rows<S: Alter>(conn: &mut Connection<S>) -> Result<PlainRows, Fault>
+    ensures { (version : ℕ) → Looks version S.Store conn.old conn.new result
+        (λ db trees rows. ShowsPlain db.trees trees rows) }
 {
-    Ok(TableRows {
+    Ok(PlainRows {
         project: rows_of(conn, Table::Project)?,
         workunits: rows_of(conn, Table::Workunit)?,
         instances: rows_of(conn, Table::Result)?,
@@ -76,5 +98,35 @@ pub fn table_rows<S: Alter>(conn: &mut Connection<S>) -> Result<TableRows, Fault
         hosts: rows_of(conn, Table::Host)?,
         archived: rows_of(conn, Table::Archived)?,
         imports: rows_of(conn, Table::Import)?,
+    })
+}
+
+/// The rows of the tables of classes. Nothing is changed.
+fn class_rows<S: Alter>(conn: &mut Connection<S>) -> Result<ClassRows, Fault>
+    ensures { (version : ℕ) → IsClassedVersion version → Looks version S.Store conn.old conn.new
+        result (λ db trees rows. ShowsClasses db.trees trees rows) }
+{
+    Ok(ClassRows {
+        hosts: rows_of(conn, Table::HostClass)?,
+        workunits: rows_of(conn, Table::WorkunitClass)?,
+    })
+}
+
+/// The rows of all tables of a project of this version. Nothing is changed.
+pub fn table_rows<S: Alter>(conn: &mut Connection<S>, version: u64) -> Result<TableRows, Fault>
+    ensures { Looks version S.Store conn.old conn.new result
+        (λ db trees rows. Shows version db.trees trees rows) }
+{
+    let plain = plain_rows(conn)?;
+    if version < CLASS_VERSION {
+        return Ok(TableRows {
+            plain,
+            classes: None,
+        });
+    }
+    let classes = class_rows(conn)?;
+    Ok(TableRows {
+        plain,
+        classes: Some(classes),
     })
 }

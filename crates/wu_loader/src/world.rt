@@ -1,22 +1,25 @@
 //! The world that the rows of a project's tables are those of.
 
-ghost use Rattle.std.specs.Prelude.{◌≡◌, ◌≢◌, [], ◌∷◌, IfErr, IfOk};
+ghost use Rattle.std.specs.Prelude.{◌≡◌, ◌≢◌, [], ◌∷◌, IfErr, IfOk, map};
+ghost use Rattle.wu_core.specs.Classes.{AreInOrder};
 ghost use Rattle.wu_core.specs.World.{World};
+ghost use Rattle.wu_schema.specs.Stored.{workunit_row};
 ghost use Rattle.wu_loader.specs.Rows.{project_row, IsStoredProject};
 ghost use Rattle.wu_loader.specs.Whole.{UnlessMemory};
-ghost use Rattle.wu_loader.specs.Worlds.{AreRowsOf, IsOrdered, IsReadable};
+ghost use Rattle.wu_loader.specs.Worlds.{plain_world, AreAnyClassRowsOf, ArePlainRowsOf, AreRowsOf, HasClassesOf, IsOrdered, IsReadable};
 ghost use Rattle.wu_loader.specs.declared.rows.ProjectRow.{ProjectRow};
 
+use crate::classes::{host_classes, with_classes, without_classes};
 use crate::finding::{NoWorld, Table, Wrong};
 use crate::hosts::know_hosts;
-use crate::rows::ProjectRow;
-use crate::tables::TableRows;
+use crate::rows::{Classed, ProjectRow};
+use crate::tables::{ClassRows, PlainRows, TableRows};
 use crate::whole::all_from;
 use crate::works::works_from;
 use sqlite::Row;
 use std::alloc::Global;
 use wu_audit::{Imported, Loaded};
-use wu_core::{Archived, Grant};
+use wu_core::{Archived, Grant, HostClass, Workunit};
 
 /// The one row of the project. Where there is none, the first place is told, and where there are more, the second.
 fn project_from(alloc: Global, rows: &[Row]) -> Result<ProjectRow, NoWorld>
@@ -35,11 +38,21 @@ fn project_from(alloc: Global, rows: &[Row]) -> Result<ProjectRow, NoWorld>
     }))
 }
 
-/// The world of these rows, or the first row found that keeps them from being those of one.
-pub fn world_from(alloc: Global, rows: &TableRows) -> Result<Loaded, NoWorld>
-    ensures world { IfOk result (AreRowsOf rows.now) }
+/// What the rows of the tables that every version has are those of.
+#[derive(Drop)]
+struct Plain {
+    project: ProjectRow,
+    workunits: Vec<Workunit>,
+    grants: Vec<Grant>,
+    archived: Vec<Archived>,
+    imports: Vec<Imported>,
+}
+
+/// What these rows are those of, or the first row found that keeps them from being those of anything.
+fn plain_from(alloc: Global, rows: &PlainRows) -> Result<Plain, NoWorld>
+    ensures plain { IfOk result (λ plain. ArePlainRowsOf rows.now (plain_world plain)) }
     ensures none { IfErr result (λ reason. UnlessMemory reason (λ _. (world : World)
-        → IsReadable world → IsOrdered world.workunits → ¬ AreRowsOf rows.now world)) }
+        → IsReadable world → IsOrdered world.workunits → ¬ ArePlainRowsOf rows.now world)) }
 {
     let project = project_from(alloc, &rows.project)?;
     let workunits = works_from(alloc, &rows.workunits, &rows.instances)?;
@@ -47,12 +60,73 @@ pub fn world_from(alloc: Global, rows: &TableRows) -> Result<Loaded, NoWorld>
     know_hosts(alloc, &rows.hosts, &grants)?;
     let archived = all_from::<Archived>(alloc, Table::Archived, &rows.archived)?;
     let imports = all_from::<Imported>(alloc, Table::Import, &rows.imports)?;
+    Ok(Plain {
+        project,
+        workunits,
+        grants,
+        archived,
+        imports,
+    })
+}
+
+/// The workunits with their classes, and the hosts with theirs.
+#[derive(Drop)]
+struct WithClasses {
+    workunits: Vec<Workunit>,
+    hosts: Vec<HostClass>,
+}
+
+/// The workunits with the classes of these rows, and the hosts of theirs. Without such rows none has one.
+fn classes_from(
+    alloc: Global,
+    workunits: Vec<Workunit>,
+    rows: &Option<ClassRows>,
+) -> Result<WithClasses, NoWorld>
+    ensures found { IfOk result (HasClassesOf workunits.items rows.now) }
+    ensures none { IfErr result (λ reason. UnlessMemory reason (λ _. (world : World)
+        → IsReadable world → AreInOrder world.classes
+        → map workunit_row workunits.items ≡ map workunit_row world.workunits
+        → ¬ AreAnyClassRowsOf rows.now world)) }
+{
+    let Some(rows) = rows else {
+        return Ok(WithClasses {
+            workunits: without_classes(alloc, workunits)?,
+            hosts: Vec::new(alloc),
+        });
+    };
+    let classes = all_from::<Classed>(alloc, Table::WorkunitClass, &rows.workunits)?;
+    let workunits = with_classes(alloc, workunits, &classes)?;
+    let hosts = host_classes(alloc, &rows.hosts)?;
+    Ok(WithClasses { workunits, hosts })
+}
+
+/// The world of these rows of a project of this version, or the first row found that keeps them from being those of one.
+pub fn world_from(alloc: Global, version: u64, rows: &TableRows) -> Result<Loaded, NoWorld>
+    ensures world { IfOk result (AreRowsOf version rows.now) }
+    ensures none { IfErr result (λ reason. UnlessMemory reason (λ _. (world : World)
+        → IsReadable world → IsOrdered world.workunits → ¬ AreRowsOf version rows.now world)) }
+{
+    let Plain {
+        project,
+        workunits,
+        grants,
+        archived,
+        imports,
+    } = plain_from(alloc, &rows.plain)?;
+    if project.version != version {
+        return Err(NoWorld::Wrong(Wrong {
+            table: Table::Project,
+            place: 1,
+        }));
+    }
+    let WithClasses { workunits, hosts } = classes_from(alloc, workunits, &rows.classes)?;
     Ok(Loaded::new(
         workunits,
         grants,
         archived,
         imports,
+        hosts,
         project.next_number,
-        project.version,
+        version,
     ))
 }

@@ -8,7 +8,7 @@ use Rattle.std.proofs.lemmas.List.Folds.{list_any-append}
 use Rattle.std.proofs.lemmas.List.Elements.{All-append, All-from_recursion, All-head, All-nil, All-push, All-replicate, All-tail}
 use Rattle.std.proofs.Math.Seq.{take-append_seam}
 use Rattle.std.specs.List.{AllByRecursion, enumerate_from}
-use Rattle.std.specs.Prelude.{◌≢◌, ◌&&◌, not, All, take, find, bytes_eq, if◌then◌else◌}
+use Rattle.std.specs.Prelude.{◌≢◌, All, take, find, bytes_eq, if◌then◌else◌}
 use Rattle.wu_core.specs.declared.fault.Fault.{Fault}
 use Rattle.wu_core.specs.declared.fault.Fault.TheVariants.{NameUsed}
 use Rattle.wu_core.specs.declared.workunit.Workunit.{Workunit}
@@ -24,10 +24,10 @@ use Rattle.wu_feed.proofs.RangeLemmas.{jobs_ranged, template_ranged}
 use Rattle.wu_machine.specs.Batches.{all_applied, first_number, first_taken, is_one_of, job_names, new_workunit, unless_taken, with_jobs}
 use Rattle.wu_machine.specs.Imports.{batch_given, batch_read, Done, Given, jobs_kept, first_answer, has_content, import_of, imported, imported_after, kept_import}
 use Rattle.wu_machine.specs.Machine.{done, done_now, IsUpToDate, is_upgrade, present_version, step, world_of}
-use Rattle.wu_machine.specs.Sound.{IsProject}
+use Rattle.wu_machine.specs.Sound.{HasClassesInTime, IsProject}
 use Rattle.wu_machine.specs.Requests.{AskBatch, Request}
 use Rattle.wu_machine.proofs.ApartLemmas.{Apart, apart_more, apart_pairs, names_of, pairs_apart}
-use Rattle.wu_machine.proofs.Versions.{done_up_to_date}
+use Rattle.wu_machine.proofs.Versions.{done_up_to_date, up_to_date}
 
 abbrev pub news : Parameters → List (ℕ × Job) → List Workunit
 news params ps = map (λ p. new_workunit params p.0 p.1) ps
@@ -52,7 +52,7 @@ above_news params n (job ∷ jobs) ws above =
     subst (λ k. IsAbove k (ws ++ news params (enumerate_from n (job ∷ jobs)))) count
     (subst (λ us. IsAbove ((n + 1) + length jobs) us) (append_assoc ws (new_workunit params n job ∷ []) (news params (enumerate_from (n + 1) jobs))) more)
 
--- a batch keeps a project one, whatever becomes of it
+-- what becomes of a project is one
 abbrev pub KeepsProject : World → Result Done Fault → Type 0
 KeepsProject world result = IsProject (world_of world result)
 
@@ -61,8 +61,18 @@ keeps_if true world one other first second = first
 keeps_if false world one other first second = second
 
 -- before an upgrade nothing else is done of an older project
-pub keeps_done : (world : World) (request : Request) → IsProject world → KeepsProject world (done_now world request) → IsProject (step world request)
-keeps_done world request project now = keeps_if (nat_lt world.version present_version && not (is_upgrade request)) world _ _ project now
+pub keeps_done : (world : World) (request : Request) → IsProject world → is_upgrade request ≡ false
+    → (IsUpToDate world → KeepsProject world (done_now world request)) → IsProject (step world request)
+keeps_done world request project other now = elim (cases_Bool (nat_lt world.version present_version)) [
+  | inl older ↦ rw (older, other) project
+  | inr younger ↦
+      let is = up_to_date world project younger in
+      subst (KeepsProject world) (sym (done_up_to_date world request is)) (now is)
+]
+
+-- one of the present version may have classes
+pub has_classes : (world : World) → IsUpToDate world → (after : World) → after.version ≡ world.version → HasClassesInTime after
+has_classes world is after same low = absurd (omega (arith, is, same, low))
 
 -- one that keeps an import more
 pub keeps_import : (after : World) → IsProject after → (import : Import) → AreVerdicts import.kind import.verdicts → IsProject (with_kept import after)
@@ -74,13 +84,16 @@ keeps_import after project import told = record {
   verdicts = All-push (λ (i : Import). AreVerdicts i.kind i.verdicts) after.imports import project.verdicts told;
   storable = project.storable;
   names = project.names;
+  classed = project.classed;
+  classes_in_time = project.classes_in_time;
 }
 
 -- a workunit that a batch adds can be read
 pub new_storable : (params : Parameters) (n : ℕ) (job : Job) → IsParameters params → IsJob job → n ≤ most_workunits → IsStorable (new_workunit params n job)
 new_storable params n job ranged is low = record {
   number = omega (arith, low);
-  row = record { name = is.name; parameters = ranged; input = is.input; canonical = tt; stamped = record { moment = tt; done = λ e. cc; done_only = λ e. cc }; bare = refl };
+  row = record { name = is.name; parameters = ranged; input = is.input; canonical = tt; stamped = record { moment = tt; done = λ e. cc; done_only = λ e. cc }; bare = refl; classless = refl };
+  class = omega arith;
   instances = record { each = All-nil IsStoredInstance; few = omega arith };
 }
 
@@ -132,7 +145,7 @@ apart_jobs world params jobs apart free =
     apart_news params world.next_number 0 jobs (names_of world.workunits) (map (λ row. row.name) world.archived) [] (job_names jobs) world.workunits
     (sym (append-nil (names_of world.workunits))) refl refl free apart
 
-module _ (world : World) (project : IsProject world) where
+module _ (world : World) (is_now : IsUpToDate world) (project : IsProject world) where
   keeps_jobs : (given : Given) (params : Parameters) (jobs : List Job) → IsParameters params → All IsJob jobs → (taken : Option (ℕ × List ℕ)) → first_taken world jobs ≡ taken
       → KeepsProject world (jobs_kept given world jobs (unless_taken world params jobs taken))
   keeps_jobs given params jobs ranged each (Some place) free = project
@@ -149,6 +162,8 @@ module _ (world : World) (project : IsProject world) where
           storable = All-append IsStorable world.workunits (news params (enumerate_from world.next_number jobs)) project.storable
               (All-from_recursion IsStorable (news params (enumerate_from world.next_number jobs)) (news_storable params world.next_number jobs ranged each within));
           names = apart_pairs (world.workunits ++ news params (enumerate_from world.next_number jobs)) (apart_jobs world params jobs (pairs_apart world.workunits project.names) free);
+          classed = project.classed;
+          classes_in_time = has_classes world is_now (with_jobs world params jobs) refl;
         }) (kept_import given (first_number world jobs) (all_applied jobs)) (All-replicate (λ verdict. verdict ≤ last_skip given.kind) (length jobs) 0 (omega arith)))
   ]
 
@@ -162,5 +177,7 @@ module _ (world : World) (project : IsProject world) where
   keeps_imported name template file (Some import) = keeps_if (has_content (batch_given name template file) import) world (Ok (first_answer import, world)) (Err NameUsed) project project
   keeps_imported name template file None = keeps_read (batch_given name template file) (template_of template) (jobs_of_file file) (template_ranged template) (jobs_ranged file)
 
-  pub keeps_project : (name template file : List ℕ) → IsProject (step world (AskBatch name template file))
-  keeps_project name template file = keeps_done world (AskBatch name template file) project (keeps_imported name template file (import_of world (batch_given name template file)))
+-- a batch keeps a project one, whatever becomes of it
+pub keeps_project : (world : World) → IsProject world → (name template file : List ℕ) → IsProject (step world (AskBatch name template file))
+keeps_project world project name template file = keeps_done world (AskBatch name template file) project refl
+    (λ is. keeps_imported world is project name template file (import_of world (batch_given name template file)))

@@ -8,12 +8,14 @@ use Rattle.wu_core.specs.declared.fault.Fault.{Fault}
 use Rattle.wu_core.specs.declared.fault.Fault.TheVariants.{BadLimit, NameUsed, OldSchema, UnknownWorkunit, NotOpenToCancel, TooMany}
 use Rattle.wu_core.specs.declared.import.ImportKind.{ImportKind}
 use Rattle.wu_core.specs.declared.import.ImportKind.TheVariants as kind
+use Rattle.wu_core.specs.declared.workunit.HostClass.{HostClass}
 use Rattle.wu_core.specs.declared.workunit.Workunit.{Workunit}
 use Rattle.wu_core.specs.Codes.{import_kind_code}
 use Rattle.wu_core.specs.Limits.{most_workunits}
 use Rattle.wu_core.specs.Parameters.{Parameters}
 use Rattle.wu_core.specs.World.{World, Import, is_import}
 use Rattle.wu_feed.specs.declared.jobs.Job.{Job}
+use Rattle.wu_feed.specs.Classes.{classes_of_file}
 use Rattle.wu_feed.specs.Jobs.{jobs_of_file}
 use Rattle.wu_feed.specs.Templates.{template_of}
 use Rattle.wu_feed.specs.Reports.{reports_of_file}
@@ -21,13 +23,13 @@ use Rattle.wu_feed.specs.Sends.{sends_of_file}
 use Rattle.wu_rules.specs.Counts.{is_undecided}
 use Rattle.wu_rules.specs.Cancelling.{cancelled}
 use Rattle.wu_machine.specs.Batches.{jobs_added, unless_taken, first_taken, with_jobs, first_number, all_applied}
-use Rattle.wu_machine.specs.Imports.{Done, Given, batch_given, sent_given, reported_given, import_of, has_content, first_answer, kept_import, keeping, jobs_kept, batch_read, rows_read, newly_imported, imported_after, imported}
+use Rattle.wu_machine.specs.Imports.{Done, Given, batch_given, sent_given, reported_given, classes_given, classes_read, import_of, has_content, first_answer, kept_import, keeping, jobs_kept, batch_read, rows_read, newly_imported, imported_after, imported}
 use Rattle.wu_machine.specs.Laws.{AnswersAgain, ImportsActOnce}
 use Rattle.wu_machine.specs.Machine.{present_version, is_limit_right, cancel_done, done_now, is_upgrade, done, reply_of, world_of, step, fold_steps}
 use Rattle.wu_machine.specs.Passes.{passed, handled}
-use Rattle.wu_machine.specs.Requests.{Request, AskBatch, AskSent, AskReported, AskPass, AskCancel, AskUpgrade, Reply, Passed, Cancelled}
-use Rattle.wu_machine.specs.FileRows.{Rule, after_row, after_rows, report_rule, row_verdict, row_verdicts, send_rule}
-use Rattle.wu_machine.specs.Worlds.{workunit_named, with_named}
+use Rattle.wu_machine.specs.Requests.{Request, AskBatch, AskSent, AskReported, AskClasses, AskPass, AskCancel, AskUpgrade, Reply, Passed, Cancelled}
+use Rattle.wu_machine.specs.FileRows.{Rule, after_classes, after_row, after_rows, report_rule, row_verdict, row_verdicts, send_rule}
+use Rattle.wu_machine.specs.Worlds.{workunit_named, with_host_class, with_named}
 
 -- the schema is not an older one
 abbrev pub IsPresent : World → Type 0
@@ -94,6 +96,13 @@ same_rows rule world (row ∷ rows) =
     (same_if (row_verdict rule world row == 0) world (with_named world (rule.workunit row) (rule.image row)) (same_named world (rule.workunit row) (rule.image row)))
     (same_rows rule (after_row rule world row) rows)
 
+-- rows of classes add none either
+pub same_classes : (world : World) (rows : List HostClass) → Same world (after_classes world rows)
+same_classes world [] = record { imports = refl; version = refl }
+same_classes world (row ∷ rows) =
+    same_then world (with_host_class world row) (after_classes (with_host_class world row) rows) (record { imports = refl; version = refl })
+    (same_classes (with_host_class world row) rows)
+
 -- jobs add no import
 abbrev SameIfOk : World → Result World Fault → Type 0
 SameIfOk world (Ok after) = Same world after
@@ -128,10 +137,15 @@ new_rows : {Row : Type 0} → (rule : Rule Row) (given : Given) (world : World) 
 new_rows rule given world (Err fault) = tt
 new_rows rule given world (Ok rows) = (after_rows rule world rows, 0, row_verdicts rule world rows, same_rows rule world rows, refl)
 
+new_classes : (given : Given) (world : World) (rows : Result (List HostClass) Fault) → New world given (classes_read given world rows)
+new_classes given world (Err fault) = tt
+new_classes given world (Ok rows) = (after_classes world rows, 0, all_applied rows, same_classes world rows, refl)
+
 new_import : (world : World) (given : Given) (k : ImportKind) → New world given (newly_imported world given k)
 new_import world given kind.Batch = new_batch given world (template_of given.template) (jobs_of_file given.content)
-new_import world given kind.Sent = new_rows send_rule given world (sends_of_file given.content)
+new_import world given kind.Sent = new_rows (send_rule world.classes) given world (sends_of_file given.content)
 new_import world given kind.Reported = new_rows report_rule given world (reports_of_file given.content)
+new_import world given kind.Classes = new_classes given world (classes_of_file given.content)
 
 stays_by_new : (world : World) (given : Given) (result : Result Done Fault) → New world given result → StaysBy world result
 stays_by_new world given (Err fault) new = stays_refused world fault
@@ -157,6 +171,7 @@ stays_now : (world : World) (request : Request) → StaysBy world (done_now worl
 stays_now world (AskBatch name template file) = stays_imported world (batch_given name template file)
 stays_now world (AskSent name file) = stays_imported world (sent_given name file)
 stays_now world (AskReported name file) = stays_imported world (reported_given name file)
+stays_now world (AskClasses name file) = stays_imported world (classes_given name file)
 stays_now world (AskPass pass now limit min_age) =
     stays_if world (is_limit_right pass limit min_age) (Ok (Passed pass (handled pass now min_age limit world), passed pass now min_age limit world)) (Err BadLimit)
     (stays_same world (passed pass now min_age limit world) refl refl) (stays_refused world BadLimit)
@@ -292,4 +307,5 @@ imports_act_once = record {
   batch = λ name template file. answers_again (AskBatch name template file) (batch_given name template file) (record { now = λ world. refl; no_upgrade = refl });
   sent = λ name file. answers_again (AskSent name file) (sent_given name file) (record { now = λ world. refl; no_upgrade = refl });
   reported = λ name file. answers_again (AskReported name file) (reported_given name file) (record { now = λ world. refl; no_upgrade = refl });
+  classes = λ name file. answers_again (AskClasses name file) (classes_given name file) (record { now = λ world. refl; no_upgrade = refl });
 }

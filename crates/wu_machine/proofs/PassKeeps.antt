@@ -19,22 +19,23 @@ use Rattle.wu_core.specs.Storable.{IsMoment, IsName, IsPlace, IsStoredInstance, 
 use Rattle.wu_rules.specs.declared.due.Pass.{Pass}
 use Rattle.wu_rules.specs.declared.due.Pass.TheVariants.{Transition, Validate, Assimilate, Delete, Purge}
 use Rattle.wu_machine.specs.FileRows.{Rule, after_row}
-use Rattle.wu_machine.specs.Machine.{cancel_done, HasValues, is_limit_right, step}
+use Rattle.wu_machine.specs.Machine.{cancel_done, HasValues, is_limit_right, IsUpToDate, step}
 use Rattle.wu_machine.specs.Passes.{images, is_among, passed}
 use Rattle.wu_machine.specs.Sound.{IsProject}
 use Rattle.wu_machine.specs.Laws.{KeepsProjects}
-use Rattle.wu_machine.specs.Requests.{Request, AskBatch, AskSent, AskReported, AskCancel, AskPass, AskUpgrade}
+use Rattle.wu_machine.specs.Requests.{Request, AskBatch, AskSent, AskReported, AskClasses, AskCancel, AskPass, AskUpgrade}
 use Rattle.wu_machine.specs.Worlds.{workunit_named}
 use Rattle.wu_machine.proofs.ApartLemmas.{Apart, apart_pairs, pairs_apart}
-use Rattle.wu_machine.proofs.BatchKeeps.{keeps_done, KeepsProject, keeps_if, keeps_project}
-use Rattle.wu_machine.proofs.StorableLemmas.{IsKeeping, keeps_project_reported, keeps_project_sent, row_keeps}
+use Rattle.wu_machine.proofs.BatchKeeps.{has_classes, keeps_done, KeepsProject, keeps_if, keeps_project}
+use Rattle.wu_machine.proofs.StorableLemmas.{IsKeeping, keeps_project_classes, keeps_project_reported, keeps_project_sent, row_keeps}
+use Rattle.wu_machine.proofs.Versions.{done_upgrade}
 
 -- ---- a workunit that can be read, as a rule leaves it
 
 stored_stays : StaysWithInstances IsStoredInstance
 stored_stays = record {
   new = record { values = record { host = tt; moments = record { sent_at = tt; deadline = tt; received_at = tt }; output = omega arith }; formed = formed_stays.new };
-  judged = λ i v h. record { values = record { host = h.values.host; moments = h.values.moments; output = h.values.output }; formed = formed_stays.judged i v h.formed };
+  judged = λ i v viable h. record { values = record { host = h.values.host; moments = h.values.moments; output = h.values.output }; formed = formed_stays.judged i v viable h.formed };
   filed = λ i f h. record { values = record { host = h.values.host; moments = h.values.moments; output = h.values.output }; formed = formed_stays.filed i f h.formed };
   deleted = λ i h. record { values = record { host = h.values.host; moments = h.values.moments; output = omega arith }; formed = formed_stays.deleted i h.formed };
   ended = λ i o other h. record { values = record { host = h.values.host; moments = h.values.moments; output = h.values.output }; formed = formed_stays.ended i o other h.formed };
@@ -64,7 +65,9 @@ keeps_storable w v keeps storable = record {
       done_only = λ e. keeps.stays_done (storable.row.stamped.done_only (sym (ap is_some keeps.done_at) ∙ e));
     };
     bare = refl;
+    classless = refl;
   };
+  class = (let less = keeps.class in let within = storable.class in omega (arith, less, within));
   instances = record { each = keeps.each storable.instances.each; few = few };
 }
   where
@@ -89,15 +92,15 @@ cancel_keeps name = record {
 }
 
 module _ (world : World) (project : IsProject world) where
-  cancel_found : (name : List ℕ) (found : Option Workunit) → workunit_named world name ≡ found → KeepsProject world (cancel_done world name found)
-  cancel_found name None is = project
-  cancel_found name (Some w) is =
-      let kept : IsProject (after_row cancel_rule world name) = row_keeps cancel_rule name (cancel_keeps name) world project in
+  cancel_found : (name : List ℕ) (found : Option Workunit) → workunit_named world name ≡ found → IsUpToDate world → KeepsProject world (cancel_done world name found)
+  cancel_found name None is now = project
+  cancel_found name (Some w) is now =
+      let kept : IsProject (after_row cancel_rule world name) = row_keeps cancel_rule name (cancel_keeps name) world now project in
       keeps_if (is_undecided w) world _ _ (rw is at kept) project
 
   -- a cancel keeps a project one, whatever becomes of it
   pub keeps_project_cancel : (name : List ℕ) → IsProject (step world (AskCancel name))
-  keeps_project_cancel name = keeps_done world (AskCancel name) project (cancel_found name (workunit_named world name) refl)
+  keeps_project_cancel name = keeps_done world (AskCancel name) project refl (cancel_found name (workunit_named world name) refl)
 
 -- ---- a pass
 
@@ -174,7 +177,9 @@ follows_assimilated w now low storable = by (is_ready_assimilate w.assimilate)
           canonical = storable.row.canonical;
           stamped = record { moment = low; done = λ e. refl; done_only = λ e. refl };
           bare = refl;
+          classless = refl;
         };
+        class = storable.class;
         instances = storable.instances;
       };
     }
@@ -188,8 +193,8 @@ leaves_images Delete now low w storable = follows_rule w (emptied w) (keeps_empt
 leaves_images Purge now low w storable = tt
 
 module _ (world : World) (project : IsProject world) where
-  passed_keeps : (pass : Pass) (now limit min_age : ℕ) → now ≤ last_moment → IsProject (passed pass now min_age limit world)
-  passed_keeps pass now limit min_age low = record {
+  passed_keeps : (pass : Pass) (now limit min_age : ℕ) → now ≤ last_moment → IsUpToDate world → IsProject (passed pass now min_age limit world)
+  passed_keeps pass now limit min_age low is = record {
     first = project.first;
     known = project.known;
     above = all_above change leaves world.next_number world.workunits stored project.above;
@@ -197,6 +202,8 @@ module _ (world : World) (project : IsProject world) where
     verdicts = project.verdicts;
     storable = All-from_recursion IsStorable (flat_map change world.workunits) (all_storable change leaves world.workunits stored);
     names = apart_pairs (flat_map change world.workunits) (all_apart change leaves world.workunits stored (pairs_apart world.workunits project.names));
+    classed = project.classed;
+    classes_in_time = has_classes world is (passed pass now min_age limit world) refl;
   }
     where
       -- what the pass makes of a workunit, which it may not have taken
@@ -216,15 +223,15 @@ module _ (world : World) (project : IsProject world) where
   -- a pass keeps a project one, whatever becomes of it
   pub keeps_project_pass : (pass : Pass) (now limit min_age : ℕ) → now ≤ last_moment → IsProject (step world (AskPass pass now limit min_age))
   keeps_project_pass pass now limit min_age low =
-      keeps_done world (AskPass pass now limit min_age) project
-      (keeps_if (is_limit_right pass limit min_age) world _ _ (passed_keeps pass now limit min_age low) project)
+      keeps_done world (AskPass pass now limit min_age) project refl
+      (λ is. keeps_if (is_limit_right pass limit min_age) world _ _ (passed_keeps pass now limit min_age low is) project)
 
 -- ---- a command
 
 -- an upgrade leaves the present version, of an older one too
 keeps_project_upgrade : (world : World) → IsProject world → IsProject (step world AskUpgrade)
 keeps_project_upgrade world project =
-    keeps_done world AskUpgrade project (record {
+    subst (KeepsProject world) (sym (done_upgrade world)) (record {
       first = omega arith;
       known = omega arith;
       above = project.above;
@@ -232,6 +239,8 @@ keeps_project_upgrade world project =
       verdicts = project.verdicts;
       storable = project.storable;
       names = project.names;
+      classed = project.classed;
+      classes_in_time = λ low. absurd (omega (arith, low));
     })
 
 -- whatever becomes of a request, what it leaves of a project is one
@@ -239,6 +248,7 @@ pub keeps_by : (request : Request) → HasValues request → KeepsProjects reque
 keeps_by (AskBatch name template file) values world project = keeps_project world project name template file
 keeps_by (AskSent name file) values world project = keeps_project_sent world project name file
 keeps_by (AskReported name file) values world project = keeps_project_reported world project name file
+keeps_by (AskClasses name file) values world project = keeps_project_classes world project name file
 keeps_by (AskPass pass now limit min_age) values world project = keeps_project_pass world project pass now limit min_age values
 keeps_by (AskCancel name) values world project = keeps_project_cancel world project name
 keeps_by AskUpgrade values world project = keeps_project_upgrade world project

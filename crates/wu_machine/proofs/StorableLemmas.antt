@@ -1,13 +1,15 @@
--- Files of sends and of reports keep a project one: what they apply to a workunit leaves it one that can be read.
+-- Files of sends, of reports and of classes keep a project one: what they apply to a workunit leaves it one that can be
+-- read.
 use Rattle.std.proofs.Common.{◌≡◌, ◌≢◌, ℕ, ◌<◌, ◌≤◌, ◌==◌, Bool, true, false, List, [], ◌∷◌, length, map, Option, Some, None, Result, Ok, Err, is_some, All, bytes_eq, refl, sym, ap, subst, ◌∙◌, inl, inr, arith}
 use Rattle.std.proofs.lemmas.Bool.{cases_Bool, eqb-true}
 use Rattle.std.proofs.lemmas.List.{length-set}
-use Rattle.std.proofs.lemmas.List.Elements.{All-cons, All-from_recursion, All-head, All-nil, All-set, All-tail, All-weaker, recursion_from_All}
+use Rattle.std.proofs.lemmas.List.Elements.{All-cons, All-from_recursion, All-head, All-nil, All-replicate, All-set, All-tail, All-weaker, recursion_from_All}
 use Rattle.std.proofs.lemmas.Option.{get_or_from_slice_get, slice_get_within}
 use Rattle.std.proofs.lemmas.Slice.Eq.{bytes_eq-Decides}
 use Rattle.std.specs.List.{AllByRecursion}
 use Rattle.std.specs.Option.{option_map_or}
 use Rattle.std.specs.Prelude.{find, if◌then◌else◌, slice_get, IfSome}
+use Rattle.wu_core.specs.Classes.{AreClassed, IsClassed, class_of}
 use Rattle.wu_core.specs.Limits.{last_moment, longest_output}
 use Rattle.wu_core.specs.Names.{is_name}
 use Rattle.wu_core.specs.Workunit.{with_instance_set}
@@ -16,14 +18,17 @@ use Rattle.wu_core.specs.declared.fault.Fault.{Fault}
 use Rattle.wu_core.specs.declared.fault.Fault.TheVariants.{NameUsed}
 use Rattle.wu_core.specs.declared.import.ImportKind.TheVariants as kind
 use Rattle.wu_core.specs.declared.states.Status.{Status}
+use Rattle.wu_core.specs.declared.workunit.HostClass.{HostClass}
 use Rattle.wu_core.specs.declared.workunit.Instance.{Instance}
 use Rattle.wu_core.specs.declared.workunit.Workunit.{Workunit}
+use Rattle.wu_feed.specs.Classes.{classes_of_file}
 use Rattle.wu_feed.specs.Ranges.{IsReportRow, IsSendRow}
 use Rattle.wu_feed.specs.Reports.{reports_of_file}
 use Rattle.wu_feed.specs.Sends.{sends_of_file}
 use Rattle.wu_feed.specs.declared.reports.ReportRow.{ReportRow}
 use Rattle.wu_feed.specs.declared.sends.SendRow.{SendRow}
-use Rattle.wu_feed.proofs.RangeLemmas.{reports_ranged, sends_ranged}
+use Rattle.wu_core.proofs.ClassLemmas.{class_of-within, classed-set}
+use Rattle.wu_feed.proofs.RangeLemmas.{classes_ranged, reports_ranged, sends_ranged}
 use Rattle.wu_rules.specs.Reporting.{report_verdict_in, report_verdict_of, reported_as}
 use Rattle.wu_rules.specs.Sending.{send_verdict_in, sent_to}
 use Rattle.wu_rules.specs.Verdicts.{report_verdict_code, send_verdict_code}
@@ -31,15 +36,17 @@ use Rattle.wu_rules.specs.declared.verdicts.ReportVerdict.{ReportVerdict}
 use Rattle.wu_rules.specs.declared.verdicts.ReportVerdict.TheVariants as report
 use Rattle.wu_rules.specs.declared.verdicts.SendVerdict.{SendVerdict}
 use Rattle.wu_rules.specs.declared.verdicts.SendVerdict.TheVariants as send
-use Rattle.wu_core.specs.Storable.{AreStoredInstances, AreVerdicts, IsStoredInstance, IsStorable, IsAbove}
-use Rattle.wu_machine.specs.FileRows.{Rule, after_row, after_rows, report_rule, row_verdict, row_verdicts, send_rule, unknown}
-use Rattle.wu_machine.specs.Imports.{Given, first_answer, has_content, import_of, imported_after, kept_import, reported_given, rows_read, sent_given}
-use Rattle.wu_machine.specs.Machine.{step}
+use Rattle.wu_core.specs.Storable.{AreStoredInstances, AreVerdicts, IsClass, IsStoredInstance, IsStorable, IsAbove}
+use Rattle.wu_machine.specs.FileRows.{Rule, after_classes, after_row, after_rows, report_rule, row_verdict, row_verdicts, send_rule, unknown}
+use Rattle.wu_machine.specs.Imports.{Given, classes_given, classes_read, first_answer, has_content, import_of, imported_after, kept_import, reported_given, rows_read, sent_given}
+use Rattle.wu_machine.specs.Batches.{all_applied}
+use Rattle.wu_machine.specs.Machine.{IsUpToDate, step}
 use Rattle.wu_machine.specs.Sound.{IsProject}
-use Rattle.wu_machine.specs.Requests.{AskReported, AskSent}
-use Rattle.wu_machine.specs.Worlds.{workunit_named}
+use Rattle.wu_machine.specs.Requests.{AskClasses, AskReported, AskSent}
+use Rattle.wu_machine.specs.Worlds.{with_host_class, with_named, workunit_named}
 use Rattle.wu_machine.proofs.ApartLemmas.{Apart, apart_changed, apart_pairs, pairs_apart}
-use Rattle.wu_machine.proofs.BatchKeeps.{keeps_done, KeepsProject, keeps_if, keeps_import}
+use Rattle.wu_machine.proofs.BatchKeeps.{has_classes, keeps_done, KeepsProject, keeps_if, keeps_import}
+use Rattle.wu_machine.proofs.ImportLemmas.{same_rows}
 
 -- ---- what is found can be read
 
@@ -102,8 +109,8 @@ module _ {Row : Type 0} (rule : Rule Row) (row : Row) (keeps : IsKeeping rule ro
         (same, storable_kept ws apart.1 storable.1 (rw not at applied))
   ]
 
-  pub row_keeps : (world : World) → IsProject world → IsProject (after_row rule world row)
-  row_keeps world project = elim (cases_Bool (row_verdict rule world row == 0)) [
+  pub row_keeps : (world : World) → IsUpToDate world → IsProject world → IsProject (after_row rule world row)
+  row_keeps world is_now project = elim (cases_Bool (row_verdict rule world row == 0)) [
     | inl applied ↦ rw applied (record {
       first = project.first;
       known = project.known;
@@ -113,6 +120,8 @@ module _ {Row : Type 0} (rule : Rule Row) (row : Row) (keeps : IsKeeping rule ro
       storable = All-from_recursion IsStorable (map changed world.workunits)
           (storable_kept world.workunits (pairs_apart world.workunits project.names) (recursion_from_All IsStorable world.workunits project.storable) (eqb-true (row_verdict rule world row) 0 applied));
       names = apart_pairs (map changed world.workunits) (apart_changed changed name_kept world.workunits (pairs_apart world.workunits project.names));
+      classed = project.classed;
+      classes_in_time = has_classes world is_now (with_named world (rule.workunit row) (rule.image row)) refl;
     })
     | inr skipped ↦ rw skipped project
   ]
@@ -120,10 +129,11 @@ module _ {Row : Type 0} (rule : Rule Row) (row : Row) (keeps : IsKeeping rule ro
 -- ---- the rows of a file
 
 module _ {Row : Type 0} (rule : Rule Row) where
-  pub rows_keep : (rows : List Row) → All (IsKeeping rule) rows → (world : World) → IsProject world → IsProject (after_rows rule world rows)
-  rows_keep [] keeping world project = project
-  rows_keep (row ∷ rows) keeping world project =
-      rows_keep rows (All-tail (IsKeeping rule) row rows keeping) (after_row rule world row) (row_keeps rule row (All-head (IsKeeping rule) row rows keeping) world project)
+  pub rows_keep : (rows : List Row) → All (IsKeeping rule) rows → (world : World) → IsUpToDate world → IsProject world → IsProject (after_rows rule world rows)
+  rows_keep [] keeping world is project = project
+  rows_keep (row ∷ rows) keeping world is project =
+      rows_keep rows (All-tail (IsKeeping rule) row rows keeping) (after_row rule world row) ((same_rows rule world (row ∷ [])).version ∙ is)
+      (row_keeps rule row (All-head (IsKeeping rule) row rows keeping) world is project)
 
   -- each verdict is one of its kind
   pub verdicts_within : (last : ℕ) → unknown ≤ last → ((row : Row) (w : Workunit) → rule.verdict row w ≤ last) → (rows : List Row) (world : World) → All (λ verdict. verdict ≤ last) (row_verdicts rule world rows)
@@ -138,34 +148,40 @@ module _ {Row : Type 0} (rule : Rule Row) where
 
 -- ---- an instance changed at its place
 
-abbrev changed_at : Workunit → ℕ → (Instance → Instance) → Workunit
-changed_at w n change = option_map_or (λ (i : Instance). with_instance_set w n (change i)) (slice_get w.instances n) w
+-- the workunit has this class then
+abbrev changed_as : Workunit → ℕ → ℕ → (Instance → Instance) → Instance → Workunit
+changed_as w n class change i = record (with_instance_set w n (change i)) { class = class }
 
-module _ (w : Workunit) (n : ℕ) (change : Instance → Instance) where
-  at_number : (changed_at w n change).number ≡ w.number
+abbrev changed_at : Workunit → ℕ → ℕ → (Instance → Instance) → Workunit
+changed_at w n class change = option_map_or (changed_as w n class change) (slice_get w.instances n) w
+
+module _ (w : Workunit) (n : ℕ) (class : ℕ) (change : Instance → Instance) where
+  at_number : (changed_at w n class change).number ≡ w.number
   at_number = by (slice_get w.instances n)
     where
-      by : (found : Option Instance) → (option_map_or (λ (i : Instance). with_instance_set w n (change i)) found w).number ≡ w.number
+      by : (found : Option Instance) → (option_map_or (changed_as w n class change) found w).number ≡ w.number
       by (Some i) = refl
       by None = refl
 
-  at_name : (changed_at w n change).name ≡ w.name
+  at_name : (changed_at w n class change).name ≡ w.name
   at_name = by (slice_get w.instances n)
     where
-      by : (found : Option Instance) → (option_map_or (λ (i : Instance). with_instance_set w n (change i)) found w).name ≡ w.name
+      by : (found : Option Instance) → (option_map_or (changed_as w n class change) found w).name ≡ w.name
       by (Some i) = refl
       by None = refl
 
   stored_at : (i : Instance) → AreStoredInstances w.instances → slice_get w.instances n ≡ Some i → IsStoredInstance i
   stored_at i stored at = subst IsStoredInstance (get_or_from_slice_get w.instances n i i at) (stored.each n i (slice_get_within w.instances n i at))
 
-  at_storable : IsStorable w → ((i : Instance) → slice_get w.instances n ≡ Some i → IsStoredInstance i → IsStoredInstance (change i)) → IsStorable (changed_at w n change)
-  at_storable storable keeps = by (slice_get w.instances n) refl
+  at_storable : IsStorable w → IsClass class → ((i : Instance) → slice_get w.instances n ≡ Some i → IsStoredInstance i → IsStoredInstance (change i))
+      → IsStorable (changed_at w n class change)
+  at_storable storable low keeps = by (slice_get w.instances n) refl
     where
-      by : (found : Option Instance) → slice_get w.instances n ≡ found → IsStorable (option_map_or (λ (i : Instance). with_instance_set w n (change i)) found w)
+      by : (found : Option Instance) → slice_get w.instances n ≡ found → IsStorable (option_map_or (changed_as w n class change) found w)
       by (Some i) at = record {
         number = storable.number;
         row = storable.row;
+        class = low;
         instances = record {
           each = All-set IsStoredInstance w.instances n (change i) (keeps i at (stored_at i storable.instances at)) storable.instances.each;
           few = (let long = length-set w.instances n (change i) in let few = storable.instances.few in omega (arith, long, few));
@@ -185,18 +201,20 @@ sent_stored w host moment i storable named low stored = record {
   formed = record { sent_with_host = refl; due_with_host = refl; unsent = λ e. cc; in_progress = λ e. refl; success = λ e f. refl };
 }
 
-send_keeps : (row : SendRow) → IsSendRow row → IsKeeping send_rule row
-send_keeps row is = record {
-  number = λ w. at_number w row.n (sent_to w row.host row.moment);
-  name = λ w. at_name w row.n (sent_to w row.host row.moment);
-  storable = λ w storable applied. at_storable w row.n (sent_to w row.host row.moment) storable (λ i at stored. sent_stored w row.host row.moment i storable is.host is.moment stored);
+send_keeps : (classes : List HostClass) → AreClassed classes → (row : SendRow) → IsSendRow row → IsKeeping (send_rule classes) row
+send_keeps classes are row is = record {
+  number = λ w. at_number w row.n (class_of classes row.host) (sent_to w row.host row.moment);
+  name = λ w. at_name w row.n (class_of classes row.host) (sent_to w row.host row.moment);
+  storable = λ w storable applied. at_storable w row.n (class_of classes row.host) (sent_to w row.host row.moment) storable (class_of-within row.host classes are)
+      (λ i at stored. sent_stored w row.host row.moment i storable is.host is.moment stored);
 }
 
-send_within : (verdict : SendVerdict) → send_verdict_code verdict ≤ 3
+send_within : (verdict : SendVerdict) → send_verdict_code verdict ≤ 4
 send_within send.Applied = omega arith
 send_within send.Unknown = omega arith
 send_within send.NotUnsent = omega arith
 send_within send.SameHost = omega arith
+send_within send.Class = omega arith
 
 -- ---- reports
 
@@ -230,10 +248,10 @@ code_applied report.Over is = absurd cc
 
 report_keeps : (row : ReportRow) → IsReportRow row → IsKeeping report_rule row
 report_keeps row is = record {
-  number = λ w. at_number w row.n (reported_as row.moment row.status row.output);
-  name = λ w. at_name w row.n (reported_as row.moment row.status row.output);
+  number = λ w. at_number w row.n w.class (reported_as row.moment row.status row.output);
+  name = λ w. at_name w row.n w.class (reported_as row.moment row.status row.output);
   storable = λ w storable applied.
-      at_storable w row.n (reported_as row.moment row.status row.output) storable (λ i at stored.
+      at_storable w row.n w.class (reported_as row.moment row.status row.output) storable storable.class (λ i at stored.
       let taken : report_verdict_in w row.n row.host row.moment ≡ report.Applied = code_applied (report_verdict_in w row.n row.host row.moment) applied in
       let here : report_verdict_of row.host row.moment i ≡ report.Applied = rw at at taken in
       reported_stored row.moment row.status row.output i (was_sent row.host row.moment i here) is.moment is.output stored);
@@ -249,21 +267,46 @@ report_within report.Over = omega arith
 
 -- ---- files of them
 
-module _ (rows : List SendRow) (world : World) where
-  pub sends_keep : All IsSendRow rows → IsProject world → IsProject (after_rows send_rule world rows)
-  sends_keep are project = rows_keep send_rule rows (All-weaker IsSendRow (IsKeeping send_rule) send_keeps rows are) world project
+module _ (classes : List HostClass) (rows : List SendRow) (world : World) where
+  pub sends_keep : AreClassed classes → All IsSendRow rows → IsUpToDate world → IsProject world → IsProject (after_rows (send_rule classes) world rows)
+  sends_keep classed are is project =
+      rows_keep (send_rule classes) rows (All-weaker IsSendRow (IsKeeping (send_rule classes)) (send_keeps classes classed) rows are) world is project
 
-  pub send_verdicts : AreVerdicts kind.Sent (row_verdicts send_rule world rows)
-  send_verdicts = verdicts_within send_rule (last_skip kind.Sent) (omega arith) (λ row w. send_within (send_verdict_in w row.n row.host)) rows world
+  pub send_verdicts : AreVerdicts kind.Sent (row_verdicts (send_rule classes) world rows)
+  send_verdicts = verdicts_within (send_rule classes) (last_skip kind.Sent) (omega arith)
+      (λ row w. send_within (send_verdict_in w row.n row.host (class_of classes row.host))) rows world
 
 module _ (rows : List ReportRow) (world : World) where
-  pub reports_keep : All IsReportRow rows → IsProject world → IsProject (after_rows report_rule world rows)
-  reports_keep are project = rows_keep report_rule rows (All-weaker IsReportRow (IsKeeping report_rule) report_keeps rows are) world project
+  pub reports_keep : All IsReportRow rows → IsUpToDate world → IsProject world → IsProject (after_rows report_rule world rows)
+  reports_keep are is project = rows_keep report_rule rows (All-weaker IsReportRow (IsKeeping report_rule) report_keeps rows are) world is project
 
   pub report_verdicts : AreVerdicts kind.Reported (row_verdicts report_rule world rows)
   report_verdicts = verdicts_within report_rule (last_skip kind.Reported) (omega arith) (λ row w. report_within (report_verdict_in w row.n row.host row.moment)) rows world
 
-module _ (world : World) (project : IsProject world) where
+-- a host's class that is set
+class_keeps : (it : HostClass) → IsClassed it → (world : World) → IsUpToDate world → IsProject world → IsProject (with_host_class world it)
+class_keeps it ranged world is project = record {
+  first = project.first;
+  known = project.known;
+  above = project.above;
+  next = project.next;
+  verdicts = project.verdicts;
+  storable = project.storable;
+  names = project.names;
+  classed = classed-set it.host it.class world.classes ranged project.classed;
+  classes_in_time = has_classes world is (with_host_class world it) refl;
+}
+
+pub classes_keep : (rows : List HostClass) → AreClassed rows → (world : World) → IsUpToDate world → IsProject world → IsProject (after_classes world rows)
+classes_keep [] are world is project = project
+classes_keep (row ∷ rows) are world is project =
+    classes_keep rows (All-tail IsClassed row rows are) (with_host_class world row) is (class_keeps row (All-head IsClassed row rows are) world is project)
+
+-- each verdict on a row of classes is that it is applied
+pub class_verdicts : (rows : List HostClass) → AreVerdicts kind.Classes (all_applied rows)
+class_verdicts rows = All-replicate (λ verdict. verdict ≤ last_skip kind.Classes) (length rows) 0 (omega arith)
+
+module _ (world : World) (is : IsUpToDate world) (project : IsProject world) where
   -- a new file, where its rows keep a project one and its verdicts are those of its kind
   file_keeps : {Row : Type 0} (rule : Rule Row) (given : Given) (rows : Result (List Row) Fault)
       → ((are : List Row) → rows ≡ Ok are → IsProject (after_rows rule world are) × AreVerdicts given.kind (row_verdicts rule world are)) → KeepsProject world (rows_read rule given world rows)
@@ -275,17 +318,34 @@ module _ (world : World) (project : IsProject world) where
   sent_imported : (name file : List ℕ) (earlier : Option Import) → KeepsProject world (imported_after world (sent_given name file) earlier)
   sent_imported name file (Some import) = keeps_if (has_content (sent_given name file) import) world (Ok (first_answer import, world)) (Err NameUsed) project project
   sent_imported name file None =
-      file_keeps send_rule (sent_given name file) (sends_of_file file) (λ rows are. (sends_keep rows world (sends_ranged file rows are) project, send_verdicts rows world))
-
-  -- a file of sends keeps a project one, whatever becomes of it
-  pub keeps_project_sent : (name file : List ℕ) → IsProject (step world (AskSent name file))
-  keeps_project_sent name file = keeps_done world (AskSent name file) project (sent_imported name file (import_of world (sent_given name file)))
+      file_keeps (send_rule world.classes) (sent_given name file) (sends_of_file file)
+      (λ rows are. (sends_keep world.classes rows world project.classed (sends_ranged file rows are) is project, send_verdicts world.classes rows world))
 
   reported_imported : (name file : List ℕ) (earlier : Option Import) → KeepsProject world (imported_after world (reported_given name file) earlier)
   reported_imported name file (Some import) = keeps_if (has_content (reported_given name file) import) world (Ok (first_answer import, world)) (Err NameUsed) project project
   reported_imported name file None =
-      file_keeps report_rule (reported_given name file) (reports_of_file file) (λ rows are. (reports_keep rows world (reports_ranged file rows are) project, report_verdicts rows world))
+      file_keeps report_rule (reported_given name file) (reports_of_file file) (λ rows are. (reports_keep rows world (reports_ranged file rows are) is project, report_verdicts rows world))
 
-  -- so does a file of reports
-  pub keeps_project_reported : (name file : List ℕ) → IsProject (step world (AskReported name file))
-  keeps_project_reported name file = keeps_done world (AskReported name file) project (reported_imported name file (import_of world (reported_given name file)))
+  classes_new : (given : Given) (rows : Result (List HostClass) Fault) → given.kind ≡ kind.Classes → ((are : List HostClass) → rows ≡ Ok are → AreClassed are)
+      → KeepsProject world (classes_read given world rows)
+  classes_new given (Err fault) of_kind ranged = project
+  classes_new given (Ok rows) of_kind ranged =
+      keeps_import (after_classes world rows) (classes_keep rows (ranged rows refl) world is project) (kept_import given 0 (all_applied rows))
+      (subst (λ kind. AreVerdicts kind (all_applied rows)) (sym of_kind) (class_verdicts rows))
+
+  classes_imported : (name file : List ℕ) (earlier : Option Import) → KeepsProject world (imported_after world (classes_given name file) earlier)
+  classes_imported name file (Some import) = keeps_if (has_content (classes_given name file) import) world (Ok (first_answer import, world)) (Err NameUsed) project project
+  classes_imported name file None = classes_new (classes_given name file) (classes_of_file file) refl (classes_ranged file)
+
+-- a file keeps a project one, whatever becomes of it
+module _ (world : World) (project : IsProject world) (name file : List ℕ) where
+  pub keeps_project_sent : IsProject (step world (AskSent name file))
+  keeps_project_sent = keeps_done world (AskSent name file) project refl (λ is. sent_imported world is project name file (import_of world (sent_given name file)))
+
+  pub keeps_project_reported : IsProject (step world (AskReported name file))
+  keeps_project_reported = keeps_done world (AskReported name file) project refl
+      (λ is. reported_imported world is project name file (import_of world (reported_given name file)))
+
+  pub keeps_project_classes : IsProject (step world (AskClasses name file))
+  keeps_project_classes = keeps_done world (AskClasses name file) project refl
+      (λ is. classes_imported world is project name file (import_of world (classes_given name file)))

@@ -40,6 +40,7 @@ new_workunit params number job = record {
   assimilate = assimilate.Init;
   file_delete = file_delete.Init;
   done_at = None;
+  class = 0;
   instances = [];
 }
 
@@ -64,6 +65,6 @@ abbrev pub first_number : World → List Job → ℕ
 first_number world [] = 0
 first_number world (job ∷ jobs) = world.next_number
 
--- each job is applied
-abbrev pub all_applied : List Job → List ℕ
-all_applied jobs = replicate (length jobs) 0
+-- each row of a file is applied
+abbrev pub all_applied : {Row : Type 0} → List Row → List ℕ
+all_applied rows = replicate (length rows) 0

@@ -9,7 +9,7 @@ use Rattle.wu_machine.specs.declared.command.Command.{Command}
 use Rattle.wu_machine.specs.declared.command.Command.TheVariants as command
 use Rattle.wu_machine.specs.declared.command.RowsFile.{RowsFile}
 use Rattle.wu_machine.specs.Imports.{Given, batch_given}
-use Rattle.wu_machine.specs.Requests.{Request, AskBatch, AskCancel, AskPass, AskReported, AskSent, AskUpgrade, Reply, Cancelled, Imported, Passed, Upgraded}
+use Rattle.wu_machine.specs.Requests.{Request, AskBatch, AskCancel, AskClasses, AskPass, AskReported, AskSent, AskUpgrade, Reply, Cancelled, Imported, Passed, Upgraded}
 
 -- what a batch is imported as, and what it asks of the machine
 abbrev pub batch_of : Batch → Given
@@ -27,6 +27,7 @@ abbrev pub request_of : Command → Request
 request_of (command.Batch batch) = request_of_batch batch
 request_of (command.Sent file) = AskSent file.name file.file
 request_of (command.Reported file) = AskReported file.name file.file
+request_of (command.Classes file) = AskClasses file.name file.file
 request_of (command.Transition now limit) = AskPass pass.Transition now limit 0
 request_of (command.Validate limit) = AskPass pass.Validate 0 limit 0
 request_of (command.Assimilate now limit) = AskPass pass.Assimilate now limit 0

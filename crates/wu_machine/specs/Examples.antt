@@ -5,8 +5,10 @@ use Rattle.wu_core.specs.declared.workunit.Workunit.{Workunit}
 use Rattle.wu_core.specs.Parameters.{default_parameters}
 use Rattle.wu_core.specs.Workunit.{fresh}
 use Rattle.wu_core.specs.World.{World, empty_world}
+use Rattle.wu_core.specs.declared.workunit.HostClass.{HostClass}
+use Rattle.wu_feed.specs.Classes.{classed}
 use Rattle.wu_feed.specs.declared.jobs.Job.{Job}
-use Rattle.wu_rules.specs.Examples.{job, out, aa, h1, h2, masked, cancelled_mask, unneeded}
+use Rattle.wu_rules.specs.Examples.{job, out, aa, h1, h2, h3, masked, cancelled_mask, unneeded}
 use Rattle.wu_rules.specs.Assimilation.{archived_row}
 use Rattle.wu_core.specs.declared.states.Status.TheVariants as status
 use Rattle.wu_feed.specs.declared.reports.ReportRow.{ReportRow}
@@ -52,6 +54,18 @@ reported_row workunit n host moment = record { workunit = workunit; n = n; host 
 -- a second instance for the same host, an instance that is out already, and one that is sent
 abbrev pub three_sends : List SendRow
 three_sends = sent_row 1 h1 ∷ sent_row 0 h2 ∷ sent_row 1 h2 ∷ []
+
+-- two instances wait
+abbrev pub world_of_two_unsent : World
+world_of_two_unsent = with_workunits (job default_parameters (fresh ∷ fresh ∷ []) ∷ [])
+
+-- the first and the third host are of one class
+abbrev pub three_classes : List HostClass
+three_classes = classed h1 1 ∷ classed h2 2 ∷ classed h3 1 ∷ []
+
+-- an instance to the first host, the other to the second, and to the third
+abbrev pub sends_to_three : List SendRow
+sends_to_three = sent_row 0 h1 ∷ sent_row 1 h2 ∷ sent_row 1 h3 ∷ []
 
 -- of no instance, of one that was not sent, of another host, from before it was sent, as it should be, and again
 abbrev pub six_reports : List ReportRow

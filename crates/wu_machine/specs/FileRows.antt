@@ -1,14 +1,16 @@
--- Rows of files of sends and of reports: the verdict of a row on a world, and what it makes of one.
+-- Rows of files of sends, of reports and of classes: the verdict of a row on a world, and what it makes of one.
 use Rattle.std.specs.Prelude.{◌≡◌, ℕ, ◌==◌, if◌then◌else◌, List, [], ◌∷◌}
 use Rattle.std.specs.Option.{option_map_or}
+use Rattle.wu_core.specs.declared.workunit.HostClass.{HostClass}
 use Rattle.wu_core.specs.declared.workunit.Workunit.{Workunit}
+use Rattle.wu_core.specs.Classes.{class_of}
 use Rattle.wu_core.specs.World.{World}
 use Rattle.wu_feed.specs.declared.reports.ReportRow.{ReportRow}
 use Rattle.wu_feed.specs.declared.sends.SendRow.{SendRow}
 use Rattle.wu_rules.specs.Reporting.{report_verdict_in, reported_in}
 use Rattle.wu_rules.specs.Sending.{send_verdict_in, sent_in}
 use Rattle.wu_rules.specs.Verdicts.{report_verdict_code, send_verdict_code}
-use Rattle.wu_machine.specs.Worlds.{workunit_named, with_named}
+use Rattle.wu_machine.specs.Worlds.{workunit_named, with_host_class, with_named}
 
 -- What a kind of rows says: the name of a row's workunit, the number of the verdict on it (0 where it is applied, else
 -- why it is skipped), and what it makes of the workunit.
@@ -17,11 +19,12 @@ pub record Rule (Row : Type 0) : Type 0 where
   pub verdict : Row → Workunit → ℕ
   pub image : Row → Workunit → Workunit
 
-abbrev pub send_rule : Rule SendRow
-send_rule = record {
+-- where hosts have these classes
+abbrev pub send_rule : List HostClass → Rule SendRow
+send_rule classes = record {
   workunit = λ row. row.workunit;
-  verdict = λ row w. send_verdict_code (send_verdict_in w row.n row.host);
-  image = λ row w. sent_in w row.n row.host row.moment;
+  verdict = λ row w. send_verdict_code (send_verdict_in w row.n row.host (class_of classes row.host));
+  image = λ row w. sent_in w row.n row.host (class_of classes row.host) row.moment;
 }
 
 abbrev pub report_rule : Rule ReportRow
@@ -60,3 +63,8 @@ after_rows rule world (row ∷ rows) = after_rows rule (after_row rule world row
 abbrev pub row_verdicts : {Row : Type 0} → Rule Row → World → List Row → List ℕ
 row_verdicts rule world [] = []
 row_verdicts rule world (row ∷ rows) = row_verdict rule world row ∷ row_verdicts rule (after_row rule world row) rows
+
+-- each row of a file of classes sets the class of its host, a later row over an earlier one
+abbrev pub after_classes : World → List HostClass → World
+after_classes world [] = world
+after_classes world (row ∷ rows) = after_classes (with_host_class world row) rows

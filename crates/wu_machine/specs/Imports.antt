@@ -4,16 +4,18 @@ use Rattle.wu_core.specs.declared.fault.Fault.{Fault}
 use Rattle.wu_core.specs.declared.fault.Fault.TheVariants.{NameUsed}
 use Rattle.wu_core.specs.declared.import.ImportKind.{ImportKind}
 use Rattle.wu_core.specs.declared.import.ImportKind.TheVariants as kind
+use Rattle.wu_core.specs.declared.workunit.HostClass.{HostClass}
 use Rattle.wu_core.specs.Parameters.{Parameters}
 use Rattle.wu_core.specs.World.{World, Import, is_import}
 use Rattle.wu_feed.specs.declared.jobs.Job.{Job}
+use Rattle.wu_feed.specs.Classes.{classes_of_file}
 use Rattle.wu_feed.specs.Jobs.{jobs_of_file}
 use Rattle.wu_feed.specs.Templates.{template_of}
 use Rattle.wu_machine.specs.Batches.{jobs_added, first_number, all_applied}
 use Rattle.wu_feed.specs.Reports.{reports_of_file}
 use Rattle.wu_feed.specs.Sends.{sends_of_file}
 use Rattle.wu_machine.specs.Requests.{Reply, Imported}
-use Rattle.wu_machine.specs.FileRows.{Rule, after_rows, row_verdicts, report_rule, send_rule}
+use Rattle.wu_machine.specs.FileRows.{Rule, after_classes, after_rows, row_verdicts, report_rule, send_rule}
 
 -- a reply, and the world after it
 abbrev pub Done : Type 0
@@ -34,6 +36,9 @@ sent_given name file = record { kind = kind.Sent; name = name; template = []; co
 
 abbrev pub reported_given : (name file : List ℕ) → Given
 reported_given name file = record { kind = kind.Reported; name = name; template = []; content = file }
+
+abbrev pub classes_given : (name file : List ℕ) → Given
+classes_given name file = record { kind = kind.Classes; name = name; template = []; content = file }
 
 -- the import of this kind and name, if there was one
 abbrev pub import_of : World → Given → Option Import
@@ -77,11 +82,17 @@ abbrev pub rows_read : {Row : Type 0} → Rule Row → Given → World → Resul
 rows_read rule given world (Err fault) = Err fault
 rows_read rule given world (Ok rows) = Ok (keeping given 0 (row_verdicts rule world rows) (after_rows rule world rows))
 
+-- a new file of classes is refused, or each of its rows is applied
+abbrev pub classes_read : Given → World → Result (List HostClass) Fault → Result Done Fault
+classes_read given world (Err fault) = Err fault
+classes_read given world (Ok rows) = Ok (keeping given 0 (all_applied rows) (after_classes world rows))
+
 -- what a file makes that was not imported before
 abbrev pub newly_imported : World → Given → ImportKind → Result Done Fault
 newly_imported world given kind.Batch = batch_read given world (template_of given.template) (jobs_of_file given.content)
-newly_imported world given kind.Sent = rows_read send_rule given world (sends_of_file given.content)
+newly_imported world given kind.Sent = rows_read (send_rule world.classes) given world (sends_of_file given.content)
 newly_imported world given kind.Reported = rows_read report_rule given world (reports_of_file given.content)
+newly_imported world given kind.Classes = classes_read given world (classes_of_file given.content)
 
 -- an import that comes again answers its first answer and changes nothing; other content of the same name is refused
 abbrev pub imported_after : World → Given → Option Import → Result Done Fault

@@ -3,7 +3,7 @@ use Rattle.std.specs.Prelude.{◌≡◌, ℕ, List, Ok}
 use Rattle.wu_core.specs.World.{World}
 use Rattle.wu_machine.specs.Machine.{reply, step, fold_steps, HasValues}
 use Rattle.wu_machine.specs.Sound.{IsProject}
-use Rattle.wu_machine.specs.Requests.{Request, AskBatch, AskSent, AskReported, Reply}
+use Rattle.wu_machine.specs.Requests.{Request, AskBatch, AskSent, AskReported, AskClasses, Reply}
 
 -- asked again after any requests, it answers what it answered first, and changes nothing
 abbrev pub AnswersAgain : Request → Type 0
@@ -18,6 +18,7 @@ pub record ImportsActOnce : Type 0 where
   pub batch : (name template file : List ℕ) → AnswersAgain (AskBatch name template file)
   pub sent : (name file : List ℕ) → AnswersAgain (AskSent name file)
   pub reported : (name file : List ℕ) → AnswersAgain (AskReported name file)
+  pub classes : (name file : List ℕ) → AnswersAgain (AskClasses name file)
 
 -- what a request makes of a world that commands run over is such a world
 abbrev pub KeepsProjects : Request → Type 0

@@ -8,18 +8,18 @@ use Rattle.wu_core.specs.Limits.{last_moment, longest_age}
 use Rattle.wu_core.specs.World.{World}
 use Rattle.wu_rules.specs.Counts.{is_undecided}
 use Rattle.wu_rules.specs.Cancelling.{cancelled}
-use Rattle.wu_machine.specs.Imports.{Done, Given, import_of, imported, batch_given, sent_given, reported_given}
+use Rattle.wu_machine.specs.Imports.{Done, Given, import_of, imported, batch_given, sent_given, reported_given, classes_given}
 use Rattle.wu_machine.specs.Passes.{passed, handled}
 use Rattle.wu_core.specs.Storable.{IsName}
 use Rattle.wu_rules.specs.Due.{chosen}
 use Rattle.wu_rules.specs.declared.due.Pass.{Pass}
 use Rattle.wu_rules.specs.declared.due.Pass.TheVariants.{Purge}
-use Rattle.wu_machine.specs.Requests.{Request, AskBatch, AskSent, AskReported, AskPass, AskCancel, AskUpgrade, Reply, Passed, Cancelled, Upgraded}
+use Rattle.wu_machine.specs.Requests.{Request, AskBatch, AskSent, AskReported, AskClasses, AskPass, AskCancel, AskUpgrade, Reply, Passed, Cancelled, Upgraded}
 use Rattle.wu_machine.specs.Worlds.{workunit_named, with_named}
 
 -- the version that a project is created at
 abbrev pub present_version : ℕ
-present_version = 2
+present_version = 3
 
 -- a least age is asked of the purge alone, and is at most a year
 abbrev pub is_age_right : Pass → ℕ → Bool
@@ -45,6 +45,7 @@ abbrev pub HasValues : Request → Type 0
 HasValues (AskBatch name template file) = IsName name
 HasValues (AskSent name file) = IsName name
 HasValues (AskReported name file) = IsName name
+HasValues (AskClasses name file) = IsName name
 HasValues (AskPass pass now limit min_age) = now ≤ last_moment
 HasValues (AskCancel name) = ⊤
 HasValues AskUpgrade = ⊤
@@ -64,6 +65,7 @@ abbrev pub done_now : World → Request → Result Done Fault
 done_now world (AskBatch name template file) = imported world (batch_given name template file)
 done_now world (AskSent name file) = imported world (sent_given name file)
 done_now world (AskReported name file) = imported world (reported_given name file)
+done_now world (AskClasses name file) = imported world (classes_given name file)
 done_now world (AskPass pass now limit min_age) = pass_done world pass now limit min_age
 done_now world (AskCancel name) = cancel_done world name (workunit_named world name)
 done_now world AskUpgrade = Ok (Upgraded world.version present_version, record world { version = present_version })
@@ -112,6 +114,7 @@ abbrev pub MakesNothing : World → Request → Type 0
 MakesNothing world (AskBatch name template file) = CameBefore world (batch_given name template file)
 MakesNothing world (AskSent name file) = CameBefore world (sent_given name file)
 MakesNothing world (AskReported name file) = CameBefore world (reported_given name file)
+MakesNothing world (AskClasses name file) = CameBefore world (classes_given name file)
 MakesNothing world (AskPass pass now limit min_age) = chosen pass now min_age limit world ≡ []
 MakesNothing world (AskCancel name) = ⊥
 MakesNothing world AskUpgrade = IsUpToDate world

@@ -9,6 +9,8 @@ pub data Request : Type 0 where
   -- imports a file of sends, or of reports
   AskSent : (name file : List ℕ) → Request
   AskReported : (name file : List ℕ) → Request
+  -- imports a file of classes of hosts
+  AskClasses : (name file : List ℕ) → Request
   -- runs a pass at a moment, over at most so many workunits; the least age is for the purge alone
   AskPass : (pass : Pass) (now limit min_age : ℕ) → Request
   -- gives a workunit up

@@ -1,8 +1,9 @@
 -- Sound worlds: verdicts, grants and archived rows agree, numbers and names are used once, and values are in their
 -- ranges.
-use Rattle.std.specs.Prelude.{◌≡◌, ◌≢◌, ◌↔◌, ℕ, ◌<◌, ◌≤◌, ◌+◌, ◌==◌, ◌&&◌, List, filter, length, All, AllPairs}
+use Rattle.std.specs.Prelude.{◌≡◌, ◌≢◌, ◌↔◌, ℕ, ◌<◌, ◌≤◌, ◌+◌, ◌==◌, ◌&&◌, List, [], filter, length, All, AllPairs}
 use Rattle.wu_core.specs.declared.workunit.Grant.{Grant}
 use Rattle.wu_core.specs.declared.workunit.Workunit.{Workunit}
+use Rattle.wu_core.specs.Classes.{AreClassed, AreInOrder}
 use Rattle.wu_core.specs.Formed.{IsWorkunit}
 use Rattle.wu_core.specs.Limits.{most_credit, most_instances, most_workunits}
 use Rattle.wu_core.specs.World.{World, IsInOrder}
@@ -31,6 +32,18 @@ pub record IsRecorded (world : World) (w : Workunit) : Type 0 where
 abbrev pub IsGiven : World → ℕ → Type 0
 IsGiven world number = (1 ≤ number) × (number < world.next_number)
 
+-- the first version with classes of hosts
+abbrev pub first_with_classes : ℕ
+first_with_classes = 3
+
+-- neither a host nor a workunit has a class
+abbrev pub IsClassless : World → Type 0
+IsClassless world = (world.classes ≡ []) × All (λ w. w.class ≡ 0) world.workunits
+
+-- one of a version without classes has none
+abbrev pub HasClassesInTime : World → Type 0
+HasClassesInTime world = world.version < first_with_classes → IsClassless world
+
 pub record IsSound (world : World) : Type 0 where
   pub next_number : (1 ≤ world.next_number) × (world.next_number ≤ most_workunits + 1)
   pub formed : All IsWorkunit world.workunits
@@ -50,6 +63,9 @@ pub record IsSound (world : World) : Type 0 where
   pub grants : All (λ grant. IsGiven world grant.workunit × (grant.n < most_instances) × (grant.credit ≤ most_credit)) world.grants
   pub granted_once : AllPairs (λ one other. one.workunit ≡ other.workunit → one.n ≢ other.n) world.grants
   pub imported_once : AllPairs (λ one other. one.kind ≡ other.kind → one.name ≢ other.name) world.imports
+  pub classed : AreClassed world.classes
+  pub classes_in_order : AreInOrder world.classes
+  pub classes_in_time : HasClassesInTime world
 
 -- ---- what a command asks of a world
 
@@ -58,7 +74,8 @@ abbrev pub HasVerdicts : World → Type 0
 HasVerdicts world = All (λ import. AreVerdicts import.kind import.verdicts) world.imports
 
 -- A world of a version that this program knows, as each sound world is: workunits are below the next number, that and the
--- verdicts of imports are in range, each workunit can be read, and no two have one name.
+-- verdicts of imports are in range, each workunit can be read, and no two have one name; so can the class of each host,
+-- and a version without classes has none.
 pub record IsProject (world : World) : Type 0 where
   pub first : 1 ≤ world.version
   pub known : world.version ≤ present_version
@@ -67,3 +84,5 @@ pub record IsProject (world : World) : Type 0 where
   pub verdicts : HasVerdicts world
   pub storable : AreStorable world
   pub names : AllPairs (λ one other. one.name ≢ other.name) world.workunits
+  pub classed : AreClassed world.classes
+  pub classes_in_time : HasClassesInTime world

@@ -29,6 +29,8 @@ pub enum Command {
     Sent(RowsFile),
     /// Applies the rows of a file of reports.
     Reported(RowsFile),
+    /// Sets the classes of hosts by the rows of a file, a later row over an earlier one.
+    Classes(RowsFile),
     /// Times out what is overdue by this moment, makes the instances that are wanted, and closes what is given up.
     Transition {
         now: Moment,
@@ -66,7 +68,7 @@ impl Drop for Command {
     fn drop(self) {
         match self {
             Command::Batch(_batch) => {}
-            Command::Sent(_file) | Command::Reported(_file) => {}
+            Command::Sent(_file) | Command::Reported(_file) | Command::Classes(_file) => {}
             Command::Transition {
                 now: _now,
                 limit: _limit,

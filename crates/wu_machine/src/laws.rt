@@ -30,6 +30,9 @@ pub fn has_values(command: &Command)
         Command::Reported(file) => {
             file.name.as_bytes();
         }
+        Command::Classes(file) => {
+            file.name.as_bytes();
+        }
         Command::Transition { now, limit: _ } => {
             now.seconds();
         }

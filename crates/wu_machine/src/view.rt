@@ -11,6 +11,8 @@ pub enum View {
     Hosts,
     /// A line for each archived workunit, in order of its assimilation.
     Archive,
-    /// Eleven lines: the version, the next number, and how much there is of what.
+    /// Twelve lines: the version, the next number, and how much there is of what.
     Summary,
+    /// A line for each host that has a class, in order of the bytes of its name.
+    Classes,
 }

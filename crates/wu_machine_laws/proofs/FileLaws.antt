@@ -1,12 +1,14 @@
 -- Rows that are applied hold after their file.
-use Rattle.std.proofs.Common.{◌≡◌, ◌≢◌, ℕ, zero, suc, ◌==◌, nat_lt, Bool, true, false, List, [], ◌∷◌, map, length, slice_get, Option, Some, None, option_map, Result, Ok, Err, bytes_eq, refl, sym, ap, subst, ◌∙◌, inl, inr, eqb-true, eq-eqb}
+use Rattle.std.proofs.Common.{◌≡◌, ◌≢◌, ℕ, zero, suc, ◌==◌, nat_lt, Bool, true, false, List, [], ◌∷◌, map, length, slice_get, Option, Some, None, option_map, Result, Ok, Err, bytes_eq, refl, sym, ap, subst, ◌∙◌, inl, inr, eqb-true, eq-eqb, arith}
 use Rattle.std.proofs.lemmas.Bool.{cases_Bool, cases_eq, ne_eqb}
-use Rattle.std.proofs.lemmas.List.Elements.{All-head, All-tail}
+use Rattle.std.proofs.lemmas.List.Elements.{All-head, All-tail, recursion_from_All}
 use Rattle.std.proofs.lemmas.Slice.Eq.{bytes_eq-Decides}
-use Rattle.std.specs.List.{All}
+use Rattle.std.specs.List.{All, AllByRecursion}
 use Rattle.std.specs.Option.{IsSomeAnd, option_map_or}
-use Rattle.std.specs.Prelude.{◌↔◌, ◌&&◌, find, not, if◌then◌else◌}
+use Rattle.std.specs.Prelude.{◌↔◌, ◌+◌, ◌&&◌, drop, find, not, if◌then◌else◌}
+use Rattle.wu_core.specs.Classes.{class_of, with_class}
 use Rattle.wu_core.specs.World.{World}
+use Rattle.wu_core.proofs.ClassLemmas.{class_of-other, class_of-set}
 use Rattle.wu_core.specs.declared.fault.Fault.{Fault}
 use Rattle.wu_core.specs.declared.fault.Fault.TheVariants.{OldSchema}
 use Rattle.wu_core.specs.declared.import.ImportKind.{ImportKind}
@@ -15,8 +17,10 @@ use Rattle.wu_core.specs.declared.states.Outcome.TheVariants as outcome
 use Rattle.wu_core.specs.declared.states.ServerState.TheVariants as server
 use Rattle.wu_core.specs.declared.states.Status.{Status}
 use Rattle.wu_core.specs.declared.states.Status.TheVariants as status
+use Rattle.wu_core.specs.declared.workunit.HostClass.{HostClass}
 use Rattle.wu_core.specs.declared.workunit.Instance.{Instance}
 use Rattle.wu_core.specs.declared.workunit.Workunit.{Workunit}
+use Rattle.wu_feed.specs.Classes.{classes_of_file}
 use Rattle.wu_feed.specs.Reports.{reports_of_file}
 use Rattle.wu_feed.specs.Sends.{sends_of_file}
 use Rattle.wu_feed.specs.declared.reports.ReportRow.{ReportRow}
@@ -29,13 +33,13 @@ use Rattle.wu_rules.specs.declared.verdicts.SendVerdict.TheVariants as send
 use Rattle.wu_rules_laws.proofs.Told.{reports, sends}
 use Rattle.wu_rules_laws.specs.Rows.{IsReported, IsSent, MayBeReported, MayBeSent}
 use Rattle.wu_machine.proofs.StorableLemmas.{code_applied}
-use Rattle.wu_machine.specs.FileRows.{Rule, after_row, after_rows, report_rule, row_verdict, row_verdicts, send_rule, unknown}
-use Rattle.wu_machine.specs.Imports.{Done, Given, imported_after, import_of, reported_given, rows_read, sent_given}
+use Rattle.wu_machine.specs.FileRows.{Rule, after_classes, after_row, after_rows, report_rule, row_verdict, row_verdicts, send_rule, unknown}
+use Rattle.wu_machine.specs.Imports.{classes_given, classes_read, Done, Given, imported_after, import_of, reported_given, rows_read, sent_given}
 use Rattle.wu_machine.specs.Machine.{is_upgrade, present_version, reply_of, world_of}
-use Rattle.wu_machine.specs.Requests.{AskReported, AskSent, Imported}
-use Rattle.wu_machine.specs.Worlds.{with_named, workunit_named}
+use Rattle.wu_machine.specs.Requests.{AskClasses, AskReported, AskSent, Imported}
+use Rattle.wu_machine.specs.Worlds.{with_host_class, with_named, workunit_named}
 use Rattle.wu_machine_laws.proofs.LeavingLaws.{Keeps, reports_keep, sends_keep}
-use Rattle.wu_machine_laws.specs.Files.{AppliesFiles, IsApplied, IsOutAs, IsOverAs, OfInstance, OfNamed}
+use Rattle.wu_machine_laws.specs.Files.{AppliesFiles, GivesClasses, IsApplied, IsOutAs, IsOverAs, OfInstance, OfNamed}
 
 -- ---- options
 
@@ -197,31 +201,34 @@ send_zero send.Applied is = refl
 send_zero send.Unknown is = absurd cc
 send_zero send.NotUnsent is = absurd cc
 send_zero send.SameHost is = absurd cc
+send_zero send.Class is = absurd cc
 
-pub may_send : (row : SendRow) (w : Workunit) → (send_rule.verdict row w ≡ 0) ↔ MayBeSent w row.n row.host
-may_send row w = (
-  λ nought. (sends w row.n row.host row.moment).applied.0 (send_zero (send_verdict_in w row.n row.host) nought),
-  λ it. ap send_verdict_code ((sends w row.n row.host row.moment).applied.1 it),
-)
+module _ (classes : List HostClass) where
+  pub may_send : (row : SendRow) (w : Workunit) → ((send_rule classes).verdict row w ≡ 0) ↔ MayBeSent w row.n row.host (class_of classes row.host)
+  may_send row w =
+      let class = class_of classes row.host in (
+        λ nought. (sends w row.n row.host class row.moment).applied.0 (send_zero (send_verdict_in w row.n row.host class) nought),
+        λ it. ap send_verdict_code ((sends w row.n row.host class row.moment).applied.1 it),
+      )
 
-makes_sent : (row : SendRow) (w : Workunit) → send_rule.verdict row w ≡ 0 → OfInstance row.n (IsOutAs row) (send_rule.image row w)
-makes_sent row w nought =
-    let there = some_of (λ (i : Instance). i.server_state ≡ server.Unsent) (slice_get w.instances row.n) ((may_send row w).0 nought).waits in
-    then_some (IsSent w row.host row.moment there.0) (IsOutAs row) (λ j it. record { out = it.out; host = it.at; since = it.since })
-    (slice_get (send_rule.image row w).instances row.n) ((sends w row.n row.host row.moment).sent there.0 there.1)
+  makes_sent : (row : SendRow) (w : Workunit) → (send_rule classes).verdict row w ≡ 0 → OfInstance row.n (IsOutAs row) ((send_rule classes).image row w)
+  makes_sent row w nought =
+      let there = some_of (λ (i : Instance). i.server_state ≡ server.Unsent) (slice_get w.instances row.n) ((may_send row w).0 nought).waits in
+      then_some (IsSent w row.host row.moment there.0) (IsOutAs row) (λ j it. record { out = it.out; host = it.at; since = it.since })
+      (slice_get ((send_rule classes).image row w).instances row.n) ((sends w row.n row.host (class_of classes row.host) row.moment).sent there.0 there.1)
 
-stays_sent : (row other : SendRow) (w : Workunit) → OfInstance row.n (IsOutAs row) w → send_rule.verdict other w ≡ 0
-    → OfInstance row.n (IsOutAs row) (send_rule.image other w)
-stays_sent row other w it nought = elim (cases_eq row.n other.n) [
-  | inr differ ↦ subst (λ o. IsSomeAnd o (IsOutAs row)) (sym ((sends w other.n other.host other.moment).only.others row.n differ)) it
-  | inl same ↦
-      let here = some_of (IsOutAs row) (slice_get w.instances row.n) it in
-      let there = some_of (λ (i : Instance). i.server_state ≡ server.Unsent) (slice_get w.instances other.n) ((may_send other w).0 nought).waits in
-      let alike : Some here.0 ≡ Some there.0 = sym here.1 ∙ (ap (slice_get w.instances) same ∙ there.1) in
-      let one : here.0 ≡ there.0 = cc in
-      let out : server.InProgress ≡ server.Unsent = sym here.2.out ∙ (ap (λ (i : Instance). i.server_state) one ∙ there.2) in
-      absurd (cc)
-]
+  stays_sent : (row other : SendRow) (w : Workunit) → OfInstance row.n (IsOutAs row) w → (send_rule classes).verdict other w ≡ 0
+      → OfInstance row.n (IsOutAs row) ((send_rule classes).image other w)
+  stays_sent row other w it nought = elim (cases_eq row.n other.n) [
+    | inr differ ↦ subst (λ o. IsSomeAnd o (IsOutAs row)) (sym ((sends w other.n other.host (class_of classes other.host) other.moment).only.others row.n differ)) it
+    | inl same ↦
+        let here = some_of (IsOutAs row) (slice_get w.instances row.n) it in
+        let there = some_of (λ (i : Instance). i.server_state ≡ server.Unsent) (slice_get w.instances other.n) ((may_send other w).0 nought).waits in
+        let alike : Some here.0 ≡ Some there.0 = sym here.1 ∙ (ap (slice_get w.instances) same ∙ there.1) in
+        let one : here.0 ≡ there.0 = cc in
+        let out : server.InProgress ≡ server.Unsent = sym here.2.out ∙ (ap (λ (i : Instance). i.server_state) one ∙ there.2) in
+        absurd (cc)
+  ]
 
 -- ---- reports
 
@@ -295,14 +302,59 @@ module _ {Row : Type 0} (rule : Rule Row) (keeps : Keeps rule) (May Q : Row → 
   unless_older true world rows fault result it k name verdicts answered = absurd (cc)
   unless_older false world rows fault result it k name verdicts answered = it k name verdicts answered
 
+-- ---- classes
+
+-- a host that no row names keeps its class
+others_keep : (host : List ℕ) (rows : List HostClass) (world : World) → AllByRecursion (λ (row : HostClass). row.host ≢ host) rows
+    → class_of (after_classes world rows).classes host ≡ class_of world.classes host
+others_keep host [] world all = refl
+others_keep host (row ∷ rows) world all =
+    others_keep host rows (with_host_class world row) all.1 ∙ class_of-other row.host row.class world.classes host (apart (bytes_eq row.host host) refl)
+  where
+    apart : (b : Bool) → bytes_eq row.host host ≡ b → b ≡ false
+    apart true e = absurd (all.0 ((bytes_eq-Decides row.host host).0 e))
+    apart false e = refl
+
+-- the last row that names a host gives it its class
+last_gives : (rows : List HostClass) (world : World) (k : ℕ) (row : HostClass) → slice_get rows k ≡ Some row
+    → All (λ (later : HostClass). later.host ≢ row.host) (drop (k + 1) rows) → class_of (after_classes world rows).classes row.host ≡ row.class
+last_gives [] world k row here none = cc
+last_gives (one ∷ rows) world zero row here none =
+    let same : one ≡ row = cc in
+    others_keep row.host rows (with_host_class world one) (recursion_from_All (λ (later : HostClass). later.host ≢ row.host) rows none)
+    ∙ (ap (λ (it : HostClass). class_of (with_class it.host it.class world.classes) row.host) same ∙ class_of-set row.host row.class world.classes)
+last_gives (one ∷ rows) world (suc k) row here none =
+    let behind : suc k + 1 ≡ suc (k + 1) = omega arith in
+    last_gives rows (with_host_class world one) k row here (subst (λ n. All (λ (later : HostClass). later.host ≢ row.host) (drop n (one ∷ rows))) behind none)
+
+-- what a file of classes gives, where it is read
+GivesBy : World → List HostClass → Result Done Fault → Type 0
+GivesBy world rows result =
+    (name verdicts : List ℕ) → reply_of result ≡ Ok (Imported kind.Classes name 0 verdicts) → GivesClasses rows world.classes (world_of world result).classes
+
+classes_give : (given : Given) (world : World) (rows : List HostClass) (file : Result (List HostClass) Fault) → file ≡ Ok rows → GivesBy world rows (classes_read given world file)
+unfolding GivesBy
+classes_give given world rows file is =
+    subst (λ r. GivesBy world rows (classes_read given world r)) (sym is) (λ name verdicts answered. record {
+      named = last_gives rows world;
+      others = λ host none. others_keep host rows world (recursion_from_All (λ (row : HostClass). row.host ≢ host) rows none);
+    })
+
+gives_unless_older : (b : Bool) (world : World) (rows : List HostClass) (fault : Fault) (result : Result Done Fault) → GivesBy world rows result
+    → GivesBy world rows (if b then Err fault else result)
+unfolding GivesBy
+gives_unless_older true world rows fault result it name verdicts answered = absurd (cc)
+gives_unless_older false world rows fault result it name verdicts answered = it name verdicts answered
+
 pub applies_files : AppliesFiles
+unfolding GivesBy
 applies_files world name file verdicts = record {
   sent = λ rows new is answered.
-      unless_older send_rule sends_keep (λ row w. MayBeSent w row.n row.host) (λ row. OfInstance row.n (IsOutAs row)) may_send makes_sent stays_sent
+      unless_older (send_rule world.classes) (sends_keep world.classes) (λ row w. MayBeSent w row.n row.host (class_of world.classes row.host)) (λ row. OfInstance row.n (IsOutAs row)) (may_send world.classes) (makes_sent world.classes) (stays_sent world.classes)
       (nat_lt world.version present_version && not (is_upgrade (AskSent name file))) world rows (OldSchema world.version)
       (imported_after world (sent_given name file) (import_of world (sent_given name file)))
-      (λ k its given_verdicts told. subst (λ earlier. Applies send_rule sends_keep (λ row w. MayBeSent w row.n row.host) (λ row. OfInstance row.n (IsOutAs row)) may_send makes_sent stays_sent world rows (imported_after world (sent_given name file) earlier)) (sym new)
-      (file_applied send_rule sends_keep (λ row w. MayBeSent w row.n row.host) (λ row. OfInstance row.n (IsOutAs row)) may_send makes_sent stays_sent world (sent_given name file) rows (sends_of_file file) is)
+      (λ k its given_verdicts told. subst (λ earlier. Applies (send_rule world.classes) (sends_keep world.classes) (λ row w. MayBeSent w row.n row.host (class_of world.classes row.host)) (λ row. OfInstance row.n (IsOutAs row)) (may_send world.classes) (makes_sent world.classes) (stays_sent world.classes) world rows (imported_after world (sent_given name file) earlier)) (sym new)
+      (file_applied (send_rule world.classes) (sends_keep world.classes) (λ row w. MayBeSent w row.n row.host (class_of world.classes row.host)) (λ row. OfInstance row.n (IsOutAs row)) (may_send world.classes) (makes_sent world.classes) (stays_sent world.classes) world (sent_given name file) rows (sends_of_file file) is)
       k its given_verdicts told)
       kind.Sent name verdicts answered;
   reported = λ rows new is answered.
@@ -313,4 +365,10 @@ applies_files world name file verdicts = record {
       (file_applied report_rule reports_keep (λ row. OfInstance row.n (MayBeReported row.host row.moment)) (λ row. OfInstance row.n (IsOverAs row)) may_report makes_reported stays_reported world (reported_given name file) rows (reports_of_file file) is)
       k its given_verdicts told)
       kind.Reported name verdicts answered;
+  classed = λ rows new is answered.
+      gives_unless_older (nat_lt world.version present_version && not (is_upgrade (AskClasses name file))) world rows (OldSchema world.version)
+      (imported_after world (classes_given name file) (import_of world (classes_given name file)))
+      (subst (λ earlier. GivesBy world rows (imported_after world (classes_given name file) earlier)) (sym new)
+      (classes_give (classes_given name file) world rows (classes_of_file file) is))
+      name verdicts answered;
 }

@@ -16,7 +16,7 @@ use Rattle.wu_rules.specs.declared.due.Pass.TheVariants.{Transition, Validate, A
 use Rattle.wu_machine.specs.Imports.{Done}
 use Rattle.wu_machine.specs.Machine.{is_limit_right, pass_done, step, world_of}
 use Rattle.wu_machine.specs.Passes.{images, is_among, passed}
-use Rattle.wu_machine.specs.Requests.{Request, AskBatch, AskCancel, AskPass, AskReported, AskSent, AskUpgrade}
+use Rattle.wu_machine.specs.Requests.{Request, AskBatch, AskCancel, AskClasses, AskPass, AskReported, AskSent, AskUpgrade}
 use Rattle.wu_machine.proofs.ImageLemmas.{assimilated_of, emptied_of, transitioned_of, validated_of}
 use Rattle.wu_machine_laws.specs.Leaving.{GoesByPurgeAlone, PurgedIsGone, Takes}
 use Rattle.wu_machine_laws.proofs.LastingLaws.{one_of_number}
@@ -206,6 +206,7 @@ done_kept world (AskBatch name template file) order =
     (subst (λ vs. All (λ w. is_among vs w ≡ true) world.workunits) (sym behind.1) (kept_behind world.workunits behind.0))
 done_kept world (AskSent name file) order = kept_same world (AskSent name file) (step world (AskSent name file)) (sent_numbers world name file)
 done_kept world (AskReported name file) order = kept_same world (AskReported name file) (step world (AskReported name file)) (reported_numbers world name file)
+done_kept world (AskClasses name file) order = kept_same world (AskClasses name file) (step world (AskClasses name file)) (ap (map (λ w. w.number)) ((leaves_others world).classed name file))
 done_kept world (AskPass pass now limit min_age) order =
     asked (Kept world (AskPass pass now limit min_age)) world (AskPass pass now limit min_age)
     (kept_same world (AskPass pass now limit min_age) world refl) (pass_kept world pass now limit min_age order)

@@ -3,12 +3,15 @@ use Rattle.std.proofs.Common.{◌≡◌, ℕ, ◌+◌, ◌==◌, nat_lt, Bool, t
 use Rattle.std.specs.List.{AllByRecursion, enumerate_from, filter}
 use Rattle.std.specs.Prelude.{◌&&◌, ◌||◌, not, if◌then◌else◌}
 use Rattle.std.proofs.lemmas.Slice.Eq.{bytes_eq-Decides}
+use Rattle.wu_core.specs.Classes.{class_of}
 use Rattle.wu_core.specs.Limits.{most_workunits}
 use Rattle.wu_core.specs.Parameters.{Parameters}
 use Rattle.wu_core.specs.World.{World, Import}
 use Rattle.wu_core.specs.declared.fault.Fault.{Fault}
 use Rattle.wu_core.specs.declared.fault.Fault.TheVariants.{TooMany}
+use Rattle.wu_core.specs.declared.workunit.HostClass.{HostClass}
 use Rattle.wu_core.specs.declared.workunit.Workunit.{Workunit}
+use Rattle.wu_feed.specs.Classes.{classes_of_file}
 use Rattle.wu_feed.specs.Jobs.{jobs_of_file}
 use Rattle.wu_feed.specs.Reports.{reports_of_file}
 use Rattle.wu_feed.specs.Sends.{sends_of_file}
@@ -19,11 +22,11 @@ use Rattle.wu_feed.specs.declared.sends.SendRow.{SendRow}
 use Rattle.wu_rules.specs.Cancelling.{cancelled}
 use Rattle.wu_rules.specs.Counts.{is_undecided}
 use Rattle.wu_machine.specs.Batches.{first_taken, is_one_of, new_workunit, unless_taken, with_jobs}
-use Rattle.wu_machine.specs.FileRows.{Rule, after_row, after_rows, report_rule, row_verdict, send_rule}
-use Rattle.wu_machine.specs.Imports.{batch_given, batch_read, Done, Given, has_content, import_of, imported_after, jobs_kept, reported_given, rows_read, sent_given}
+use Rattle.wu_machine.specs.FileRows.{Rule, after_classes, after_row, after_rows, report_rule, row_verdict, send_rule}
+use Rattle.wu_machine.specs.Imports.{batch_given, batch_read, classes_given, classes_read, Done, Given, has_content, import_of, imported_after, jobs_kept, reported_given, rows_read, sent_given}
 use Rattle.wu_machine.specs.Machine.{cancel_done, done, done_now, is_upgrade, present_version, reply_of, step, world_of}
-use Rattle.wu_machine.specs.Requests.{Request, AskBatch, AskCancel, AskReported, AskSent, AskUpgrade}
-use Rattle.wu_machine.specs.Worlds.{with_named, workunit_named}
+use Rattle.wu_machine.specs.Requests.{Request, AskBatch, AskCancel, AskClasses, AskReported, AskSent, AskUpgrade}
+use Rattle.wu_machine.specs.Worlds.{with_host_class, with_named, workunit_named}
 use Rattle.wu_rules_laws.proofs.Told.{reports, sends}
 use Rattle.wu_machine_laws.specs.Lasting.{Begins}
 use Rattle.wu_machine_laws.specs.Leaving.{ChangesNamed, LeavesOthers}
@@ -59,7 +62,7 @@ map_kept g f same (w ∷ ws) = let here = same w in let rest = map_kept g f same
 
 -- nothing changes
 unchanged : (names : List (List ℕ)) (world : World) → ChangesNamed names world world
-unchanged names world = record { others = refl; numbers = refl; same_names = refl; grants = refl; archived = refl; next_number = refl; version = refl }
+unchanged names world = record { others = refl; numbers = refl; same_names = refl; grants = refl; archived = refl; classes = refl; next_number = refl; version = refl }
 
 -- one change after another
 changes_then : (names : List (List ℕ)) (one two three : World) → ChangesNamed names one two → ChangesNamed names two three → ChangesNamed names one three
@@ -69,6 +72,7 @@ changes_then names one two three first second = record {
   same_names = second.same_names ∙ first.same_names;
   grants = second.grants ∙ first.grants;
   archived = second.archived ∙ first.archived;
+  classes = second.classes ∙ first.classes;
   next_number = second.next_number ∙ first.next_number;
   version = second.version ∙ first.version;
 }
@@ -83,6 +87,7 @@ named_changed names world name change one same_name same_number = record {
   same_names = map_kept (λ w. w.name) at name_at world.workunits;
   grants = refl;
   archived = refl;
+  classes = refl;
   next_number = refl;
   version = refl;
 }
@@ -129,9 +134,9 @@ either_by P false world one other first second = second
 abbrev pub Keeps : {Row : Type 0} → Rule Row → Type 0
 Keeps {Row} rule = (row : Row) (w : Workunit) → ((rule.image row w).name ≡ w.name) × ((rule.image row w).number ≡ w.number)
 
-pub sends_keep : Keeps send_rule
-sends_keep row w =
-    let rest = (sends w row.n row.host row.moment).only.rest in
+pub sends_keep : (classes : List HostClass) → Keeps (send_rule classes)
+sends_keep classes row w =
+    let rest = (sends w row.n row.host (class_of classes row.host) row.moment).only.rest in
     (ap (λ v. v.name) rest, ap (λ v. v.number) rest)
 
 pub reports_keep : Keeps report_rule
@@ -177,6 +182,7 @@ file_changes rule keeps given world rows file is =
       same_names = changed.same_names;
       grants = changed.grants;
       archived = changed.archived;
+      classes = changed.classes;
       next_number = changed.next_number;
       version = changed.version;
     })
@@ -189,13 +195,28 @@ sent_changes : (world : World) (name file : List ℕ) (rows : List SendRow) → 
     → By (ChangesNamed (map (λ row. row.workunit) rows) world) world (imported_after world (sent_given name file) earlier)
 sent_changes world name file rows is (Some import) =
     either_by (ChangesNamed (map (λ (row : SendRow). row.workunit) rows) world) (has_content (sent_given name file) import) world _ _ (unchanged _ world) (unchanged _ world)
-sent_changes world name file rows is None = file_changes send_rule sends_keep (sent_given name file) world rows (sends_of_file file) is
+sent_changes world name file rows is None = file_changes (send_rule world.classes) (sends_keep world.classes) (sent_given name file) world rows (sends_of_file file) is
 
 reported_changes : (world : World) (name file : List ℕ) (rows : List ReportRow) → reports_of_file file ≡ Ok rows → (earlier : Option Import)
     → By (ChangesNamed (map (λ row. row.workunit) rows) world) world (imported_after world (reported_given name file) earlier)
 reported_changes world name file rows is (Some import) =
     either_by (ChangesNamed (map (λ (row : ReportRow). row.workunit) rows) world) (has_content (reported_given name file) import) world _ _ (unchanged _ world) (unchanged _ world)
 reported_changes world name file rows is None = file_changes report_rule reports_keep (reported_given name file) world rows (reports_of_file file) is
+
+-- classes leave all workunits
+rows_leave : (rows : List HostClass) (world : World) → (after_classes world rows).workunits ≡ world.workunits
+rows_leave [] world = refl
+rows_leave (row ∷ rows) world = rows_leave rows (with_host_class world row)
+
+read_leaves : (given : Given) (world : World) (rows : Result (List HostClass) Fault) → By (λ after. after.workunits ≡ world.workunits) world (classes_read given world rows)
+read_leaves given world (Err fault) = refl
+read_leaves given world (Ok rows) = rows_leave rows world
+
+classes_leave : (world : World) (name file : List ℕ) (earlier : Option Import)
+    → By (λ after. after.workunits ≡ world.workunits) world (imported_after world (classes_given name file) earlier)
+classes_leave world name file (Some import) =
+    either_by (λ after. after.workunits ≡ world.workunits) (has_content (classes_given name file) import) world _ _ refl refl
+classes_leave world name file None = read_leaves (classes_given name file) world (classes_of_file file)
 
 -- ---- a cancel
 
@@ -244,7 +265,7 @@ asked P world request same now = either_by P (nat_lt world.version present_versi
 unread_sent : (world : World) (name file : List ℕ) (fault : Fault) → sends_of_file file ≡ Err fault → (earlier : Option Import)
     → world_of world (imported_after world (sent_given name file) earlier) ≡ world
 unread_sent world name file fault is (Some import) = either_by (λ after. after ≡ world) (has_content (sent_given name file) import) world _ _ refl refl
-unread_sent world name file fault is None = ap (λ r. world_of world (rows_read send_rule (sent_given name file) world r)) is
+unread_sent world name file fault is None = ap (λ r. world_of world (rows_read (send_rule world.classes) (sent_given name file) world r)) is
 
 unread_reported : (world : World) (name file : List ℕ) (fault : Fault) → reports_of_file file ≡ Err fault → (earlier : Option Import)
     → world_of world (imported_after world (reported_given name file) earlier) ≡ world
@@ -290,6 +311,8 @@ leaves_others world = record {
   cancelled = λ name. asked (ChangesNamed (name ∷ []) world) world (AskCancel name) (unchanged (name ∷ []) world) (cancel_changes world name (workunit_named world name));
   batch = λ name template file. asked (λ after. Begins world.workunits after.workunits) world (AskBatch name template file) (begins_same world.workunits)
       (batch_leaves world name template file (import_of world (batch_given name template file)));
+  classed = λ name file. asked (λ after. after.workunits ≡ world.workunits) world (AskClasses name file) refl
+      (classes_leave world name file (import_of world (classes_given name file)));
   upgraded = asked (λ after. after.workunits ≡ world.workunits) world AskUpgrade refl refl;
   refused = λ request fault is. refusal world (done world request) fault is;
 }

@@ -4,7 +4,7 @@ use Rattle.std.proofs.lemmas.Bool.Decides.{nat_tests}
 use Rattle.wu_core.specs.declared.fault.Fault.TheVariants.{OldSchema}
 use Rattle.wu_core.specs.World.{World}
 use Rattle.wu_machine.specs.Machine.{fold_steps, is_upgrade, present_version, reply, reply_of, world_of}
-use Rattle.wu_machine.specs.Requests.{AskBatch, AskCancel, AskPass, AskReported, AskSent, AskUpgrade, Request}
+use Rattle.wu_machine.specs.Requests.{AskBatch, AskCancel, AskClasses, AskPass, AskReported, AskSent, AskUpgrade, Request}
 use Rattle.wu_machine.proofs.ImportLemmas.{stays_fold}
 use Rattle.wu_machine.proofs.Versions.{done_older, done_upgrade, up_to_date}
 use Rattle.wu_machine_laws.specs.Leaving.{StaysPresent, UpgradesFirst}
@@ -13,6 +13,7 @@ no_upgrade : (request : Request) → request ≢ AskUpgrade → is_upgrade reque
 no_upgrade (AskBatch name template file) other = refl
 no_upgrade (AskSent name file) other = refl
 no_upgrade (AskReported name file) other = refl
+no_upgrade (AskClasses name file) other = refl
 no_upgrade (AskPass pass now limit min_age) other = refl
 no_upgrade (AskCancel name) other = refl
 no_upgrade AskUpgrade other = absurd (other refl)

@@ -244,6 +244,7 @@ keeps_records pass now min_age limit world =
       no_grants = λ other. ap (λ l. world.grants ++ l) (gives_nothing (granted pass) ts (grants_nothing pass other)) ∙ append-nil world.grants;
       no_archived = λ other. ap (λ l. world.archived ++ l) (gives_nothing (archives pass now) ts (archives_nothing pass other now)) ∙ append-nil world.archived;
       imports = refl;
+      classes = refl;
       next_number = refl;
       version = refl;
     }

@@ -8,7 +8,9 @@ use Rattle.wu_core.specs.declared.fault.Fault.{Fault}
 use Rattle.wu_core.specs.declared.fault.Fault.TheVariants.{TooMany}
 use Rattle.wu_core.specs.declared.import.ImportKind.{ImportKind}
 use Rattle.wu_core.specs.declared.import.ImportKind.TheVariants as kind
+use Rattle.wu_core.specs.declared.workunit.HostClass.{HostClass}
 use Rattle.wu_core.specs.declared.workunit.Workunit.{Workunit}
+use Rattle.wu_feed.specs.Classes.{classes_of_file}
 use Rattle.wu_feed.specs.Jobs.{jobs_of_file}
 use Rattle.wu_feed.specs.Reports.{reports_of_file}
 use Rattle.wu_feed.specs.Sends.{sends_of_file}
@@ -18,12 +20,12 @@ use Rattle.wu_rules.specs.Cancelling.{cancelled}
 use Rattle.wu_rules.specs.Counts.{is_undecided}
 use Rattle.wu_rules.specs.declared.due.Pass.{Pass}
 use Rattle.wu_machine.specs.Batches.{first_taken, unless_taken, with_jobs}
-use Rattle.wu_machine.specs.FileRows.{Rule, after_row, after_rows, report_rule, row_verdict, send_rule}
-use Rattle.wu_machine.specs.Imports.{batch_given, batch_read, Done, Given, has_content, import_of, imported_after, jobs_kept, newly_imported, reported_given, rows_read, sent_given}
+use Rattle.wu_machine.specs.FileRows.{Rule, after_classes, after_row, after_rows, report_rule, row_verdict, send_rule}
+use Rattle.wu_machine.specs.Imports.{batch_given, batch_read, classes_given, classes_read, Done, Given, has_content, import_of, imported_after, jobs_kept, newly_imported, reported_given, rows_read, sent_given}
 use Rattle.wu_machine.specs.Machine.{cancel_done, done_now, fold_steps, is_limit_right, is_upgrade, pass_done, present_version, step, world_of}
 use Rattle.wu_machine.specs.Passes.{passed}
-use Rattle.wu_machine.specs.Requests.{Request, AskBatch, AskSent, AskReported, AskPass, AskCancel, AskUpgrade}
-use Rattle.wu_machine.specs.Worlds.{with_named, workunit_named}
+use Rattle.wu_machine.specs.Requests.{Request, AskBatch, AskClasses, AskSent, AskReported, AskPass, AskCancel, AskUpgrade}
+use Rattle.wu_machine.specs.Worlds.{with_host_class, with_named, workunit_named}
 use Rattle.wu_machine.proofs.BatchKeeps.{with_kept}
 use Rattle.wu_machine_laws.specs.Lasting.{Begins}
 use Rattle.wu_machine_laws.proofs.PassLaws.{keeps_records}
@@ -121,11 +123,24 @@ batch_records given world (Err fault) jobs = same_world world
 batch_records given world (Ok params) (Err fault) = same_world world
 batch_records given world (Ok params) (Ok jobs) = jobs_record given world params jobs (first_taken world jobs)
 
+-- rows of classes
+classes_record : (rows : List HostClass) (world : World) → Records world (after_classes world rows)
+classes_record [] world = same_world world
+classes_record (row ∷ rows) world =
+    records_then world (with_host_class world row) (after_classes (with_host_class world row) rows)
+    (same_records world (with_host_class world row) refl refl refl (omega arith)) (classes_record rows (with_host_class world row))
+
+-- a file of classes
+class_records : (given : Given) (world : World) (rows : Result (List HostClass) Fault) → RecordsBy world (classes_read given world rows)
+class_records given world (Err fault) = same_world world
+class_records given world (Ok rows) = import_recorded world (after_classes world rows) _ (classes_record rows world)
+
 -- an import that is new
 new_records : (world : World) (given : Given) (k : ImportKind) → RecordsBy world (newly_imported world given k)
 new_records world given kind.Batch = batch_records given world (template_of given.template) (jobs_of_file given.content)
-new_records world given kind.Sent = file_records send_rule given world (sends_of_file given.content)
+new_records world given kind.Sent = file_records (send_rule world.classes) given world (sends_of_file given.content)
 new_records world given kind.Reported = file_records report_rule given world (reports_of_file given.content)
+new_records world given kind.Classes = class_records given world (classes_of_file given.content)
 
 -- any import
 import_records : (world : World) (given : Given) (found : Option Import) → RecordsBy world (imported_after world given found)
@@ -151,6 +166,7 @@ done_records : (world : World) (request : Request) → RecordsBy world (done_now
 done_records world (AskBatch name template file) = import_records world (batch_given name template file) (import_of world (batch_given name template file))
 done_records world (AskSent name file) = import_records world (sent_given name file) (import_of world (sent_given name file))
 done_records world (AskReported name file) = import_records world (reported_given name file) (import_of world (reported_given name file))
+done_records world (AskClasses name file) = import_records world (classes_given name file) (import_of world (classes_given name file))
 done_records world (AskPass pass now limit min_age) = pass_records world pass now limit min_age
 done_records world (AskCancel name) = cancel_records world name (workunit_named world name)
 done_records world AskUpgrade = same_records world (record world { version = present_version }) refl refl refl (omega arith)

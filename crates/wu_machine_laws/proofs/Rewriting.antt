@@ -16,8 +16,9 @@ use Rattle.wu_core.specs.declared.workunit.Workunit.{Workunit}
 use Rattle.wu_rules.specs.Consistent.{instance_host, IsConsistent, IsGrantFor, IsRowOf, is_done, is_valid_at, one_if, Rewrites}
 use Rattle.wu_rules_laws.proofs.Rewriting.{canonical_stays}
 use Rattle.wu_core.specs.Storable.{AreStoredInstances, IsHost, IsName, IsStoredArchived, IsStoredInstance, IsStorable}
-use Rattle.wu_machine.specs.Sound.{IsGiven, IsRecorded, IsSound}
+use Rattle.wu_machine.specs.Sound.{first_with_classes, IsGiven, IsRecorded, IsSound}
 use Rattle.wu_machine_laws.proofs.Middles.{around, count_agree, count_all, count_append, count_none, counted, from_pairs, instead, none_counted, Pairs, pairs_append, pairs_around, pairs_instead, pairs_of_one, pairs_without, to_pairs, without}
+use Rattle.wu_machine_laws.proofs.SoundLemmas.{too_old}
 use Rattle.wu_machine_laws.proofs.SoundParts.{Differ, GrantsDiffer, is_at, is_for, is_row_of, IsGrantIn, IsGrantOf, IsIn, IsItsRow, IsNamedAlike, IsOwn, IsOwnRow, IsRowIn, IsToName, Ordered, RowNamesDiffer, RowsDiffer}
 
 -- ---- counts
@@ -112,7 +113,7 @@ once (g ∷ gs) each = (
 
 -- ---- one workunit rewritten
 
-module _ (world : World) (us : List Workunit) (w : Workunit) (ws : List Workunit) where
+module _ (world : World) (young : first_with_classes ≤ world.version) (us : List Workunit) (w : Workunit) (ws : List Workunit) where
   -- the world with the workunit in its place
   abbrev before : World
   before = record world { workunits = us ++ w ∷ ws }
@@ -141,6 +142,9 @@ module _ (world : World) (us : List Workunit) (w : Workunit) (ws : List Workunit
     grants = sound.grants;
     granted_once = sound.granted_once;
     imported_once = sound.imported_once;
+    classed = sound.classed;
+    classes_in_order = sound.classes_in_order;
+    classes_in_time = too_old world.version young;
   }
 
   module _ (v : Workunit) (gs : List Grant) (kept : List Archived) (rewrites : Rewrites w v gs kept) (sound : IsSound before) where
@@ -346,6 +350,9 @@ module _ (world : World) (us : List Workunit) (w : Workunit) (ws : List Workunit
       granted_once = from_pairs GrantsDiffer (world.grants ++ gs) (pairs_append GrantsDiffer world.grants gs
           (to_pairs GrantsDiffer world.grants sound.granted_once) (once gs few_grants) granted_apart);
       imported_once = sound.imported_once;
+      classed = sound.classed;
+      classes_in_order = sound.classes_in_order;
+      classes_in_time = too_old world.version young;
     }
       where
         few_rows : length kept ≤ 1

@@ -4,11 +4,13 @@ use Rattle.std.proofs.lemmas.Bool.{cases_Bool, ne_eqb}
 use Rattle.std.proofs.lemmas.Slice.Eq.{bytes_eq-Decides}
 use Rattle.std.specs.Option.{IsSomeAnd, option_and_then, option_map_or}
 use Rattle.std.specs.Prelude.{◌&&◌, not, if◌then◌else◌, IfSome}
+use Rattle.wu_core.specs.Classes.{class_of}
 use Rattle.wu_core.specs.World.{World}
 use Rattle.wu_core.specs.declared.fault.Fault.{Fault}
 use Rattle.wu_core.specs.declared.fault.Fault.TheVariants.{OldSchema}
 use Rattle.wu_core.specs.declared.import.ImportKind.{ImportKind}
 use Rattle.wu_core.specs.declared.import.ImportKind.TheVariants as kind
+use Rattle.wu_core.specs.declared.workunit.HostClass.{HostClass}
 use Rattle.wu_core.specs.declared.workunit.Instance.{Instance}
 use Rattle.wu_core.specs.declared.workunit.Workunit.{Workunit}
 use Rattle.wu_feed.specs.Reports.{reports_of_file}
@@ -127,18 +129,21 @@ module _ {Row : Type 0} (rule : Rule Row) (keeps : Keeps rule) (place : Row → 
 
 -- ---- sends
 
-only_sent : (row : SendRow) (w : Workunit) (k : ℕ) → k ≢ row.n → slice_get (send_rule.image row w).instances k ≡ slice_get w.instances k
-only_sent row w k differ = (sends w row.n row.host row.moment).only.others k differ
+module _ (classes : List HostClass) where
+  only_sent : (row : SendRow) (w : Workunit) (k : ℕ) → k ≢ row.n → slice_get ((send_rule classes).image row w).instances k ≡ slice_get w.instances k
+  only_sent row w k differ = (sends w row.n row.host (class_of classes row.host) row.moment).only.others k differ
 
-takes_send : (world : World) (row : SendRow) → TakesSend row (row_verdict send_rule world row) world (after_row send_rule world row)
-takes_send world row = record {
-  told = verdict_told send_rule sends_keep (λ row. row.n) only_sent world row;
-  applied = row_applied send_rule sends_keep (λ row w. MayBeSent w row.n row.host) may_send world row;
-  sent = row_makes send_rule sends_keep (λ row. row.n) only_sent (λ row w. IsSent w row.host row.moment)
-      (λ row w i there. (sends w row.n row.host row.moment).sent i there) world row;
-  others = leaves_all_but send_rule sends_keep (λ row. row.n) only_sent world row;
-  skipped = row_skipped send_rule sends_keep (λ row. row.n) only_sent world row;
-}
+  takes_send : (world : World) (row : SendRow) → TakesSend classes row (row_verdict (send_rule classes) world row) world (after_row (send_rule classes) world row)
+  takes_send world row =
+      let keep = sends_keep classes in
+      record {
+        told = verdict_told (send_rule classes) keep (λ row. row.n) only_sent world row;
+        applied = row_applied (send_rule classes) keep (λ row w. MayBeSent w row.n row.host (class_of classes row.host)) (may_send classes) world row;
+        sent = row_makes (send_rule classes) keep (λ row. row.n) only_sent (λ row w. IsSent w row.host row.moment)
+            (λ row w i there. (sends w row.n row.host (class_of classes row.host) row.moment).sent i there) world row;
+        others = leaves_all_but (send_rule classes) keep (λ row. row.n) only_sent world row;
+        skipped = row_skipped (send_rule classes) keep (λ row. row.n) only_sent world row;
+      }
 
 -- ---- reports
 
@@ -158,15 +163,15 @@ takes_report world row = record {
 -- ---- the laws
 
 sent_follows : (world : World) (name file verdicts : List ℕ) (rows : List SendRow) → import_of world (sent_given name file) ≡ None → sends_of_file file ≡ Ok rows
-    → Follows send_rule sends_keep (λ row. row.n) only_sent TakesSend takes_send world rows
+    → Follows (send_rule world.classes) (sends_keep world.classes) (λ row. row.n) (only_sent world.classes) (TakesSend world.classes) (takes_send world.classes) world rows
     (if nat_lt world.version present_version && not (is_upgrade (AskSent name file)) then Err (OldSchema world.version)
     else imported_after world (sent_given name file) (import_of world (sent_given name file)))
 sent_follows world name file verdicts rows new is =
-    unless_older send_rule sends_keep (λ row. row.n) only_sent TakesSend takes_send
+    unless_older (send_rule world.classes) (sends_keep world.classes) (λ row. row.n) (only_sent world.classes) (TakesSend world.classes) (takes_send world.classes)
     (nat_lt world.version present_version && not (is_upgrade (AskSent name file))) world rows (OldSchema world.version)
     (imported_after world (sent_given name file) (import_of world (sent_given name file)))
-    (subst (λ earlier. Follows send_rule sends_keep (λ row. row.n) only_sent TakesSend takes_send world rows (imported_after world (sent_given name file) earlier)) (sym new)
-    (file_follows send_rule sends_keep (λ row. row.n) only_sent TakesSend takes_send world (sent_given name file) rows (sends_of_file file) is))
+    (subst (λ earlier. Follows (send_rule world.classes) (sends_keep world.classes) (λ row. row.n) (only_sent world.classes) (TakesSend world.classes) (takes_send world.classes) world rows (imported_after world (sent_given name file) earlier)) (sym new)
+    (file_follows (send_rule world.classes) (sends_keep world.classes) (λ row. row.n) (only_sent world.classes) (TakesSend world.classes) (takes_send world.classes) world (sent_given name file) rows (sends_of_file file) is))
 
 reported_follows : (world : World) (name file verdicts : List ℕ) (rows : List ReportRow) → import_of world (reported_given name file) ≡ None → reports_of_file file ≡ Ok rows
     → Follows report_rule reports_keep (λ row. row.n) only_reported TakesReport takes_report world rows

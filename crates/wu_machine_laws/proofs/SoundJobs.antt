@@ -74,6 +74,7 @@ module _ (world : World) (sound : IsSound world) (params : Parameters) (job : Jo
     nothing_unsent = λ e. refl;
     undecided = λ e. refl;
     canonical = tt;
+    classless = λ e. refl;
   }
 
   -- a number that was given stays so
@@ -124,6 +125,9 @@ module _ (world : World) (sound : IsSound world) (params : Parameters) (job : Jo
         (λ grant given. (given_still grant.workunit given.0, given.1, given.2)) world.grants sound.grants;
     granted_once = sound.granted_once;
     imported_once = sound.imported_once;
+    classed = sound.classed;
+    classes_in_order = sound.classes_in_order;
+    classes_in_time = λ old. (let none = sound.classes_in_time old in (none.0, All-push (λ (w : Workunit). w.class ≡ 0) world.workunits new none.1 refl));
   }
 
   -- and what is to last lasts
@@ -238,6 +242,9 @@ sound_kept world sound import named told fresh = (kept, lasts)
           (to_pairs ImportsDiffer world.imports sound.imported_once)
           (All-weaker (λ (i : Import). is_import import.kind import.name i ≡ false) (λ (i : Import). i.kind ≡ import.kind → i.name ≢ import.name) other
           world.imports (not_found (is_import import.kind import.name) world.imports fresh)));
+      classed = sound.classed;
+      classes_in_order = sound.classes_in_order;
+      classes_in_time = sound.classes_in_time;
     }
 
     lasts : Lasts world (with_kept import world)

@@ -5,7 +5,7 @@ use Rattle.wu_core.specs.World.{World, Import, empty_world}
 use Rattle.wu_core.specs.declared.workunit.Workunit.{Workunit}
 use Rattle.wu_core.specs.Storable.{AreVerdicts, IsName, IsAbove}
 use Rattle.wu_machine.specs.Machine.{present_version}
-use Rattle.wu_machine.specs.Sound.{IsProject, IsGiven, IsRecorded, IsSound}
+use Rattle.wu_machine.specs.Sound.{first_with_classes, IsProject, IsGiven, IsRecorded, IsSound}
 
 -- where all numbers are below this one, it is above them
 above_from : (n : ℕ) (ws : List Workunit) → ((i : ℕ) (d : Workunit) → i < length ws → (get_or ws i d).number < n) → IsAbove n ws
@@ -28,13 +28,19 @@ is_project world sound first known = record {
       (λ i is. is.1) world.imports sound.imports;
   storable = sound.storable;
   names = sound.names;
+  classed = sound.classed;
+  classes_in_time = sound.classes_in_time;
 }
 
 -- the world at the present version
 abbrev pub now_of : World → World
 now_of world = record world { version = present_version }
 
--- soundness doesn't speak of the version
+-- a version with classes is none without
+pub too_old : {A : Type 0} (version : ℕ) → first_with_classes ≤ version → version < first_with_classes → A
+too_old version young old = absurd (omega (arith, young, old))
+
+-- at the present version it is sound too
 pub sound_now : (world : World) → IsSound world → IsSound (now_of world)
 sound_now world sound = record {
   next_number = sound.next_number;
@@ -55,6 +61,9 @@ sound_now world sound = record {
   grants = sound.grants;
   granted_once = sound.granted_once;
   imported_once = sound.imported_once;
+  classed = sound.classed;
+  classes_in_order = sound.classes_in_order;
+  classes_in_time = too_old present_version (omega arith);
 }
 
 -- a sound world at the present version is one that a command runs over
@@ -81,4 +90,7 @@ empty_sound = record {
   grants = All-nil _;
   granted_once = λ i j d order low. absurd (omega (arith, low));
   imported_once = λ i j d order low. absurd (omega (arith, low));
+  classed = All-nil _;
+  classes_in_order = λ i j d order low. absurd (omega (arith, low));
+  classes_in_time = too_old present_version (omega arith);
 }

@@ -22,7 +22,7 @@ use Rattle.wu_rules.specs.declared.due.Pass.{Pass}
 use Rattle.wu_rules.specs.declared.due.Pass.TheVariants.{Transition, Validate, Assimilate, Delete, Purge}
 use Rattle.wu_machine.specs.Machine.{is_limit_right, step}
 use Rattle.wu_machine.specs.Passes.{archives, granted, images, is_among, passed}
-use Rattle.wu_machine.specs.Sound.{IsProject, IsSound}
+use Rattle.wu_machine.specs.Sound.{first_with_classes, IsProject, IsSound}
 use Rattle.wu_machine.specs.Requests.{AskPass}
 use Rattle.wu_machine.proofs.PassKeeps.{keeps_project_pass}
 use Rattle.wu_machine.proofs.ImageLemmas.{gives_nothing}
@@ -178,7 +178,7 @@ module _ (pass : Pass) (now limit min_age : ℕ) (low : now ≤ last_moment) whe
   )
   image_becomes w formed consistent storable Purge is stored = (refl, refl, purged_done w now min_age is)
 
-  module _ (world : World) (sound : IsSound world) (right : is_limit_right pass limit min_age ≡ true) where
+  module _ (world : World) (sound : IsSound world) (young : first_with_classes ≤ world.version) (right : is_limit_right pass limit min_age ≡ true) where
     -- those that are taken
     abbrev taken : List Workunit
     taken = chosen pass now min_age limit world
@@ -219,5 +219,5 @@ module _ (pass : Pass) (now limit min_age : ℕ) (low : now ≤ last_moment) whe
         (world.archived ++ flat_map files world.workunits) (world.archived ++ flat_map (archives pass now) taken) refl
         (ap (λ l. world.grants ++ l) (all_picked (granted pass) (changes pass now min_age) world.workunits limit up))
         (ap (λ l. world.archived ++ l) (all_picked (archives pass now) (changes pass now min_age) world.workunits limit up))
-        (sound_changed world change gives files sound (λ k d within. becomes _ (sound.formed k d within) (sound.consistent k d within)
+        (sound_changed world young change gives files sound (λ k d within. becomes _ (sound.formed k d within) (sound.consistent k d within)
         (sound.storable k d within) (among_passed (changes pass now min_age) world.workunits limit up k d within) (stored k d within)))

@@ -1,38 +1,42 @@
 -- Every step leads from a sound world to a sound one, and so does every list of requests.
-use Rattle.std.proofs.Common.{◌≡◌, ℕ, ◌+◌, ◌≤◌, Bool, true, false, List, [], ◌∷◌, ◌++◌, length, Option, Some, None, Ok, Result, Err, refl, sym, subst, inl, inr, arith, nat_lt}
+use Rattle.std.proofs.Common.{◌≡◌, ℕ, ◌+◌, ◌<◌, ◌≤◌, Bool, true, false, List, [], ◌∷◌, ◌++◌, length, Option, Some, None, Ok, Result, Err, refl, sym, subst, inl, inr, arith, nat_lt}
 use Rattle.std.proofs.lemmas.Bool.{cases_Bool}
 use Rattle.std.proofs.lemmas.Bool.Decides.{nat_tests}
 use Rattle.std.proofs.lemmas.List.Elements.{All-head, All-replicate, All-tail}
 use Rattle.std.specs.List.{All, enumerate_from}
 use Rattle.std.specs.Prelude.{◌&&◌, find, not, if◌then◌else◌}
+use Rattle.wu_core.specs.Classes.{AreClassed}
 use Rattle.wu_core.specs.Limits.{most_workunits}
 use Rattle.wu_core.specs.Parameters.{Parameters}
 use Rattle.wu_core.specs.World.{World, Import, is_import, last_skip}
 use Rattle.wu_core.specs.declared.fault.Fault.{Fault}
 use Rattle.wu_core.specs.declared.import.ImportKind.TheVariants as kind
+use Rattle.wu_core.specs.declared.workunit.HostClass.{HostClass}
+use Rattle.wu_feed.specs.Classes.{classes_of_file}
 use Rattle.wu_feed.specs.Jobs.{jobs_of_file}
 use Rattle.wu_feed.specs.Reports.{reports_of_file}
 use Rattle.wu_feed.specs.Sends.{sends_of_file}
 use Rattle.wu_feed.specs.Templates.{template_of}
 use Rattle.wu_feed.specs.declared.jobs.Job.{Job}
-use Rattle.wu_feed.proofs.RangeLemmas.{jobs_ranged, reports_ranged, sends_ranged, template_ranged}
+use Rattle.wu_feed.proofs.RangeLemmas.{classes_ranged, jobs_ranged, reports_ranged, sends_ranged, template_ranged}
 use Rattle.wu_core.specs.Storable.{AreVerdicts, IsName}
 use Rattle.wu_rules.specs.declared.due.Pass.{Pass}
 use Rattle.wu_machine.specs.Batches.{all_applied, first_number, first_taken, unless_taken, with_jobs}
-use Rattle.wu_machine.specs.FileRows.{Rule, after_rows, report_rule, row_verdicts, send_rule}
-use Rattle.wu_machine.specs.Imports.{batch_given, batch_read, Done, Given, has_content, import_of, imported_after, jobs_kept, kept_import, reported_given, rows_read, sent_given}
+use Rattle.wu_machine.specs.FileRows.{Rule, after_classes, after_rows, report_rule, row_verdicts, send_rule}
+use Rattle.wu_machine.specs.Imports.{batch_given, batch_read, classes_given, classes_read, Done, Given, has_content, import_of, imported_after, jobs_kept, kept_import, reported_given, rows_read, sent_given}
 use Rattle.wu_machine.specs.Machine.{done_now, fold_steps, HasValues, is_limit_right, is_upgrade, pass_done, present_version, step, world_of}
-use Rattle.wu_machine.specs.Sound.{IsProject, IsSound}
-use Rattle.wu_machine.specs.Requests.{Request, AskBatch, AskSent, AskReported, AskPass, AskCancel, AskUpgrade}
+use Rattle.wu_machine.specs.Sound.{first_with_classes, IsProject, IsSound}
+use Rattle.wu_machine.specs.Requests.{Request, AskBatch, AskClasses, AskSent, AskReported, AskPass, AskCancel, AskUpgrade}
 use Rattle.wu_machine.proofs.BatchKeeps.{keeps_project, news, with_kept}
-use Rattle.wu_machine.proofs.ImportLemmas.{same_rows}
-use Rattle.wu_machine.proofs.StorableLemmas.{report_verdicts, send_verdicts}
+use Rattle.wu_machine.proofs.ImportLemmas.{same_classes, same_rows}
+use Rattle.wu_machine.proofs.StorableLemmas.{class_verdicts, report_verdicts, send_verdicts}
+use Rattle.wu_machine.proofs.Versions.{done_older, done_upgrade}
 use Rattle.wu_machine_laws.proofs.Lasts.{came_all, lasts_same, lasts_then, Leads}
 use Rattle.wu_machine_laws.proofs.Middles.{to_pairs}
 use Rattle.wu_machine_laws.proofs.SoundJobs.{free_of_archive, sound_jobs, sound_kept}
 use Rattle.wu_machine_laws.proofs.SoundLemmas.{now_of, project_now, sound_now}
 use Rattle.wu_machine_laws.proofs.SoundPasses.{sound_passed}
-use Rattle.wu_machine_laws.proofs.SoundRows.{sound_cancelled, sound_reports, sound_sends}
+use Rattle.wu_machine_laws.proofs.SoundRows.{sound_cancelled, sound_classes, sound_reports, sound_sends}
 use Rattle.wu_machine_laws.proofs.SoundParts.{Differ}
 
 -- what becomes of a world is sound, and what is to last has lasted
@@ -43,6 +47,16 @@ LeadsOn world result = Leads world (world_of world result)
 sound_if : (b : Bool) (world : World) (one other : Result Done Fault) → LeadsOn world one → LeadsOn world other → LeadsOn world (if b then one else other)
 sound_if true world one other first second = first
 sound_if false world one other first second = second
+
+-- an upgrade is one
+is_the_upgrade : (request : Request) → is_upgrade request ≡ true → request ≡ AskUpgrade
+is_the_upgrade AskUpgrade is = refl
+is_the_upgrade (AskBatch name template file) is = cc
+is_the_upgrade (AskSent name file) is = cc
+is_the_upgrade (AskReported name file) is = cc
+is_the_upgrade (AskClasses name file) is = cc
+is_the_upgrade (AskPass pass now limit min_age) is = cc
+is_the_upgrade (AskCancel name) is = cc
 
 module _ (world : World) (sound : IsSound world) where
   -- where nothing is done
@@ -104,49 +118,83 @@ module _ (world : World) (sound : IsSound world) where
       (subst (λ imports. find (is_import given.kind given.name) imports ≡ None) (sym (same_rows rule world rows).imports) fresh) in
       (kept.0, lasts_then world (after_rows rule world rows) (with_kept import (after_rows rule world rows)) done_rows.0.1 kept.1)
 
-  -- sends
-  sent_imported : (name file : List ℕ) → IsName name → (earlier : Option Import) → import_of world (sent_given name file) ≡ earlier
-      → LeadsOn world (imported_after world (sent_given name file) earlier)
-  sent_imported name file named (Some import) is = sound_if (has_content (sent_given name file) import) world _ _ stays stays
-  sent_imported name file named None is =
-      file_read send_rule (sent_given name file) (sends_of_file file) named is
-      (λ rows are. (sound_sends rows (sends_ranged file rows are) world sound, send_verdicts rows world))
+  -- of a version with classes
+  module _ (young : first_with_classes ≤ world.version) where
+    -- sends
+    sent_imported : (name file : List ℕ) → IsName name → (earlier : Option Import) → import_of world (sent_given name file) ≡ earlier
+        → LeadsOn world (imported_after world (sent_given name file) earlier)
+    sent_imported name file named (Some import) is = sound_if (has_content (sent_given name file) import) world _ _ stays stays
+    sent_imported name file named None is =
+        file_read (send_rule world.classes) (sent_given name file) (sends_of_file file) named is
+        (λ rows are. (sound_sends world.classes sound.classed rows (sends_ranged file rows are) world young sound, send_verdicts world.classes rows world))
 
-  -- reports
-  reported_imported : (name file : List ℕ) → IsName name → (earlier : Option Import) → import_of world (reported_given name file) ≡ earlier
-      → LeadsOn world (imported_after world (reported_given name file) earlier)
-  reported_imported name file named (Some import) is = sound_if (has_content (reported_given name file) import) world _ _ stays stays
-  reported_imported name file named None is =
-      file_read report_rule (reported_given name file) (reports_of_file file) named is
-      (λ rows are. (sound_reports rows (reports_ranged file rows are) world sound, report_verdicts rows world))
+    -- reports
+    reported_imported : (name file : List ℕ) → IsName name → (earlier : Option Import) → import_of world (reported_given name file) ≡ earlier
+        → LeadsOn world (imported_after world (reported_given name file) earlier)
+    reported_imported name file named (Some import) is = sound_if (has_content (reported_given name file) import) world _ _ stays stays
+    reported_imported name file named None is =
+        file_read report_rule (reported_given name file) (reports_of_file file) named is
+        (λ rows are. (sound_reports rows (reports_ranged file rows are) world young sound, report_verdicts rows world))
 
-  -- ---- a pass
+    -- classes
+    new_classes : (name file : List ℕ) → IsName name → import_of world (classes_given name file) ≡ None → (rows : Result (List HostClass) Fault)
+        → ((are : List HostClass) → rows ≡ Ok are → AreClassed are) → LeadsOn world (classes_read (classes_given name file) world rows)
+    new_classes name file named fresh (Err fault) ranged = stays
+    new_classes name file named fresh (Ok rows) ranged =
+        let given = classes_given name file in
+        let after = after_classes world rows in
+        let done_rows = sound_classes rows (ranged rows refl) world young sound in
+        let import = kept_import given 0 (all_applied rows) in
+        let kept : Leads after (with_kept import after) =
+        sound_kept after done_rows.0 import named (class_verdicts rows)
+        (subst (λ imports. find (is_import given.kind given.name) imports ≡ None) (sym (same_classes world rows).imports) fresh) in
+        (kept.0, lasts_then world after (with_kept import after) done_rows.1 kept.1)
 
-  -- whose limit may be refused
-  passed_sound : (pass : Pass) (now limit min_age : ℕ) → HasValues (AskPass pass now limit min_age) → LeadsOn world (pass_done world pass now limit min_age)
-  passed_sound pass now limit min_age low = elim (cases_Bool (is_limit_right pass limit min_age)) [
-    | inl right ↦ rw right (sound_passed pass now limit min_age low world sound right)
-    | inr wrong ↦ rw wrong stays
-  ]
+    classes_imported : (name file : List ℕ) → IsName name → (earlier : Option Import) → import_of world (classes_given name file) ≡ earlier
+        → LeadsOn world (imported_after world (classes_given name file) earlier)
+    classes_imported name file named (Some import) is = sound_if (has_content (classes_given name file) import) world _ _ stays stays
+    classes_imported name file named None is = new_classes name file named is (classes_of_file file) (classes_ranged file)
 
-  -- ---- any request
+    -- a pass
 
-  -- what is done now
-  done_sound : (request : Request) → HasValues request → LeadsOn world (done_now world request)
-  done_sound (AskBatch name template file) values = batch_imported name template file values (import_of world (batch_given name template file)) refl
-  done_sound (AskSent name file) values = sent_imported name file values (import_of world (sent_given name file)) refl
-  done_sound (AskReported name file) values = reported_imported name file values (import_of world (reported_given name file)) refl
-  done_sound (AskPass pass now limit min_age) values = passed_sound pass now limit min_age values
-  done_sound (AskCancel name) values = sound_cancelled world sound name
-  done_sound AskUpgrade values = (
+    -- whose limit may be refused
+    passed_sound : (pass : Pass) (now limit min_age : ℕ) → HasValues (AskPass pass now limit min_age) → LeadsOn world (pass_done world pass now limit min_age)
+    passed_sound pass now limit min_age low = elim (cases_Bool (is_limit_right pass limit min_age)) [
+      | inl right ↦ rw right (sound_passed pass now limit min_age low world sound young right)
+      | inr wrong ↦ rw wrong stays
+    ]
+
+  -- an upgrade
+  upgraded : LeadsOn world (done_now world AskUpgrade)
+  upgraded = (
     sound_now world sound,
     record { next = omega arith; came = came_all world; names = λ name is. is; apart = λ all. all },
   )
 
+  -- ---- any request
+
+  -- what is done now, of a version with classes
+  done_sound : first_with_classes ≤ world.version → (request : Request) → HasValues request → LeadsOn world (done_now world request)
+  done_sound young (AskBatch name template file) values = batch_imported name template file values (import_of world (batch_given name template file)) refl
+  done_sound young (AskSent name file) values = sent_imported young name file values (import_of world (sent_given name file)) refl
+  done_sound young (AskReported name file) values = reported_imported young name file values (import_of world (reported_given name file)) refl
+  done_sound young (AskClasses name file) values = classes_imported young name file values (import_of world (classes_given name file)) refl
+  done_sound young (AskPass pass now limit min_age) values = passed_sound young pass now limit min_age values
+  done_sound young (AskCancel name) values = sound_cancelled world sound young name
+  done_sound young AskUpgrade values = upgraded
+
+  -- an older version is left, but by an upgrade
+  older_sound : world.version < present_version → (request : Request) → (b : Bool) → is_upgrade request ≡ b → Leads world (step world request)
+  older_sound low request false other = subst (LeadsOn world) (sym (done_older world request low other)) stays
+  older_sound low request true upgrade = subst (λ asked. Leads world (step world asked)) (sym (is_the_upgrade request upgrade))
+      (subst (LeadsOn world) (sym (done_upgrade world)) upgraded)
+
   -- a step leads to a sound world
   pub sound_step : (request : Request) → HasValues request → Leads world (step world request)
-  sound_step request values = sound_if (nat_lt world.version present_version && not (is_upgrade request)) world _ (done_now world request) stays
-      (done_sound request values)
+  sound_step request values = elim (cases_Bool (nat_lt world.version present_version)) [
+    | inl older ↦ older_sound (grind (arith, nat_tests)) request (is_upgrade request) refl
+    | inr younger ↦ rw younger (done_sound (grind (arith, nat_tests)) request values)
+  ]
 
 -- so does a list of requests
 pub sound_steps : (requests : List Request) (world : World) → All HasValues requests → IsSound world → Leads world (fold_steps world requests)

@@ -4,10 +4,10 @@ use Rattle.std.proofs.lemmas.Bool.{cases_Bool}
 use Rattle.std.specs.Prelude.{IsSome, flat_map}
 use Rattle.wu_core.specs.declared.workunit.Workunit.{Workunit}
 use Rattle.wu_core.specs.World.{Import, World}
-use Rattle.wu_machine.specs.Imports.{batch_given, Given, has_content, import_of, imported, imported_after, reported_given, sent_given}
+use Rattle.wu_machine.specs.Imports.{batch_given, classes_given, Given, has_content, import_of, imported, imported_after, reported_given, sent_given}
 use Rattle.wu_machine.specs.Machine.{CameBefore, done_now, is_limit_right, MakesNothing, world_of}
 use Rattle.wu_machine.specs.Passes.{archives, granted, images, is_among, passed}
-use Rattle.wu_machine.specs.Requests.{AskBatch, AskCancel, AskPass, AskReported, AskSent, AskUpgrade, Request}
+use Rattle.wu_machine.specs.Requests.{AskBatch, AskCancel, AskClasses, AskPass, AskReported, AskSent, AskUpgrade, Request}
 use Rattle.wu_rules.specs.declared.due.Pass.{Pass}
 use Rattle.wu_rules.specs.Due.{chosen}
 use Rattle.wu_machine_laws.proofs.LeavingLaws.{asked, By, either_by}
@@ -49,6 +49,7 @@ now_stays : (world : World) (request : Request) â†’ MakesNothing world request â
 now_stays world (AskBatch name template file) before = import_stays world (batch_given name template file) before
 now_stays world (AskSent name file) before = import_stays world (sent_given name file) before
 now_stays world (AskReported name file) before = import_stays world (reported_given name file) before
+now_stays world (AskClasses name file) before = import_stays world (classes_given name file) before
 now_stays world (AskPass pass now limit min_age) none =
     either_by (Leaves world) (is_limit_right pass limit min_age) world _ _ (pass_stays pass now min_age limit world none) refl
 now_stays world (AskCancel name) none = absurd none

@@ -1,20 +1,23 @@
--- What files of sends and of reports make, in the words of the field.
-use Rattle.std.specs.Prelude.{◌≡◌, ◌≢◌, ◌↔◌, ℕ, All, List, length, slice_get, Some, None, Ok, IsSomeAnd}
+-- What files of sends, of reports and of classes make, in the words of the field.
+use Rattle.std.specs.Prelude.{◌≡◌, ◌≢◌, ◌↔◌, ℕ, ◌+◌, All, List, drop, length, slice_get, Some, None, Ok, IsSomeAnd}
 use Rattle.wu_core.specs.declared.import.ImportKind.TheVariants as kind
 use Rattle.wu_core.specs.declared.states.Outcome.TheVariants as outcome
 use Rattle.wu_core.specs.declared.states.ServerState.TheVariants as server
 use Rattle.wu_core.specs.declared.states.Status.TheVariants as status
+use Rattle.wu_core.specs.declared.workunit.HostClass.{HostClass}
 use Rattle.wu_core.specs.declared.workunit.Instance.{Instance}
 use Rattle.wu_core.specs.declared.workunit.Workunit.{Workunit}
+use Rattle.wu_core.specs.Classes.{class_of}
 use Rattle.wu_core.specs.World.{World}
 use Rattle.wu_feed.specs.declared.reports.ReportRow.{ReportRow}
 use Rattle.wu_feed.specs.declared.sends.SendRow.{SendRow}
+use Rattle.wu_feed.specs.Classes.{classes_of_file}
 use Rattle.wu_feed.specs.Reports.{reports_of_file}
 use Rattle.wu_feed.specs.Sends.{sends_of_file}
 use Rattle.wu_rules_laws.specs.Rows.{MayBeReported, MayBeSent}
-use Rattle.wu_machine.specs.Imports.{import_of, reported_given, sent_given}
+use Rattle.wu_machine.specs.Imports.{classes_given, import_of, reported_given, sent_given}
 use Rattle.wu_machine.specs.Machine.{reply, step}
-use Rattle.wu_machine.specs.Requests.{AskReported, AskSent, Imported}
+use Rattle.wu_machine.specs.Requests.{AskClasses, AskReported, AskSent, Imported}
 use Rattle.wu_machine.specs.Worlds.{workunit_named}
 
 -- the workunit of this name is present, and this holds of it
@@ -51,8 +54,8 @@ pub record IsApplied {Row : Type 0} (rows : List Row) (verdicts : List ℕ) (May
   pub skipped : All (λ verdict. verdict ≢ 0) verdicts → new.workunits ≡ old.workunits
 
 -- which rows may be applied, and what holds once they are
-abbrev pub MaySend : World → SendRow → Type 0
-MaySend world row = OfNamed world row.workunit (λ w. MayBeSent w row.n row.host)
+abbrev pub MaySend : List HostClass → World → SendRow → Type 0
+MaySend classes world row = OfNamed world row.workunit (λ w. MayBeSent w row.n row.host (class_of classes row.host))
 
 abbrev pub HoldsSent : World → SendRow → Type 0
 HoldsSent world row = OfNamed world row.workunit (OfInstance row.n (IsOutAs row))
@@ -63,16 +66,26 @@ MayReport world row = OfNamed world row.workunit (OfInstance row.n (MayBeReporte
 abbrev pub HoldsReported : World → ReportRow → Type 0
 HoldsReported world row = OfNamed world row.workunit (OfInstance row.n (IsOverAs row))
 
+-- A host that is named has then the class of the last row that names it, and each other the class that it had.
+pub record GivesClasses (rows old new : List HostClass) : Type 0 where
+  pub named : (k : ℕ) (row : HostClass) → slice_get rows k ≡ Some row
+      → All (λ later. later.host ≢ row.host) (drop (k + 1) rows) → class_of new row.host ≡ row.class
+  pub others : (host : List ℕ) → All (λ row. row.host ≢ host) rows → class_of new host ≡ class_of old host
+
 -- so it is of each file that comes for the first time
 pub record AppliesRows (world : World) (name file verdicts : List ℕ) : Type 0 where
   pub sent : (rows : List SendRow) → import_of world (sent_given name file) ≡ None
       → sends_of_file file ≡ Ok rows
       → reply world (AskSent name file) ≡ Ok (Imported kind.Sent name 0 verdicts)
-      → IsApplied rows verdicts MaySend HoldsSent world (step world (AskSent name file))
+      → IsApplied rows verdicts (MaySend world.classes) HoldsSent world (step world (AskSent name file))
   pub reported : (rows : List ReportRow) → import_of world (reported_given name file) ≡ None
       → reports_of_file file ≡ Ok rows
       → reply world (AskReported name file) ≡ Ok (Imported kind.Reported name 0 verdicts)
       → IsApplied rows verdicts MayReport HoldsReported world (step world (AskReported name file))
+  pub classed : (rows : List HostClass) → import_of world (classes_given name file) ≡ None
+      → classes_of_file file ≡ Ok rows
+      → reply world (AskClasses name file) ≡ Ok (Imported kind.Classes name 0 verdicts)
+      → GivesClasses rows world.classes (step world (AskClasses name file)).classes
 
 abbrev pub AppliesFiles : Type 0
 AppliesFiles = (world : World) (name file verdicts : List ℕ) → AppliesRows world name file verdicts

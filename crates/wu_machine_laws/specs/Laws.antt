@@ -69,6 +69,7 @@ pub record KeepsRecords (pass : Pass) (old new : World) : Type 0 where
   pub no_grants : pass ≢ Validate → new.grants ≡ old.grants
   pub no_archived : pass ≢ Assimilate → new.archived ≡ old.archived
   pub imports : new.imports ≡ old.imports
+  pub classes : new.classes ≡ old.classes
   pub next_number : new.next_number ≡ old.next_number
   pub version : new.version ≡ old.version
 

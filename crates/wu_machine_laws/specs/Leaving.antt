@@ -23,7 +23,7 @@ use Rattle.wu_machine.specs.Batches.{is_one_of}
 use Rattle.wu_machine.specs.Imports.{batch_given, import_of}
 use Rattle.wu_machine.specs.Machine.{fold_steps, IsUpToDate, MakesNothing, present_version, reply, step}
 use Rattle.wu_machine.specs.Passes.{is_among, passed}
-use Rattle.wu_machine.specs.Requests.{Request, AskBatch, AskCancel, AskPass, AskReported, AskSent, AskUpgrade, Cancelled, Imported, Upgraded}
+use Rattle.wu_machine.specs.Requests.{Request, AskBatch, AskCancel, AskClasses, AskPass, AskReported, AskSent, AskUpgrade, Cancelled, Imported, Upgraded}
 use Rattle.wu_machine.specs.Sound.{IsProject}
 use Rattle.wu_machine.specs.Worlds.{workunit_named}
 use Rattle.wu_rules_laws.specs.Laws.{IsCancelled}
@@ -56,18 +56,19 @@ abbrev pub unnamed : List (List ℕ) → World → List Workunit
 unnamed names world = filter (λ w. not (is_one_of names w.name)) world.workunits
 
 -- The workunits that have none of these names are as they were; none comes or goes, and each keeps its number and its
--- name. Nothing is granted or archived.
+-- name. Nothing is granted or archived, and no host gets a class.
 pub record ChangesNamed (names : List (List ℕ)) (old new : World) : Type 0 where
   pub others : unnamed names new ≡ unnamed names old
   pub numbers : map (λ w. w.number) new.workunits ≡ map (λ w. w.number) old.workunits
   pub same_names : map (λ w. w.name) new.workunits ≡ map (λ w. w.name) old.workunits
   pub grants : new.grants ≡ old.grants
   pub archived : new.archived ≡ old.archived
+  pub classes : new.classes ≡ old.classes
   pub next_number : new.next_number ≡ old.next_number
   pub version : new.version ≡ old.version
 
--- A file changes the workunits that its rows name alone, a cancel the one of its name; a batch leaves all that are
--- present, an upgrade all, and what is refused leaves the world.
+-- A file of sends or reports changes the workunits that its rows name alone, a cancel the one of its name; a batch leaves
+-- all that are present, a file of classes and an upgrade all, and what is refused leaves the world.
 pub record LeavesOthers (world : World) : Type 0 where
   pub sent : (name file : List ℕ) (rows : List SendRow) → sends_of_file file ≡ Ok rows
       → ChangesNamed (map (λ row. row.workunit) rows) world (step world (AskSent name file))
@@ -76,6 +77,7 @@ pub record LeavesOthers (world : World) : Type 0 where
   pub cancelled : (name : List ℕ) → ChangesNamed (name ∷ []) world (step world (AskCancel name))
   pub batch : (name template file : List ℕ)
       → Begins world.workunits (step world (AskBatch name template file)).workunits
+  pub classed : (name file : List ℕ) → (step world (AskClasses name file)).workunits ≡ world.workunits
   pub upgraded : (step world AskUpgrade).workunits ≡ world.workunits
   pub refused : (request : Request) (fault : Fault) → reply world request ≡ Err fault
       → step world request ≡ world

@@ -2,8 +2,10 @@
 use Rattle.std.specs.Prelude.{◌≡◌, ◌≢◌, ◌↔◌, ℕ, List, [], ◌∷◌, Option, Some, None, Ok, IfSome, slice_get}
 use Rattle.std.specs.Option.{option_and_then}
 use Rattle.wu_core.specs.declared.import.ImportKind.TheVariants as kind
+use Rattle.wu_core.specs.declared.workunit.HostClass.{HostClass}
 use Rattle.wu_core.specs.declared.workunit.Instance.{Instance}
 use Rattle.wu_core.specs.declared.workunit.Workunit.{Workunit}
+use Rattle.wu_core.specs.Classes.{class_of}
 use Rattle.wu_core.specs.World.{World}
 use Rattle.wu_feed.specs.declared.reports.ReportRow.{ReportRow}
 use Rattle.wu_feed.specs.declared.sends.SendRow.{SendRow}
@@ -42,12 +44,12 @@ MakesOf old new name n Becomes =
     (w : Workunit) (i : Instance) → workunit_named old name ≡ Some w → slice_get w.instances n ≡ Some i
     → OfNamed new name (OfInstance n (Becomes w i))
 
--- A send gets the verdict that its workunit gives, is applied exactly where it may be, and changes its instance alone,
--- as it says; a send that is skipped leaves the world.
-pub record TakesSend (row : SendRow) (verdict : ℕ) (old new : World) : Type 0 where
-  pub told : IsVerdict old row.workunit (λ w. send_verdict_code (send_verdict_in w row.n row.host))
+-- A send gets the verdict that its workunit gives, where hosts have these classes, is applied exactly where it may be, and
+-- changes its instance alone, as it says; a send that is skipped leaves the world.
+pub record TakesSend (classes : List HostClass) (row : SendRow) (verdict : ℕ) (old new : World) : Type 0 where
+  pub told : IsVerdict old row.workunit (λ w. send_verdict_code (send_verdict_in w row.n row.host (class_of classes row.host)))
       (send_verdict_code send.Unknown) verdict
-  pub applied : (verdict ≡ 0) ↔ MaySend old row
+  pub applied : (verdict ≡ 0) ↔ MaySend classes old row
   pub sent : verdict ≡ 0 → MakesOf old new row.workunit row.n (λ w. IsSent w row.host row.moment)
   pub others : LeavesAllBut row.workunit row.n old new
   pub skipped : verdict ≢ 0 → new ≡ old
@@ -80,7 +82,7 @@ pub record SeesRows (world : World) (name file verdicts : List ℕ) : Type 0 whe
   pub sent : (rows : List SendRow) → import_of world (sent_given name file) ≡ None
       → sends_of_file file ≡ Ok rows
       → reply world (AskSent name file) ≡ Ok (Imported kind.Sent name 0 verdicts)
-      → RowByRow TakesSend rows verdicts world (step world (AskSent name file))
+      → RowByRow (TakesSend world.classes) rows verdicts world (step world (AskSent name file))
   pub reported : (rows : List ReportRow) → import_of world (reported_given name file) ≡ None
       → reports_of_file file ≡ Ok rows
       → reply world (AskReported name file) ≡ Ok (Imported kind.Reported name 0 verdicts)

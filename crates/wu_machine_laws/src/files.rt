@@ -1,10 +1,11 @@
-//! Laws of files of sends and of reports: each function's contract is one, for every world and every file.
+//! Laws of files of sends, of reports and of classes: each function's contract is one, for every world and every file.
 
 ghost use Rattle.wu_machine_laws.specs.Files.{AppliesFiles};
 ghost use Rattle.wu_machine_laws.specs.Rows.{LeavesUnnamedInstances, RowsSeeRows};
 
-/// A new file has a verdict for each row; its first row is applied exactly where it may be, after the file each row
-/// that was applied holds, and where none was, the workunits are as they were.
+/// A new file of sends or reports has a verdict for each row; its first row is applied exactly where it may be, after
+/// the file each row that was applied holds, and where none was, the workunits are as they were. After a new file of
+/// classes a host that it names has the class of the last row that names it, and each other the class that it had.
 pub fn applies_files()
     ensures { AppliesFiles }
 {}

@@ -12,8 +12,8 @@ pub fn what_is_purged_is_gone()
     ensures { PurgedIsGone }
 {}
 
-/// A file and a cancel change the workunits that they name alone; a batch and an upgrade change none, and what is
-/// refused changes nothing.
+/// A file of sends or reports and a cancel change the workunits that they name alone; a batch, a file of classes and an
+/// upgrade change none, and what is refused changes nothing.
 pub fn leaves_what_is_not_named()
     ensures { LeavesWhatIsNotNamed }
 {}

@@ -54,6 +54,13 @@ kind_is kind.Sent kind.Reported is = absurd cc
 kind_is kind.Reported kind.Batch is = absurd cc
 kind_is kind.Reported kind.Sent is = absurd cc
 kind_is kind.Reported kind.Reported is = refl
+kind_is kind.Batch kind.Classes is = absurd cc
+kind_is kind.Sent kind.Classes is = absurd cc
+kind_is kind.Reported kind.Classes is = absurd cc
+kind_is kind.Classes kind.Batch is = absurd cc
+kind_is kind.Classes kind.Sent is = absurd cc
+kind_is kind.Classes kind.Reported is = absurd cc
+kind_is kind.Classes kind.Classes is = refl
 
 -- the verdicts of an import that is found are in range
 pub found_in_range : (k : ImportKind) (name : List ℕ) (world : World) → HasVerdicts world → LoadsImport k name world

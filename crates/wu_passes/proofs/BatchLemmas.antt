@@ -21,14 +21,14 @@ use Rattle.wu_passes.specs.Planning.{additions, first_of, IsNewBatch, IsPlan, Pl
 use Rattle.wu_machine.specs.Commands.{reply_of_answer}
 use Rattle.wu_machine.specs.Sound.{IsProject}
 use Rattle.wu_store.specs.Loading.{IsStoreFault}
-use Rattle.wu_store.specs.StandsFor.{IsQueued}
+use Rattle.wu_store.specs.StandsFor.{KnowsClasses}
 use Rattle.wu_machine.specs.Requests.{AskBatch, Reply}
 use Rattle.wu_passes.specs.declared.plan.Plan.{Plan}
 use Rattle.wu_store.specs.declared.changes.Change.{Change}
 use Rattle.wu_store.specs.declared.changes.Change.TheVariants.{Next, Keep}
 use Rattle.wu_store.specs.declared.changes.Import.{Import as Kept}
 use Rattle.wu_passes.proofs.ImportPlans.{never_before}
-use Rattle.wu_passes.proofs.PlanLemmas.{added, queued}
+use Rattle.wu_passes.proofs.PlanLemmas.{added, classed}
 use Rattle.wu_machine.proofs.BatchKeeps.{above_more, asked_of, news, with_kept}
 
 -- the world with workunits more
@@ -42,7 +42,7 @@ made_adds params (p ∷ ps) rest world =
     made_adds params ps rest (made (added params p) world)
     ∙ ap (λ ws. made_all rest (record world { workunits = ws })) (append_assoc world.workunits (new_workunit params p.0 p.1 ∷ []) (news params ps))
 
-right_adds : (params : Parameters) (n : ℕ) (jobs : List Job) (rest : List Change) (world : World) → IsQueued world → IsAbove n world.workunits
+right_adds : (params : Parameters) (n : ℕ) (jobs : List Job) (rest : List Change) (world : World) → KnowsClasses world → IsAbove n world.workunits
     → ((after : World) → AreRight rest after) → AreRight (map (added params) (enumerate_from n jobs) ++ rest) world
 right_adds params n [] rest world queue above right = right world
 right_adds params n (job ∷ jobs) rest world queue above right =
@@ -67,7 +67,7 @@ module _ (world : World) (is : IsUpToDate world) (project : IsProject world) (na
   right_new kept =
       let adds = map (added params) (enumerate_from world.next_number jobs) in
       subst (λ changes. AreRight changes world) (sym (append_assoc adds (Next (world.next_number + length jobs) ∷ []) (Keep kept ∷ [])))
-      (right_adds params world.next_number jobs (Next (world.next_number + length jobs) ∷ Keep kept ∷ []) world (queued world is) project.above (λ after. (tt, (tt, tt))))
+      (right_adds params world.next_number jobs (Next (world.next_number + length jobs) ∷ Keep kept ∷ []) world (classed world is) project.above (λ after. (tt, (tt, tt))))
 
   pub added_jobs : import_of world (batch_given name template file) ≡ None → template_of template ≡ Ok params → jobs_of_file file ≡ Ok jobs → first_taken world jobs ≡ None
       → world.next_number + length jobs ≤ most_workunits + 1 → (plan : Plan) → IsNewBatch (batch_given name template file) world.next_number params jobs plan

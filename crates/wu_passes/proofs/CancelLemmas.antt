@@ -9,7 +9,7 @@ use Rattle.wu_core.specs.World.{World}
 use Rattle.wu_rules.specs.Cancelling.{cancelled}
 use Rattle.wu_schema.specs.Refines.{Refines}
 use Rattle.wu_store.specs.Changing.{AreRight, made_all}
-use Rattle.wu_store.specs.StandsFor.{IsQueued}
+use Rattle.wu_store.specs.StandsFor.{KnowsClasses}
 use Rattle.wu_store.specs.declared.changes.Change.TheVariants.{Replace}
 use Rattle.wu_store.proofs.WorldOnce.{once_named, once_number}
 use Rattle.wu_passes.specs.declared.plan.Plan.{Plan}
@@ -22,7 +22,7 @@ use Rattle.wu_passes.specs.declared.touched.Touch.{Touch}
 use Rattle.wu_passes.specs.Touched.{AreImages, touched_named, untouched, with_touched}
 use Rattle.wu_machine.specs.Worlds.{workunit_named, with_named}
 use Rattle.wu_machine.proofs.Versions.{done_up_to_date}
-use Rattle.wu_passes.proofs.PlanLemmas.{queued}
+use Rattle.wu_passes.proofs.PlanLemmas.{classed}
 use Rattle.wu_passes.proofs.TouchedLemmas.{images_by_row, images_empty, images_loaded, left_by_row, loaded, loaded_found, name_found, replaced_all, touched_empty}
 
 module _ (db : Database) (world : World) (stands : Refines db world) (name : List ℕ) (w : Workunit) (present : workunit_named world name ≡ Some w) where
@@ -47,7 +47,7 @@ module _ (db : Database) (world : World) (stands : Refines db world) (name : Lis
     ]
 
     pub replaced_one : (change : Workunit → Workunit) → change w ≡ image
-        → (made_all (Replace w image ∷ []) world ≡ with_named world name change) × (IsQueued world → AreRight (Replace w image ∷ []) world)
+        → (made_all (Replace w image ∷ []) world ≡ with_named world name change) × (KnowsClasses world → AreRight (Replace w image ∷ []) world)
     replaced_one change makes =
         let all = images_by_row world (untouched w ∷ []) (changed ∷ []) name (untouched w) image there images named numbered found_by in
         let now = left_by_row world (untouched w ∷ []) (changed ∷ []) name (untouched w) image there images named numbered found_by change makes in
@@ -74,7 +74,7 @@ module _ (db : Database) (world : World) (stands : Refines db world) (is : IsUpT
       let one = replaced_one db world stands name w present (cancelled w) (same_name w) (same_number w) cancelled refl in
       record {
         done = asked ∙ ap (cancel_done world name) present ∙ rw it.undecided (ap (λ (d : Done). Ok d) (same one.0));
-        right = subst (λ changes. AreRight changes world) (sym it.changes) (one.1 (queued world is));
+        right = subst (λ changes. AreRight changes world) (sym it.changes) (one.1 (classed world is));
         idle = λ none. absurd none;
       }
     where

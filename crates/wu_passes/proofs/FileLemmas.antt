@@ -3,13 +3,14 @@ use Rattle.std.proofs.Common.{◌≡◌, ℕ, ◌==◌, true, false, List, [], �
 use Rattle.std.proofs.lemmas.Bool.{cases_Bool}
 use Rattle.std.proofs.lemmas.Slice.Eq.{bytes_eq-Decides}
 use Rattle.std.specs.Option.{option_map, option_map_or}
+use Rattle.wu_core.specs.declared.workunit.HostClass.{HostClass}
 use Rattle.wu_core.specs.declared.workunit.Workunit.{Workunit}
 use Rattle.wu_core.specs.declared.fault.Fault.{Fault}
 use Rattle.wu_core.specs.World.{World}
 use Rattle.wu_store.proofs.WorldOnce.{NamesOnce}
 use Rattle.wu_machine.specs.FileRows.{KeepsIdentity, Rule, left_by, unknown}
 use Rattle.wu_passes.specs.declared.touched.Touch.{Touch}
-use Rattle.wu_passes.specs.Touched.{AreImages, HasAlso, IsLeft, IsTouched, LeavesBy, as_left, touched_by, touched_named, untouched, with_touched}
+use Rattle.wu_passes.specs.Touched.{AreImages, HasAlso, IsLeft, IsTouched, LeavesBy, as_left, rule_in, touched_by, touched_named, untouched, with_touched}
 use Rattle.wu_machine.specs.Worlds.{workunit_named, with_named}
 use Rattle.wu_passes.proofs.TouchedLemmas.{IsWith, after_found, changed_if, found_touched, found_unknown, images_by_row, images_loaded, left_by_row, loaded, loaded_found, more_left, now_of, touch_found}
 
@@ -112,3 +113,17 @@ module _ {Row : Type 0} (rule : Rule Row) (world : World) (ts after : List Touch
 pub left_touched : {Row : Type 0} → (rule : Rule Row) (rows : List Row) (world : World) (n : List ℕ) (old new : List Touch) (verdicts : List ℕ) → IsLeft rule rows world old verdicts → IsTouched n world old new
     → IsLeft rule rows world new verdicts
 left_touched rule rows world n old new verdicts before at = record { images = at.images; left = at.left ∙ before.left; told = before.told }
+
+-- a row was applied or skipped by the class on which its verdict depends, so by the classes of the world
+pub row_applied : {Row : Type 0} → (rule : ℕ → Rule Row) (class_in : List HostClass → Row → ℕ) (world : World) (old ts after : List Touch) (rows : List Row) (row : Row) (verdicts : List ℕ) (verdict class : ℕ)
+    → class ≡ class_in world.classes row → IsLeft (rule_in rule class_in world.classes) rows world old verdicts → IsTouched ((rule class).workunit row) world old ts
+    → LeavesBy (rule class) row verdict ts after → verdict ≡ option_map_or (λ (t : Touch). (rule class).verdict row t.now) (touched_named ts ((rule class).workunit row)) unknown
+    → IfSome (touched_named ts ((rule class).workunit row)) (λ (t : Touch). KeepsIdentity t.now (left_by (rule class) row verdict t.now))
+    → IsLeft (rule_in rule class_in world.classes) (rows ++ row ∷ []) world after (verdicts ++ verdict ∷ [])
+row_applied {Row} rule class_in world old ts after rows row verdicts verdict class is before at left told keeps =
+    let here : IsTouched ((rule (class_in world.classes row)).workunit row) world old ts = subst (λ k. IsTouched ((rule k).workunit row) world old ts) is at in
+    row_left (rule_in rule class_in world.classes) world ts after rows row verdicts verdict
+    (left_touched (rule_in rule class_in world.classes) rows world ((rule (class_in world.classes row)).workunit row) old ts verdicts before here) here.found
+    (subst (λ k. LeavesBy (rule k) row verdict ts after) is left)
+    (subst (λ k. verdict ≡ option_map_or (λ (t : Touch). (rule k).verdict row t.now) (touched_named ts ((rule k).workunit row)) unknown) is told)
+    (subst (λ k. IfSome (touched_named ts ((rule k).workunit row)) (λ (t : Touch). KeepsIdentity t.now (left_by (rule k) row verdict t.now))) is keeps)

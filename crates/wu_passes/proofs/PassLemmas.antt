@@ -11,7 +11,7 @@ use Rattle.wu_core.specs.World.{World}
 use Rattle.wu_schema.specs.Refines.{Refines}
 use Rattle.wu_store.specs.Changes.{IsNextPlace, with_replaced, without_workunit}
 use Rattle.wu_store.specs.Changing.{AreRight, archived_from, granted_from, made_all}
-use Rattle.wu_store.specs.StandsFor.{IsQueued}
+use Rattle.wu_store.specs.StandsFor.{KnowsClasses}
 use Rattle.wu_rules.specs.Due.{changes, chosen}
 use Rattle.wu_store.specs.declared.changes.Change.{Change}
 use Rattle.wu_store.specs.declared.changes.Change.TheVariants.{Remove, Replace}
@@ -91,11 +91,11 @@ module _ (image : Workunit → Workunit) (numbers : (w : Workunit) → (image w)
       let off = apart t.number v.number above.0 in
       (others_found (image t) v.number ws (ap (λ n. n == v.number) (numbers t) ∙ off.0) ∙ has.0, still_have t ts ws above.1 has.1)
 
-  right_put : (ts : List Workunit) (world : World) → IsQueued world → Rises ts → Have world.workunits ts → AreRight (replacements image ts) world
-  right_put [] world queue up has = tt
-  right_put (t ∷ ts) world queue up has = (
-    (queue, subst (λ n. find (λ (v : Workunit). v.number == n) world.workunits ≡ Some t) (sym (numbers t)) has.0),
-    right_put ts (with_replaced (image t) world) queue up.1 (still_have t ts world.workunits up.0 has.1),
+  right_put : (ts : List Workunit) (world : World) → KnowsClasses world → Rises ts → Have world.workunits ts → AreRight (replacements image ts) world
+  right_put [] world classed up has = tt
+  right_put (t ∷ ts) world classed up has = (
+    (classed, subst (λ n. find (λ (v : Workunit). v.number == n) world.workunits ≡ Some t) (sym (numbers t)) has.0),
+    right_put ts (with_replaced (image t) world) classed up.1 (still_have t ts world.workunits up.0 has.1),
   )
 
 -- some of a list whose numbers rise
@@ -167,10 +167,10 @@ module _ (db : Database) (world : World) (stands : Refines db world) (pass : Pas
         ∙ ap (λ ws. record world { workunits = ws }) (put_part image numbers chosen_part (world_rises db world stands))
         ∙ (λ i. record world { workunits = flat_map (leaves (λ w. sym (is w) i) (chosen pass now min_age limit world)) world.workunits })
 
-    pub pass_replaces_right : IsQueued world → AreRight (replacements image (chosen pass now min_age limit world)) world
-    pass_replaces_right queue =
+    pub pass_replaces_right : KnowsClasses world → AreRight (replacements image (chosen pass now min_age limit world)) world
+    pass_replaces_right classed =
         let up = world_rises db world stands in
-        right_put image numbers (chosen pass now min_age limit world) world queue (part_rises chosen_part up)
+        right_put image numbers (chosen pass now min_age limit world) world classed (part_rises chosen_part up)
         (part_all (λ w. find (λ (v : Workunit). v.number == w.number) world.workunits ≡ Some w) chosen_part (own_numbers world.workunits up))
 
 -- a purge takes each chosen workunit out
@@ -232,11 +232,11 @@ module _ (db : Database) (world : World) (stands : Refines db world) (pass : Pas
   pass_makes =
       pass_made world pass now min_age limit place row_place (replacements image (chosen pass now min_age limit world)) (pass_replaces db world stands pass now min_age limit image numbers is)
 
-  pub pass_makes_right : IsQueued world → IsNextPlace place world.grants → IsNextPlace row_place world.archived
+  pub pass_makes_right : KnowsClasses world → IsNextPlace place world.grants → IsNextPlace row_place world.archived
       → AreRight (and_given pass now min_age limit world place row_place (replacements image (chosen pass now min_age limit world))) world
-  pass_makes_right queue =
+  pass_makes_right classed =
       pass_made_right world pass now min_age limit place row_place (replacements image (chosen pass now min_age limit world)) (pass_replaces db world stands pass now min_age limit image numbers is)
-      (pass_replaces_right db world stands pass now min_age limit image numbers is queue)
+      (pass_replaces_right db world stands pass now min_age limit image numbers is classed)
 
 -- a purge
 module _ (db : Database) (world : World) (stands : Refines db world) (now min_age limit place row_place : ℕ) where

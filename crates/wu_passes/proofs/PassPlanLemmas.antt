@@ -14,7 +14,7 @@ use Rattle.wu_rules.specs.Validation as validation
 use Rattle.wu_schema.specs.Refines.{Refines}
 use Rattle.wu_store.specs.Changes.{IsNextPlace}
 use Rattle.wu_store.specs.Changing.{archived_from, AreRight, granted_from, made_all}
-use Rattle.wu_store.specs.StandsFor.{IsQueued}
+use Rattle.wu_store.specs.StandsFor.{KnowsClasses}
 use Rattle.wu_rules.specs.Due.{chosen}
 use Rattle.wu_store.specs.declared.changes.Change.{Change}
 use Rattle.wu_store.specs.declared.changes.Change.TheVariants.{Archive, Granted, Remove}
@@ -30,7 +30,7 @@ use Rattle.wu_passes.specs.Planning.{Plans}
 use Rattle.wu_machine.specs.Requests.{Passed}
 use Rattle.wu_passes.proofs.PassLemmas.{and_given, pass_makes, pass_makes_right, purge_makes, purge_makes_right}
 use Rattle.wu_machine.proofs.ImageLemmas.{assimilated_of, emptied_of, pass_asked, transitioned_of, validated_of}
-use Rattle.wu_passes.proofs.PlanLemmas.{enumerate_more, queued}
+use Rattle.wu_passes.proofs.PlanLemmas.{enumerate_more, classed}
 
 -- ---- one more at the next place
 
@@ -66,12 +66,12 @@ module _ (db : Database) (world : World) (stands : Refines db world) (now min_ag
   pass_all_makes Delete = pass_makes db world stands Delete now min_age limit place row_place emptied (λ w. (emptied_of w).0) (λ w. refl)
   pass_all_makes Purge = purge_makes db world stands now min_age limit place row_place
 
-  module _ (queue : IsQueued world) (next : IsNextPlace place world.grants) (row_next : IsNextPlace row_place world.archived) where
+  module _ (known : KnowsClasses world) (next : IsNextPlace place world.grants) (row_next : IsNextPlace row_place world.archived) where
     pub pass_all_right : (pass : Pass) → AreRight (all_changes pass) world
-    pass_all_right Transition = pass_makes_right db world stands Transition now min_age limit place row_place (λ w. transitioned w now) (λ w. (transitioned_of now w).0) (λ w. refl) queue next row_next
-    pass_all_right Validate = pass_makes_right db world stands Validate now min_age limit place row_place validation.validated (λ w. (validated_of w).0) (λ w. refl) queue next row_next
-    pass_all_right Assimilate = pass_makes_right db world stands Assimilate now min_age limit place row_place (λ w. assimilated w now) (λ w. (assimilated_of now w).0) (λ w. refl) queue next row_next
-    pass_all_right Delete = pass_makes_right db world stands Delete now min_age limit place row_place emptied (λ w. (emptied_of w).0) (λ w. refl) queue next row_next
+    pass_all_right Transition = pass_makes_right db world stands Transition now min_age limit place row_place (λ w. transitioned w now) (λ w. (transitioned_of now w).0) (λ w. refl) known next row_next
+    pass_all_right Validate = pass_makes_right db world stands Validate now min_age limit place row_place validation.validated (λ w. (validated_of w).0) (λ w. refl) known next row_next
+    pass_all_right Assimilate = pass_makes_right db world stands Assimilate now min_age limit place row_place (λ w. assimilated w now) (λ w. (assimilated_of now w).0) (λ w. refl) known next row_next
+    pass_all_right Delete = pass_makes_right db world stands Delete now min_age limit place row_place emptied (λ w. (emptied_of w).0) (λ w. refl) known next row_next
     pass_all_right Purge = purge_makes_right db world stands now min_age limit place row_place next row_next
 
 -- the changes of what was handled of the workunits that are chosen, with their places
@@ -94,7 +94,7 @@ module _ (db : Database) (world : World) (stands : Refines db world) (is : IsUpT
             pass_asked world is ask.pass ask.moment ask.limit ask.min_age right
             ∙ (λ i. Ok (Passed ask.pass (number i), sym made i));
         right = subst (λ cs. AreRight cs world) (sym changes_are)
-            (pass_all_right db world stands ask.moment ask.min_age ask.limit given.place given.row_place (queued world is) given.next given.row_next ask.pass);
+            (pass_all_right db world stands ask.moment ask.min_age ask.limit given.place given.row_place (classed world is) given.next given.row_next ask.pass);
         idle = λ none. given.changes_are
             ∙ (λ i. all.changes i ++ granted_from given.place (all.grants i) ++ archived_from given.row_place (all.archived i))
             ∙ ap (λ ts. map (change_by ask.pass ask.moment) ts ++ granted_from given.place (flat_map (granted ask.pass) ts) ++ archived_from given.row_place (flat_map (archives ask.pass ask.moment) ts)) (are ∙ none);
@@ -147,6 +147,6 @@ module _ (db : Database) (world : World) (stands : Refines db world) (is : IsUpT
             pass_asked world is ask.pass ask.moment ask.limit ask.min_age right
             ∙ (λ i. Ok (Passed ask.pass (number i), sym made i));
         right = subst (λ cs. AreRight cs world) (sym removed_are)
-            (pass_all_right db world stands ask.moment ask.min_age ask.limit place row_place (queued world is) refl refl ask.pass);
+            (pass_all_right db world stands ask.moment ask.min_age ask.limit place row_place (classed world is) refl refl ask.pass);
         idle = λ none. ap (map Remove) (are ∙ ap (map (λ (w : Workunit). w.number)) none);
       }

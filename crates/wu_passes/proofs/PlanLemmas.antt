@@ -1,5 +1,5 @@
 -- The plan of a batch, step by step.
-use Rattle.std.proofs.Common.{◌≡◌, ℕ, ◌+◌, List, [], ◌∷◌, ◌++◌, length, map, replicate, Ok, sym, ap, ◌∙◌, inl, inr, arith}
+use Rattle.std.proofs.Common.{◌≡◌, ℕ, ◌+◌, ◌<◌, List, [], ◌∷◌, ◌++◌, length, map, replicate, Ok, sym, ap, ◌∙◌, inl, inr, arith}
 use Rattle.std.proofs.lemmas.List.{length-map, map-append}
 use Rattle.std.proofs.lemmas.List.FromFn.{length-enumerate_from}
 use Rattle.std.specs.List.{enumerate_from}
@@ -10,7 +10,7 @@ use Rattle.wu_core.specs.Reads.{IsOrWantsMemory}
 use Rattle.wu_core.specs.declared.import.ImportKind.TheVariants as kind
 use Rattle.wu_machine.specs.Batches.{new_workunit}
 use Rattle.wu_machine.specs.Imports.{Given, first_answer}
-use Rattle.wu_machine.specs.Machine.{IsUpToDate}
+use Rattle.wu_machine.specs.Machine.{IsUpToDate, present_version}
 use Rattle.wu_machine.specs.Requests.{Imported}
 use Rattle.wu_passes.specs.Planning.{additions, first_of, IsNewBatch, KeepsImport}
 use Rattle.wu_machine.specs.Commands.{reply_of_answer}
@@ -23,15 +23,19 @@ use Rattle.wu_core.specs.declared.workunit.Workunit.{Workunit}
 use Rattle.wu_core.specs.World.{World}
 use Rattle.wu_core.specs.Storable.{AreStorable, IsStorable}
 use Rattle.wu_store.specs.Loading.{LoadsNamed}
-use Rattle.wu_store.specs.StandsFor.{IsQueued}
+use Rattle.wu_store.specs.StandsFor.{KnowsClasses}
 use Rattle.wu_machine.proofs.StorableLemmas.{found_is}
 
-pub named_loads : (world : World) → AreStorable world → (name : List ℕ) → LoadsNamed name world
-named_loads world storable name = found_is IsStorable (λ (w : Workunit). bytes_eq w.name name) world.workunits storable
+pub named_loads : (world : World) → KnowsClasses world → AreStorable world → (name : List ℕ) → LoadsNamed name world
+named_loads world known storable name = (known, found_is IsStorable (λ (w : Workunit). bytes_eq w.name name) world.workunits storable)
 
--- a world of the present version has a queue
-pub queued : (world : World) → IsUpToDate world → IsQueued world
-queued world is = omega (arith, is)
+-- a world of the present version has classes
+pub classed : (world : World) → IsUpToDate world → KnowsClasses world
+classed world is = omega (arith, is)
+
+-- one of an older version has none
+pub no_classes : (world : World) (version : ℕ) → version ≡ world.version → version < present_version → ¬ KnowsClasses world
+no_classes world version is older known = absurd (omega (arith, is, older, known))
 
 -- a job at a number as a change
 abbrev pub added : Parameters → ℕ × Job → Change

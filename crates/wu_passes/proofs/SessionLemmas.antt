@@ -11,7 +11,7 @@ use Rattle.wu_schema.proofs.CallLemmas.{back_none}
 use Rattle.wu_machine.specs.declared.command.Command.{Command}
 use Rattle.wu_machine.specs.Commands.{request_of}
 use Rattle.wu_machine.specs.Machine.{done, has_right_limits, is_upgrade, IsUpToDate, present_version, reply, reply_of}
-use Rattle.wu_machine.specs.Requests.{AskBatch, AskCancel, AskPass, AskReported, AskSent, AskUpgrade, Request}
+use Rattle.wu_machine.specs.Requests.{AskBatch, AskCancel, AskClasses, AskPass, AskReported, AskSent, AskUpgrade, Request}
 use Rattle.wu_machine.proofs.Versions.{done_older, done_up_to_date}
 use Rattle.wu_passes.specs.Older.{IsOfVersion}
 use Rattle.wu_passes.specs.declared.project.Project.{Project}
@@ -24,6 +24,7 @@ wrong_limits : (world : World) (request : Request) → IsUpToDate world → has_
 wrong_limits world (AskBatch name template file) is wrong = absurd cc
 wrong_limits world (AskSent name file) is wrong = absurd cc
 wrong_limits world (AskReported name file) is wrong = absurd cc
+wrong_limits world (AskClasses name file) is wrong = absurd cc
 wrong_limits world (AskPass pass now limit min_age) is wrong =
     let told : done world (AskPass pass now limit min_age) ≡ Err BadLimit = done_up_to_date world (AskPass pass now limit min_age) is ∙ rw wrong refl in
     ap reply_of told
@@ -34,6 +35,7 @@ upgrade_right : (request : Request) → is_upgrade request ≡ true → has_righ
 upgrade_right (AskBatch name template file) is = refl
 upgrade_right (AskSent name file) is = refl
 upgrade_right (AskReported name file) is = refl
+upgrade_right (AskClasses name file) is = refl
 upgrade_right (AskPass pass now limit min_age) is = absurd cc
 upgrade_right (AskCancel name) is = refl
 upgrade_right AskUpgrade is = refl

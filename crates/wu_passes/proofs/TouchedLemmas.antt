@@ -11,7 +11,7 @@ use Rattle.wu_core.specs.declared.workunit.Workunit.{Workunit}
 use Rattle.wu_store.specs.Changes.{with_replaced}
 use Rattle.wu_store.specs.Answers.{numbered}
 use Rattle.wu_store.specs.Changing.{AreRight, IsRight, made, made_all}
-use Rattle.wu_store.specs.StandsFor.{IsQueued}
+use Rattle.wu_store.specs.StandsFor.{KnowsClasses}
 use Rattle.wu_store.specs.declared.changes.Change.{Change}
 use Rattle.wu_machine.specs.FileRows.{Rule, after_row, after_rows, row_verdict, row_verdicts, unknown}
 use Rattle.wu_passes.specs.declared.touched.Touch.{Touch}
@@ -399,12 +399,12 @@ module _ (world : World) (t : Touch) (ts : List Touch) (names : NamesOnce world)
 
 -- every touched workunit takes the place of the present one of its number: that makes the world with them
 pub replaced_all : (ts : List Touch) (world : World) → NamesOnce world → NumbersOnce world → AreImages world ts → AreDistinct ts
-    → (made_all (map replaces ts) world ≡ with_touched ts world) × (IsQueued world → AreRight (map replaces ts) world)
-replaced_all [] world names numbers images distinct = (sym (touched_empty world), λ queued. tt)
+    → (made_all (map replaces ts) world ≡ with_touched ts world) × (KnowsClasses world → AreRight (map replaces ts) world)
+replaced_all [] world names numbers images distinct = (sym (touched_empty world), λ classed. tt)
 replaced_all (t ∷ ts) world names numbers images distinct =
     let rest = replaced_all ts (with_replaced t.now world) (names_then world t ts names numbers images distinct) (numbers_then world t ts names numbers images distinct)
     (images_then world t ts names numbers images distinct) (distinct_then world t ts names numbers images distinct) in
-    (rest.0 ∙ touched_then world t ts names numbers images distinct, λ queued. ((queued, right_first world t ts names numbers images distinct), rest.1 queued))
+    (rest.0 ∙ touched_then world t ts names numbers images distinct, λ classed. ((classed, right_first world t ts names numbers images distinct), rest.1 classed))
 
 -- ---- changes one after another
 
@@ -419,8 +419,8 @@ right_append (change ∷ more) next world right later = (right.0, right_append m
 -- what rows left, and a change more
 pub rows_then : {Row : Type 0} (rule : Rule Row) (rows : List Row) (world : World) (ts : List Touch) (verdicts : List ℕ) (change : Change) → NamesOnce world → NumbersOnce world
     → IsLeft rule rows world ts verdicts → AreDistinct ts → IsRight change (after_rows rule world rows)
-    → (made_all (map replaces ts ++ change ∷ []) world ≡ made change (after_rows rule world rows)) × (IsQueued world → AreRight (map replaces ts ++ change ∷ []) world)
+    → (made_all (map replaces ts ++ change ∷ []) world ≡ made change (after_rows rule world rows)) × (KnowsClasses world → AreRight (map replaces ts ++ change ∷ []) world)
 rows_then rule rows world ts verdicts change names numbers left distinct right =
     let all = replaced_all ts world names numbers left.images distinct in
     let after : made_all (map replaces ts) world ≡ after_rows rule world rows = all.0 ∙ left.left in
-    (made_append (map replaces ts) (change ∷ []) world ∙ ap (made change) after, λ queued. right_append (map replaces ts) (change ∷ []) world (all.1 queued) (subst (IsRight change) (sym after) right, tt))
+    (made_append (map replaces ts) (change ∷ []) world ∙ ap (made change) after, λ classed. right_append (map replaces ts) (change ∷ []) world (all.1 classed) (subst (IsRight change) (sym after) right, tt))

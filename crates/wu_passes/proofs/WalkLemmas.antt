@@ -13,6 +13,7 @@ use Rattle.wu_schema.specs.Faults.{IsFailure}
 use Rattle.wu_store.specs.declared.pages.Pages.{Ghosts as PageGhosts}
 use Rattle.wu_store.specs.Loading.{IsReadOnly}
 use Rattle.wu_store.specs.Pages.{TurnsTo}
+use Rattle.wu_store.specs.StandsFor.{KnowsClasses}
 use Rattle.wu_passes.specs.declared.project.Project.{Project}
 use Rattle.wu_passes.specs.declared.project.walk.LineWalk.{LineWalk}
 use Rattle.wu_passes.specs.declared.project.walk.LinesLeft.{LinesLeft}
@@ -56,12 +57,12 @@ module _ {P T : Type 0} (p : PageGhosts P T) (world : World) where
     where
       among : (front : List T) → AllZip (p.is_row_of pages world) (row ∷ rows) front → lines ≡ front ++ p.rest pages world → HandsRowOf p world s pages rows lines row
       among [] zip is = absurd zip
-      among (line ∷ front) zip is = (line, front ++ p.rest pages world, is, zip.0, record { stands = has.stands; front = front; page = zip.1; all = refl })
+      among (line ∷ front) zip is = (line, front ++ p.rest pages world, is, zip.0, record { known = has.known; stands = has.stands; front = front; page = zip.1; all = refl })
 
   module _ (old new : State) (pages after : P) (rows : List Row) (lines : List T) (turn : TurnsTo (p.is_row_of after world) (p.rest pages world) rows (p.rest after world)) (has : AreLeft p world old pages [] lines) where
     -- the lines of a page that was turned to, and those behind it
     pub turned : ShowsTables new world → AreLeft p world new after rows lines
-    turned stands = record { stands = stands; front = turn.lines; page = turn.each; all = behind old pages lines has ∙ turn.all }
+    turned stands = record { known = has.known; stands = stands; front = turn.lines; page = turn.each; all = behind old pages lines has ∙ turn.all }
 
     -- behind the last page there is none
     pub none_turned : rows ≡ [] → lines ≡ []
@@ -79,14 +80,14 @@ page_over old new None none steps = no_rows (into_iter_items old) (sym old.rest.
 page_over old new (Some row) none steps = absurd cc
 
 -- before the first page all lines are left
-pub all_left : {P T : Type 0} (p : PageGhosts P T) (world : World) (s : State) (first pages : P) (rows : List Row) (lines : List T) → ShowsTables s world → rows ≡ [] → pages ≡ first → p.rest first world ≡ lines → AreLeft p world s pages rows lines
-all_left p world s first pages rows lines stands none same is =
-    record { stands = stands; front = []; page = subst (λ rows. AllZip (p.is_row_of pages world) rows []) (sym none) tt; all = sym (ap (λ pages. p.rest pages world) same ∙ is) }
+pub all_left : {P T : Type 0} (p : PageGhosts P T) (world : World) (s : State) (first pages : P) (rows : List Row) (lines : List T) → KnowsClasses world → ShowsTables s world → rows ≡ [] → pages ≡ first → p.rest first world ≡ lines → AreLeft p world s pages rows lines
+all_left p world s first pages rows lines known stands none same is =
+    record { known = known; stands = stands; front = []; page = subst (λ rows. AllZip (p.is_row_of pages world) rows []) (sym none) tt; all = sym (ap (λ pages. p.rest pages world) same ∙ is) }
 
 -- a walk over these lines is one over the same, differently told
 pub walks_same : {S P T : Type 0} {g : Ghosts S} (p : PageGhosts P T) (told lines : World → List T) (old : Project S g) (r : Result (LineWalk S (LinesLeft P) g) Fault) → ((world : World) → told world ≡ lines world)
     → IfOk r (WalksOver p told old) → IfOk r (WalksOver p lines old)
-walks_same p told lines old (Ok walk) same over = λ world shows. subst (HasLeft p world walk) (same world) (over world shows)
+walks_same p told lines old (Ok walk) same over = λ world known shows. subst (HasLeft p world walk) (same world) (over world known shows)
 walks_same p told lines old (Err fault) same over = over
 
 -- ---- what shrinks

@@ -6,10 +6,13 @@ use Rattle.sqlite.specs.State.{HasCleanDisk}
 use Rattle.sqlite.specs.Store.{Ghosts}
 use Rattle.wu_core.specs.declared.fault.Fault.{Fault}
 use Rattle.wu_core.specs.declared.fault.Fault.TheVariants.{Memory, Ended, NameUsed, NotAProject, NotOpenToCancel, WorkunitUsed}
+use Rattle.wu_core.specs.declared.workunit.HostClass.{HostClass}
 use Rattle.wu_core.specs.declared.workunit.Workunit.{Workunit}
+use Rattle.wu_core.specs.Classes.{AreClassed}
 use Rattle.wu_core.specs.Parameters.{Parameters}
 use Rattle.wu_rules.specs.Cancelling.{cancelled}
 use Rattle.wu_rules.specs.Counts.{is_undecided}
+use Rattle.wu_core.specs.Storable.{AreStorable}
 use Rattle.wu_core.specs.World.{World, is_import}
 use Rattle.wu_feed.specs.declared.jobs.Job.{Job}
 use Rattle.wu_core.specs.declared.import.ImportKind.TheVariants as kind
@@ -17,14 +20,14 @@ use Rattle.wu_feed.specs.Jobs.{jobs_of_file}
 use Rattle.wu_feed.specs.Templates.{template_of}
 use Rattle.wu_store.specs.Changes.{with_import}
 use Rattle.wu_store.specs.Loading.{IsStoreFault}
-use Rattle.wu_store.specs.StandsFor.{IsQueued, StandsFor}
+use Rattle.wu_store.specs.StandsFor.{KnowsClasses, StandsFor}
 use Rattle.wu_store.specs.declared.rows.StoredImport.{StoredImport}
 use Rattle.wu_schema.specs.Refines.{Refines}
 use Rattle.wu_passes.specs.declared.plan.Plan.{Plan}
 use Rattle.wu_passes.specs.declared.imports.Source.{Source}
 use Rattle.wu_passes.specs.declared.files.Left.{Left}
 use Rattle.wu_store.specs.declared.changes.Change.{Change}
-use Rattle.wu_store.specs.declared.changes.Change.TheVariants.{Add, Replace, Next, Keep}
+use Rattle.wu_store.specs.declared.changes.Change.TheVariants.{Add, Class, Replace, Next, Keep}
 use Rattle.wu_store.specs.declared.changes.Import.{Import as Kept}
 use Rattle.wu_machine.specs.declared.command.Batch.{Batch}
 use Rattle.wu_machine.specs.Batches.{all_applied, first_taken, is_one_of, job_names, new_workunit, taken_names}
@@ -53,9 +56,10 @@ pub record IsCancelPlan (w : Workunit) (plan : Plan) : Type 0 where
 abbrev pub RefusesCancel : Workunit → Fault → Type 0
 RefusesCancel w fault = (fault ≡ Memory) ⊎ ((fault ≡ NotOpenToCancel) × (is_undecided w ≡ false))
 
--- what the rows of a file left of a world
-abbrev pub LeavesRows : {Row : Type 0} → Rule Row → List Row → Result Left Fault → World → Type 0
-LeavesRows rule rows result world = IfOk result (λ left. IsLeft rule rows world left.touched left.verdicts.items)
+-- what the rows of a file left of a world, by its classes, where it has them
+abbrev pub LeavesRows : {Row : Type 0} → (List HostClass → Rule Row) → List Row → Result Left Fault → World → Type 0
+LeavesRows rule rows result world =
+    KnowsClasses world → IfOk result (λ left. IsLeft (rule world.classes) rows world left.touched left.verdicts.items)
 
 -- it never says that the session has ended
 abbrev pub NeverEnded : {T : Type 0} → Result T Fault → Type 0
@@ -131,7 +135,18 @@ pub record IsFilePlan {Row : Type 0} (rule : Rule Row) (given : Given) (rows : L
   pub keeps : KeepsImport given 0 (row_verdicts rule world rows) kept
   pub reply : reply_of_answer plan.answer ≡ first_answer (import_of_change kept)
   pub made : made_all plan.changes.items world ≡ with_import (import_of_change kept) (after_rows rule world rows)
-  pub right : IsQueued world → AreRight plan.changes.items world
+  pub right : AreRight plan.changes.items world
+
+-- the change that sets the class of a row's host
+abbrev pub sets_class : HostClass → Change
+sets_class row = Class row.host row.class
+
+-- the plan of a new file of classes: the class of each row's host is set, in the order of the rows, and the file is kept
+pub record IsNewClasses (given : Given) (rows : List HostClass) (plan : Plan) : Type 0 where
+  pub kept : Kept
+  pub keeps : KeepsImport given 0 (all_applied rows) kept
+  pub reply : reply_of_answer plan.answer ≡ first_answer (import_of_change kept)
+  pub changes : plan.changes.items ≡ map sets_class rows ++ Keep kept ∷ []
 
 -- ---- what a call that reads says of the tables, and of each world that they stand for
 
@@ -161,6 +176,12 @@ KnowsUsed earlier name result world = MatchResult result (λ used. used ≡ is_o
 abbrev pub FindsFree : {T : Type 0} → List Job → Result T Fault → World → Type 0
 FindsFree jobs result world = MatchResult result (λ _. first_taken world jobs ≡ None) (λ fault. TellsTaken world jobs fault ⊎ IsStoreFault fault)
 
+-- rows can be applied to the world: it has classes, and its workunits and the classes of its hosts can be read
+pub record TakesRows (world : World) : Type 0 where
+  pub known : KnowsClasses world
+  pub storable : AreStorable world
+  pub classed : AreClassed world.classes
+
 -- a project of the present version
 abbrev pub IsPresentProject : World → Type 0
 IsPresentProject world = IsUpToDate world × IsProject world
@@ -181,6 +202,13 @@ PlansNow request result world = IsUpToDate world → IsProject world → IsPlan 
 abbrev pub IsReadyFor : Request → World → Type 0
 IsReadyFor request world = (is_upgrade request ≡ false → IsUpToDate world) × IsProject world
 
+-- a project of this version, and one that is ready
+abbrev pub IsOfVersion : ℕ → World → Type 0
+IsOfVersion version world = (version ≡ world.version) × IsProject world
+
+abbrev pub IsReadyAt : ℕ → Request → World → Type 0
+IsReadyAt version request world = (version ≡ world.version) × IsReadyFor request world
+
 -- over one of this version that is ready, the plan of a request
 abbrev pub PlansAt : ℕ → Request → Result Plan Fault → World → Type 0
 PlansAt version request result world = version ≡ world.version → IsReadyFor request world → IsPlan world request result
@@ -189,9 +217,10 @@ PlansAt version request result world = version ≡ world.version → IsReadyFor 
 abbrev pub PlansUpgrade : ℕ → Result Plan Fault → World → Type 0
 PlansUpgrade version result world = version ≡ world.version → IsProject world → IsPlan world AskUpgrade result
 
--- of a file of these rows, whose name is new,
-abbrev pub PlansRows : {Row : Type 0} → Rule Row → Given → List Row → Result Plan Fault → World → Type 0
-PlansRows rule given rows result world = MatchResult result (IsFilePlan rule given rows world) IsStoreFault
+-- of a file of these rows, whose name is new, over a world with classes,
+abbrev pub PlansRows : {Row : Type 0} → (List HostClass → Rule Row) → Given → List Row → Result Plan Fault → World → Type 0
+PlansRows rule given rows result world =
+    KnowsClasses world → MatchResult result (IsFilePlan (rule world.classes) given rows world) IsStoreFault
 
 -- of a batch,
 abbrev pub PlansBatch : Batch → Result Plan Fault → World → Type 0

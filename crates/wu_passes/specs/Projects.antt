@@ -18,7 +18,8 @@ use Rattle.wu_passes.specs.declared.plan.Plan.{Plan}
 use Rattle.wu_passes.specs.Planning.{ForEachProject, NeverEnded, NotRefusedOver, Plans, PlansFor}
 use Rattle.wu_machine.specs.Commands.{request_of}
 use Rattle.wu_machine.specs.Sound.{IsProject}
-use Rattle.wu_store.specs.Loading.{Asks, ForEachWorld, NotRefusedIn, ServesUnlessFailed}
+use Rattle.wu_store.specs.Loading.{Asks, ServesUnlessFailed}
+use Rattle.wu_store.specs.Classes.{ForEachClassed, NotRefusedClass}
 use Rattle.wu_store.specs.Lines.{summary_of}
 use Rattle.wu_store.specs.StandsFor.{StandsFor}
 use Rattle.wu_store.specs.Summaries.{FindsAt, IsCountable}
@@ -232,10 +233,10 @@ pub record AnswersFirst {S T : Type 0} {g : Ghosts S} (old new : Project S g) (r
 abbrev pub WasOpenBefore : {S T E : Type 0} {g : Ghosts S} → Project S g → Project S g → Result T E → Type 0
 WasOpenBefore old new result = HasCleanDisk (state_of new) → OnOk result (IsTrue (state_of old).is_open)
 
--- it is the summary of each world that the tables stand for
+-- it is the summary of each world with classes that the tables stand for
 abbrev pub Summarizes : {S : Type 0} {g : Ghosts S} → Project S g → Project S g → Result Summary Fault → Type 0
-Summarizes {S} {g} old new result = ForEachWorld g (connection_of old) (connection_of new) (FindsAt summary_of result)
+Summarizes {S} {g} old new result = ForEachClassed g (connection_of old) (connection_of new) (FindsAt summary_of result)
 
--- over a world whose numbers can be read none is refused
+-- over such a world whose numbers can be read none is refused
 abbrev pub SummarizesUnrefused : {S T : Type 0} {g : Ghosts S} → Project S g → Project S g → Result T Fault → Type 0
-SummarizesUnrefused {S} {T} {g} old new result = NotRefusedIn g (connection_of old) (connection_of new) result IsCountable
+SummarizesUnrefused {S} {T} {g} old new result = NotRefusedClass g (connection_of old) (connection_of new) result IsCountable

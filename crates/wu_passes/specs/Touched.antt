@@ -5,13 +5,51 @@ use Rattle.std.specs.declared.alloc.Global.{Global}
 use Rattle.std.specs.List.{AllPairs}
 use Rattle.std.specs.Option.{option_map, option_map_or}
 use Rattle.wu_core.specs.declared.fault.Fault.{Fault}
+use Rattle.wu_core.specs.declared.workunit.HostClass.{HostClass}
 use Rattle.wu_core.specs.declared.workunit.Workunit.{Workunit}
+use Rattle.wu_core.specs.Classes.{class_of}
 use Rattle.wu_core.specs.World.{World}
-use Rattle.wu_machine.specs.FileRows.{Rule, after_rows, left_by, row_verdicts}
+use Rattle.wu_feed.specs.declared.reports.ReportRow.{ReportRow}
+use Rattle.wu_feed.specs.declared.sends.SendRow.{SendRow}
+use Rattle.wu_rules.specs.Sending.{send_verdict_in, sent_in}
+use Rattle.wu_rules.specs.Verdicts.{send_verdict_code}
+use Rattle.wu_machine.specs.FileRows.{Rule, after_rows, left_by, report_rule, row_verdicts}
 use Rattle.wu_machine.specs.Worlds.{workunit_named}
+use Rattle.wu_store.specs.StandsFor.{KnowsClasses}
 use Rattle.wu_store.specs.declared.changes.Change.{Change}
 use Rattle.wu_store.specs.declared.changes.Change.TheVariants.{Replace}
 use Rattle.wu_passes.specs.declared.touched.Touch.{Touch}
+
+-- ---- the class on which the verdict on a row depends
+
+-- for a send that of its host, where hosts have these classes
+abbrev pub send_class : List HostClass → SendRow → ℕ
+send_class classes row = class_of classes row.host
+
+-- for a report none
+abbrev pub no_class : List HostClass → ReportRow → ℕ
+no_class classes row = 0
+
+-- what a send says, where its host has this class
+abbrev pub send_rule_at : ℕ → Rule SendRow
+send_rule_at class = record {
+  workunit = λ row. row.workunit;
+  verdict = λ row w. send_verdict_code (send_verdict_in w row.n row.host class);
+  image = λ row w. sent_in w row.n row.host class row.moment;
+}
+
+abbrev pub report_rule_at : ℕ → Rule ReportRow
+report_rule_at class = report_rule
+
+-- what a kind of rows says, where hosts have these classes
+abbrev pub rule_in : {Row : Type 0} → (ℕ → Rule Row) → (List HostClass → Row → ℕ) → List HostClass → Rule Row
+rule_in rule class_in classes = record {
+  workunit = λ row. (rule (class_in classes row)).workunit row;
+  verdict = λ row. (rule (class_in classes row)).verdict row;
+  image = λ row. (rule (class_in classes row)).image row;
+}
+
+-- ---- the workunits that were touched
 
 -- the one of this name, if it was touched
 abbrev pub touched_named : List Touch → List ℕ → Option Touch
@@ -76,10 +114,10 @@ pub record IsTouched (name : List ℕ) (world : World) (old new : List Touch) : 
   pub found : option_map (λ (touch : Touch). touch.now) (touched_named new name) ≡ workunit_named (with_touched new world) name
 
 abbrev pub TouchesNamed : {T : Type 0} → List ℕ → List Touch → List Touch → Result T Fault → World → Type 0
-TouchesNamed name old new result world = AreImages world old → OnOk result (IsTouched name world old new)
+TouchesNamed name old new result world = KnowsClasses world → AreImages world old → OnOk result (IsTouched name world old new)
 
--- one row more is applied or skipped
-abbrev pub LeavesRow : {Row : Type 0} → Rule Row → Row → List Touch → List Touch → Result ℕ Fault → World → Type 0
+-- one row more is applied or skipped, by the classes of a world that has them
+abbrev pub LeavesRow : {Row : Type 0} → (List HostClass → Rule Row) → Row → List Touch → List Touch → Result ℕ Fault → World → Type 0
 LeavesRow {Row} rule row old new result world =
-    (rows : List Row) (verdicts : List ℕ) → IsLeft rule rows world old verdicts
-    → IfOk result (λ verdict. IsLeft rule (rows ++ row ∷ []) world new (verdicts ++ verdict ∷ []))
+    KnowsClasses world → (rows : List Row) (verdicts : List ℕ) → IsLeft (rule world.classes) rows world old verdicts
+    → IfOk result (λ verdict. IsLeft (rule world.classes) (rows ++ row ∷ []) world new (verdicts ++ verdict ∷ []))

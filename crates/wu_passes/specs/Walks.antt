@@ -13,6 +13,7 @@ use Rattle.wu_core.specs.World.{World}
 use Rattle.wu_schema.specs.Refines.{Refines}
 use Rattle.wu_store.specs.declared.pages.Pages.{Ghosts as PageGhosts}
 use Rattle.wu_store.specs.Loading.{IsReadOnly, ServesUnlessFailed}
+use Rattle.wu_store.specs.StandsFor.{KnowsClasses}
 use Rattle.wu_passes.specs.contracts.project.Project as project
 use Rattle.wu_passes.specs.declared.project.Project.{Project}
 use Rattle.wu_passes.specs.declared.project.walk.LineWalk.{LineWalk}
@@ -41,9 +42,10 @@ Shrinks old new result = IfOk result (λ item. IfSome item (λ _. left_of new < 
 abbrev pub ShowsTables : State → World → Type 0
 ShowsTables s world = IsTrue s.is_open → Refines s.now world
 
--- These lines are left of a world that the tables stand for: the rows of the page are those of the first of them, and
--- the pages behind it have the others.
+-- These lines are left of a world with classes that the tables stand for: the rows of the page are those of the first
+-- of them, and the pages behind it have the others.
 pub record AreLeft {P T : Type 0} (p : PageGhosts P T) (world : World) (s : State) (pages : P) (rows : List Row) (lines : List T) : Type 0 where
+  pub known : KnowsClasses world
   pub stands : ShowsTables s world
   pub front : List T
   pub page : AllZip (p.is_row_of pages world) rows front
@@ -115,9 +117,9 @@ pub record RefusesFirst {S T : Type 0} {g : Ghosts S} (old : Project S g) (resul
 abbrev pub HasLeft : {S P T : Type 0} {g : Ghosts S} → PageGhosts P T → World → LineWalk S (LinesLeft P) g → List T → Type 0
 HasLeft p world walk lines = AreLeft p world (state_of (walked walk)) walk.lines.pages (page_of walk.lines) lines
 
--- it has left these lines of each world that the tables stand for
+-- it has left these lines of each world with classes that the tables stand for
 abbrev pub WalksOver : {S P T : Type 0} {g : Ghosts S} → PageGhosts P T → (World → List T) → Project S g → LineWalk S (LinesLeft P) g → Type 0
-WalksOver p lines_of old walk = (world : World) → ShowsTables (state_of old) world → HasLeft p world walk (lines_of world)
+WalksOver p lines_of old walk = (world : World) → KnowsClasses world → ShowsTables (state_of old) world → HasLeft p world walk (lines_of world)
 
 -- ---- its next line
 

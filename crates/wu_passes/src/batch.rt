@@ -1,10 +1,9 @@
 //! A batch: what it answers and what it changes, before anything is changed.
 
-ghost use Rattle.std.specs.Prelude.{◌≡◌, ◌+◌, ◌≤◌, ◌==◌, bytes_eq, length, replicate, if◌then◌else◌, Ok, IfOk, IfErr};
+ghost use Rattle.std.specs.Prelude.{◌≡◌, ◌+◌, ◌≤◌, ◌==◌, bytes_eq, length, if◌then◌else◌, IfOk, IfErr};
 ghost use Rattle.std.specs.List.{list_any};
 ghost use Rattle.wu_core.specs.declared.fault.Fault.TheVariants.{Memory};
 ghost use Rattle.wu_core.specs.Limits.{most_workunits};
-ghost use Rattle.wu_core.specs.Reads.{IsOrWantsMemory};
 ghost use Rattle.wu_feed.specs.Limits.{most_rows};
 ghost use Rattle.wu_machine.specs.Batches.{new_workunit};
 ghost use Rattle.wu_passes.specs.Planning.{additions, FindsFree, IsNewBatch, KnowsTaken, KnowsUsed, NeverEnded, NeverRefused, PlansBatch, PlansJobs, PlansNew, RefusesName};
@@ -12,13 +11,13 @@ ghost use Rattle.wu_machine.specs.Commands.{batch_of};
 ghost use Rattle.wu_machine.specs.Sound.{IsProject};
 ghost use Rattle.wu_store.specs.Loading.{Asks, IsStoreFault, NotRefusedIn, ForEachWorld, ServesUnlessFailed};
 
-use crate::imports::{batch_source, imported, kept, repeated};
+use crate::imports::{applied, batch_source, imported, kept, repeated};
 use crate::plan::Plan;
 use sqlite::{Alter, Connection};
 use std::alloc::Global;
 use wu_core::{
-    Assimilate, Bytes, ErrorMask, Fault, FileDelete, ImportKind, Instances, MOST_WORKUNITS, Name,
-    Params, Workunit,
+    Assimilate, ErrorMask, Fault, FileDelete, ImportKind, Instances, MOST_WORKUNITS, Name, Params,
+    Workunit,
 };
 use wu_feed::{Job, Jobs, read_jobs, read_template};
 use wu_machine::Batch;
@@ -90,6 +89,7 @@ fn new_workunit(alloc: Global, number: u64, params: Params, job: Job) -> Workuni
         assimilate: Assimilate::Init,
         file_delete: FileDelete::Init,
         done_at: None,
+        class: 0,
         instances: Instances::new(alloc),
     }
 }
@@ -114,17 +114,6 @@ fn additions<'a>(
     let number = next + changes.len() as u64;
     changes.push(Change::Next(number))?;
     Ok(changes)
-}
-
-/// The verdicts of as many jobs: each is applied.
-fn applied(alloc: Global, count: usize) -> Result<Bytes, Fault>
-    ensures { IsOrWantsMemory result (Ok (replicate count 0)) }
-{
-    let mut verdicts = Vec::new(alloc);
-    for _ in 0..count {
-        verdicts.push(0)?;
-    }
-    Ok(Bytes::from_vec(verdicts))
 }
 
 /// The first number of so many workunits; 0 where there are none.

@@ -1,8 +1,7 @@
 //! Giving a workunit up: what it answers and what it changes, before anything is changed.
 
 ghost use Rattle.std.specs.Prelude.{◌≡◌, IfErr, IfOk};
-ghost use Rattle.wu_passes.specs.Planning.{IsCancelPlan, NeverEnded, PlansNow, RefusesCancel};
-ghost use Rattle.wu_machine.specs.Sound.{IsProject};
+ghost use Rattle.wu_passes.specs.Planning.{IsCancelPlan, IsPresentProject, NeverEnded, PlansNow, RefusesCancel};
 ghost use Rattle.wu_machine.specs.Requests.{AskCancel};
 ghost use Rattle.wu_store.specs.Loading.{Asks, NotRefusedIn, ForEachWorld, ServesUnlessFailed};
 
@@ -41,7 +40,7 @@ pub fn plan_cancel<'a, S: Alter>(
     ensures asks { Asks S.Store conn.old conn.new result }
     ensures opens { ServesUnlessFailed S.Store conn.new result }
     ensures never { NeverEnded result }
-    ensures unrefused { NotRefusedIn S.Store conn.old conn.new result IsProject }
+    ensures unrefused { NotRefusedIn S.Store conn.old conn.new result IsPresentProject }
     ensures plan { ForEachWorld S.Store conn.old conn.new (PlansNow (AskCancel name.now) result) }
 {
     match load_named(conn, alloc, name)? {

@@ -72,6 +72,7 @@ pub fn copy_of(alloc: Global, workunit: &Workunit) -> Result<Workunit, Fault>
         assimilate: workunit.assimilate,
         file_delete: workunit.file_delete,
         done_at: workunit.done_at,
+        class: workunit.class,
         instances: Instances::from_vec(instances),
     })
 }

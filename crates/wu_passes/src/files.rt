@@ -3,12 +3,10 @@
 ghost use Rattle.std.specs.Prelude.{◌≡◌, ◌≤◌, All, IfOk, IfErr};
 ghost use Rattle.wu_core.specs.declared.fault.Fault.TheVariants.{Memory};
 ghost use Rattle.wu_core.specs.declared.import.ImportKind.TheVariants as kind;
-ghost use Rattle.wu_passes.specs.Planning.{given_of, IsNewFile, LeavesRows, NeverEnded, PlansNow, PlansRows};
-ghost use Rattle.wu_machine.specs.Sound.{IsProject};
+ghost use Rattle.wu_passes.specs.Planning.{given_of, IsNewFile, IsPresentProject, LeavesRows, NeverEnded, PlansNow, PlansRows, TakesRows};
 ghost use Rattle.wu_machine.specs.Requests.{AskReported, AskSent};
-ghost use Rattle.wu_passes.specs.Touched.{LeavesRow, TouchesNamed};
+ghost use Rattle.wu_passes.specs.Touched.{LeavesRow, rule_in, TouchesNamed};
 ghost use Rattle.wu_store.specs.Loading.{Asks, IsStoreFault, LoadsNamed, NotRefusedIn, ForEachWorld, ServesUnlessFailed};
-ghost use Rattle.wu_core.specs.Storable.{AreStorable};
 
 use crate::imports::{Source, file_source, imported, kept, repeated};
 use crate::plan::Plan;
@@ -49,7 +47,8 @@ fn touch<S: Alter>(
     }
 }
 
-/// Applies a row to its workunit as the rows before left it, or skips it: the number of the verdict.
+/// Applies a row to its workunit as the rows before left it, or skips it: the number of the verdict. The class of its
+/// host is asked for, where it depends on that.
 fn apply_row<R: FileRow, S: Alter>(
     conn: &mut Connection<S>,
     alloc: Global,
@@ -58,13 +57,14 @@ fn apply_row<R: FileRow, S: Alter>(
 ) -> Result<u8, Fault>
     ensures asks { Asks S.Store conn.old conn.new result }
     ensures fault { IfErr result IsStoreFault }
-    ensures unrefused { NotRefusedIn S.Store conn.old conn.new result AreStorable }
+    ensures unrefused { NotRefusedIn S.Store conn.old conn.new result TakesRows }
     ensures digit { IfOk result (λ verdict. verdict ≤ 9) }
     ensures left { ForEachWorld S.Store conn.old conn.new
-        (LeavesRow R.rule row touched.old touched.new result) }
+        (LeavesRow (rule_in R.rule R.class_in) row touched.old touched.new result) }
 {
     touch(conn, alloc, touched, row.workunit())?;
-    Ok(touched.apply(row))
+    let class = row.find_class(conn)?;
+    Ok(touched.apply(row, class))
 }
 
 /// Applies the rows of a file in order, each on what the rows before left.
@@ -75,9 +75,10 @@ fn apply_rows<R: FileRow, S: Alter>(
 ) -> Result<Left, Fault>
     ensures asks { Asks S.Store conn.old conn.new result }
     ensures fault { IfErr result IsStoreFault }
-    ensures unrefused { NotRefusedIn S.Store conn.old conn.new result AreStorable }
+    ensures unrefused { NotRefusedIn S.Store conn.old conn.new result TakesRows }
     ensures digits { IfOk result (λ left. All (λ verdict. verdict ≤ 9) left.verdicts.items) }
-    ensures left { ForEachWorld S.Store conn.old conn.new (LeavesRows R.rule rows result) }
+    ensures left { ForEachWorld S.Store conn.old conn.new
+        (LeavesRows (rule_in R.rule R.class_in) rows result) }
 {
     let mut touched = Touched::new(alloc);
     let mut verdicts = Vec::new(alloc);
@@ -112,9 +113,9 @@ fn plan_rows<'a, R: FileRow, S: Alter>(
 ) -> Result<Plan<'a>, Fault>
     ensures asks { Asks S.Store conn.old conn.new result }
     ensures fault { IfErr result IsStoreFault }
-    ensures unrefused { NotRefusedIn S.Store conn.old conn.new result AreStorable }
+    ensures unrefused { NotRefusedIn S.Store conn.old conn.new result TakesRows }
     ensures plan { ForEachWorld S.Store conn.old conn.new
-        (PlansRows R.rule (given_of source.now) rows result) }
+        (PlansRows (rule_in R.rule R.class_in) (given_of source.now) rows result) }
 {
     let left = apply_rows(conn, alloc, rows)?;
     new_file(alloc, source, left)
@@ -129,7 +130,7 @@ pub fn plan_sent<'a, S: Alter>(
     ensures asks { Asks S.Store conn.old conn.new result }
     ensures opens { ServesUnlessFailed S.Store conn.new result }
     ensures never { NeverEnded result }
-    ensures unrefused { NotRefusedIn S.Store conn.old conn.new result IsProject }
+    ensures unrefused { NotRefusedIn S.Store conn.old conn.new result IsPresentProject }
     ensures plan { ForEachWorld S.Store conn.old conn.new
         (PlansNow (AskSent file.now.name file.now.file) result) }
 {
@@ -154,7 +155,7 @@ pub fn plan_reported<'a, S: Alter>(
     ensures asks { Asks S.Store conn.old conn.new result }
     ensures opens { ServesUnlessFailed S.Store conn.new result }
     ensures never { NeverEnded result }
-    ensures unrefused { NotRefusedIn S.Store conn.old conn.new result IsProject }
+    ensures unrefused { NotRefusedIn S.Store conn.old conn.new result IsPresentProject }
     ensures plan { ForEachWorld S.Store conn.old conn.new
         (PlansNow (AskReported file.now.name file.now.file) result) }
 {

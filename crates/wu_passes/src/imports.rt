@@ -1,6 +1,6 @@
 //! A file as it is imported: what is kept of it, and what it answers, now or when it comes again.
 
-ghost use Rattle.std.specs.Prelude.{◌≡◌, ◌≤◌, All, Ok, IfOk, IfErr};
+ghost use Rattle.std.specs.Prelude.{◌≡◌, ◌≤◌, All, Ok, IfOk, IfErr, replicate};
 ghost use Rattle.wu_core.specs.declared.fault.Fault.TheVariants.{Memory};
 ghost use Rattle.wu_core.specs.Reads.{IsOrWantsMemory};
 ghost use Rattle.wu_passes.specs.Planning.{given_of, IsRepeated, KeepsImport, RefusesRepeat};
@@ -76,6 +76,17 @@ pub fn repeated<'a>(
         answer: imported(source, earlier.first_number, earlier.verdicts)?,
         changes: Vec::new(alloc),
     })
+}
+
+/// The verdicts of so many rows: each is applied.
+pub fn applied(alloc: Global, count: usize) -> Result<Bytes, Fault>
+    ensures { IsOrWantsMemory result (Ok (replicate count 0)) }
+{
+    let mut verdicts = Vec::new(alloc);
+    for _ in 0..count {
+        verdicts.push(0)?;
+    }
+    Ok(Bytes::from_vec(verdicts))
 }
 
 /// What is kept of an import with these verdicts. Its content is lent.

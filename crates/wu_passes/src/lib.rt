@@ -3,6 +3,7 @@
 
 mod batch;
 mod cancel;
+mod classes;
 mod commit;
 mod copies;
 mod files;
@@ -15,7 +16,7 @@ mod upgrade;
 mod version;
 
 pub use project::{
-    ArchiveWalk, HostWalk, LineWalk, LinesLeft, Project, ResultWalk, Walk, WorkunitWalk,
+    ArchiveWalk, ClassWalk, HostWalk, LineWalk, LinesLeft, Project, ResultWalk, Walk, WorkunitWalk,
 };
 pub use wu_machine::{Answer, Batch, Command, RowsFile};
 pub use wu_rules::Pass;

@@ -7,71 +7,100 @@ ghost use Rattle.wu_machine.specs.FileRows.{KeepsIdentity, left_by, unknown};
 ghost use Rattle.wu_passes.specs.Touched.{AreDistinct, HasAlso, LeavesBy, replaces, touched_named};
 
 use crate::copies::copy_of;
+use sqlite::{Alter, Connection};
 use std::alloc::Global;
 use std::collections::BTreeMap;
 use std::marker::Model;
 use wu_core::{Fault, Name, Workunit};
 use wu_feed::{ReportRow, SendRow};
 use wu_rules::{ReportVerdict, SendVerdict, report, send};
-use wu_store::Change;
+use wu_store::{Change, class_of};
 
 /// A row of a file that speaks of an instance of one workunit.
 pub trait FileRow: Drop {
-    ghost use Rattle.std.specs.Prelude.{◌≡◌, ◌≢◌, ◌≤◌};
+    ghost use Rattle.std.specs.Prelude.{◌≡◌, ◌≢◌, ◌≤◌, ℕ, List, IfErr};
+    ghost use Rattle.wu_core.specs.Classes.{AreClassed};
+    ghost use Rattle.wu_core.specs.declared.workunit.HostClass.{HostClass};
     ghost use Rattle.wu_machine.specs.FileRows.{KeepsIdentity, Rule, unknown};
+    ghost use Rattle.wu_store.specs.Classes.{AnswersClass, NotRefusedClass};
+    ghost use Rattle.wu_store.specs.Loading.{Asks, IsStoreFault};
 
-    /// The verdict on such a row, and what it makes of its workunit.
-    ghost rule: { Rule Self };
+    /// The class on which the verdict on such a row depends, where hosts have these classes.
+    ghost class_in: { List HostClass → Self → ℕ };
+
+    /// The verdict on such a row, and what it makes of its workunit, where this is that class.
+    ghost rule: { ℕ → Rule Self };
 
     /// The name of its workunit.
     fn workunit(&self) -> &Name
-        ensures { result.now ≡ rule.workunit self.now };
+        ensures { (class : ℕ) → result.now ≡ (rule class).workunit self.now };
+
+    /// The class on which the verdict on the row depends: it is asked of the tables.
+    fn find_class<S: Alter>(&self, conn: &mut Connection<S>) -> Result<u32, Fault>
+        ensures asks { Asks S.Store conn.old conn.new result }
+        ensures fault { IfErr result IsStoreFault }
+        ensures found { AnswersClass S.Store conn.old conn.new result
+            (λ world. class_in world.classes self.now) }
+        ensures unrefused { NotRefusedClass S.Store conn.old conn.new result
+            (λ world. AreClassed world.classes) };
 
     /// The number of the verdict on such a row whose workunit is not present.
     fn unknown() -> u8
         ensures { result ≡ unknown };
 
     /// Applies the row to its workunit, or skips it: the number of the verdict, 0 where it was applied.
-    fn apply(self, workunit: &mut Workunit) -> u8
-        ensures verdict { result ≡ rule.verdict self workunit.old }
+    fn apply(self, class: u32, workunit: &mut Workunit) -> u8
+        ensures verdict { result ≡ (rule class).verdict self workunit.old }
         ensures digit { result ≤ 9 }
-        ensures applied { result ≡ 0 → workunit.new ≡ rule.image self workunit.old }
+        ensures applied { result ≡ 0 → workunit.new ≡ (rule class).image self workunit.old }
         ensures skipped { result ≢ 0 → workunit.new ≡ workunit.old }
         ensures keeps { KeepsIdentity workunit.old workunit.new };
 }
 
 impl FileRow for SendRow {
-    ghost use Rattle.wu_machine.specs.FileRows.{send_rule};
+    ghost use Rattle.wu_passes.specs.Touched.{send_class, send_rule_at};
 
-    ghost rule = { send_rule };
+    ghost class_in = { send_class };
+
+    ghost rule = { send_rule_at };
 
     fn workunit(&self) -> &Name {
         &self.workunit
+    }
+
+    fn find_class<S: Alter>(&self, conn: &mut Connection<S>) -> Result<u32, Fault> {
+        class_of(conn, &self.host)
     }
 
     fn unknown() -> u8 {
         SendVerdict::Unknown.code()
     }
 
-    fn apply(self, workunit: &mut Workunit) -> u8 {
-        send(workunit, self.n, self.host, self.moment).code()
+    fn apply(self, class: u32, workunit: &mut Workunit) -> u8 {
+        send(workunit, self.n, self.host, class, self.moment).code()
     }
 }
 
 impl FileRow for ReportRow {
-    ghost use Rattle.wu_machine.specs.FileRows.{report_rule};
+    ghost use Rattle.wu_passes.specs.Touched.{no_class, report_rule_at};
 
-    ghost rule = { report_rule };
+    ghost class_in = { no_class };
+
+    ghost rule = { report_rule_at };
 
     fn workunit(&self) -> &Name {
         &self.workunit
+    }
+
+    fn find_class<S: Alter>(&self, _conn: &mut Connection<S>) -> Result<u32, Fault> {
+        Ok(0)
     }
 
     fn unknown() -> u8 {
         ReportVerdict::Unknown.code()
     }
 
-    fn apply(self, workunit: &mut Workunit) -> u8 {
+    fn apply(self, _class: u32, workunit: &mut Workunit) -> u8 {
         let ReportRow {
             workunit: _,
             n,
@@ -140,20 +169,20 @@ impl Touched {
         Ok(())
     }
 
-    /// Applies a row to its workunit, or skips it: the number of the verdict. Where its workunit is not among these, it
-    /// is `unknown`.
-    pub fn apply<R: FileRow>(&mut self, row: R) -> u8
-        ensures verdict { result ≡ option_map_or (λ touch. R.rule.verdict row touch.now)
-            (touched_named self.old (R.rule.workunit row)) unknown }
+    /// Applies a row to its workunit, or skips it, where this is the class on which its verdict depends: the number of
+    /// the verdict. Where its workunit is not among these, it is `unknown`.
+    pub fn apply<R: FileRow>(&mut self, row: R, class: u32) -> u8
+        ensures verdict { result ≡ option_map_or (λ touch. (R.rule class).verdict row touch.now)
+            (touched_named self.old ((R.rule class).workunit row)) unknown }
         ensures digit { result ≤ 9 }
-        ensures left { LeavesBy R.rule row result self.old self.new }
-        ensures keeps { IfSome (touched_named self.old (R.rule.workunit row))
-            (λ touch. KeepsIdentity touch.now (left_by R.rule row result touch.now)) }
+        ensures left { LeavesBy (R.rule class) row result self.old self.new }
+        ensures keeps { IfSome (touched_named self.old ((R.rule class).workunit row))
+            (λ touch. KeepsIdentity touch.now (left_by (R.rule class) row result touch.now)) }
     {
         let Some(touch) = self.by_name.get_mut(row.workunit().as_str()) else {
             return R::unknown();
         };
-        row.apply(&mut touch.now)
+        row.apply(class, &mut touch.now)
     }
 
     /// The changes that put each in the place of the present workunit of its number.

@@ -33,7 +33,7 @@ fn write_view<S: Alter>(
     }
 }
 
-/// All five views, one after another.
+/// All six views, one after another.
 pub fn views<S: Alter>(alloc: Global, project: &mut Project<S>) -> Result<Vec<u8>> {
     let mut out = Vec::new(alloc);
     for view in [
@@ -42,6 +42,7 @@ pub fn views<S: Alter>(alloc: Global, project: &mut Project<S>) -> Result<Vec<u8
         View::Hosts,
         View::Archive,
         View::Summary,
+        View::Classes,
     ] {
         write_view(alloc, project, view, &mut out)?;
     }

@@ -8,6 +8,7 @@ use Rattle.wu_core.specs.Parameters.{default_parameters}
 use Rattle.wu_core.specs.Workunit.{fresh}
 use Rattle.wu_core.specs.World.{World, empty_world}
 use Rattle.wu_rules.specs.Assimilation.{archived_row}
+use Rattle.wu_machine.specs.Examples.{three_classes}
 use Rattle.wu_rules.specs.Examples.{credit, h1, h2, job, masked, too_many_errors}
 
 -- a workunit as a batch adds it, and one with these instances
@@ -43,3 +44,7 @@ archiving row = record empty_world { archived = row ∷ [] }
 -- three credits of two hosts
 abbrev pub three_grants : World
 three_grants = record empty_world { grants = credit 0 h2 ∷ credit 1 h1 ∷ credit 2 h2 ∷ [] }
+
+-- three hosts that have classes
+abbrev pub three_hosts : World
+three_hosts = record empty_world { classes = three_classes }

@@ -5,6 +5,7 @@ use Rattle.std.specs.List.{range_with_len}
 use Rattle.hex.specs.Hex.{encode_lower}
 use Rattle.jiff_core.specs.Calendar.{days_from_civil}
 use Rattle.wu_core.specs.declared.workunit.Archived.{Archived}
+use Rattle.wu_core.specs.declared.workunit.HostClass.{HostClass}
 use Rattle.wu_core.specs.Mask.{error_mask_code}
 use Rattle.wu_core.specs.Words.{server_state_word, outcome_word, validate_state_word, assimilate_word, file_delete_word}
 use Rattle.wu_core.specs.World.{World}
@@ -12,7 +13,7 @@ use Rattle.wu_store.specs.declared.lines.HostLine.{HostLine}
 use Rattle.wu_store.specs.declared.lines.ResultLine.{ResultLine}
 use Rattle.wu_store.specs.declared.lines.Summary.{Summary}
 use Rattle.wu_store.specs.declared.lines.WorkunitLine.{WorkunitLine}
-use Rattle.wu_store.specs.Lines.{archived_lines, host_lines, result_lines, summary_of, workunit_lines}
+use Rattle.wu_store.specs.Lines.{archived_lines, class_lines, host_lines, result_lines, summary_of, workunit_lines}
 use Rattle.wu_machine.specs.declared.view.View.{View}
 use Rattle.wu_machine.specs.declared.view.View.TheVariants as view
 
@@ -71,7 +72,7 @@ workunit_line w =
     decimal w.number ++ codes " " ++ w.name ++ codes " input=" ++ decimal w.input ++ parameters_text w
     ++ codes " mask=" ++ decimal (error_mask_code w.error_mask) ++ codes " canonical=" ++ or_dash decimal w.canonical
     ++ codes " assimilate=" ++ assimilate_word w.assimilate ++ codes " delete=" ++ file_delete_word w.file_delete
-    ++ codes " done=" ++ or_dash moment_text w.done_at ++ line_end
+    ++ codes " done=" ++ or_dash moment_text w.done_at ++ codes " class=" ++ decimal w.class ++ line_end
 
 -- the line of an instance
 abbrev pub result_line : ResultLine → List ℕ
@@ -98,10 +99,14 @@ archived_line row =
     ++ codes " canonical=" ++ or_dash decimal row.canonical ++ codes " done=" ++ moment_text row.done_at
     ++ codes " output=" ++ bytes_text row.output ++ line_end
 
+-- the line of a host that has a class
+abbrev pub class_line : HostClass → List ℕ
+class_line it = it.host ++ codes " class=" ++ decimal it.class ++ line_end
+
 abbrev pub counted : List ℕ → ℕ → List ℕ
 counted word n = word ++ codes " " ++ decimal n ++ line_end
 
--- the eleven lines of a summary
+-- the twelve lines of a summary
 abbrev pub summary_lines : Summary → List ℕ
 summary_lines s =
     counted (codes "version") s.version
@@ -115,6 +120,7 @@ summary_lines s =
     ++ counted (codes "grants") s.grants
     ++ counted (codes "credit") s.credit
     ++ counted (codes "imports") s.imports
+    ++ counted (codes "classes") s.classes
 
 -- the text of a view
 abbrev pub view_text : World → View → List ℕ
@@ -123,3 +129,4 @@ view_text world view.Results = flat_map result_line (result_lines world)
 view_text world view.Hosts = flat_map host_line (host_lines world)
 view_text world view.Archive = flat_map archived_line (archived_lines world)
 view_text world view.Summary = summary_lines (summary_of world)
+view_text world view.Classes = flat_map class_line (class_lines world)

@@ -4,11 +4,13 @@ use Rattle.sqlite.specs.State.{HasCleanDisk}
 use Rattle.sqlite_trees.specs.declared.store.Store.{Ghosts}
 use Rattle.wu_core.specs.declared.fault.Fault.{Fault}
 use Rattle.wu_core.specs.declared.fault.Fault.TheVariants.{Ended, NotAProject, OldSchema, Output}
+use Rattle.wu_core.specs.Classes.{AreClassed}
 use Rattle.wu_core.specs.World.{World}
 use Rattle.wu_store.specs.declared.pages.Pages.{Ghosts as PageGhosts}
 use Rattle.wu_store.specs.Lines.{AreHostsNamed}
 use Rattle.wu_store.specs.Loading.{IsStoreFault}
 use Rattle.wu_core.specs.Storable.{AreStorable, IsArchiveStorable}
+use Rattle.wu_store.specs.StandsFor.{KnowsClasses}
 use Rattle.wu_store.specs.Summaries.{IsCountable}
 use Rattle.wu_passes.specs.Standing.{GoesOn}
 use Rattle.wu_passes.specs.declared.project.Project.{Project}
@@ -35,10 +37,10 @@ WritesLeft {S} {P} {T} p text contents old new out_old out_new result =
 
 -- ---- a view
 
--- where a session goes on over a world and the disk does not fail, this text of that world is written
+-- where a session goes on over a world with classes and the disk does not fail, this text of that world is written
 abbrev pub ShowsText : {S W T : Type 0} {store : Ghosts S} → (W → Option (List ℕ)) → Project S store → Project S store → W → W → (World → List ℕ) → Result T Fault → Type 0
 ShowsText contents old new out_old out_new text_of result =
-    IsSessionOpen old → HasCleanDisk (state_of new) → (world : World) → GoesOn (state_of old) world
+    IsSessionOpen old → HasCleanDisk (state_of new) → (world : World) → KnowsClasses world → GoesOn (state_of old) world
     → WritesTo contents out_old out_new (text_of world) result
 
 -- a view's text is
@@ -52,11 +54,13 @@ CanBeShown world view.Results = AreStorable world
 CanBeShown world view.Hosts = AreHostsNamed world
 CanBeShown world view.Archive = IsArchiveStorable world
 CanBeShown world view.Summary = IsCountable world
+CanBeShown world view.Classes = AreClassed world.classes
 
 -- over such a world, where steps have no limit, nothing is refused
 abbrev pub UnrefusedWhere : {S T : Type 0} {store : Ghosts S} → (World → Type 0) → Project S store → Project S store → Result T Fault → Type 0
 UnrefusedWhere IsReadable old new result =
-    IsSessionOpen old → HasCleanDisk (state_of new) → IsUnlimited old → (world : World) → IsReadable world → GoesOn (state_of old) world
+    IsSessionOpen old → HasCleanDisk (state_of new) → IsUnlimited old → (world : World) → KnowsClasses world → IsReadable world
+    → GoesOn (state_of old) world
     → IfErr result (λ fault. fault ≢ NotAProject)
 
 -- where they can, the view is not refused

@@ -5,8 +5,8 @@ ghost use Rattle.wu_core.specs.declared.states.ValidateState.TheVariants.{Invali
 ghost use Rattle.wu_core.specs.World.{empty_world};
 ghost use Rattle.wu_core.specs.Workunit.{fresh};
 ghost use Rattle.wu_rules.specs.Examples.{h1, out, success};
-ghost use Rattle.wu_machine.specs.declared.view.View.TheVariants.{Archive, Hosts, Results, Summary, Workunits};
-ghost use Rattle.wu_report.specs.Examples.{after_a_batch, decided_row, given_up_row, holding, job_having, archiving, first_job, three_grants};
+ghost use Rattle.wu_machine.specs.declared.view.View.TheVariants.{Archive, Classes, Hosts, Results, Summary, Workunits};
+ghost use Rattle.wu_report.specs.Examples.{after_a_batch, decided_row, given_up_row, holding, job_having, archiving, first_job, three_grants, three_hosts};
 ghost use Rattle.wu_report.specs.Texts.{moment_text, view_text};
 
 /// The first and the last moment, noon of a day, a leap day and the last deadline, as text.
@@ -22,7 +22,7 @@ pub fn prints_moments()
 pub fn prints_a_workunit()
     ensures { view_text (holding first_job) Workunits
         ≡ codes "1 job_1 input=2 quorum=2 target=2 max_error=3 max_total=10 max_success=6"
-        ++ codes " delay=604800 credit=1 mask=0 canonical=- assimilate=INIT delete=INIT done=-\n" }
+        ++ codes " delay=604800 credit=1 mask=0 canonical=- assimilate=INIT delete=INIT done=- class=0\n" }
 {}
 
 /// The lines of two instances, before they are sent; of one that is out; and of one that was found invalid.
@@ -45,6 +45,14 @@ pub fn prints_hosts()
         ++ codes "h2 total=2 grants=2\n" }
 {}
 
+/// The lines of the hosts that have a class.
+pub fn prints_classes()
+    ensures { view_text three_hosts Classes
+        ≡ codes "h1 class=1\n"
+        ++ codes "h2 class=2\n"
+        ++ codes "h3 class=1\n" }
+{}
+
 /// The line of an archived workunit that was given up, and of one whose output has two bytes.
 pub fn prints_the_archive()
     ensures without { view_text (archiving given_up_row) Archive
@@ -56,13 +64,13 @@ pub fn prints_the_archive()
 /// The summary of a world in which nothing is, and of one after a batch of one job and a transition.
 pub fn prints_summaries()
     ensures empty { view_text empty_world Summary
-        ≡ codes "version 2\nnext 1\n"
+        ≡ codes "version 3\nnext 1\n"
         ++ codes "workunits 0\nresults 0\nunsent 0\nin_progress 0\nover 0\n"
-        ++ codes "archived 0\ngrants 0\ncredit 0\nimports 0\n" }
+        ++ codes "archived 0\ngrants 0\ncredit 0\nimports 0\nclasses 0\n" }
     ensures batch { view_text after_a_batch Summary
-        ≡ codes "version 2\nnext 2\n"
+        ≡ codes "version 3\nnext 2\n"
         ++ codes "workunits 1\nresults 2\nunsent 2\nin_progress 0\nover 0\n"
-        ++ codes "archived 0\ngrants 0\ncredit 0\nimports 1\n" }
+        ++ codes "archived 0\ngrants 0\ncredit 0\nimports 1\nclasses 0\n" }
 {}
 
 /// No view but the summary writes of an empty world.
@@ -71,4 +79,5 @@ pub fn prints_nothing_of_nothing()
     ensures results { view_text empty_world Results ≡ [] }
     ensures hosts { view_text empty_world Hosts ≡ [] }
     ensures archive { view_text empty_world Archive ≡ [] }
+    ensures classes { view_text empty_world Classes ≡ [] }
 {}

@@ -7,7 +7,7 @@ ghost use Rattle.wu_report.specs.Writing.{CutsWhatFails, piece_text, WritesTo};
 
 use crate::output::{Piece, write_pieces};
 use std::io::Write;
-use wu_core::{Archived, Bytes, Fault, Name};
+use wu_core::{Archived, Bytes, Fault, HostClass, Name};
 use wu_store::{HostLine, ResultLine, Summary, WorkunitLine};
 
 /// What a view shows on a line of its own.
@@ -65,6 +65,8 @@ impl Line for WorkunitLine {
                 Piece::Text(self.file_delete.word()),
                 Piece::Text(" done="),
                 Piece::When(self.done_at),
+                Piece::Text(" class="),
+                Piece::Number(u64::from(self.class)),
                 Piece::Text("\n"),
             ],
         )
@@ -174,7 +176,25 @@ impl Line for Archived {
     }
 }
 
-/// Writes the eleven lines of a summary.
+impl Line for HostClass {
+    ghost use Rattle.wu_report.specs.Texts.{class_line};
+
+    ghost text = { class_line };
+
+    fn write<W: Write>(&self, out: &mut W) -> Result<(), Fault> {
+        write_pieces(
+            out,
+            &[
+                Piece::Text(self.host.as_str()),
+                Piece::Text(" class="),
+                Piece::Number(u64::from(self.class)),
+                Piece::Text("\n"),
+            ],
+        )
+    }
+}
+
+/// Writes the twelve lines of a summary.
 pub fn write_summary<W: Write>(out: &mut W, summary: &Summary) -> Result<(), Fault>
     ensures bytes { WritesTo W.contents out.old out.new (summary_lines summary.now) result }
     ensures cut { CutsWhatFails W.contents out.old out.new (summary_lines summary.now) result }
@@ -205,6 +225,8 @@ pub fn write_summary<W: Write>(out: &mut W, summary: &Summary) -> Result<(), Fau
             Piece::Number(summary.credit),
             Piece::Text("\nimports "),
             Piece::Number(summary.imports),
+            Piece::Text("\nclasses "),
+            Piece::Number(summary.classes),
             Piece::Text("\n"),
         ],
     )

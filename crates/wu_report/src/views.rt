@@ -15,7 +15,7 @@ use std::io::Write;
 use wu_core::Fault;
 use wu_machine::View;
 use wu_passes::{Project, Walk};
-use wu_store::{ArchivePages, HostPages, Pages, ResultPages, WorkunitPages};
+use wu_store::{ArchivePages, ClassPages, HostPages, Pages, ResultPages, WorkunitPages};
 
 /// Writes the lines that a walk has left. A fault of the walk comes after the lines before it.
 fn write_lines<S: Alter, P: Pages, W: Write>(
@@ -96,6 +96,7 @@ fn write_view<S: Alter, W: Write>(
         View::Hosts => write_pages(alloc, project, HostPages::new(), out),
         View::Archive => write_pages(alloc, project, ArchivePages::new(), out),
         View::Summary => write_counts(project, out),
+        View::Classes => write_pages(alloc, project, ClassPages::new(), out),
     }
 }
 

@@ -1,5 +1,5 @@
 -- What each rule keeps of a workunit, whatever is asked of its instances one by one.
-use Rattle.std.proofs.Common.{◌≡◌, ◌⊎◌, ℕ, suc, ◌+◌, ◌-◌, ◌<◌, ◌≤◌, nat_lt, nat_le, min, Bool, true, false, cond, List, [], ◌∷◌, map, length, filter, replicate, Option, Some, None, is_none, refl, sym, subst, ◌∙◌, inl, inr, bytes_eq, leb-true, arith}
+use Rattle.std.proofs.Common.{◌≡◌, ◌⊎◌, ℕ, suc, ◌+◌, ◌-◌, ◌<◌, ◌≤◌, nat_lt, nat_le, min, Bool, true, false, cond, ◌&&◌, List, [], ◌∷◌, map, length, filter, replicate, Option, Some, None, is_none, refl, sym, subst, ◌∙◌, inl, inr, bytes_eq, leb-true, arith}
 use Rattle.std.proofs.lemmas.List.{length-map, length-append, length-replicate}
 use Rattle.std.proofs.lemmas.List.Elements.{All-append, All-from_recursion, All-map, All-replicate, All-weaker, recursion_from_All}
 use Rattle.std.specs.List.{All, AllByRecursion, enumerate_from, list_all, position_from}
@@ -21,17 +21,18 @@ use Rattle.wu_core.specs.declared.workunit.Instance.{Instance}
 use Rattle.wu_core.specs.declared.workunit.Workunit.{Workunit}
 use Rattle.wu_rules.specs.Assimilation.{emptied, without_output}
 use Rattle.wu_rules.specs.Cancelling.{cancelled}
-use Rattle.wu_rules.specs.Counts.{consensus, is_agreed, is_clear, viable}
-use Rattle.wu_rules.specs.Instances.{closed, given_up, is_done_assimilate, is_new, is_overdue, is_ready_file, is_unsent, is_viable, readied_assimilate, readied_file, timed_out}
-use Rattle.wu_rules.specs.Transition.{added, allowed, ended, extended, is_finished, is_open, may_output_go, needed, readied, settled, timed, transitioned, with_files_readied, with_output_readied}
+use Rattle.wu_rules.specs.Counts.{consensus, has_active, is_agreed, is_clear, viable}
+use Rattle.wu_rules.specs.Instances.{closed, given_up, is_done_assimilate, is_init_verdict, is_new, is_open_verdict, is_overdue, is_ready_file, is_success, is_unsent, is_viable, readied_assimilate, readied_file, timed_out}
+use Rattle.wu_rules.specs.Transition.{added, allowed, ended, extended, is_finished, is_open, may_output_go, needed, readied, settled, timed, transitioned, unbound, with_files_readied, with_output_readied}
 use Rattle.wu_rules.specs.Validation.{agreed_on, checked, concluded, decided, doubted, doubted_or_closed, is_deleted_at, is_no_result, is_to_validate, judged_by, judged_late_by, late_verdict, left_open, output_at, raised_target, refused, refused_where, validated, validated_by, verdict, with_refused}
 use Rattle.wu_rules.proofs.Lists.{length-map_placed, map_placed}
 
--- What may be asked of each instance: new ones have it, and it stays with another verdict, with another state of the
--- output, with an output that is deleted, with an end that is no success, and with a refusal of what is no result.
+-- What may be asked of each instance: new ones have it, and it stays with another verdict on a viable success, with
+-- another state of the output, with an output that is deleted, with an end that is no success, and with a refusal of
+-- what is no result.
 pub record StaysWithInstances (P : Instance → Type 0) : Type 0 where
   pub new : P fresh
-  pub judged : (i : Instance) (v : ValidateState) → P i → P (record i { validate_state = v })
+  pub judged : (i : Instance) (v : ValidateState) → is_viable i ≡ true → P i → P (record i { validate_state = v })
   pub filed : (i : Instance) (f : FileDelete) → P i → P (record i { file_delete = f })
   pub deleted : (i : Instance) → P i → P (record i { file_delete = file_delete.Done; output = [] })
   pub ended : (i : Instance) (o : Outcome) → (o ≡ outcome.Success → ⊥) → P i → P (record i { server_state = server.Over; outcome = o })
@@ -41,7 +42,7 @@ pub record StaysWithInstances (P : Instance → Type 0) : Type 0 where
 pub formed_stays : StaysWithInstances IsInstance
 formed_stays = record {
   new = record { sent_with_host = refl; due_with_host = refl; unsent = λ e. refl; in_progress = λ e. cc; success = λ e f. cc };
-  judged = λ i v h. record { sent_with_host = h.sent_with_host; due_with_host = h.due_with_host; unsent = h.unsent; in_progress = h.in_progress; success = h.success };
+  judged = λ i v viable h. record { sent_with_host = h.sent_with_host; due_with_host = h.due_with_host; unsent = h.unsent; in_progress = h.in_progress; success = h.success };
   filed = λ i f h. record { sent_with_host = h.sent_with_host; due_with_host = h.due_with_host; unsent = h.unsent; in_progress = h.in_progress; success = h.success };
   deleted = λ i h. record { sent_with_host = h.sent_with_host; due_with_host = h.due_with_host; unsent = h.unsent; in_progress = h.in_progress; success = h.success };
   ended = λ i o other h. record { sent_with_host = h.sent_with_host; due_with_host = h.due_with_host; unsent = λ e. cc; in_progress = λ e. cc; success = λ e f. absurd (other f) };
@@ -49,7 +50,7 @@ formed_stays = record {
 }
 
 -- What a rule keeps, the assimilator's aside: identity, parameters in range, the most instances, what is asked of each
--- instance, a canonical one among them, and whether and when the workunit was assimilated.
+-- instance, a canonical one among them, no class but 0 and its own, and whether and when the workunit was assimilated.
 pub record Keeps (P : Instance → Type 0) (old new : Workunit) : Type 0 where
   pub number : new.number ≡ old.number
   pub name : new.name ≡ old.name
@@ -60,6 +61,7 @@ pub record Keeps (P : Instance → Type 0) (old new : Workunit) : Type 0 where
   pub grows : length old.instances ≤ length new.instances
   pub room : (most : ℕ) → old.params.max_total_results ≤ most → length old.instances ≤ most → length new.instances ≤ most
   pub canonical : (n : ℕ) → new.canonical ≡ Some n → (old.canonical ≡ Some n) ⊎ (n < length new.instances)
+  pub class : new.class ≤ old.class
   pub done_at : new.done_at ≡ old.done_at
   pub done : new.assimilate ≡ assimilate.Done → old.assimilate ≡ assimilate.Done
   pub stays_done : old.assimilate ≡ assimilate.Done → new.assimilate ≡ assimilate.Done
@@ -75,6 +77,19 @@ ready_from : (a : Assimilate) → a ≡ assimilate.Done → readied_assimilate a
 ready_from assimilate.Init e = cc
 ready_from assimilate.Ready e = e
 ready_from assimilate.Done e = e
+
+-- a new success is a viable one
+pub new_is_viable : (i : Instance) → is_new i ≡ true → is_viable i ≡ true
+new_is_viable i = by (is_success i) i.validate_state
+  where
+    by : (b : Bool) (v : ValidateState) → (b && is_init_verdict v) ≡ true → (b && is_open_verdict v) ≡ true
+    by true validate.Init e = refl
+    by true validate.Inconclusive e = refl
+    by true validate.Valid e = e
+    by true validate.Invalid e = e
+    by true validate.NoCheck e = e
+    by true validate.TooLate e = e
+    by false v e = e
 
 filter_short : {A : Type 0} (p : A → Bool) (xs : List A) → length (filter p xs) ≤ length xs
 filter_short p [] = omega arith
@@ -133,6 +148,7 @@ module _ (P : Instance → Type 0) where
     grows = omega arith;
     room = λ most total few. few;
     canonical = λ n e. inl e;
+    class = omega arith;
     done_at = refl;
     done = λ e. e;
     stays_done = λ e. e;
@@ -154,6 +170,7 @@ module _ (P : Instance → Type 0) where
     grows = (let a = h.grows in let b = k.grows in omega arith);
     room = λ most total few. k.room most (subst (λ t. t ≤ most) (sym h.total) total) (h.room most total few);
     canonical = chosen;
+    class = (let a = h.class in let b = k.class in omega arith);
     done_at = k.done_at ∙ h.done_at;
     done = λ e. h.done (k.done e);
     stays_done = λ e. k.stays_done (h.stays_done e);
@@ -181,36 +198,36 @@ module _ (P : Instance → Type 0) where
   module _ (stays : StaysWithInstances P) where
     -- ---- instances
 
-    either : (b : Bool) (x y : Instance) → P x → P y → P (cond b x y)
-    either true x y h k = h
+    either : (b : Bool) (x y : Instance) → (b ≡ true → P x) → P y → P (cond b x y)
+    either true x y h k = h refl
     either false x y h k = k
 
     each_closed : (i : Instance) → P i → P (closed i)
-    each_closed i h = either (is_unsent i) _ i (stays.ended i outcome.DidntNeed (λ e. cc) h) h
+    each_closed i h = either (is_unsent i) _ i (λ is. stays.ended i outcome.DidntNeed (λ e. cc) h) h
 
     each_timed_out : (now : ℕ) (i : Instance) → P i → P (timed_out now i)
-    each_timed_out now i h = either (is_overdue now i) _ i (stays.ended i outcome.NoReply (λ e. cc) h) h
+    each_timed_out now i h = either (is_overdue now i) _ i (λ is. stays.ended i outcome.NoReply (λ e. cc) h) h
 
     each_given_up : (i : Instance) → P i → P (given_up i)
-    each_given_up i h = either (is_viable i) _ (closed i) (stays.judged i validate.NoCheck h) (each_closed i h)
+    each_given_up i h = either (is_viable i) _ (closed i) (λ is. stays.judged i validate.NoCheck is h) (each_closed i h)
 
     each_judged_by : (output : List ℕ) (i : Instance) → P i → P (judged_by output i)
-    each_judged_by output i h = either (is_viable i) _ (closed i) (stays.judged i (verdict (bytes_eq i.output output)) h) (each_closed i h)
+    each_judged_by output i h = either (is_viable i) _ (closed i) (λ is. stays.judged i (verdict (bytes_eq i.output output)) is h) (each_closed i h)
 
     each_judged_late_by : (is_gone : Bool) (output : List ℕ) (i : Instance) → P i → P (judged_late_by is_gone output i)
-    each_judged_late_by is_gone output i h = either (is_new i) _ i (stays.judged i (late_verdict is_gone (bytes_eq i.output output)) h) h
+    each_judged_late_by is_gone output i h = either (is_new i) _ i (λ is. stays.judged i (late_verdict is_gone (bytes_eq i.output output)) (new_is_viable i is) h) h
 
     each_refused_where : (undecided : Bool) (i : Instance) → P i → P (refused_where undecided i)
-    each_refused_where undecided i h = either (is_no_result undecided i) (refused i) i (stays.refused i h) h
+    each_refused_where undecided i h = either (is_no_result undecided i) (refused i) i (λ is. stays.refused i h) h
 
     each_doubted : (i : Instance) → P i → P (doubted i)
-    each_doubted i h = either (is_viable i) _ i (stays.judged i validate.Inconclusive h) h
+    each_doubted i h = either (is_viable i) _ i (λ is. stays.judged i validate.Inconclusive is h) h
 
     each_doubted_or_closed : (i : Instance) → P i → P (doubted_or_closed i)
-    each_doubted_or_closed i h = either (is_viable i) _ (closed i) (stays.judged i validate.Inconclusive h) (each_closed i h)
+    each_doubted_or_closed i h = either (is_viable i) _ (closed i) (λ is. stays.judged i validate.Inconclusive is h) (each_closed i h)
 
     each_without_output : (i : Instance) → P i → P (without_output i)
-    each_without_output i h = either (is_ready_file i.file_delete) _ i (stays.deleted i h) h
+    each_without_output i h = either (is_ready_file i.file_delete) _ i (λ is. stays.deleted i h) h
 
     -- ---- workunits whose instances are changed one by one
 
@@ -227,6 +244,7 @@ module _ (P : Instance → Type 0) where
           grows = omega arith;
           room = λ most total few. omega arith;
           canonical = λ n e. inl e;
+          class = omega arith;
           done_at = refl;
           done = λ e. e;
           stays_done = λ e. e;
@@ -255,6 +273,7 @@ module _ (P : Instance → Type 0) where
           grows = omega arith;
           room = λ most total few. (let room = at_most (is_open w) in omega arith);
           canonical = λ n e. inl e;
+          class = omega arith;
           done_at = refl;
           done = λ e. e;
           stays_done = λ e. e;
@@ -277,6 +296,7 @@ module _ (P : Instance → Type 0) where
           grows = all.grows;
           room = all.room;
           canonical = all.canonical;
+          class = all.class;
           done_at = refl;
           done = ready_to w.assimilate;
           stays_done = ready_from w.assimilate;
@@ -304,10 +324,34 @@ module _ (P : Instance → Type 0) where
           grows = omega arith;
           room = λ most total few. omega arith;
           canonical = λ n e. inl e;
+          class = omega arith;
           done_at = refl;
           done = λ e. e;
           stays_done = λ e. e;
         }) (unchanged w)
+
+    keeps_unbound : (w : Workunit) → Keeps P w (unbound w)
+    keeps_unbound w =
+        let all = unchanged w in
+        record {
+          number = refl;
+          name = refl;
+          input = all.input;
+          parameters = all.parameters;
+          total = refl;
+          each = all.each;
+          grows = all.grows;
+          room = all.room;
+          canonical = all.canonical;
+          class = at_most (has_active w);
+          done_at = refl;
+          done = λ e. e;
+          stays_done = λ e. e;
+        }
+      where
+        at_most : (b : Bool) → cond b w.class 0 ≤ w.class
+        at_most true = omega arith
+        at_most false = omega arith
 
     settled_canonical : (w : Workunit) → (settled w).canonical ≡ w.canonical
     settled_canonical w = by (is_clear w.error_mask)
@@ -329,9 +373,12 @@ module _ (P : Instance → Type 0) where
         let v = timed w now in
         let u = extended v in
         let t = settled u in
-        keeps_then w t (readied t)
+        let r = readied t in
+        keeps_then w r (unbound r)
+        (keeps_then w t r
         (keeps_then w u t (keeps_then w v u (keeps_timed w now) (keeps_extended v) refl) (keeps_settled u) (settled_canonical u))
-        (keeps_readied t) (readied_canonical t)
+        (keeps_readied t) (readied_canonical t))
+        (keeps_unbound r) refl
 
     -- ---- the validator
 
@@ -351,6 +398,7 @@ module _ (P : Instance → Type 0) where
           grows = all.grows;
           room = all.room;
           canonical = all.canonical;
+          class = all.class;
           done_at = refl;
           done = λ e. e;
           stays_done = λ e. e;
@@ -370,6 +418,7 @@ module _ (P : Instance → Type 0) where
           grows = all.grows;
           room = all.room;
           canonical = λ m e. inr (let same : n ≡ m = cc in let long = length-map w.instances (judged_by output) in omega arith);
+          class = all.class;
           done_at = refl;
           done = ready_to w.assimilate;
           stays_done = ready_from w.assimilate;
@@ -423,6 +472,7 @@ module _ (P : Instance → Type 0) where
           grows = all.grows;
           room = all.room;
           canonical = all.canonical;
+          class = all.class;
           done_at = refl;
           done = λ e. e;
           stays_done = λ e. e;

@@ -1,5 +1,5 @@
 -- One instance that is written at its place.
-use Rattle.std.proofs.Common.{◌≡◌, ℕ, ◌<◌, ◌≤◌, List, length, get_or, set, Some, None, ◌⊎◌, inl, inr, refl}
+use Rattle.std.proofs.Common.{◌≡◌, ℕ, ◌<◌, ◌≤◌, List, length, get_or, set, slice_set, Some, None, ◌⊎◌, inl, inr, refl}
 use Rattle.std.specs.List.{slice_get}
 use Rattle.std.specs.Option.{option_map_or}
 use Rattle.std.proofs.lemmas.Option.{slice_get_cases, slice_get-get_or, slice_get_past}
@@ -17,13 +17,18 @@ is_within {X} {V} verdict missing here xs n e other = by (slice_get_cases xs n).
     by (inl found) = found.1
     by (inr past) = absurd (other (rw past.1 at e))
 
--- a workunit whose instance of this number is changed is as it is written
-pub placed : (w : Workunit) (items : List Instance) (n : ℕ) (f : Instance → Instance) (d new : Instance) → n < length w.instances → items ≡ w.instances → new ≡ f (get_or items n d)
-    → record w { instances = overwritten w.instances (set items n new) } ≡ option_map_or (λ instance. with_instance_set w n (f instance)) (slice_get w.instances n) w
-placed w items n f d new lt same made =
+-- what is made of instances of which the one of this number is changed is made of them as they are written
+pub placed_in : (make : List Instance → Workunit) (w : Workunit) (items : List Instance) (n : ℕ) (f : Instance → Instance) (d new : Instance) → n < length w.instances → items ≡ w.instances → new ≡ f (get_or items n d)
+    → make (overwritten w.instances (set items n new)) ≡ option_map_or (λ instance. make (slice_set w.instances n (f instance))) (slice_get w.instances n) w
+placed_in make w items n f d new lt same made =
     let here : slice_get w.instances n ≡ Some (get_or w.instances n d) = slice_get-get_or w.instances n d lt in
     let whole : overwritten w.instances (set w.instances n new) ≡ set w.instances n new = overwritten-all w.instances (set w.instances n new) (length-set w.instances n new) in
     rw (here, same, whole, made, same) refl
+
+-- a workunit whose instance of this number is changed is as it is written
+pub placed : (w : Workunit) (items : List Instance) (n : ℕ) (f : Instance → Instance) (d new : Instance) → n < length w.instances → items ≡ w.instances → new ≡ f (get_or items n d)
+    → record w { instances = overwritten w.instances (set items n new) } ≡ option_map_or (λ instance. with_instance_set w n (f instance)) (slice_get w.instances n) w
+placed w = placed_in (λ items. record w { instances = items }) w
 
 -- ---- one instance that is looked up
 

@@ -1,10 +1,11 @@
 -- When the states and verdicts of a workunit agree, and what a rule makes of one: its image, its grants and its
 -- archived rows, so that they go on agreeing.
-use Rattle.std.specs.Prelude.{◌≡◌, ◌≢◌, ℕ, ◌==◌, Bool, true, false, not, ◌&&◌, if◌then◌else◌, List, filter, length, All, IfSome, is_none, slice_get, option_map, Option, Some, None}
+use Rattle.std.specs.Prelude.{◌≡◌, ◌≢◌, ℕ, ◌==◌, Bool, true, false, not, ◌&&◌, if◌then◌else◌, List, filter, length, All, IfSome, is_none, is_some, slice_get, option_map, Option, Some, None}
 use Rattle.std.specs.List.{list_any}
 use Rattle.std.specs.Option.{option_map_or}
 use Rattle.wu_core.specs.declared.workunit.Archived.{Archived}
 use Rattle.wu_core.specs.declared.workunit.Grant.{Grant}
+use Rattle.wu_core.specs.declared.workunit.HostClass.{HostClass}
 use Rattle.wu_core.specs.declared.workunit.Instance.{Instance}
 use Rattle.wu_core.specs.declared.workunit.Workunit.{Workunit}
 use Rattle.wu_core.specs.declared.states.Assimilate.TheVariants as assimilate
@@ -13,9 +14,10 @@ use Rattle.wu_core.specs.declared.states.Outcome.TheVariants as outcome
 use Rattle.wu_core.specs.declared.states.ServerState.TheVariants as server
 use Rattle.wu_core.specs.declared.states.ValidateState.{ValidateState}
 use Rattle.wu_core.specs.declared.states.ValidateState.TheVariants as validate
+use Rattle.wu_core.specs.Classes.{class_of}
 use Rattle.wu_core.specs.Formed.{IsWorkunit}
 use Rattle.wu_rules.specs.Counts.{is_clear}
-use Rattle.wu_rules.specs.Instances.{is_done_assimilate, is_open_verdict, is_success, is_unsent}
+use Rattle.wu_rules.specs.Instances.{is_active, is_done_assimilate, is_open_verdict, is_success, is_unsent}
 
 -- no state stands that this project never sets; only a success has a verdict, and what was refused as no result
 pub record IsPossible (i : Instance) : Type 0 where
@@ -25,7 +27,7 @@ pub record IsPossible (i : Instance) : Type 0 where
   pub deletable : i.file_delete ≢ file_delete.Error
   pub judged : is_success i ≡ false → i.outcome ≢ outcome.ValidateError → i.validate_state ≡ validate.Init
 
--- A workunit is undecided, given up or decided, and not two of them.
+-- A workunit is undecided, given up or decided, and not two of them; one that was sent to no host has no class.
 pub record IsConsistent (w : Workunit) : Type 0 where
   pub instances : All IsPossible w.instances
   pub deletable : w.file_delete ≢ file_delete.Error
@@ -37,6 +39,7 @@ pub record IsConsistent (w : Workunit) : Type 0 where
   pub undecided : (is_clear w.error_mask && is_none w.canonical) ≡ true → w.assimilate ≡ assimilate.Init
   pub canonical : IfSome w.canonical (λ n. IfSome (slice_get w.instances n)
       (λ i. (is_success i ≡ true) × (i.validate_state ≡ validate.Valid)))
+  pub classless : list_any (λ i. is_some i.host) w.instances ≡ false → w.class ≡ 0
 
 abbrev pub is_valid_verdict : ValidateState → Bool
 is_valid_verdict validate.Valid = true
@@ -95,6 +98,11 @@ abbrev pub KeepsHosts : Workunit → Workunit → Type 0
 KeepsHosts old new =
     (n : ℕ) (host : List ℕ) → instance_host old.instances n ≡ Some host
     → instance_host new.instances n ≡ Some host
+
+-- each active instance is of a host of the workunit's class, where the hosts have these classes
+abbrev pub IsOneClass : List HostClass → Workunit → Type 0
+IsOneClass classes w =
+    All (λ i. is_active i ≡ true → IfSome i.host (λ host. class_of classes host ≡ w.class)) w.instances
 
 -- What a rule makes of a consistent workunit, with what it grants and archives. What was decided stays: who is VALID,
 -- with its host, each final verdict, the canonical result, that it was given up, and that it is DONE, with its mask and

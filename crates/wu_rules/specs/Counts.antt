@@ -5,7 +5,7 @@ use Rattle.wu_core.specs.declared.workunit.Instance.{Instance}
 use Rattle.wu_core.specs.declared.workunit.Workunit.{Workunit}
 use Rattle.wu_core.specs.declared.mask.ErrorMask.{ErrorMask}
 use Rattle.wu_core.specs.Mask.{error_mask_code}
-use Rattle.wu_rules.specs.Instances.{is_unsent, is_in_progress, is_error, is_kept, is_viable, is_new}
+use Rattle.wu_rules.specs.Instances.{is_active, is_unsent, is_in_progress, is_error, is_kept, is_viable, is_new}
 
 abbrev pub unsent : Workunit → ℕ
 unsent w = length (filter is_unsent w.instances)
@@ -27,6 +27,10 @@ viable w = filter is_viable w.instances
 -- there is a success without any verdict
 abbrev pub has_new_success : Workunit → Bool
 has_new_success w = list_any is_new w.instances
+
+-- an instance is in progress, or a viable success
+abbrev pub has_active : Workunit → Bool
+has_active w = list_any is_active w.instances
 
 -- no bit of the mask is set
 abbrev pub is_clear : ErrorMask → Bool

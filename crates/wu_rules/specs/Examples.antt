@@ -1,9 +1,11 @@
 -- Workunits as they stand in the worked examples.
 use Rattle.std.specs.Prelude.{ℕ, List, [], ◌∷◌, Some, None, true, codes}
+use Rattle.wu_core.specs.Classes.{with_class}
 use Rattle.wu_core.specs.Mask.{no_errors}
 use Rattle.wu_core.specs.Parameters.{Parameters, default_parameters}
 use Rattle.wu_core.specs.Workunit.{fresh}
 use Rattle.wu_core.specs.declared.mask.ErrorMask.{ErrorMask}
+use Rattle.wu_core.specs.declared.workunit.HostClass.{HostClass}
 use Rattle.wu_core.specs.declared.workunit.Instance.{Instance}
 use Rattle.wu_core.specs.declared.workunit.Workunit.{Workunit}
 use Rattle.wu_core.specs.declared.workunit.Grant.{Grant}
@@ -28,6 +30,7 @@ job params instances = record {
   assimilate = assimilate.Init;
   file_delete = file_delete.Init;
   done_at = None;
+  class = 0;
   instances = instances;
 }
 
@@ -172,6 +175,32 @@ one_back = job default_parameters (success h1 aa validate.Init ∷ fresh ∷ [])
 -- the reply that was missed comes after all
 abbrev pub one_late : Workunit
 one_late = job default_parameters (record (success h1 aa validate.Init) { received_at = Some a_second_late } ∷ fresh ∷ fresh ∷ [])
+
+-- ---- classes of hosts
+
+-- bound to this class
+abbrev pub in_class : ℕ → Workunit → Workunit
+in_class class w = record w { class = class }
+
+abbrev pub h4 : List ℕ
+h4 = codes "h4"
+
+-- these three have classes, the fourth has none
+abbrev pub three_classed : List HostClass
+three_classed = with_class h1 1 (with_class h2 2 (with_class h3 1 []))
+
+-- an hour after a deadline
+abbrev pub an_hour_late : ℕ
+an_hour_late = 1772978400
+
+-- sent to a second host when the first one's reply was missed
+abbrev pub second_out_and : Instance → Workunit
+second_out_and first =
+    in_class 2 (job default_parameters (first ∷ record (out h2) { sent_at = Some an_hour_late; deadline = Some 1773583200 } ∷ fresh ∷ []))
+
+-- the success that was missed
+abbrev pub late_success : Instance
+late_success = record (success h1 aa validate.Init) { received_at = Some an_hour_late }
 
 -- ---- two results that differ, and a third
 

@@ -1,5 +1,5 @@
 -- What one instance is, and what the rules make of one. Names and states are BOINC's, the rules this project's profile.
-use Rattle.std.specs.Prelude.{ℕ, nat_lt, Bool, true, false, not, ◌&&◌, if◌then◌else◌}
+use Rattle.std.specs.Prelude.{ℕ, nat_lt, Bool, true, false, not, ◌&&◌, ◌||◌, if◌then◌else◌}
 use Rattle.std.specs.Option.{option_map_or}
 use Rattle.wu_core.specs.declared.workunit.Instance.{Instance}
 use Rattle.wu_core.specs.declared.states.ServerState.{ServerState}
@@ -92,6 +92,10 @@ is_new i = is_success i && is_init_verdict i.validate_state
 -- a viable success has no final verdict
 abbrev pub is_viable : Instance → Bool
 is_viable i = is_success i && is_open_verdict i.validate_state
+
+-- an instance whose host's class binds its workunit: it is in progress, or a viable success
+abbrev pub is_active : Instance → Bool
+is_active i = is_in_progress i || is_viable i
 
 -- a kept success is one that is not INVALID
 abbrev pub is_kept : Instance → Bool

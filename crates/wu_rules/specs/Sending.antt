@@ -1,11 +1,12 @@
 -- A workunit's instance is sent to a host: the verdict, and what it makes of the workunit.
-use Rattle.std.specs.Prelude.{ℕ, ◌+◌, Bool, false, not, if◌then◌else◌, List, bytes_eq, slice_get, Some}
+use Rattle.std.specs.Prelude.{ℕ, ◌+◌, ◌==◌, Bool, false, not, ◌&&◌, if◌then◌else◌, List, bytes_eq, slice_get, Some}
 use Rattle.std.specs.List.{list_any}
 use Rattle.std.specs.Option.{option_map_or}
 use Rattle.wu_core.specs.declared.workunit.Instance.{Instance}
 use Rattle.wu_core.specs.declared.workunit.Workunit.{Workunit}
 use Rattle.wu_core.specs.declared.states.ServerState.TheVariants as server
 use Rattle.wu_core.specs.Workunit.{with_instance_set}
+use Rattle.wu_rules.specs.Counts.{has_active}
 use Rattle.wu_rules.specs.Instances.{is_unsent}
 use Rattle.wu_rules.specs.declared.verdicts.SendVerdict.{SendVerdict}
 use Rattle.wu_rules.specs.declared.verdicts.SendVerdict.TheVariants as verdict
@@ -14,16 +15,22 @@ use Rattle.wu_rules.specs.declared.verdicts.SendVerdict.TheVariants as verdict
 abbrev pub is_of : List ℕ → Instance → Bool
 is_of host instance = option_map_or (λ its. bytes_eq its host) instance.host false
 
--- an instance that waits to be sent goes to a host that has none of its workunit
-abbrev pub send_verdict_of : Workunit → List ℕ → Instance → SendVerdict
-send_verdict_of w host instance =
+-- an active workunit is bound to the class of its hosts
+abbrev pub is_bound_elsewhere : Workunit → ℕ → Bool
+is_bound_elsewhere w class = has_active w && not (w.class == class)
+
+-- an instance that waits to be sent goes to a host of this class that has none of its workunit, nor is the workunit bound
+-- to another class
+abbrev pub send_verdict_of : Workunit → List ℕ → ℕ → Instance → SendVerdict
+send_verdict_of w host class instance =
     if not (is_unsent instance) then verdict.NotUnsent
     else if list_any (is_of host) w.instances then verdict.SameHost
+    else if is_bound_elsewhere w class then verdict.Class
     else verdict.Applied
 
 -- of the instance of this number, where the workunit has one
-abbrev pub send_verdict_in : Workunit → ℕ → List ℕ → SendVerdict
-send_verdict_in w n host = option_map_or (send_verdict_of w host) (slice_get w.instances n) verdict.Unknown
+abbrev pub send_verdict_in : Workunit → ℕ → List ℕ → ℕ → SendVerdict
+send_verdict_in w n host class = option_map_or (send_verdict_of w host class) (slice_get w.instances n) verdict.Unknown
 
 -- on its way to the host since this moment, with this deadline
 abbrev pub due_at : ℕ → List ℕ → ℕ → Instance → Instance
@@ -38,7 +45,10 @@ due_at deadline host moment instance = record instance {
 abbrev pub sent_to : Workunit → List ℕ → ℕ → Instance → Instance
 sent_to w host moment = due_at (moment + w.params.delay_bound) host moment
 
--- the workunit with its instance of this number sent
-abbrev pub sent_in : Workunit → ℕ → List ℕ → ℕ → Workunit
-sent_in w n host moment =
-    option_map_or (λ instance. with_instance_set w n (sent_to w host moment instance)) (slice_get w.instances n) w
+-- the workunit of this class, with its instance of this number sent
+abbrev pub sent_as : Workunit → ℕ → List ℕ → ℕ → ℕ → Instance → Workunit
+sent_as w n host class moment instance = record (with_instance_set w n (sent_to w host moment instance)) { class = class }
+
+-- the workunit with its instance of this number sent to a host of this class, which it is bound to
+abbrev pub sent_in : Workunit → ℕ → List ℕ → ℕ → ℕ → Workunit
+sent_in w n host class moment = option_map_or (sent_as w n host class moment) (slice_get w.instances n) w

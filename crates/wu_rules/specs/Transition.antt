@@ -6,7 +6,7 @@ use Rattle.wu_core.specs.declared.workunit.Instance.{Instance}
 use Rattle.wu_core.specs.declared.workunit.Workunit.{Workunit}
 use Rattle.wu_core.specs.Workunit.{fresh}
 use Rattle.wu_rules.specs.Instances.{is_over, is_viable, timed_out, given_up, readied_assimilate, is_done_assimilate, readied_file, output_readied}
-use Rattle.wu_rules.specs.Counts.{unsent, in_progress, errors, kept, is_clear, is_undecided}
+use Rattle.wu_rules.specs.Counts.{has_active, unsent, in_progress, errors, kept, is_clear, is_undecided}
 use Rattle.wu_rules.specs.Validation.{is_to_validate}
 
 -- each instance in progress whose deadline has passed is over without a reply
@@ -92,6 +92,10 @@ with_files_readied w = record w {
 abbrev pub readied : Workunit → Workunit
 readied w = if is_done_assimilate w.assimilate then with_files_readied w else w
 
+-- a workunit that is not active is bound to no class
+abbrev pub unbound : Workunit → Workunit
+unbound w = record w { class = if has_active w then w.class else 0 }
+
 -- what the transitioner makes of a workunit at a moment
 unfoldable pub transitioned : Workunit → ℕ → Workunit
-transitioned w now = readied (settled (extended (timed w now)))
+transitioned w now = unbound (readied (settled (extended (timed w now))))

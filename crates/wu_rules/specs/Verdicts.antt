@@ -11,6 +11,7 @@ send_verdict_code send.Applied = 0
 send_verdict_code send.Unknown = 1
 send_verdict_code send.NotUnsent = 2
 send_verdict_code send.SameHost = 3
+send_verdict_code send.Class = 4
 
 abbrev pub report_verdict_code : ReportVerdict → ℕ
 report_verdict_code report.Applied = 0
@@ -26,6 +27,7 @@ send_verdict_word send.Applied = None
 send_verdict_word send.Unknown = Some (codes "unknown")
 send_verdict_word send.NotUnsent = Some (codes "not_unsent")
 send_verdict_word send.SameHost = Some (codes "same_host")
+send_verdict_word send.Class = Some (codes "class")
 
 -- why a row of reports was skipped, if it was
 abbrev pub report_verdict_word : ReportVerdict → Option (List ℕ)

@@ -4,7 +4,7 @@ use Rattle.std.specs.List.{filter_map, list_any, list_all, reduce, enumerate_fro
 use Rattle.wu_core.specs.declared.workunit.Instance.{Instance}
 use Rattle.wu_core.specs.declared.workunit.Workunit.{Workunit}
 use Rattle.wu_rules.specs.Instances.{is_unsent, is_viable, is_in_progress, is_init_assimilate, is_done_assimilate, is_init_file}
-use Rattle.wu_rules.specs.Counts.{is_clear}
+use Rattle.wu_rules.specs.Counts.{has_active, is_clear}
 use Rattle.wu_rules.specs.Transition.{has_too_many_errors, has_too_many_total, added, is_all_over, is_finished, may_output_go}
 
 -- under a mask, something is not settled yet
@@ -28,6 +28,10 @@ has_files_to_ready w =
     is_done_assimilate w.assimilate
     && ((is_all_over w && is_init_file w.file_delete) || has_output_to_ready w.canonical w.instances)
 
+-- bound to a class though it is not active
+abbrev pub is_to_unbind : Workunit → Bool
+is_to_unbind w = not (has_active w) && nat_lt 0 w.class
+
 -- the transitioner has something to do, whatever the moment
 abbrev pub is_due : Workunit → Bool
 is_due w =
@@ -36,6 +40,7 @@ is_due w =
     || has_too_many_total w
     || is_unsettled w
     || has_files_to_ready w
+    || is_to_unbind w
 
 -- of an instance in progress: the first second after its deadline
 abbrev pub overdue_from : Instance → Option ℕ

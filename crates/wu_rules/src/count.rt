@@ -3,12 +3,12 @@
 ghost use Rattle.std.specs.Prelude.{◌≡◌, ◌≤◌, filter, length};
 ghost use Rattle.wu_core.specs.Limits.{most_instances};
 ghost use Rattle.wu_rules.specs.Instances.{is_error, is_in_progress, timed_out};
-ghost use Rattle.wu_rules.specs.Counts.{unsent, in_progress, errors, kept, viable, has_new_success, is_clear, is_undecided};
+ghost use Rattle.wu_rules.specs.Counts.{unsent, in_progress, errors, kept, viable, has_active, has_new_success, is_clear, is_undecided};
 ghost use Rattle.wu_rules.specs.Transition.{timed};
 ghost use Rattle.wu_rules.specs.Validation.{is_to_validate};
 
 use crate::instance::{
-    is_error, is_in_progress, is_kept, is_new, is_overdue, is_unsent, is_viable,
+    is_active, is_error, is_in_progress, is_kept, is_new, is_overdue, is_unsent, is_viable,
 };
 use wu_core::{ErrorMask, Instance, Moment, Workunit};
 
@@ -116,6 +116,13 @@ pub fn has_new_success(workunit: &Workunit) -> bool
     ensures { result ≡ has_new_success workunit.now }
 {
     workunit.instances.iter().any(is_new)
+}
+
+/// Whether an instance of the workunit is in progress, or a viable success.
+pub fn has_active(workunit: &Workunit) -> bool
+    ensures { result ≡ has_active workunit.now }
+{
+    workunit.instances.iter().any(is_active)
 }
 
 /// Whether the validator looks at the workunit: its error mask is clear, it has a new success, and it has a canonical

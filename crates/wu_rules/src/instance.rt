@@ -1,7 +1,7 @@
 //! What one instance is.
 
 ghost use Rattle.std.specs.Prelude.{◌≡◌};
-ghost use Rattle.wu_rules.specs.Instances.{is_unsent, is_in_progress, is_over, is_success, is_new, is_viable, is_kept, is_error, is_overdue};
+ghost use Rattle.wu_rules.specs.Instances.{is_unsent, is_in_progress, is_over, is_success, is_new, is_viable, is_active, is_kept, is_error, is_overdue};
 
 use wu_core::{FileDelete, Instance, Moment, Outcome, ServerState, ValidateState};
 
@@ -47,6 +47,13 @@ pub fn is_viable(instance: &Instance) -> bool
             instance.validate_state,
             ValidateState::Init | ValidateState::Inconclusive
         )
+}
+
+/// Whether the class of the instance's host binds its workunit: it is in progress, or a viable success.
+pub fn is_active(instance: &Instance) -> bool
+    ensures { result ≡ is_active instance.now }
+{
+    is_in_progress(instance) || is_viable(instance)
 }
 
 /// Whether the instance is a success that was not found invalid.

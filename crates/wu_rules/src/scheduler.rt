@@ -5,10 +5,11 @@ ghost use Rattle.std.specs.List.{list_any};
 ghost use Rattle.wu_core.specs.Statuses.{outcome_of};
 ghost use Rattle.wu_rules.specs.Instances.{is_over};
 ghost use Rattle.wu_rules.specs.Reporting.{is_no_reply, is_sent_after, report_verdict_of, report_verdict_in, reported_as, reported_in};
-ghost use Rattle.wu_rules.specs.Sending.{due_at, is_of, send_verdict_of, send_verdict_in, sent_in};
+ghost use Rattle.wu_rules.specs.Sending.{due_at, is_bound_elsewhere, is_of, send_verdict_of, send_verdict_in, sent_in};
 ghost use Rattle.wu_rules.specs.declared.verdicts.ReportVerdict.TheVariants as report_verdict;
 ghost use Rattle.wu_rules.specs.declared.verdicts.SendVerdict.TheVariants as send_verdict;
 
+use crate::count::has_active;
 use crate::instance::{is_over, is_unsent};
 use crate::verdicts::{ReportVerdict, SendVerdict};
 use wu_core::{
@@ -33,14 +34,22 @@ fn has_one_of(instances: &Instances, host: &Name) -> bool
     instances.iter().any(|instance| is_of(instance, host))
 }
 
-/// The verdict on sending the instance of this number to the host.
-fn send_verdict(workunit: &Workunit, n: u32, host: &Name) -> SendVerdict
-    ensures { result ≡ send_verdict_in workunit.now n host.now }
+/// Whether the workunit is active, and its class is not this one.
+fn is_bound_elsewhere(workunit: &Workunit, class: u32) -> bool
+    ensures { result ≡ is_bound_elsewhere workunit.now class }
+{
+    has_active(workunit) && workunit.class != class
+}
+
+/// The verdict on sending the instance of this number to the host of this class.
+fn send_verdict(workunit: &Workunit, n: u32, host: &Name, class: u32) -> SendVerdict
+    ensures { result ≡ send_verdict_in workunit.now n host.now class }
 {
     match workunit.instances.as_slice().get(n as usize) {
         None => SendVerdict::Unknown,
         Some(instance) if !is_unsent(instance) => SendVerdict::NotUnsent,
         Some(_) if has_one_of(&workunit.instances, host) => SendVerdict::SameHost,
+        Some(_) if is_bound_elsewhere(workunit, class) => SendVerdict::Class,
         Some(_) => SendVerdict::Applied,
     }
 }
@@ -62,20 +71,22 @@ fn put_in_progress(instance: &mut Instance, host: Name, sent_at: Moment, deadlin
     instance.deadline = Some(deadline);
 }
 
-/// Sends the instance of this number to the host: it is in progress from this moment on, and due after the workunit's
-/// delay. The instance has to wait to be sent, and the host to have none of its workunit; else nothing changes, and the
-/// verdict says why.
-pub fn send(workunit: &mut Workunit, n: u32, host: Name, moment: Moment) -> SendVerdict
-    ensures verdict { result ≡ send_verdict_in workunit.old n host }
+/// Sends the instance of this number to the host of this class: it is in progress from this moment on, due after the
+/// workunit's delay, and the workunit is bound to the class. The instance has to wait to be sent, the host to have none
+/// of its workunit, and the workunit, where it is active, to be of this class; else nothing changes, and the verdict
+/// says why.
+pub fn send(workunit: &mut Workunit, n: u32, host: Name, class: u32, moment: Moment) -> SendVerdict
+    ensures verdict { result ≡ send_verdict_in workunit.old n host class }
     ensures applied { result ≡ send_verdict.Applied
-        → workunit.new ≡ sent_in workunit.old n host moment }
+        → workunit.new ≡ sent_in workunit.old n host class moment }
     ensures skipped { result ≢ send_verdict.Applied → workunit.new ≡ workunit.old }
 {
-    let verdict = send_verdict(workunit, n, &host);
+    let verdict = send_verdict(workunit, n, &host, class);
     if verdict == SendVerdict::Applied {
         let deadline = deadline_of(workunit, moment);
         let instance = &mut workunit.instances.as_mut_slice()[n as usize];
         put_in_progress(instance, host, moment, deadline);
+        workunit.class = class;
     }
     verdict
 }

@@ -5,11 +5,11 @@ ghost use Rattle.std.specs.List.{list_all};
 ghost use Rattle.wu_core.specs.Limits.{most_instances};
 ghost use Rattle.wu_core.specs.Reads.{FailsForMemory};
 ghost use Rattle.wu_rules.specs.Instances.{is_over, readied_file, output_readied};
-ghost use Rattle.wu_rules.specs.Transition.{timed, has_too_many_errors, is_open, needed, allowed, added, is_idle, has_too_many_total, extended, settled, is_finished, may_output_go, outputs_readied, readied, transitioned};
+ghost use Rattle.wu_rules.specs.Transition.{timed, has_too_many_errors, is_open, needed, allowed, added, is_idle, has_too_many_total, extended, settled, is_finished, may_output_go, outputs_readied, readied, unbound, transitioned};
 
 use crate::change::{give_up_all, ready_assimilate, time_out_all};
 use crate::count::{
-    error_count, in_progress_count, is_clear, is_undecided, kept_count, unsent_count,
+    error_count, has_active, in_progress_count, is_clear, is_undecided, kept_count, unsent_count,
     wants_validation,
 };
 use crate::instance::{is_over, is_viable};
@@ -191,8 +191,18 @@ fn ready(workunit: &mut Workunit)
     }
 }
 
+/// Frees a workunit that is not active from its class.
+fn unbind(workunit: &mut Workunit)
+    ensures { workunit.new ≡ unbound workunit.old }
+{
+    if !has_active(workunit) {
+        workunit.class = 0;
+    }
+}
+
 /// Times out what is overdue, gives up what bears no more, makes the instances that are wanted, closes what is given
-/// up, and names the files that nobody needs any more for deletion. For want of memory nothing changes.
+/// up, names the files that nobody needs any more for deletion, and frees a workunit that is not active from its
+/// class. For want of memory nothing changes.
 #[tactic(auto, unfolding(crate::specs::Transition::transitioned))]
 pub fn transition(alloc: Global, workunit: &mut Workunit, now: Moment) -> Result<(), Fault>
     ensures ok { OnOk result (workunit.new ≡ transitioned workunit.old now) }
@@ -202,5 +212,6 @@ pub fn transition(alloc: Global, workunit: &mut Workunit, now: Moment) -> Result
     extend(alloc, workunit, now)?;
     settle(workunit);
     ready(workunit);
+    unbind(workunit);
     Ok(())
 }

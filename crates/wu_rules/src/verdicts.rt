@@ -15,10 +15,12 @@ pub enum SendVerdict {
     NotUnsent = 2,
     /// The host has an instance of this workunit already.
     SameHost = 3,
+    /// The workunit is active, and its class is not the host's.
+    Class = 4,
 }
 
 impl SendVerdict {
-    /// The number of this project, as a table stores it: 0 to 3.
+    /// The number of this project, as a table stores it: 0 to 4.
     pub fn code(self) -> u8
         ensures { result ≡ send_verdict_code self }
     {
@@ -34,6 +36,7 @@ impl SendVerdict {
             1 => Some(SendVerdict::Unknown),
             2 => Some(SendVerdict::NotUnsent),
             3 => Some(SendVerdict::SameHost),
+            4 => Some(SendVerdict::Class),
             _ => None,
         }
     }
@@ -47,6 +50,7 @@ impl SendVerdict {
             SendVerdict::Unknown => Some("unknown"),
             SendVerdict::NotUnsent => Some("not_unsent"),
             SendVerdict::SameHost => Some("same_host"),
+            SendVerdict::Class => Some("class"),
         }
     }
 }

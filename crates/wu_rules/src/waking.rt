@@ -3,9 +3,9 @@
 ghost use Rattle.std.specs.Prelude.{◌≡◌, ◌≤◌, min};
 ghost use Rattle.std.specs.List.{filter_map, reduce, list_any};
 ghost use Rattle.wu_rules.specs.Instances.{is_unsent, is_viable};
-ghost use Rattle.wu_rules.specs.Waking.{is_unsettled, has_files_to_ready, is_due, overdue_from, wake, is_output_to_ready, has_output_to_ready};
+ghost use Rattle.wu_rules.specs.Waking.{is_unsettled, has_files_to_ready, is_to_unbind, is_due, overdue_from, wake, is_output_to_ready, has_output_to_ready};
 
-use crate::count::is_clear;
+use crate::count::{has_active, is_clear};
 use crate::instance::{is_in_progress, is_unsent, is_viable};
 use crate::transitioner::{is_all_finished, is_all_over, may_output_go, plan_at_once};
 use wu_core::{Assimilate, FileDelete, Instance, Instances, Workunit};
@@ -68,6 +68,13 @@ fn has_files_to_ready(workunit: &Workunit) -> bool
             || has_output_to_ready(&workunit.instances, workunit.canonical))
 }
 
+/// Whether the workunit is bound to a class though it is not active.
+fn is_to_unbind(workunit: &Workunit) -> bool
+    ensures { result ≡ is_to_unbind workunit.now }
+{
+    !has_active(workunit) && workunit.class > 0
+}
+
 /// Whether the transitioner has something to do whatever the moment.
 fn is_due(workunit: &Workunit) -> bool
     ensures { result ≡ is_due workunit.now }
@@ -78,6 +85,7 @@ fn is_due(workunit: &Workunit) -> bool
         || plan.has_too_many_total
         || is_unsettled(workunit)
         || has_files_to_ready(workunit)
+        || is_to_unbind(workunit)
 }
 
 /// The first second after the deadline of an instance in progress.

@@ -13,31 +13,31 @@ use Rattle.wu_core.specs.declared.states.ValidateState.TheVariants as validate
 use Rattle.wu_core.specs.Workunit.{fresh}
 use Rattle.wu_rules.specs.Instances.{is_unsent_state, is_in_progress_state, is_unsent, is_in_progress, is_viable, is_overdue, is_done_assimilate, without_reply, timed_out, given_up}
 use Rattle.wu_rules.specs.Counts.{is_clear}
-use Rattle.wu_rules.specs.Transition.{timed, has_too_many_errors, has_too_many_total, added, extended, ended, settled, is_finished, with_output_readied, with_files_readied, readied, transitioned}
-use Rattle.wu_rules.specs.Waking.{is_due, is_unsettled, has_files_to_ready, overdue_from, wake}
+use Rattle.wu_rules.specs.Transition.{timed, has_too_many_errors, has_too_many_total, added, extended, ended, settled, is_finished, with_output_readied, with_files_readied, readied, transitioned, unbound}
+use Rattle.wu_rules.specs.Waking.{is_due, is_to_unbind, is_unsettled, has_files_to_ready, overdue_from, wake}
 use Rattle.wu_rules.proofs.Lists.{any-map}
 use Rattle.wu_rules_laws.proofs.Changed.{or_left, or_right, or_false, or_from, cond_keeps, any_false-map, any_false-replicate, map-untouched, any-placed}
-use Rattle.wu_rules_laws.proofs.Settled.{files_readied-once, files-untouched, settled-once, unsettled-readied, settled-untouched}
+use Rattle.wu_rules_laws.proofs.Settled.{files_readied-once, files-untouched, not_lt-zero, settled-once, unbound-once, unbound-untouched, unsettled-readied, settled-untouched}
 use Rattle.wu_rules_laws.proofs.Planned.{quiet-transitioned, extended-untouched}
 
 -- ---- where nothing is due and nothing overdue, nothing changes
 
-not_lt-zero : (n : ℕ) → nat_lt 0 n ≡ false → n ≡ 0
-not_lt-zero n e = grind (arith, nat_tests)
-
-pub due-untouched : (w : Workunit) → is_due w ≡ false → readied (settled (extended w)) ≡ w
+pub due-untouched : (w : Workunit) → is_due w ≡ false → unbound (readied (settled (extended w))) ≡ w
 due-untouched w e =
     let a = has_too_many_errors w in
     let b = nat_lt 0 (added w) in
     let c = has_too_many_total w in
     let d = is_unsettled w in
     let f = has_files_to_ready w in
-    let e4 = or_left (a || b || c || d) f e in
+    let g = is_to_unbind w in
+    let e5 = or_left (a || b || c || d || f) g e in
+    let e4 = or_left (a || b || c || d) f e5 in
     let e3 = or_left (a || b || c) d e4 in
     let e2 = or_left (a || b) c e3 in
     let same = extended-untouched w (or_left a b e2) (not_lt-zero (added w) (or_right a b e2)) (or_right (a || b) c e3) in
-    ap (λ v. readied (settled v)) same
-    ∙ (ap readied (settled-untouched w (or_right (a || b || c) d e4)) ∙ files-untouched w (or_right (a || b || c || d) f e))
+    ap (λ v. unbound (readied (settled v))) same
+    ∙ (ap (λ v. unbound (readied v)) (settled-untouched w (or_right (a || b || c) d e4))
+    ∙ (ap unbound (files-untouched w (or_right (a || b || c || d) f e5)) ∙ unbound-untouched w (or_right (a || b || c || d || f) g e)))
 
 abbrev pub has_overdue : Workunit → ℕ → Bool
 has_overdue w now = list_any (is_overdue now) w.instances
@@ -48,7 +48,7 @@ timed-untouched w now e =
 
 pub transitioned-untouched : (w : Workunit) (now : ℕ) → is_due w ≡ false → has_overdue w now ≡ false → transitioned w now ≡ w
 unfolding transitioned
-transitioned-untouched w now e f = ap (λ v. readied (settled (extended v))) (timed-untouched w now f) ∙ due-untouched w e
+transitioned-untouched w now e f = ap (λ v. unbound (readied (settled (extended v)))) (timed-untouched w now f) ∙ due-untouched w e
 
 -- ---- after a transition nothing is due and nothing overdue
 
@@ -62,7 +62,8 @@ transitioned-not_due w now =
     let first = or_from (has_too_many_errors v) (nat_lt 0 (added v)) quiet.errors (ap (λ n. nat_lt 0 n) quiet.added) in
     let second = or_from (has_too_many_errors v || nat_lt 0 (added v)) (has_too_many_total v) first quiet.total in
     let third = or_from (has_too_many_errors v || nat_lt 0 (added v) || has_too_many_total v) (is_unsettled v) second settled_now in
-    or_from (has_too_many_errors v || nat_lt 0 (added v) || has_too_many_total v || is_unsettled v) (has_files_to_ready v) third (files_readied-once (settled (extended t)))
+    let fourth = or_from (has_too_many_errors v || nat_lt 0 (added v) || has_too_many_total v || is_unsettled v) (has_files_to_ready v) third (files_readied-once (settled (extended t))) in
+    or_from (has_too_many_errors v || nat_lt 0 (added v) || has_too_many_total v || is_unsettled v || has_files_to_ready v) (is_to_unbind v) fourth (unbound-once (readied (settled (extended t))))
 
 overdue_timed_out : (now : ℕ) (i : Instance) → is_overdue now (timed_out now i) ≡ false
 overdue_timed_out now i = by_case (is_overdue now i) refl

@@ -16,10 +16,11 @@ use Rattle.wu_core.specs.declared.states.Status.TheVariants as status
 use Rattle.wu_core.specs.declared.states.ValidateState.{ValidateState}
 use Rattle.wu_core.specs.declared.states.ValidateState.TheVariants as validate
 use Rattle.wu_rules.specs.Assimilation.{without_output}
-use Rattle.wu_rules.specs.Instances.{closed, given_up, is_in_progress, is_init_file, is_init_verdict, is_new, is_open_verdict, is_over_state, is_overdue, is_ready_file, is_success, is_success_outcome, is_unsent, is_unsent_state, is_viable, output_readied, readied_file, timed_out}
+use Rattle.wu_rules.specs.Instances.{closed, given_up, is_in_progress, is_init_file, is_new, is_open_verdict, is_over_state, is_overdue, is_ready_file, is_success, is_success_outcome, is_unsent, is_unsent_state, is_viable, output_readied, readied_file, timed_out}
 use Rattle.wu_rules.specs.Reporting.{reported_as}
 use Rattle.wu_rules.specs.Sending.{due_at}
 use Rattle.wu_rules.specs.Validation.{doubted, doubted_or_closed, is_empty, is_judged_where, is_no_result, judged_by, judged_late_by, refused, refused_where, verdict}
+use Rattle.wu_rules.proofs.Keeping.{new_is_viable}
 use Rattle.wu_rules.proofs.Timing.{and_left as overdue_left, not_over}
 use Rattle.wu_rules.specs.Consistent.{IsPossible, instance_host, is_valid_at, is_valid_verdict}
 use Rattle.wu_rules_laws.proofs.Changed.{and_false, or_false, placed}
@@ -44,22 +45,6 @@ is_valid validate.Inconclusive e = cc
 is_valid validate.Invalid e = cc
 is_valid validate.NoCheck e = cc
 is_valid validate.TooLate e = cc
-
--- INIT is an open verdict
-init_is_open : (v : ValidateState) → is_init_verdict v ≡ true → is_open_verdict v ≡ true
-init_is_open validate.Init e = refl
-init_is_open validate.Inconclusive e = refl
-init_is_open validate.Valid e = e
-init_is_open validate.Invalid e = e
-init_is_open validate.NoCheck e = e
-init_is_open validate.TooLate e = e
-
--- a new success is a viable one
-pub new_is_viable : (i : Instance) → is_new i ≡ true → is_viable i ≡ true
-new_is_viable i e =
-    let success = and_left (is_success i) (is_init_verdict i.validate_state) e in
-    let opened = init_is_open i.validate_state (and_right (is_success i) (is_init_verdict i.validate_state) e) in
-    cc
 
 -- the verdict by equal bytes is VALID where they are equal
 verdict_valid : (b : Bool) → is_valid_verdict (verdict b) ≡ b

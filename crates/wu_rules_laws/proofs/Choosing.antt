@@ -10,7 +10,7 @@ use Rattle.wu_rules.specs.Cancelling.{cancelled}
 use Rattle.wu_rules.specs.Counts.{consensus, is_clear, viable}
 use Rattle.wu_rules.specs.Instances.{is_done_assimilate, is_ready_assimilate}
 use Rattle.wu_rules.specs.Reporting.{reported_as}
-use Rattle.wu_rules.specs.Sending.{sent_to}
+use Rattle.wu_rules.specs.Sending.{sent_as}
 use Rattle.wu_rules.specs.Transition.{ended, extended, readied, settled, timed, transitioned, with_files_readied}
 use Rattle.wu_rules.specs.Validation.{checked, concluded, decided, is_to_validate, left_open, validated, validated_by}
 use Rattle.wu_rules_laws.specs.Laws.{ChoosesByQuorum, IsChosen}
@@ -86,11 +86,11 @@ cancelled_keeps : (w : Workunit) → (cancelled w).canonical ≡ w.canonical
 unfolding cancelled
 cancelled_keeps w = refl
 
--- one instance changed, where there is one of the number
-placed_keeps : (w : Workunit) (n : ℕ) (change : Instance → Instance) (found : Option Instance)
-    → (option_map_or (λ instance. with_instance_set w n (change instance)) found w).canonical ≡ w.canonical
-placed_keeps w n change None = refl
-placed_keeps w n change (Some i) = refl
+-- what is made of one instance, where there is one of the number
+placed_keeps : (w : Workunit) (make : Instance → Workunit) → ((i : Instance) → (make i).canonical ≡ w.canonical) → (found : Option Instance)
+    → (option_map_or make found w).canonical ≡ w.canonical
+placed_keeps w make same None = refl
+placed_keeps w make same (Some i) = same i
 
 pub chooses : (w : Workunit) → ChoosesByQuorum w
 chooses w = record {
@@ -100,6 +100,6 @@ chooses w = record {
   assimilated = assimilated_keeps w;
   emptied = emptied_keeps w;
   cancelled = cancelled_keeps w;
-  sent = λ n host moment. placed_keeps w n (sent_to w host moment) (slice_get w.instances n);
-  reported = λ n moment status output. placed_keeps w n (reported_as moment status output) (slice_get w.instances n);
+  sent = λ n host class moment. placed_keeps w (sent_as w n host class moment) (λ i. refl) (slice_get w.instances n);
+  reported = λ n moment status output. placed_keeps w (λ i. with_instance_set w n (reported_as moment status output i)) (λ i. refl) (slice_get w.instances n);
 }

@@ -17,10 +17,10 @@ use Rattle.wu_core.specs.declared.states.ValidateState.{ValidateState}
 use Rattle.wu_core.specs.declared.states.ValidateState.TheVariants as validate
 use Rattle.wu_rules.specs.Assimilation.{emptied, without_output}
 use Rattle.wu_rules.specs.Cancelling.{cancelled}
-use Rattle.wu_rules.specs.Counts.{is_clear, is_undecided, viable}
+use Rattle.wu_rules.specs.Counts.{has_active, is_clear, is_undecided, viable}
 use Rattle.wu_rules.specs.Instances.{closed, given_up, is_done_assimilate, is_open_verdict, is_ready_file, is_unsent, is_viable, readied_assimilate, timed_out}
 use Rattle.wu_rules.specs.Sending.{is_of}
-use Rattle.wu_rules.specs.Transition.{added, ended, extended, is_all_over, is_finished, may_output_go, outputs_readied, readied, settled, timed, transitioned, with_files_readied, with_output_readied}
+use Rattle.wu_rules.specs.Transition.{added, ended, extended, is_all_over, is_finished, may_output_go, outputs_readied, readied, settled, timed, transitioned, unbound, with_files_readied, with_output_readied}
 use Rattle.wu_rules.specs.Validation.{checked, doubted, doubted_or_closed, is_no_result, is_to_validate, left_open, raised_target, refused, refused_where, with_refused}
 use Rattle.wu_rules.proofs.Lists.{any-map}
 use Rattle.wu_rules.proofs.Timing.{not_unsent, same_timed}
@@ -125,6 +125,7 @@ pub record Quietly (old new : Workunit) : Type 0 where
   pub decidable : new.error_mask.no_canonical_result ≡ old.error_mask.no_canonical_result
   pub mask : is_undecided old ≡ false → new.error_mask ≡ old.error_mask
   pub moment : new.done_at ≡ old.done_at
+  pub class : old.class ≡ 0 → new.class ≡ 0
   pub instances : Follows old.instances new.instances
 
 -- only the instances change
@@ -140,6 +141,7 @@ quietly_with w ys follow = record {
   decidable = refl;
   mask = λ e. refl;
   moment = refl;
+  class = λ e. e;
   instances = follow;
 }
 
@@ -169,6 +171,7 @@ quietly_then w v u h k = record {
   decidable = k.decidable ∙ h.decidable;
   mask = λ e. k.mask (still e) ∙ h.mask e;
   moment = k.moment ∙ h.moment;
+  class = λ e. k.class (h.class e);
   instances = follows_then w.instances v.instances u.instances h.instances k.instances;
 }
   where
@@ -242,6 +245,7 @@ quietly_extended w = record {
   decidable = refl;
   mask = λ e. ap (λ v. v.error_mask) (extended-unflagged w (no_errors_planned w e) (no_total_planned w e));
   moment = refl;
+  class = λ e. e;
   instances = follows w.instances (extended w).instances (all_become-more w.instances (added w));
 }
 
@@ -264,6 +268,7 @@ quietly_settled w = quietly_either (is_clear w.error_mask) w w (ended w) (quietl
   decidable = refl;
   mask = λ e. refl;
   moment = refl;
+  class = λ e. e;
   instances = follows w.instances (map given_up w.instances) (all_become none_made given_up becomes_given_up w.instances);
 })
 
@@ -280,10 +285,32 @@ quietly_readied w = quietly_either (is_done_assimilate w.assimilate) w (with_fil
   decidable = refl;
   mask = λ e. refl;
   moment = refl;
+  class = λ e. e;
   instances = follows w.instances (outputs_readied w.canonical w.instances)
       (all_become-placed (with_output_readied w.canonical (list_all is_finished w.instances))
       (λ n i. becomes_readied (may_output_go w.canonical (list_all is_finished w.instances) n i) i) 0 w.instances);
 }) (quietly_unchanged w)
+
+-- what is freed from its class
+quietly_unbound : (w : Workunit) → Quietly w (unbound w)
+quietly_unbound w = record {
+  number = refl;
+  name = refl;
+  credit = refl;
+  canonical = refl;
+  done = refl;
+  deletable = λ right. right;
+  sendable = refl;
+  decidable = refl;
+  mask = λ e. refl;
+  moment = refl;
+  class = λ e. either (has_active w) e;
+  instances = follows w.instances w.instances (all_stay w.instances);
+}
+  where
+    either : (b : Bool) → w.class ≡ 0 → cond b w.class 0 ≡ 0
+    either true e = e
+    either false e = refl
 
 -- the transitioner makes nothing VALID, decided or DONE
 pub quietly_transitioned : (w : Workunit) (now : ℕ) → Quietly w (transitioned w now)
@@ -292,9 +319,12 @@ quietly_transitioned w now =
     let v = timed w now in
     let u = extended v in
     let t = settled u in
-    quietly_then w t (readied t)
+    let r = readied t in
+    quietly_then w r (unbound r)
+    (quietly_then w t r
     (quietly_then w u t (quietly_then w v u (quietly_same w v.instances (follows_timed w now)) (quietly_extended v)) (quietly_settled u))
-    (quietly_readied t)
+    (quietly_readied t))
+    (quietly_unbound r)
 
 -- timing out leaves who is waited for
 awaits_timed : (w : Workunit) (now : ℕ) → Awaits w → Awaits (timed w now)
@@ -338,7 +368,9 @@ awaits_readied w h = by_case (is_done_assimilate w.assimilate)
 -- the transitioner leaves who is waited for
 pub awaits_transitioned : (w : Workunit) (now : ℕ) → Awaits w → Awaits (transitioned w now)
 unfolding transitioned
-awaits_transitioned w now h = awaits_readied (settled (extended (timed w now))) (awaits_settled (timed w now) (awaits_timed w now h))
+awaits_transitioned w now h =
+    let r = awaits_readied (settled (extended (timed w now))) (awaits_settled (timed w now) (awaits_timed w now h)) in
+    record { nothing_unsent = r.nothing_unsent; undecided = r.undecided }
 
 -- ---- what is no result
 
@@ -374,6 +406,7 @@ quietly_left_open w undecided = quietly_either (nat_lt w.params.max_success_resu
       decidable = refl;
       mask = any_mask w (record w.error_mask { too_many_success_results = true }) undecided;
       moment = refl;
+      class = λ e. e;
       instances = follows w.instances (map doubted_or_closed w.instances) (all_become none_made doubted_or_closed becomes_doubted_or_closed w.instances);
     })
     (record {
@@ -387,6 +420,7 @@ quietly_left_open w undecided = quietly_either (nat_lt w.params.max_success_resu
       decidable = refl;
       mask = λ e. refl;
       moment = refl;
+      class = λ e. e;
       instances = follows w.instances (map doubted w.instances) (all_become none_made doubted becomes_doubted w.instances);
     })
 
@@ -430,6 +464,7 @@ quietly_cancelled w e = record {
   decidable = refl;
   mask = any_mask w (record w.error_mask { cancelled = true }) e;
   moment = refl;
+  class = λ e. e;
   instances = follows_cancelled w;
 }
 
@@ -461,6 +496,7 @@ quietly_emptied w = record {
   decidable = refl;
   mask = λ e. refl;
   moment = refl;
+  class = λ e. e;
   instances = follows w.instances (map without_output w.instances) (all_become none_made without_output becomes_without_output w.instances);
 }
 

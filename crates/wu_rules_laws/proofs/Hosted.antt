@@ -1,5 +1,5 @@
 -- Which host has which instance: most rules leave that, and a send adds a host that had none of the workunit.
-use Rattle.std.proofs.Common.{◌≡◌, ◌≢◌, ℕ, zero, suc, ◌<◌, Bool, true, false, List, [], ◌∷◌, length, get_or, slice_get, slice_set, Option, Some, None, is_some, refl, sym, ap, ◌∙◌, bytes_eq, inl, inr, arith}
+use Rattle.std.proofs.Common.{◌≡◌, ◌≢◌, ℕ, zero, suc, ◌<◌, Bool, true, false, ◌||◌, List, [], ◌∷◌, drop, length, get_or, slice_get, slice_set, Option, Some, None, is_some, refl, sym, ap, ◌∙◌, bytes_eq, inl, inr, arith}
 use Rattle.std.proofs.lemmas.Bool.{cases_eq, or_parts}
 use Rattle.std.proofs.lemmas.List.Elements.{All-filter, filter_passes}
 use Rattle.std.proofs.lemmas.List.Kept.{AllPairs-filter}
@@ -15,6 +15,7 @@ use Rattle.wu_rules.specs.Instances.{is_open_verdict, is_success, is_viable}
 use Rattle.wu_rules.specs.Sending.{is_of}
 use Rattle.wu_rules.specs.Consistent.{HostsApart, instance_host}
 use Rattle.wu_rules_laws.specs.Laws.{HaveDifferentHosts}
+use Rattle.wu_rules_laws.proofs.Changed.{or_from}
 use Rattle.wu_rules_laws.proofs.Granted.{success_host}
 use Rattle.wu_rules_laws.proofs.Spent.{and_left}
 
@@ -63,7 +64,38 @@ all_set P [] n j it all = tt
 all_set P (x ∷ xs) zero j it all = (it, all.1)
 all_set P (x ∷ xs) (suc n) j it all = (all.0, all_set P xs n j it all.1)
 
+-- where each that has a host has it still, and none has one, none had one
+pub none_hosted : (xs ys : List Instance) → StayHosted xs ys → list_any (λ i. is_some i.host) ys ≡ false → list_any (λ i. is_some i.host) xs ≡ false
+none_hosted [] ys stay none = refl
+none_hosted (x ∷ xs) ys stay none = or_from (is_some x.host) (list_any (λ i. is_some i.host) xs) (by x.host refl) (none_hosted xs (drop 1 ys) (λ n host e. sym (behind ys n) ∙ stay (suc n) host e) (none_behind ys none))
+  where
+    behind : (zs : List Instance) (n : ℕ) → instance_host zs (suc n) ≡ instance_host (drop 1 zs) n
+    behind [] n = refl
+    behind (z ∷ zs) n = refl
+
+    none_behind : (zs : List Instance) → list_any (λ i. is_some i.host) zs ≡ false → list_any (λ i. is_some i.host) (drop 1 zs) ≡ false
+    none_behind [] e = refl
+    none_behind (z ∷ zs) e = (or_parts (is_some z.host) (list_any (λ i. is_some i.host) zs) e).1
+
+    none_first : (zs : List Instance) (host : List ℕ) → list_any (λ i. is_some i.host) zs ≡ false → instance_host zs 0 ≢ Some host
+    none_first [] host e is = cc
+    none_first (z ∷ zs) host e is = let own : is_some z.host ≡ true = ap is_some is in let both : true ≡ false = sym own ∙ (or_parts (is_some z.host) (list_any (λ i. is_some i.host) zs) e).0 in cc
+
+    by : (o : Option (List ℕ)) → x.host ≡ o → is_some o ≡ false
+    by None e = refl
+    by (Some host) e = absurd (none_first ys host none (stay 0 host e))
+
 -- ---- one that gets a host
+
+-- it has one then
+pub hosted_set : (xs : List Instance) (n : ℕ) (i j : Instance) → slice_get xs n ≡ Some i → is_some j.host ≡ true → list_any (λ k. is_some k.host) (slice_set xs n j) ≡ true
+hosted_set [] n i j here sent = cc
+hosted_set (x ∷ xs) zero i j here sent = ap (λ b. b || list_any (λ k. is_some k.host) xs) sent
+hosted_set (x ∷ xs) (suc n) i j here sent = ap (λ b. is_some x.host || b) (hosted_set xs n i j here sent) ∙ or_true (is_some x.host)
+  where
+    or_true : (b : Bool) → (b || true) ≡ true
+    or_true true = refl
+    or_true false = refl
 
 -- a host that has none of the instances has not this one
 has_none : (xs : List Instance) (host : List ℕ) (n : ℕ) → list_any (is_of host) xs ≡ false → instance_host xs n ≢ Some host

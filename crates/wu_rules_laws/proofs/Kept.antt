@@ -17,7 +17,7 @@ use Rattle.wu_rules.specs.Validation.{checked, concluded, validated}
 use Rattle.wu_rules.specs.Assimilation.{assimilated, emptied}
 use Rattle.wu_rules.specs.Cancelling.{cancelled}
 use Rattle.wu_rules.specs.Reporting.{report_verdict_of, report_verdict_in, reported_as, reported_in}
-use Rattle.wu_rules.specs.Sending.{sent_to, sent_in}
+use Rattle.wu_rules.specs.Sending.{sent_as, sent_in, sent_to}
 use Rattle.wu_rules.specs.declared.verdicts.ReportVerdict.TheVariants as report
 use Rattle.wu_rules.proofs.Keeping.{formed_stays, Keeps, keeps_cancelled, keeps_checked, keeps_concluded, keeps_emptied, keeps_transitioned, keeps_validated}
 use Rattle.wu_rules_laws.specs.Laws.{KeepsFormed}
@@ -66,7 +66,7 @@ formed_cancelled w = formed_by w (cancelled w) (keeps_cancelled IsInstance forme
 
 -- ---- the scheduler
 
-with_instance_formed : (w : Workunit) (n : ℕ) (i : Instance) → IsInstance i → IsWorkunit w → IsWorkunit (with_instance_set w n i)
+pub with_instance_formed : (w : Workunit) (n : ℕ) (i : Instance) → IsInstance i → IsWorkunit w → IsWorkunit (with_instance_set w n i)
 with_instance_formed w n i k h =
     let long = length-set w.instances n i in
     record {
@@ -78,14 +78,18 @@ with_instance_formed w n i k h =
       done_only = h.done_only;
     }
 
-formed_sent_to : (w : Workunit) (host : List ℕ) (moment : ℕ) (i : Instance) → IsInstance (sent_to w host moment i)
+pub formed_sent_to : (w : Workunit) (host : List ℕ) (moment : ℕ) (i : Instance) → IsInstance (sent_to w host moment i)
 formed_sent_to w host moment i = record { sent_with_host = refl; due_with_host = refl; unsent = λ e. cc; in_progress = λ e. refl; success = λ e f. refl }
 
-formed_sent : (w : Workunit) (n : ℕ) (host : List ℕ) (moment : ℕ) → IsWorkunit w → IsWorkunit (sent_in w n host moment)
-formed_sent w n host moment h = by (slice_get w.instances n)
+-- of whatever class
+classed_formed : (w : Workunit) (class : ℕ) → IsWorkunit w → IsWorkunit (record w { class = class })
+classed_formed w class h = record { parameters = h.parameters; instances = h.instances; within = h.within; canonical = h.canonical; done = h.done; done_only = h.done_only }
+
+formed_sent : (w : Workunit) (n : ℕ) (host : List ℕ) (class : ℕ) (moment : ℕ) → IsWorkunit w → IsWorkunit (sent_in w n host class moment)
+formed_sent w n host class moment h = by (slice_get w.instances n)
   where
-    by : (o : Option Instance) → IsWorkunit (option_map_or (λ instance. with_instance_set w n (sent_to w host moment instance)) o w)
-    by (Some i) = with_instance_formed w n (sent_to w host moment i) (formed_sent_to w host moment i) h
+    by : (o : Option Instance) → IsWorkunit (option_map_or (sent_as w n host class moment) o w)
+    by (Some i) = classed_formed (with_instance_set w n (sent_to w host moment i)) class (with_instance_formed w n (sent_to w host moment i) (formed_sent_to w host moment i) h)
     by None = h
 
 formed_reported_as : (moment : ℕ) (status : Status) (output : List ℕ) (i : Instance) → is_some i.host ≡ true → IsInstance i → IsInstance (reported_as moment status output i)
@@ -116,6 +120,6 @@ keeps_formed w h = record {
   assimilated = λ now. formed_assimilated w now h;
   emptied = formed_emptied w h;
   cancelled = formed_cancelled w h;
-  sent = λ n host moment. formed_sent w n host moment h;
+  sent = λ n host class moment. formed_sent w n host class moment h;
   reported = λ n host moment status output applied. formed_reported w n host moment status output applied h;
 }

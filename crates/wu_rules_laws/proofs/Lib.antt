@@ -1,3 +1,4 @@
+mod Alike
 pub mod Awake
 mod Becoming
 mod Changed

@@ -1,5 +1,5 @@
 -- Each rule rewrites a consistent workunit.
-use Rattle.std.proofs.Common.{◌≡◌, ◌≢◌, ℕ, zero, suc, ◌+◌, ◌<◌, Bool, true, false, not, cond, ◌&&◌, ◌||◌, List, [], ◌∷◌, map, length, slice_get, slice_set, Option, Some, None, IfSome, is_none, is_some, option_to_list, refl, sym, ap, subst, ◌∙◌, bytes_eq, arith}
+use Rattle.std.proofs.Common.{◌≡◌, ◌≢◌, ℕ, zero, suc, ◌+◌, ◌<◌, ◌==◌, Bool, true, false, not, cond, ◌&&◌, ◌||◌, List, [], ◌∷◌, map, length, slice_get, slice_set, Option, Some, None, IfSome, is_none, is_some, option_to_list, refl, sym, ap, subst, ◌∙◌, bytes_eq, eqb-true, arith}
 use Rattle.std.proofs.lemmas.List.Elements.{All-from_recursion, All-weaker, recursion_from_All}
 use Rattle.std.proofs.lemmas.Option.{get_or_from_slice_get, slice_get_within}
 use Rattle.std.proofs.lemmas.Slice.Eq.{bytes_eq-Decides}
@@ -21,25 +21,27 @@ use Rattle.wu_core.specs.declared.states.Status.{Status}
 use Rattle.wu_core.specs.declared.states.ValidateState.TheVariants as validate
 use Rattle.wu_rules.specs.Assimilation.{archived, archived_row, assimilated, emptied}
 use Rattle.wu_rules.specs.Cancelling.{cancelled}
-use Rattle.wu_rules.specs.Counts.{consensus, has_new_success, is_clear, is_undecided}
+use Rattle.wu_rules.specs.Counts.{consensus, has_active, has_new_success, is_clear, is_undecided}
 use Rattle.wu_rules.specs.Instances.{is_done_assimilate, is_new, is_over_state, is_ready_assimilate, is_success, is_success_outcome, is_unsent, is_unsent_state, is_viable, readied_assimilate}
 use Rattle.wu_rules.specs.Reporting.{is_no_reply, is_sent_after, report_verdict_in, report_verdict_of, reported_as, reported_in}
-use Rattle.wu_rules.specs.Sending.{is_of, send_verdict_in, send_verdict_of, sent_in, sent_to}
+use Rattle.wu_rules.specs.Sending.{is_bound_elsewhere, is_of, send_verdict_in, send_verdict_of, sent_as, sent_in, sent_to}
 use Rattle.wu_rules.specs.Transition.{transitioned}
 use Rattle.wu_rules.specs.Validation.{agreed_on, checked, concluded, credited, decided, granted_by, grants, grants_by, grants_decided, is_deleted_at, is_judged, is_to_validate, judged_by, judged_late_by, left_open, output_at, validated, validated_by, verdict}
 use Rattle.wu_rules.specs.declared.verdicts.ReportVerdict.{ReportVerdict}
 use Rattle.wu_rules.specs.declared.verdicts.ReportVerdict.TheVariants as report
+use Rattle.wu_rules.specs.declared.verdicts.SendVerdict.{SendVerdict}
 use Rattle.wu_rules.specs.declared.verdicts.SendVerdict.TheVariants as send
+use Rattle.wu_rules.proofs.Keeping.{new_is_viable}
 use Rattle.wu_rules_laws.specs.Consistent.{RulesRewrite}
 use Rattle.wu_rules.specs.Consistent.{ArchivesTheNew, GrantsToTheNew, IsConsistent, IsPossible, IsRowOf, Rewrites, instance_host, is_done, is_valid_at, is_valid_verdict, one_if}
 use Rattle.wu_rules_laws.specs.Laws.{IsChosen, IsRightGrantIn}
-use Rattle.wu_rules_laws.proofs.Becoming.{AllBecome, Becomes, all_become, all_become-set, all_possible, becomes_judged_by, becomes_judged_late_by, becomes_reported, becomes_too_late, final_at, init_not_valid, is_valid, new_is_viable, none_made, not_over_not_refused, possible_sent, same_host, unsent_no_success, unsent_not_over, valid_at}
+use Rattle.wu_rules_laws.proofs.Becoming.{AllBecome, Becomes, all_become, all_become-set, all_possible, becomes_judged_by, becomes_judged_late_by, becomes_reported, becomes_too_late, final_at, init_not_valid, is_valid, none_made, not_over_not_refused, possible_sent, same_host, unsent_no_success, unsent_not_over, valid_at}
 use Rattle.wu_rules_laws.proofs.Changed.{and_false, any_false-map}
 use Rattle.wu_rules_laws.proofs.Following.{Awaits, Follows, Quietly, awaits_cancelled, awaits_checked, awaits_emptied, awaits_left_open, awaits_same, awaits_set, awaits_transitioned, follows, follows_sent, given_up_alone, quietly_cancelled, quietly_checked, quietly_emptied, quietly_left_open, quietly_same, quietly_transitioned, quietly_unchanged, quietly_with, ready_done, unsent_same, verdicts_kept, kept_then}
 use Rattle.wu_rules_laws.proofs.Granted.{grants_new}
 use Rattle.wu_rules_laws.proofs.Granting.{chosen, credits_right}
-use Rattle.wu_rules_laws.proofs.Hosted.{apart_same}
-use Rattle.wu_rules_laws.proofs.Kept.{formed_checked, formed_concluded, keeps_formed}
+use Rattle.wu_rules_laws.proofs.Hosted.{apart_same, hosted_set, none_hosted}
+use Rattle.wu_rules_laws.proofs.Kept.{formed_checked, formed_concluded, formed_sent_to, keeps_formed, with_instance_formed}
 use Rattle.wu_rules_laws.proofs.Settled.{unsent_judged}
 use Rattle.wu_rules_laws.proofs.Spent.{and_from, and_left, and_right}
 
@@ -142,6 +144,7 @@ rewrites_quietly w v formed h made q a =
         nothing_unsent = a.nothing_unsent;
         undecided = a.undecided;
         canonical = canonical_right v possible (λ n e. q.instances.valid n ∙ canonical_valid w formed h n (sym q.canonical ∙ e));
+        classless = λ none. q.class (h.classless (none_hosted w.instances v.instances q.instances.hosts none));
       };
       valid = λ n e. (let now_valid : is_valid_at v.instances n ≡ true = q.instances.valid n ∙ e in (now_valid, q.instances.host n now_valid));
       canonical = λ n e. q.canonical ∙ e;
@@ -206,6 +209,7 @@ rewrites_assimilated w now formed h = by_case (is_ready_assimilate w.assimilate)
         nothing_unsent = h.nothing_unsent;
         undecided = λ f. (let both : true ≡ false = e ∙ ap is_ready_assimilate (h.undecided f) in cc);
         canonical = h.canonical;
+        classless = h.classless;
       };
       valid = λ n f. (f, refl);
       canonical = λ n f. f;
@@ -237,21 +241,34 @@ rewrites_set w n j formed h follow sent made =
     rewrites_quietly w (with_instance_set w n j) formed h made (quietly_with w (slice_set w.instances n j) follow) (awaits_set w n j sent (awaits_of w h))
 
 -- what is sent was unsent
-pub was_unsent : (w : Workunit) (host : List ℕ) (i : Instance) → send_verdict_of w host i ≡ send.Applied → is_unsent i ≡ true
-was_unsent w host i e = by_case (is_unsent i) e
+pub was_unsent : (w : Workunit) (host : List ℕ) (class : ℕ) (i : Instance) → send_verdict_of w host class i ≡ send.Applied → is_unsent i ≡ true
+was_unsent w host class i e = by_case (is_unsent i) e
   where
-    by_case : (b : Bool) → cond (not b) send.NotUnsent (cond (list_any (is_of host) w.instances) send.SameHost send.Applied) ≡ send.Applied → b ≡ true
+    by_case : (b : Bool) → cond (not b) send.NotUnsent (cond (list_any (is_of host) w.instances) send.SameHost (cond (is_bound_elsewhere w class) send.Class send.Applied)) ≡ send.Applied → b ≡ true
     by_case true f = refl
     by_case false f = cc
 
 -- and the host had none of the instances
-pub had_none : (w : Workunit) (host : List ℕ) (i : Instance) → send_verdict_of w host i ≡ send.Applied → list_any (is_of host) w.instances ≡ false
-had_none w host i e = by_case (is_unsent i) (list_any (is_of host) w.instances) e
+pub had_none : (w : Workunit) (host : List ℕ) (class : ℕ) (i : Instance) → send_verdict_of w host class i ≡ send.Applied → list_any (is_of host) w.instances ≡ false
+had_none w host class i e = by_case (is_unsent i) (list_any (is_of host) w.instances) e
   where
-    by_case : (b c : Bool) → cond (not b) send.NotUnsent (cond c send.SameHost send.Applied) ≡ send.Applied → c ≡ false
+    by_case : (b c : Bool) → cond (not b) send.NotUnsent (cond c send.SameHost (cond (is_bound_elsewhere w class) send.Class send.Applied)) ≡ send.Applied → c ≡ false
     by_case false c f = cc
     by_case true true f = cc
     by_case true false f = refl
+
+-- and its workunit was of the host's class, where it was active
+pub was_alike : (w : Workunit) (host : List ℕ) (class : ℕ) (i : Instance) → send_verdict_of w host class i ≡ send.Applied → has_active w ≡ true → w.class ≡ class
+was_alike w host class i e active = by_case (is_unsent i) (list_any (is_of host) w.instances) (w.class == class) refl (sym (ap verdict_by active) ∙ e)
+  where
+    verdict_by : Bool → SendVerdict
+    verdict_by b = cond (not (is_unsent i)) send.NotUnsent (cond (list_any (is_of host) w.instances) send.SameHost (cond (b && not (w.class == class)) send.Class send.Applied))
+
+    by_case : (b c d : Bool) → (w.class == class) ≡ d → cond (not b) send.NotUnsent (cond c send.SameHost (cond (true && not d) send.Class send.Applied)) ≡ send.Applied → w.class ≡ class
+    by_case false c d same f = cc
+    by_case true true d same f = cc
+    by_case true false true same f = eqb-true w.class class same
+    by_case true false false same f = cc
 
 -- what is unsent has no host
 no_host : (i : Instance) → IsInstance i → is_unsent i ≡ true → i.host ≡ None
@@ -267,23 +284,57 @@ no_host i formed e = none i.host (formed.unsent (unsent_is i.server_state e))
     none None f = refl
     none (Some host) f = cc
 
+-- where nothing is made VALID or DONE, the class may be another one of what was sent
+rewrites_classed : (w v : Workunit) (class : ℕ) → Rewrites w v [] [] → IsWorkunit (record v { class = class })
+    → (list_any (λ i. is_some i.host) v.instances ≡ false → class ≡ 0) → Rewrites w (record v { class = class }) [] []
+rewrites_classed w v class r made classless = record {
+  number = r.number;
+  name = r.name;
+  credit = r.credit;
+  formed = made;
+  consistent = record {
+    instances = r.consistent.instances;
+    deletable = r.consistent.deletable;
+    sendable = r.consistent.sendable;
+    decidable = r.consistent.decidable;
+    given_up_or_decided = r.consistent.given_up_or_decided;
+    nothing_unsent = r.consistent.nothing_unsent;
+    undecided = r.consistent.undecided;
+    canonical = r.consistent.canonical;
+    classless = classless;
+  };
+  valid = r.valid;
+  canonical = r.canonical;
+  verdicts = r.verdicts;
+  hosts = r.hosts;
+  apart = r.apart;
+  given_up = r.given_up;
+  done = r.done;
+  stays = r.stays;
+  granted = record { workunit = r.granted.workunit; each = r.granted.each; own = λ k d lt. absurd (omega arith) };
+  archives = record { once = r.archives.once; own = λ k d lt. absurd (omega arith) };
+}
+
 -- a send that is applied rewrites
-rewrites_sent : (w : Workunit) (n : ℕ) (host : List ℕ) (moment : ℕ) → IsWorkunit w → IsConsistent w → send_verdict_in w n host ≡ send.Applied
-    → Rewrites w (sent_in w n host moment) [] []
-rewrites_sent w n host moment formed h applied = by_case (slice_get w.instances n) refl applied ((keeps_formed w formed).sent n host moment)
+rewrites_sent : (w : Workunit) (n : ℕ) (host : List ℕ) (class : ℕ) (moment : ℕ) → IsWorkunit w → IsConsistent w → send_verdict_in w n host class ≡ send.Applied
+    → Rewrites w (sent_in w n host class moment) [] []
+rewrites_sent w n host class moment formed h applied = by_case (slice_get w.instances n) refl applied ((keeps_formed w formed).sent n host class moment)
   where
-    by_case : (o : Option Instance) → slice_get w.instances n ≡ o → option_map_or (send_verdict_of w host) o send.Unknown ≡ send.Applied
-        → IsWorkunit (option_map_or (λ instance. with_instance_set w n (sent_to w host moment instance)) o w)
-        → Rewrites w (option_map_or (λ instance. with_instance_set w n (sent_to w host moment instance)) o w) [] []
+    by_case : (o : Option Instance) → slice_get w.instances n ≡ o → option_map_or (send_verdict_of w host class) o send.Unknown ≡ send.Applied
+        → IsWorkunit (option_map_or (sent_as w n host class moment) o w)
+        → Rewrites w (option_map_or (sent_as w n host class moment) o w) [] []
     by_case None e f made = rewrites_unchanged w formed h
     by_case (Some i) e f made =
+        let j = sent_to w host moment i in
         let possible = holds_at IsPossible w.instances n i h.instances e in
-        let unsent = was_unsent w host i f in
-        rewrites_set w n (sent_to w host moment i) formed h
-        (follows_sent w.instances n i (sent_to w host moment i) host e (possible_sent (moment + w.params.delay_bound) host moment i possible unsent)
+        let unsent = was_unsent w host class i f in
+        let sent = rewrites_set w n j formed h
+        (follows_sent w.instances n i j host e (possible_sent (moment + w.params.delay_bound) host moment i possible unsent)
         (possible.judged (unsent_no_success i unsent) (not_over_not_refused i possible (unsent_not_over i.server_state unsent))) refl (no_host i (holds_at IsInstance w.instances n i formed.instances e) unsent) refl
-        (had_none w host i f))
-        refl made
+        (had_none w host class i f))
+        refl (with_instance_formed w n j (formed_sent_to w host moment i) formed) in
+        rewrites_classed w (with_instance_set w n j) class sent made
+        (λ none. let both : true ≡ false = sym (hosted_set w.instances n i j e refl) ∙ none in cc)
 
 -- what is reported was no success
 taken_no_success : (a b c over : Bool) (o : Outcome)
@@ -388,6 +439,7 @@ rewrites_judged w output c a ys formed h clear made become viable valid stays do
     nothing_unsent = awaits.nothing_unsent;
     undecided = awaits.undecided;
     canonical = canonical_right v possible valid;
+    classless = λ none. h.classless (none_hosted w.instances ys (λ n host e. same n ∙ e) none);
   };
   valid = λ n e. (let still = valid_still w output ys become n e in (still, same n));
   canonical = stays;
@@ -568,6 +620,6 @@ rules_rewrite w formed h =
       assimilated = λ now. rewrites_assimilated w now formed h;
       emptied = rewrites_quietly w (emptied w) formed h rules.emptied (quietly_emptied w) (awaits_emptied w awaits);
       cancelled = λ e. rewrites_quietly w (cancelled w) formed h rules.cancelled (quietly_cancelled w e) (awaits_cancelled w);
-      sent = λ n host moment applied. rewrites_sent w n host moment formed h applied;
+      sent = λ n host class moment applied. rewrites_sent w n host class moment formed h applied;
       reported = λ n host moment status output applied. rewrites_reported w n host moment status output formed h applied;
     }

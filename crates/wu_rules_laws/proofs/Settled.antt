@@ -1,5 +1,6 @@
 -- What each step of the transitioner leaves alone, and what it leaves nothing of.
-use Rattle.std.proofs.Common.{◌≡◌, ℕ, Bool, true, false, not, cond, ◌&&◌, ◌||◌, List, [], ◌∷◌, map, Option, refl, sym, ap, ◌∙◌}
+use Rattle.std.proofs.Common.{◌≡◌, ℕ, nat_lt, Bool, true, false, not, cond, ◌&&◌, ◌||◌, List, [], ◌∷◌, map, Option, refl, sym, ap, ◌∙◌, arith}
+use Rattle.std.proofs.lemmas.Bool.Decides.{nat_tests}
 use Rattle.std.specs.List.{list_any, list_all, enumerate_from}
 use Rattle.wu_core.specs.declared.workunit.Instance.{Instance}
 use Rattle.wu_core.specs.declared.workunit.Workunit.{Workunit}
@@ -13,9 +14,9 @@ use Rattle.wu_core.specs.declared.states.Assimilate.TheVariants as assimilate
 use Rattle.wu_core.specs.declared.states.FileDelete.{FileDelete}
 use Rattle.wu_core.specs.declared.states.FileDelete.TheVariants as file_delete
 use Rattle.wu_rules.specs.Instances.{is_unsent_state, is_over_state, is_success_outcome, is_open_verdict, is_unsent, is_over, is_success, is_viable, closed, given_up, is_init_assimilate, readied_assimilate, is_done_assimilate, is_init_file, readied_file}
-use Rattle.wu_rules.specs.Counts.{is_clear}
-use Rattle.wu_rules.specs.Transition.{is_all_over, is_finished, may_output_go, with_output_readied, outputs_readied, with_files_readied, readied, ended, settled}
-use Rattle.wu_rules.specs.Waking.{is_unsettled, is_output_to_ready, has_output_to_ready, has_files_to_ready}
+use Rattle.wu_rules.specs.Counts.{has_active, is_clear}
+use Rattle.wu_rules.specs.Transition.{is_all_over, is_finished, may_output_go, with_output_readied, outputs_readied, with_files_readied, readied, ended, settled, unbound}
+use Rattle.wu_rules.specs.Waking.{is_to_unbind, is_unsettled, is_output_to_ready, has_output_to_ready, has_files_to_ready}
 use Rattle.wu_rules_laws.proofs.Changed.{or_left, or_right, or_from, and_false, cond_keeps, any_false-map, map-untouched, placed-untouched, any_false-placed, any-placed, all-placed}
 
 -- ---- files
@@ -174,3 +175,24 @@ settled-untouched w e = by_case (is_clear w.error_mask) refl e
     by_case : (b : Bool) → b ≡ is_clear w.error_mask → (not (is_clear w.error_mask) && (init || unsents || viables)) ≡ false → cond b w (ended w) ≡ w
     by_case true d f = refl
     by_case false d f = all_same (ap (λ b. not b && (init || unsents || viables)) d ∙ f)
+
+-- ---- classes
+
+pub not_lt-zero : (n : ℕ) → nat_lt 0 n ≡ false → n ≡ 0
+not_lt-zero n e = grind (arith, nat_tests)
+
+-- once it is unbound, a workunit that is not active has no class
+pub unbound-once : (w : Workunit) → is_to_unbind (unbound w) ≡ false
+unbound-once w = by_case (has_active w)
+  where
+    by_case : (b : Bool) → (not b && nat_lt 0 (cond b w.class 0)) ≡ false
+    by_case true = refl
+    by_case false = refl
+
+-- where nothing is to unbind, nothing changes
+pub unbound-untouched : (w : Workunit) → is_to_unbind w ≡ false → unbound w ≡ w
+unbound-untouched w e = ap (λ class. record w { class = class }) (same (has_active w) e)
+  where
+    same : (b : Bool) → (not b && nat_lt 0 w.class) ≡ false → cond b w.class 0 ≡ w.class
+    same true f = refl
+    same false f = sym (not_lt-zero w.class f)

@@ -1,5 +1,5 @@
 -- What is sent or reported as a row says.
-use Rattle.std.proofs.Common.{◌≡◌, ◌≢◌, ℕ, zero, suc, ◌≤◌, nat_lt, Bool, true, false, not, cond, ◌&&◌, List, [], ◌∷◌, slice_get, slice_set, Option, Some, None, is_none, IfSome, bytes_eq, refl, sym, ap, subst, ◌∙◌, arith}
+use Rattle.std.proofs.Common.{◌≡◌, ◌≢◌, ℕ, zero, suc, ◌≤◌, ◌==◌, nat_lt, Bool, true, false, not, cond, ◌&&◌, List, [], ◌∷◌, slice_get, slice_set, Option, Some, None, is_none, IfSome, bytes_eq, refl, sym, ap, subst, ◌∙◌, eq-eqb, arith}
 use Rattle.std.proofs.lemmas.Bool.Decides.{nat_tests}
 use Rattle.std.proofs.lemmas.Slice.Eq.{bytes_eq-Decides}
 use Rattle.std.specs.List.{list_any}
@@ -13,18 +13,19 @@ use Rattle.wu_core.specs.declared.states.Outcome.TheVariants as outcome
 use Rattle.wu_core.specs.declared.states.ServerState.{ServerState}
 use Rattle.wu_core.specs.declared.states.ServerState.TheVariants as server
 use Rattle.wu_core.specs.declared.states.Status.{Status}
+use Rattle.wu_rules.specs.Counts.{has_active}
 use Rattle.wu_rules.specs.Instances.{is_over_state, is_unsent, is_unsent_state}
 use Rattle.wu_rules.specs.Reporting.{is_no_reply, is_sent_after, report_verdict_of, reported_as}
-use Rattle.wu_rules.specs.Sending.{is_of, send_verdict_in, send_verdict_of, sent_to}
+use Rattle.wu_rules.specs.Sending.{is_bound_elsewhere, is_of, send_verdict_in, send_verdict_of, sent_as, sent_in, sent_to}
 use Rattle.wu_rules.specs.declared.verdicts.ReportVerdict.TheVariants as report
 use Rattle.wu_rules.specs.declared.verdicts.SendVerdict.TheVariants as send
 use Rattle.wu_rules_laws.specs.Rows.{ChangesOnlyAt, IsReported, IsSent, MayBeReported, MayBeSent, Reports, Sends}
 use Rattle.wu_rules_laws.proofs.Progress.{fails_at}
-use Rattle.wu_rules_laws.proofs.Rewriting.{had_none, was_unsent}
+use Rattle.wu_rules_laws.proofs.Rewriting.{had_none, was_alike, was_unsent}
 
 -- ---- one instance in the place of another
 
-set_here : (xs : List Instance) (n : ℕ) (i j : Instance) → slice_get xs n ≡ Some i → slice_get (slice_set xs n j) n ≡ Some j
+pub set_here : (xs : List Instance) (n : ℕ) (i j : Instance) → slice_get xs n ≡ Some i → slice_get (slice_set xs n j) n ≡ Some j
 set_here [] n i j here = cc
 set_here (x ∷ xs) zero i j here = refl
 set_here (x ∷ xs) (suc n) i j here = set_here xs n i j here
@@ -81,39 +82,48 @@ none_of_all host (x ∷ xs) other =
     let here : is_of host x ≡ false = has_none host x.host (other 0 x refl) in
     rw here (none_of_all host xs (λ k i at. other (suc k) i at))
 
-may_be_sent : (w : Workunit) (n : ℕ) (host : List ℕ) → send_verdict_in w n host ≡ send.Applied → MayBeSent w n host
-may_be_sent w n host applied = record {
+may_be_sent : (w : Workunit) (n : ℕ) (host : List ℕ) (class : ℕ) → send_verdict_in w n host class ≡ send.Applied → MayBeSent w n host class
+may_be_sent w n host class applied = record {
   waits = waits (slice_get w.instances n) applied;
   another = another (slice_get w.instances n) applied;
+  alike = alike (slice_get w.instances n) applied;
 }
   where
-    waits : (o : Option Instance) → option_map_or (send_verdict_of w host) o send.Unknown ≡ send.Applied → IsSomeAnd o (λ i. i.server_state ≡ server.Unsent)
+    waits : (o : Option Instance) → option_map_or (send_verdict_of w host class) o send.Unknown ≡ send.Applied → IsSomeAnd o (λ i. i.server_state ≡ server.Unsent)
     waits None e = absurd (cc)
-    waits (Some i) e = unsent_of i.server_state (was_unsent w host i e)
+    waits (Some i) e = unsent_of i.server_state (was_unsent w host class i e)
 
-    another : (o : Option Instance) → option_map_or (send_verdict_of w host) o send.Unknown ≡ send.Applied
+    another : (o : Option Instance) → option_map_or (send_verdict_of w host class) o send.Unknown ≡ send.Applied
         → (k : ℕ) (i : Instance) → slice_get w.instances k ≡ Some i → i.host ≢ Some host
     another None e k i at = absurd (cc)
-    another (Some one) e k i at = none_has host i.host (fails_at (is_of host) w.instances k i (had_none w host one e) at)
+    another (Some one) e k i at = none_has host i.host (fails_at (is_of host) w.instances k i (had_none w host class one e) at)
 
-is_applied : (w : Workunit) (n : ℕ) (host : List ℕ) → MayBeSent w n host → send_verdict_in w n host ≡ send.Applied
-is_applied w n host it = by (slice_get w.instances n) it.waits
+    alike : (o : Option Instance) → option_map_or (send_verdict_of w host class) o send.Unknown ≡ send.Applied → has_active w ≡ true → w.class ≡ class
+    alike None e active = absurd (cc)
+    alike (Some i) e active = was_alike w host class i e active
+
+is_applied : (w : Workunit) (n : ℕ) (host : List ℕ) (class : ℕ) → MayBeSent w n host class → send_verdict_in w n host class ≡ send.Applied
+is_applied w n host class it = by (slice_get w.instances n) it.waits
   where
     none : list_any (is_of host) w.instances ≡ false
     none = none_of_all host w.instances it.another
 
-    by : (o : Option Instance) → IsSomeAnd o (λ i. i.server_state ≡ server.Unsent) → option_map_or (send_verdict_of w host) o send.Unknown ≡ send.Applied
+    not_elsewhere : (b : Bool) → has_active w ≡ b → (b && not (w.class == class)) ≡ false
+    not_elsewhere true active = ap not (eq-eqb w.class class (it.alike active))
+    not_elsewhere false idle = refl
+
+    by : (o : Option Instance) → IsSomeAnd o (λ i. i.server_state ≡ server.Unsent) → option_map_or (send_verdict_of w host class) o send.Unknown ≡ send.Applied
     by None waits = absurd waits
     by (Some i) waits =
         let unsent : is_unsent i ≡ true = ap is_unsent_state waits in
-        ap (λ b. cond (not b) send.NotUnsent (cond (list_any (is_of host) w.instances) send.SameHost send.Applied)) unsent
-        ∙ ap (λ b. cond b send.SameHost send.Applied) none
+        ap (λ b. cond (not b) send.NotUnsent (cond (list_any (is_of host) w.instances) send.SameHost (cond (is_bound_elsewhere w class) send.Class send.Applied))) unsent
+        ∙ (ap (λ b. cond b send.SameHost (cond (is_bound_elsewhere w class) send.Class send.Applied)) none
+        ∙ ap (λ b. cond b send.Class send.Applied) (not_elsewhere (has_active w) refl))
 
-pub sends : (w : Workunit) (n : ℕ) (host : List ℕ) (moment : ℕ) → Sends w n host moment
-unfolding changed_at
-sends w n host moment = record {
-  applied = (may_be_sent w n host, is_applied w n host);
-  sent = λ i here. subst (λ o. IsSomeAnd o (IsSent w host moment i)) (sym (changes_it w n (sent_to w host moment) i here)) (record {
+pub sends : (w : Workunit) (n : ℕ) (host : List ℕ) (class : ℕ) (moment : ℕ) → Sends w n host class moment
+sends w n host class moment = record {
+  applied = (may_be_sent w n host class, is_applied w n host class);
+  sent = λ i here. subst (λ o. IsSomeAnd o (IsSent w host moment i)) (sym (sent_here i here)) (record {
     out = refl;
     at = refl;
     since = refl;
@@ -121,8 +131,17 @@ sends w n host moment = record {
     end = (refl, refl);
     report = (refl, refl, refl);
   });
-  only = changes_only w n (sent_to w host moment);
+  bound = λ i here. ap (λ o. (option_map_or (sent_as w n host class moment) o w).class) here;
+  only = only (slice_get w.instances n);
 }
+  where
+    sent_here : (i : Instance) → slice_get w.instances n ≡ Some i → slice_get (sent_in w n host class moment).instances n ≡ Some (sent_to w host moment i)
+    sent_here i here =
+        ap (λ o. slice_get (option_map_or (sent_as w n host class moment) o w).instances n) here ∙ set_here w.instances n i (sent_to w host moment i) here
+
+    only : (o : Option Instance) → ChangesOnlyAt w (record (option_map_or (sent_as w n host class moment) o w) { class = w.class }) n
+    only None = record { others = λ k other. refl; rest = refl }
+    only (Some i) = record { others = set_elsewhere w.instances n (sent_to w host moment i); rest = refl }
 
 -- ---- reports
 
@@ -181,7 +200,7 @@ then_test : (moment : ℕ) (o : Option ℕ) → IfSome o (λ since. since ≤ mo
 then_test moment None le = refl
 then_test moment (Some since) le = grind (arith, nat_tests)
 
-may_be_reported : (host : List ℕ) (moment : ℕ) (i : Instance) → report_verdict_of host moment i ≡ report.Applied → MayBeReported host moment i
+pub may_be_reported : (host : List ℕ) (moment : ℕ) (i : Instance) → report_verdict_of host moment i ≡ report.Applied → MayBeReported host moment i
 may_be_reported host moment i e =
     let t = tests_of (is_none i.host) (is_of host i) (is_sent_after moment i) (is_over_state i.server_state) (is_no_reply i.outcome) e in
     record {

@@ -26,9 +26,9 @@ undecided_by xs n i true false nothing e f = let none = none_at xs n i (nothing 
 undecided_by xs n i false is_open nothing e f = let none = none_at xs n i (nothing refl) e in cc
 
 -- what is sent is of an undecided workunit
-pub sends_undecided : (w : Workunit) (n : ℕ) (host : List ℕ) → IsConsistent w → send_verdict_in w n host ≡ send.Applied → is_undecided w ≡ true
-sends_undecided w n host h applied = by_case (slice_get w.instances n) refl applied
+pub sends_undecided : (w : Workunit) (n : ℕ) (host : List ℕ) (class : ℕ) → IsConsistent w → send_verdict_in w n host class ≡ send.Applied → is_undecided w ≡ true
+sends_undecided w n host class h applied = by_case (slice_get w.instances n) refl applied
   where
-    by_case : (o : Option Instance) → slice_get w.instances n ≡ o → option_map_or (send_verdict_of w host) o send.Unknown ≡ send.Applied → is_undecided w ≡ true
+    by_case : (o : Option Instance) → slice_get w.instances n ≡ o → option_map_or (send_verdict_of w host class) o send.Unknown ≡ send.Applied → is_undecided w ≡ true
     by_case None e f = cc
-    by_case (Some i) e f = undecided_by w.instances n i (is_clear w.error_mask) (is_none w.canonical) h.nothing_unsent e (was_unsent w host i f)
+    by_case (Some i) e f = undecided_by w.instances n i (is_clear w.error_mask) (is_none w.canonical) h.nothing_unsent e (was_unsent w host class i f)

@@ -10,7 +10,7 @@ use Rattle.wu_rules.specs.Assimilation.{assimilated, emptied}
 use Rattle.wu_rules.specs.Cancelling.{cancelled}
 use Rattle.wu_rules.specs.Instances.{is_ready_assimilate}
 use Rattle.wu_rules.specs.Reporting.{report_verdict_in, report_verdict_of, reported_as, reported_in}
-use Rattle.wu_rules.specs.Sending.{sent_in, sent_to}
+use Rattle.wu_rules.specs.Sending.{sent_as, sent_in, sent_to}
 use Rattle.wu_rules.specs.Transition.{transitioned}
 use Rattle.wu_rules.specs.declared.verdicts.ReportVerdict.TheVariants as report
 use Rattle.wu_rules_laws.specs.Consistent.{RulesKeepVerdicts}
@@ -43,15 +43,15 @@ verdicts_assimilated w now = by_case (is_ready_assimilate w.assimilate)
     by_case false = verdicts_unchanged w
 
 -- a send, to whatever host
-verdicts_sent : (w : Workunit) (n : ℕ) (host : List ℕ) (moment : ℕ) → KeepsVerdicts w (sent_in w n host moment)
-verdicts_sent w n host moment = by_case (slice_get w.instances n) refl
+verdicts_sent : (w : Workunit) (n : ℕ) (host : List ℕ) (class : ℕ) (moment : ℕ) → KeepsVerdicts w (sent_in w n host class moment)
+verdicts_sent w n host class moment = by_case (slice_get w.instances n) refl
   where
     by_case : (o : Option Instance) → slice_get w.instances n ≡ o
-        → KeepsVerdicts w (option_map_or (λ instance. with_instance_set w n (sent_to w host moment instance)) o w)
+        → KeepsVerdicts w (option_map_or (sent_as w n host class moment) o w)
     by_case None e = verdicts_unchanged w
     by_case (Some i) e =
         let j = sent_to w host moment i in
-        verdicts_kept w (with_instance_set w n j) (λ k u f final. at_set (λ o. option_map (λ (x : Instance). x.validate_state) o) w.instances n i j e refl k ∙ f)
+        verdicts_kept w (sent_as w n host class moment i) (λ k u f final. at_set (λ o. option_map (λ (x : Instance). x.validate_state) o) w.instances n i j e refl k ∙ f)
 
 -- a report that is taken of a consistent workunit
 verdicts_reported : (w : Workunit) (n : ℕ) (host : List ℕ) (moment : ℕ) (status : Status) (output : List ℕ) → IsConsistent w

@@ -1,18 +1,22 @@
 -- Each rule keeps a workunit consistent, and no final verdict changes.
-use Rattle.std.specs.Prelude.{◌≡◌, ℕ, true, List, [], option_to_list}
+use Rattle.std.specs.Prelude.{◌≡◌, ◌↔◌, ℕ, true, List, [], option_to_list, slice_get, IsSomeAnd}
 use Rattle.wu_core.specs.declared.workunit.Workunit.{Workunit}
+use Rattle.wu_core.specs.declared.workunit.HostClass.{HostClass}
 use Rattle.wu_core.specs.declared.states.Status.{Status}
+use Rattle.wu_core.specs.declared.states.Status.TheVariants as status
+use Rattle.wu_core.specs.Classes.{class_of}
 use Rattle.wu_core.specs.Formed.{IsWorkunit}
 use Rattle.wu_rules.specs.declared.verdicts.ReportVerdict.TheVariants as report
 use Rattle.wu_rules.specs.declared.verdicts.SendVerdict.TheVariants as send
 use Rattle.wu_rules.specs.Assimilation.{assimilated, archived, emptied}
 use Rattle.wu_rules.specs.Cancelling.{cancelled}
 use Rattle.wu_rules.specs.Counts.{is_undecided}
+use Rattle.wu_rules.specs.Instances.{is_in_progress}
 use Rattle.wu_rules.specs.Reporting.{report_verdict_in, reported_in}
 use Rattle.wu_rules.specs.Sending.{send_verdict_in, sent_in}
 use Rattle.wu_rules.specs.Transition.{transitioned}
 use Rattle.wu_rules.specs.Validation.{validated, grants}
-use Rattle.wu_rules.specs.Consistent.{IsConsistent, KeepsVerdicts, Rewrites}
+use Rattle.wu_rules.specs.Consistent.{IsConsistent, IsOneClass, KeepsVerdicts, Rewrites}
 
 -- each rule rewrites, a cancel where the workunit is undecided, a send and a report where they are applied
 pub record RulesRewrite (w : Workunit) : Type 0 where
@@ -21,8 +25,8 @@ pub record RulesRewrite (w : Workunit) : Type 0 where
   pub assimilated : (now : ℕ) → Rewrites w (assimilated w now) [] (option_to_list (archived w now))
   pub emptied : Rewrites w (emptied w) [] []
   pub cancelled : is_undecided w ≡ true → Rewrites w (cancelled w) [] []
-  pub sent : (n : ℕ) (host : List ℕ) (moment : ℕ)
-      → send_verdict_in w n host ≡ send.Applied → Rewrites w (sent_in w n host moment) [] []
+  pub sent : (n : ℕ) (host : List ℕ) (class : ℕ) (moment : ℕ)
+      → send_verdict_in w n host class ≡ send.Applied → Rewrites w (sent_in w n host class moment) [] []
   pub reported : (n : ℕ) (host : List ℕ) (moment : ℕ) (status : Status) (output : List ℕ)
       → report_verdict_in w n host moment ≡ report.Applied → Rewrites w (reported_in w n moment status output) [] []
 
@@ -37,14 +41,35 @@ pub record RulesKeepVerdicts (w : Workunit) : Type 0 where
   pub assimilated : (now : ℕ) → KeepsVerdicts w (assimilated w now)
   pub emptied : KeepsVerdicts w (emptied w)
   pub cancelled : KeepsVerdicts w (cancelled w)
-  pub sent : (n : ℕ) (host : List ℕ) (moment : ℕ) → KeepsVerdicts w (sent_in w n host moment)
+  pub sent : (n : ℕ) (host : List ℕ) (class : ℕ) (moment : ℕ) → KeepsVerdicts w (sent_in w n host class moment)
   pub reported : (n : ℕ) (host : List ℕ) (moment : ℕ) (status : Status) (output : List ℕ)
       → IsConsistent w → report_verdict_in w n host moment ≡ report.Applied → KeepsVerdicts w (reported_in w n moment status output)
 
 abbrev pub KeepsAllVerdicts : Type 0
 KeepsAllVerdicts = (w : Workunit) → RulesKeepVerdicts w
 
+-- Where the active instances of a workunit are of one class, and hosts keep their classes, each rule leaves it so: a send
+-- does that tells the class of its host, and a report, but for a success from a host of another class than the
+-- workunit's. The host of an instance that is in progress is of that class.
+pub record RulesKeepOneClass (classes : List HostClass) (w : Workunit) : Type 0 where
+  pub transitioned : (now : ℕ) → IsOneClass classes (transitioned w now)
+  pub validated : IsOneClass classes (validated w)
+  pub assimilated : (now : ℕ) → IsOneClass classes (assimilated w now)
+  pub emptied : IsOneClass classes (emptied w)
+  pub cancelled : IsOneClass classes (cancelled w)
+  pub sent : (n : ℕ) (host : List ℕ) (moment : ℕ) → send_verdict_in w n host (class_of classes host) ≡ send.Applied
+      → IsOneClass classes (sent_in w n host (class_of classes host) moment)
+  pub reported : (n : ℕ) (host : List ℕ) (moment : ℕ) (said : Status) (output : List ℕ)
+      → report_verdict_in w n host moment ≡ report.Applied
+      → IsOneClass classes (reported_in w n moment said output) ↔ (said ≡ status.Success → class_of classes host ≡ w.class)
+  pub in_time : (n : ℕ) (host : List ℕ) (moment : ℕ) → report_verdict_in w n host moment ≡ report.Applied
+      → IsSomeAnd (slice_get w.instances n) (λ i. is_in_progress i ≡ true) → class_of classes host ≡ w.class
+
+abbrev pub KeepsOneClass : Type 0
+KeepsOneClass = (classes : List HostClass) (w : Workunit) → IsOneClass classes w → RulesKeepOneClass classes w
+
 -- what is decided or given up has nothing to send: a send is applied of an undecided workunit alone
 abbrev pub SendsWhatIsUndecided : Type 0
 SendsWhatIsUndecided =
-    (w : Workunit) (n : ℕ) (host : List ℕ) → IsConsistent w → send_verdict_in w n host ≡ send.Applied → is_undecided w ≡ true
+    (w : Workunit) (n : ℕ) (host : List ℕ) (class : ℕ) → IsConsistent w → send_verdict_in w n host class ≡ send.Applied
+    → is_undecided w ≡ true

@@ -115,7 +115,7 @@ pub record ChoosesByQuorum (w : Workunit) : Type 0 where
   pub assimilated : (now : ℕ) → (assimilated w now).canonical ≡ w.canonical
   pub emptied : (emptied w).canonical ≡ w.canonical
   pub cancelled : (cancelled w).canonical ≡ w.canonical
-  pub sent : (n : ℕ) (host : List ℕ) (moment : ℕ) → (sent_in w n host moment).canonical ≡ w.canonical
+  pub sent : (n : ℕ) (host : List ℕ) (class : ℕ) (moment : ℕ) → (sent_in w n host class moment).canonical ≡ w.canonical
   pub reported : (n moment : ℕ) (status : Status) (output : List ℕ) → (reported_in w n moment status output).canonical ≡ w.canonical
 
 abbrev pub ChoosesOnlyByQuorum : Type 0
@@ -233,7 +233,7 @@ pub record KeepsFormed (w : Workunit) : Type 0 where
   pub assimilated : (now : ℕ) → IsWorkunit (assimilated w now)
   pub emptied : IsWorkunit (emptied w)
   pub cancelled : IsWorkunit (cancelled w)
-  pub sent : (n : ℕ) (host : List ℕ) (moment : ℕ) → IsWorkunit (sent_in w n host moment)
+  pub sent : (n : ℕ) (host : List ℕ) (class : ℕ) (moment : ℕ) → IsWorkunit (sent_in w n host class moment)
   pub reported : (n : ℕ) (host : List ℕ) (moment : ℕ) (status : Status) (output : List ℕ)
       → report_verdict_in w n host moment ≡ report.Applied → IsWorkunit (reported_in w n moment status output)
 

@@ -1,5 +1,5 @@
 -- Which instances may be sent and reported, and what becomes of them, in the words of the field.
-use Rattle.std.specs.Prelude.{◌≡◌, ◌≢◌, ◌↔◌, ℕ, ◌+◌, ◌≤◌, List, Some, IfSome, IsSomeAnd, slice_get}
+use Rattle.std.specs.Prelude.{◌≡◌, ◌≢◌, ◌↔◌, ℕ, ◌+◌, ◌≤◌, true, List, Some, IfSome, IsSomeAnd, slice_get}
 use Rattle.wu_core.specs.declared.workunit.Instance.{Instance}
 use Rattle.wu_core.specs.declared.workunit.Workunit.{Workunit}
 use Rattle.wu_core.specs.declared.states.FileDelete.TheVariants as file_delete
@@ -10,6 +10,7 @@ use Rattle.wu_core.specs.declared.states.Status.TheVariants as status
 use Rattle.wu_core.specs.declared.states.ValidateState.TheVariants as validate
 use Rattle.wu_rules.specs.declared.verdicts.ReportVerdict.TheVariants as report
 use Rattle.wu_rules.specs.declared.verdicts.SendVerdict.TheVariants as send
+use Rattle.wu_rules.specs.Counts.{has_active}
 use Rattle.wu_rules.specs.Reporting.{report_verdict_in, reported_in}
 use Rattle.wu_rules.specs.Sending.{send_verdict_in, sent_in}
 
@@ -18,10 +19,11 @@ pub record ChangesOnlyAt (old new : Workunit) (n : ℕ) : Type 0 where
   pub others : (k : ℕ) → k ≢ n → slice_get new.instances k ≡ slice_get old.instances k
   pub rest : new ≡ record old { instances = new.instances }
 
--- it waits to be sent, and the host has no instance of its workunit
-pub record MayBeSent (w : Workunit) (n : ℕ) (host : List ℕ) : Type 0 where
+-- it waits to be sent, the host has no instance of its workunit, and where that is active it is of the host's class
+pub record MayBeSent (w : Workunit) (n : ℕ) (host : List ℕ) (class : ℕ) : Type 0 where
   pub waits : IsSomeAnd (slice_get w.instances n) (λ i. i.server_state ≡ server.Unsent)
   pub another : (k : ℕ) (i : Instance) → slice_get w.instances k ≡ Some i → i.host ≢ Some host
+  pub alike : has_active w ≡ true → w.class ≡ class
 
 -- it is out at this host since this moment, due after its workunit's delay; all else stays
 pub record IsSent (w : Workunit) (host : List ℕ) (moment : ℕ) (i j : Instance) : Type 0 where
@@ -33,15 +35,18 @@ pub record IsSent (w : Workunit) (host : List ℕ) (moment : ℕ) (i j : Instanc
   pub report : (j.received_at ≡ i.received_at) × (j.output ≡ i.output)
       × (j.file_delete ≡ i.file_delete)
 
--- a send is applied exactly where the instance may be sent; then it is sent, and nothing else changes
-pub record Sends (w : Workunit) (n : ℕ) (host : List ℕ) (moment : ℕ) : Type 0 where
-  pub applied : (send_verdict_in w n host ≡ send.Applied) ↔ MayBeSent w n host
+-- a send is applied exactly where the instance may be sent; then it is sent, its workunit is of the host's class, and
+-- nothing else changes
+pub record Sends (w : Workunit) (n : ℕ) (host : List ℕ) (class : ℕ) (moment : ℕ) : Type 0 where
+  pub applied : (send_verdict_in w n host class ≡ send.Applied) ↔ MayBeSent w n host class
   pub sent : (i : Instance) → slice_get w.instances n ≡ Some i
-      → IsSomeAnd (slice_get (sent_in w n host moment).instances n) (IsSent w host moment i)
-  pub only : ChangesOnlyAt w (sent_in w n host moment) n
+      → IsSomeAnd (slice_get (sent_in w n host class moment).instances n) (IsSent w host moment i)
+  pub bound : (i : Instance) → slice_get w.instances n ≡ Some i
+      → (sent_in w n host class moment).class ≡ class
+  pub only : ChangesOnlyAt w (record (sent_in w n host class moment) { class = w.class }) n
 
 abbrev pub SendsAsTold : Type 0
-SendsAsTold = (w : Workunit) (n : ℕ) (host : List ℕ) (moment : ℕ) → Sends w n host moment
+SendsAsTold = (w : Workunit) (n : ℕ) (host : List ℕ) (class : ℕ) (moment : ℕ) → Sends w n host class moment
 
 -- it was sent to this host, by this moment, and if it is over, then for want of a reply alone
 pub record MayBeReported (host : List ℕ) (moment : ℕ) (i : Instance) : Type 0 where

@@ -1,6 +1,6 @@
 //! Laws of what stays as it is: each rule keeps a workunit's states, verdicts, grants and archived rows in agreement.
 
-ghost use Rattle.wu_rules_laws.specs.Consistent.{KeepsWorkunitsConsistent, KeepsAllVerdicts, SendsWhatIsUndecided};
+ghost use Rattle.wu_rules_laws.specs.Consistent.{KeepsWorkunitsConsistent, KeepsAllVerdicts, KeepsOneClass, SendsWhatIsUndecided};
 
 /// Each rule makes a consistent workunit of a consistent one, with one grant for each instance that it makes VALID and
 /// one archived row where it makes the workunit DONE; what was decided stays.
@@ -11,6 +11,12 @@ pub fn keeps_workunits_consistent()
 /// No rule changes a final verdict, and no report that is taken does where the workunit is consistent.
 pub fn keeps_all_verdicts()
     ensures { KeepsAllVerdicts }
+{}
+
+/// Where the active instances of a workunit are of one class, each rule leaves it so, a send to a host by its class among
+/// them; so does a report, but for a success that comes late from a host of another class.
+pub fn keeps_one_class()
+    ensures { KeepsOneClass }
 {}
 
 /// Of a consistent workunit that is decided or given up nothing is sent.

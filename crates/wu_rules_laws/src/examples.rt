@@ -2,12 +2,14 @@
 #![tactic(auto, unfolding(wu_rules::specs::Transition::transitioned, wu_rules::specs::Waking::wake, wu_rules::specs::Validation::validated, wu_rules::specs::Validation::concluded, wu_rules::specs::Validation::grants, wu_rules::specs::Validation::credited, wu_rules::specs::Assimilation::assimilated, wu_rules::specs::Assimilation::emptied, wu_rules::specs::Assimilation::is_purgeable, wu_rules::specs::Assimilation::is_to_delete, wu_rules::specs::Marks::marks, wu_rules::specs::Cancelling::cancelled))]
 
 ghost use Rattle.std.specs.Prelude.{◌≡◌, ◌∷◌, [], true, false, Some, None};
+ghost use Rattle.wu_core.specs.Classes.{class_of};
 ghost use Rattle.wu_core.specs.Workunit.{fresh};
 ghost use Rattle.wu_core.specs.declared.states.Status.TheVariants as status;
 ghost use Rattle.wu_core.specs.declared.states.ValidateState.TheVariants as validate;
 ghost use Rattle.wu_rules.specs.Transition.{transitioned};
 ghost use Rattle.wu_rules.specs.Validation.{is_to_validate, validated, grants};
 ghost use Rattle.wu_rules.specs.Cancelling.{cancelled};
+ghost use Rattle.wu_rules.specs.Consistent.{IsOneClass};
 ghost use Rattle.wu_rules.specs.Counts.{errors, is_undecided};
 ghost use Rattle.wu_rules.specs.Reporting.{report_verdict_in, reported_in};
 ghost use Rattle.wu_rules.specs.Sending.{send_verdict_in, sent_in};
@@ -17,8 +19,8 @@ ghost use Rattle.wu_rules.specs.Marks.{marks};
 ghost use Rattle.wu_rules.specs.Waking.{wake};
 ghost use Rattle.wu_rules_laws.specs.Marking.{wakes_at};
 ghost use Rattle.wu_rules.specs.Assimilation.{assimilated, emptied, is_purgeable};
-ghost use Rattle.wu_rules.specs.Examples.{noon, sending, due, a_second_late, reporting, h1, h2, h3, aa, credit, ready, masked, cancelled_mask};
-ghost use Rattle.wu_rules.specs.Examples.{new_job, two_unsent, one_out, one_lost, one_back, one_late, one_failed, two_differ, two_doubted, third_unsent, third_agrees, second_chosen, two_of_three, two_of_three_chosen, two_of_four, two_of_four_doubted, one_of_one, one_of_one_chosen, empty, no_result, one_and_a_result, two_of, after_decision, after_all, four_failed, ended_by_errors, last_out, ended_by_total, three_differ, three_doubted, one_left, ended_by_successes, two_agree, first_chosen, second_may_go, third_after_all, two_unneeded, two_may_go, one_may_go, one_gone_since, one_emptied};
+ghost use Rattle.wu_rules.specs.Examples.{noon, sending, due, a_second_late, reporting, h1, h2, h3, h4, aa, an_hour_late, credit, in_class, ready, masked, cancelled_mask, lost, three_classed};
+ghost use Rattle.wu_rules.specs.Examples.{new_job, two_unsent, one_out, one_lost, one_back, one_late, one_failed, two_differ, two_doubted, third_unsent, third_agrees, second_chosen, two_of_three, two_of_three_chosen, two_of_four, two_of_four_doubted, one_of_one, one_of_one_chosen, empty, no_result, one_and_a_result, two_of, after_decision, after_all, four_failed, ended_by_errors, last_out, ended_by_total, three_differ, three_doubted, one_left, ended_by_successes, two_agree, first_chosen, second_may_go, second_out_and, late_success, third_after_all, two_unneeded, two_may_go, one_may_go, one_gone_since, one_emptied};
 
 /// A new workunit gets its two instances at once, and no more.
 pub fn makes_instances()
@@ -29,12 +31,55 @@ pub fn makes_instances()
 /// An instance goes to a host that has none of its workunit, with a deadline a week later. It is not sent again, and no
 /// other one to that host.
 pub fn sends_to_each_host_once()
-    ensures unknown { send_verdict_in two_unsent 2 h1 ≡ send.Unknown }
-    ensures applied { send_verdict_in two_unsent 0 h1 ≡ send.Applied }
-    ensures sent { sent_in two_unsent 0 h1 sending ≡ one_out }
-    ensures again { send_verdict_in one_out 0 h1 ≡ send.NotUnsent }
-    ensures same_host { send_verdict_in one_out 1 h1 ≡ send.SameHost }
-    ensures other_host { send_verdict_in one_out 1 h2 ≡ send.Applied }
+    ensures unknown { send_verdict_in two_unsent 2 h1 0 ≡ send.Unknown }
+    ensures applied { send_verdict_in two_unsent 0 h1 0 ≡ send.Applied }
+    ensures sent { sent_in two_unsent 0 h1 0 sending ≡ one_out }
+    ensures again { send_verdict_in one_out 0 h1 0 ≡ send.NotUnsent }
+    ensures same_host { send_verdict_in one_out 1 h1 0 ≡ send.SameHost }
+    ensures other_host { send_verdict_in one_out 1 h2 0 ≡ send.Applied }
+{}
+
+/// The classes that a file gave to hosts; a host that none named has class 0.
+pub fn knows_the_classes_of_hosts()
+    ensures first { class_of three_classed h1 ≡ 1 }
+    ensures second { class_of three_classed h2 ≡ 2 }
+    ensures third { class_of three_classed h3 ≡ 1 }
+    ensures no_class { class_of three_classed h4 ≡ 0 }
+{}
+
+/// A workunit is bound to the class of the host that it is sent to: no other instance of it goes to a host of another
+/// class or of none, and one goes to a host of its class.
+pub fn sends_to_one_class()
+    ensures sent { sent_in two_unsent 0 h1 (class_of three_classed h1) sending ≡ in_class 1 one_out }
+    ensures other_class { send_verdict_in (in_class 1 one_out) 1 h2 (class_of three_classed h2) ≡ send.Class }
+    ensures no_class { send_verdict_in (in_class 1 one_out) 1 h4 (class_of three_classed h4) ≡ send.Class }
+    ensures its_class { send_verdict_in (in_class 1 one_out) 1 h3 (class_of three_classed h3) ≡ send.Applied }
+{}
+
+/// Where the one instance that was sent is lost, the workunit is free of its class.
+pub fn frees_what_is_lost()
+    ensures at { transitioned (in_class 1 one_out) due ≡ in_class 1 one_out }
+    ensures after { transitioned (in_class 1 one_out) a_second_late ≡ one_lost }
+    ensures due { wake (in_class 1 two_unsent) ≡ Some 0 }
+    ensures freed { transitioned (in_class 1 two_unsent) noon ≡ two_unsent }
+{}
+
+/// It goes to a host of another class then, and a success that was missed is taken when it comes after all, from
+/// whatever class: so two may be active that are not of one.
+pub fn takes_a_late_report_of_another_class()
+    ensures applied { send_verdict_in one_lost 1 h2 (class_of three_classed h2) ≡ send.Applied }
+    ensures sent { sent_in one_lost 1 h2 (class_of three_classed h2) an_hour_late ≡ second_out_and (lost h1) }
+    ensures taken { report_verdict_in (second_out_and (lost h1)) 0 h1 an_hour_late ≡ report.Applied }
+    ensures reported { reported_in (second_out_and (lost h1)) 0 an_hour_late status.Success aa
+        ≡ second_out_and late_success }
+    ensures mixed { ¬ IsOneClass three_classed (second_out_and late_success) }
+{}
+
+/// A success that was missed, of a workunit that is free, leaves it of class 0: the next instance goes to a host that
+/// has no class.
+pub fn keeps_class_0_with_a_late_report()
+    ensures its_class { send_verdict_in one_late 1 h3 (class_of three_classed h3) ≡ send.Class }
+    ensures no_class { send_verdict_in one_late 1 h4 (class_of three_classed h4) ≡ send.Applied }
 {}
 
 /// A report is taken once, from the host that has the instance, and not from before it was sent.

@@ -2,8 +2,8 @@
 
 ghost use Rattle.wu_rules_laws.specs.Rows.{ReportsAsTold, SendsAsTold};
 
-/// A send is applied exactly where the instance waits and the host has none of its workunit; it is then out as the row
-/// says, and nothing else changes.
+/// A send is applied exactly where the instance waits, the host has none of its workunit, and that is not bound to
+/// another class; it is then out as the row says, its workunit is of the host's class, and nothing else changes.
 pub fn sends_as_told()
     ensures { SendsAsTold }
 {}

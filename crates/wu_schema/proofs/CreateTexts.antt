@@ -4,7 +4,7 @@ use Rattle.sqlite_ast.specs.declared.Statement.TheVariants as written
 use Rattle.sqlite_resolve.specs.Compile.{index_defined_by, index_in}
 use Rattle.wu_schema.specs.Indexes.{queue_assimilate, queue_delete, queue_purge, queue_validate, queue_wake}
 use Rattle.wu_schema.specs.Queue.{queue_table}
-use Rattle.wu_schema.specs.Tables.{queue_at}
+use Rattle.wu_schema.specs.Tables.{host_class_at, queue_at, workunit_class_at}
 use Rattle.wu_schema.proofs.Words.{List, Statement, [], archived_at, codes, everything, false, first, grant_at, host_at, import_at, project_at, refl, result_at, workunit_at, ℕ}
 use Rattle.wu_schema.proofs.CreateLemmas.{def_by, or_empty}
 use Rattle.wu_schema.proofs.CreateEffect.{Defines}
@@ -33,6 +33,12 @@ import_text = codes "CREATE TABLE import (\n  kind INTEGER NOT NULL,\n  name TEX
 
 abbrev pub queue_text : List ℕ
 queue_text = codes "CREATE TABLE queue (\n  workunit INTEGER PRIMARY KEY REFERENCES workunit (number) ON DELETE CASCADE,\n  wake INTEGER,\n  to_validate INTEGER NOT NULL,\n  to_assimilate INTEGER NOT NULL,\n  to_delete INTEGER NOT NULL,\n  purge_from INTEGER) STRICT"
+
+abbrev pub host_class_text : List ℕ
+host_class_text = codes "CREATE TABLE host_class (\n  host TEXT PRIMARY KEY NOT NULL,\n  class INTEGER NOT NULL) STRICT"
+
+abbrev pub workunit_class_text : List ℕ
+workunit_class_text = codes "CREATE TABLE workunit_class (\n  workunit INTEGER PRIMARY KEY REFERENCES workunit (number) ON DELETE CASCADE,\n  class INTEGER NOT NULL) STRICT"
 
 pub project_made : Defines project_text (codes "project") project_at
 unfolding everything
@@ -65,6 +71,14 @@ import_made = record { parsed = or_empty (first import_text); def = def_by (or_e
 pub queue_made : Defines queue_text (codes "queue") queue_at
 unfolding everything
 queue_made = record { parsed = or_empty (first queue_text); def = def_by (or_empty (first queue_text)).statement; read = refl; is = refl; nameless = refl; plain = refl; new = refl; called = refl; unreserved = refl; made = refl; placed = λ tree. refl; whole = refl; text_is = refl; named = λ tree. refl }
+
+pub host_class_made : Defines host_class_text (codes "host_class") host_class_at
+unfolding everything
+host_class_made = record { parsed = or_empty (first host_class_text); def = def_by (or_empty (first host_class_text)).statement; read = refl; is = refl; nameless = refl; plain = refl; new = refl; called = refl; unreserved = refl; made = refl; placed = λ tree. refl; whole = refl; text_is = refl; named = λ tree. refl }
+
+pub workunit_class_made : Defines workunit_class_text (codes "workunit_class") workunit_class_at
+unfolding everything
+workunit_class_made = record { parsed = or_empty (first workunit_class_text); def = def_by (or_empty (first workunit_class_text)).statement; read = refl; is = refl; nameless = refl; plain = refl; new = refl; called = refl; unreserved = refl; made = refl; placed = λ tree. refl; whole = refl; text_is = refl; named = λ tree. refl }
 
 -- ---- the indexes of the queue
 

@@ -31,6 +31,8 @@ pub mod VersionTexts
 pub mod VersionLemmas
 pub mod StandsOver
 pub mod IndexEffect
+pub mod BesideLemmas
 pub mod QueueLemmas
+pub mod ClassLemmas
 pub mod OneLemmas
 pub mod AskingLemmas

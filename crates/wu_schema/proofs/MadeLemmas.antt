@@ -1,9 +1,9 @@
--- The seven tables, one after another, and the row of a fresh project.
+-- The tables, one after another, and the row of a fresh project.
 use Rattle.wu_schema.proofs.Words.{Database, Has, HasMade, HasNamed, HasTable, HasTables, HoldsAll, Index, IsDatabase, IsPermutation-refl, List, ListsAll, ProjectTrees, PutsOne, Row, Schema, Table, [], all_has, and_parts, ap, archived_at, arith, cases_Bool, codes, eqb-true, false, first_key, host_at, import_at, inl, inr, length, next_tree, project_at, put_row, refl, stored_project, subst, sym, ℕ, ◌++◌, ◌+◌, ◌==◌, ◌∙◌, ◌∷◌, ◌≡◌, ◌⊎◌}
 use Rattle.wu_core.specs.World.{empty_world}
-use Rattle.wu_schema.specs.Made.{MakesAll, Named, MakesEmpty, IsSequence, keys_of, work_tables, record_tables}
+use Rattle.wu_schema.specs.Made.{MakesAll, Named, MakesEmpty, IsSequence, keys_of, work_tables, record_tables, class_tables, project_tables}
 use Rattle.wu_schema.proofs.StandsLemmas.{but_one, is_there}
-use Rattle.wu_schema.proofs.Parts.{Part, Project, Workunits, Instances, Grants, Hosts, Archive, Imports, HasParts, Holds, IsIn, is_part, keeps_but, name_of, placed, rows_stand, same_part, table_of, tree_in}
+use Rattle.wu_schema.proofs.Parts.{Part, Project, Workunits, Instances, Grants, Hosts, Archive, Imports, HostClasses, WorkClasses, none_in_order, HasParts, Holds, IsIn, is_part, keeps_but, name_of, placed, rows_stand, same_part, table_of, tree_in}
 use Rattle.wu_schema.proofs.StandsOver.{Grows, ByBytes, grows_same, grows_both, still_named, still_compares, tables_are}
 use Rattle.wu_schema.proofs.CreateEffect.{index_low, own_table, tree_apart, unguarded}
 
@@ -26,7 +26,7 @@ made_grows old new named made = record {
   ];
 }
 
-all_grow : (old new : Database) (made : List Named) → MakesAll old new made → Grows old new
+pub all_grow : (old new : Database) (made : List Named) → MakesAll old new made → Grows old new
 all_grow old new [] same = grows_same old new same
 all_grow old new (named ∷ made) h = grows_both old h.0 new (made_grows old h.0 named h.1) (all_grow h.0 new made h.2)
 
@@ -57,7 +57,7 @@ pub record AddsListed (made : List Named) (old new : Database) : Type 0 where
 listed_later : (first : Named) (made : List Named) (t : Table) → IsListed made t → IsListed (first ∷ made) t
 listed_later first made t is = (is.0, is.1, inr is.2, is.3)
 
-all_add : (old new : Database) (made : List Named) → MakesAll old new made → AddsListed made old new
+pub all_add : (old new : Database) (made : List Named) → MakesAll old new made → AddsListed made old new
 all_add old new [] same = record { tables = λ t has. inl (subst (λ (d : Database). Has d.schema.tables t) same has); indexes = λ i has. inl (subst (λ (d : Database). Has d.schema.indexes i) same has) }
 all_add old new (named ∷ made) h =
     let later = all_add h.0 new made h.2 in
@@ -96,11 +96,11 @@ still_made old mid end named made rest =
 made_in : (old end : Database) (named : Named) (more : List Named) → MakesAll old end (named ∷ more) → IsMadeIn end named.0 (named.1 (next_tree old.schema))
 made_in old end named more h = still_made old h.0 end named h.1 (all_grow h.0 end more h.2)
 
-abbrev AreMadeIn : (old end : Database) (made : List Named) → MakesAll old end made → Type 0
+abbrev pub AreMadeIn : (old end : Database) (made : List Named) → MakesAll old end made → Type 0
 AreMadeIn old end [] same = Unit
 AreMadeIn old end (named ∷ more) h = IsMadeIn end named.0 (named.1 (next_tree old.schema)) × AreMadeIn h.0 end more h.2
 
-all_in : (old end : Database) (made : List Named) (h : MakesAll old end made) → AreMadeIn old end made h
+pub all_in : (old end : Database) (made : List Named) (h : MakesAll old end made) → AreMadeIn old end made h
 all_in old end [] same = tt
 all_in old end (named ∷ more) h = (made_in old end named more h, all_in h.0 end more h.2)
 
@@ -119,20 +119,22 @@ none_held Grants off rows none = no_list rows none
 none_held Hosts off rows none = no_cells rows none
 none_held Archive off rows none = no_list rows none
 none_held Imports off rows none = (no_cells rows none, tt)
+none_held HostClasses off rows none = (no_cells rows none, none_in_order [] refl)
+none_held WorkClasses off rows none = no_list rows none
 
 -- ---- all of it
 
 abbrev first_row : Row
 first_row = stored_project empty_world
 
-module _ (old end new : Database) (h : MakesAll old end (work_tables ++ record_tables)) (put : PutsOne end new (next_tree old.schema) first_row) where
+module _ (old end new : Database) (h : MakesAll old end project_tables) (put : PutsOne end new (next_tree old.schema) first_row) where
   abbrev trees : ProjectTrees
-  trees = record { project = next_tree old.schema; workunit = next_tree h.0.schema; result = next_tree h.2.0.schema; grant = next_tree h.2.2.0.schema; host = next_tree h.2.2.2.0.schema; archived = next_tree h.2.2.2.2.0.schema; import = next_tree h.2.2.2.2.2.0.schema }
+  trees = record { project = next_tree old.schema; workunit = next_tree h.0.schema; result = next_tree h.2.0.schema; grant = next_tree h.2.2.0.schema; host = next_tree h.2.2.2.0.schema; archived = next_tree h.2.2.2.2.0.schema; import = next_tree h.2.2.2.2.2.0.schema; host_class = next_tree h.2.2.2.2.2.2.0.schema; workunit_class = next_tree h.2.2.2.2.2.2.2.0.schema }
 
   made : (p : Part) → IsMadeIn end (name_of p) (table_of trees p)
-  made p = by p (all_in old end (work_tables ++ record_tables) h)
+  made p = by p (all_in old end project_tables h)
     where
-      by : (p : Part) → AreMadeIn old end (work_tables ++ record_tables) h → IsMadeIn end (name_of p) (table_of trees p)
+      by : (p : Part) → AreMadeIn old end project_tables h → IsMadeIn end (name_of p) (table_of trees p)
       by Project all = all.0
       by Workunits all = all.1.0
       by Instances all = all.1.1.0
@@ -140,6 +142,8 @@ module _ (old end new : Database) (h : MakesAll old end (work_tables ++ record_t
       by Hosts all = all.1.1.1.1.0
       by Archive all = all.1.1.1.1.1.0
       by Imports all = all.1.1.1.1.1.1.0
+      by HostClasses all = all.1.1.1.1.1.1.1.0
+      by WorkClasses all = all.1.1.1.1.1.1.1.1.0
 
   there : HasParts empty_world.version end.schema trees
   there p is_in = (made p).has
@@ -147,7 +151,7 @@ module _ (old end new : Database) (h : MakesAll old end (work_tables ++ record_t
   compares : ByBytes end.schema trees.host
   compares =
       let hosts = h.2.2.2.2 in
-      still_compares hosts.0 end (all_grow hosts.0 end ((codes "archived", archived_at) ∷ (codes "import", import_at) ∷ []) hosts.2) trees.host (is_there hosts.0.schema _ _ (length h.2.2.2.0.schema.tables, hosts.1.has, hosts.1.owns)) (host_compares h.2.2.2.0 hosts.0 h.2.2.2.1.sound hosts.1)
+      still_compares hosts.0 end (all_grow hosts.0 end ((codes "archived", archived_at) ∷ (codes "import", import_at) ∷ class_tables) hosts.2) trees.host (is_there hosts.0.schema _ _ (length h.2.2.2.0.schema.tables, hosts.1.has, hosts.1.owns)) (host_compares h.2.2.2.0 hosts.0 h.2.2.2.1.sound hosts.1)
 
   held : (p : Part) → IsIn p empty_world.version → Holds p (new.trees (tree_in trees p)) empty_world
   held p is_in = elim (cases_Bool (is_part Project p)) [
@@ -159,10 +163,10 @@ module _ (old end new : Database) (h : MakesAll old end (work_tables ++ record_t
 
   makes_empty : MakesEmpty old new
   makes_empty =
-      let grows = all_grow old end (work_tables ++ record_tables) h in
-      let adds = all_add old end (work_tables ++ record_tables) h in
+      let grows = all_grow old end project_tables h in
+      let adds = all_add old end project_tables h in
       record {
-        stands = record { trees = trees; tables = subst (λ (s : Schema). HasTables s trees) (sym put.schema) (tables_are empty_world.version end.schema trees there compares); rows = rows_stand new trees empty_world held; sound = put.sound };
+        stands = record { trees = trees; tables = subst (λ (s : Schema). HasTables empty_world.version s trees) (sym put.schema) (tables_are empty_world.version end.schema trees there compares); rows = rows_stand new trees empty_world held (λ off. absurd (off (omega arith))); sound = put.sound };
         keeps = record {
           tables = λ t has.
               let still = grows.keeps.tables t has in
@@ -177,8 +181,8 @@ module _ (old end new : Database) (h : MakesAll old end (work_tables ++ record_t
         sound = put.sound;
       }
 
-pub all_made : (old mid end new : Database) → MakesAll old mid work_tables → MakesAll mid end record_tables → ((at tree : ℕ) → HasTable end.schema (codes "project") at (project_at tree) → PutsOne end new tree first_row) → MakesEmpty old new
-all_made old mid end new work records puts =
-    let h = all_then old mid end work_tables record_tables work records in
-    let project = (all_in old end (work_tables ++ record_tables) h).0.has in
+pub all_made : (old mid last end new : Database) → MakesAll old mid work_tables → MakesAll mid last record_tables → MakesAll last end class_tables → ((at tree : ℕ) → HasTable end.schema (codes "project") at (project_at tree) → PutsOne end new tree first_row) → MakesEmpty old new
+all_made old mid last end new work records classes puts =
+    let h = all_then old mid end work_tables (record_tables ++ class_tables) work (all_then mid last end record_tables class_tables records classes) in
+    let project = (all_in old end project_tables h).0.has in
     makes_empty old end new h (puts project.0 (next_tree old.schema) project.1)

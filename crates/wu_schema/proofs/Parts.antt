@@ -1,8 +1,12 @@
 -- The tables of a project as one family, and the one law of a change: what it leaves alone stands as it stood.
 pub use Rattle.std.proofs.lemmas.Bool.{or_parts as either_false}
-use Rattle.wu_schema.proofs.Words.{Bool, Database, Enforced, Has, HasNamed, HasTables, HoldsAll, Import, IsAscending, IsCalm, IsDatabase, IsShaped, List, ListsAll, None, Option, OwnsTree, ProjectTrees, Reference, Row, Schema, Some, Refines, Table, World, [], ap, archived_at, bytes_eq, bytes_eq-Decides, cases_Bool, codes, enumerate_from, false, find, flat_map, grant_at, host_at, hosts_of, if◌then◌else◌, import_at, import_cells, inl, inr, instances_of, is_import, is_some, map, project_at, refl, result_at, stored_archived, stored_grant, stored_project, stored_workunit, subst, sym, true, workunit_at, ℕ, ⊤, ◌==◌, ◌||◌, ◌∙◌, ◌∷◌, ◌≡◌, ◌≢◌}
+use Rattle.std.proofs.lemmas.Bool.{leb-true, le-leb}
+use Rattle.wu_core.specs.Classes.{AreInOrder}
+use Rattle.wu_core.specs.declared.workunit.HostClass.{HostClass}
+use Rattle.wu_schema.proofs.Words.{AllByRecursion, IsPermutation-refl, IsTable, Less, Workunit, arith, class_cells, column, drop, false_from_ne_true, host_class_at, length_permutation, nat_le, number, rowid, stored_class, value_cmp, workunit_class_at, ◌⊎◌, Bool, Database, Enforced, Has, HasNamed, HasTables, HoldsAll, Import, IsAscending, IsCalm, IsDatabase, IsShaped, List, ListsAll, None, Option, OwnsTree, ProjectTrees, Reference, Row, Schema, Some, Refines, Table, World, [], ap, archived_at, bytes_eq, bytes_eq-Decides, cases_Bool, codes, enumerate_from, false, find, flat_map, grant_at, host_at, hosts_of, if◌then◌else◌, import_at, import_cells, inl, inr, instances_of, is_import, is_some, map, project_at, refl, result_at, stored_archived, stored_grant, stored_project, stored_workunit, subst, sym, true, workunit_at, ℕ, ⊤, ◌==◌, ◌||◌, ◌∙◌, ◌∷◌, ◌≡◌, ◌≢◌}
 use Rattle.sqlite_trees.specs.declared.store.Shape.TheVariants as shape
-use Rattle.wu_schema.specs.Refines.{HasRows, host_of}
+use Rattle.wu_schema.specs.Refines.{HasRows, IsClassless, host_of}
+use Rattle.wu_schema.specs.Tables.{IsClassedVersion}
 use Rattle.wu_schema.proofs.QuietLemmas.{same_some}
 use Rattle.wu_schema.specs.Calm.{IsSteady}
 use Rattle.wu_schema.proofs.CalmLemmas.{calm_bare}
@@ -18,6 +22,8 @@ pub data Part : Type 0 where
   Hosts : Part
   Archive : Part
   Imports : Part
+  HostClasses : Part
+  WorkClasses : Part
 
 -- the table of a part, in any tree
 abbrev pub table_in : Part → ℕ → Table
@@ -28,6 +34,8 @@ table_in Grants = grant_at
 table_in Hosts = host_at
 table_in Archive = archived_at
 table_in Imports = import_at
+table_in HostClasses = host_class_at
+table_in WorkClasses = workunit_class_at
 
 -- the tree of a part
 abbrev pub tree_in : ProjectTrees → Part → ℕ
@@ -38,6 +46,8 @@ tree_in t Grants = t.grant
 tree_in t Hosts = t.host
 tree_in t Archive = t.archived
 tree_in t Imports = t.import
+tree_in t HostClasses = t.host_class
+tree_in t WorkClasses = t.workunit_class
 
 abbrev pub table_of : ProjectTrees → Part → Table
 table_of t p = table_in p (tree_in t p)
@@ -54,16 +64,14 @@ Holds Grants rows world = ListsAll rows (map stored_grant (enumerate_from 1 worl
 Holds Hosts rows world = HoldsAll rows (map (host_of world.grants) (hosts_of world.grants))
 Holds Archive rows world = ListsAll rows (map stored_archived (enumerate_from 1 world.archived))
 Holds Imports rows world = HoldsAll rows (map import_cells world.imports) × IsAscending (λ (a b : Import). is_import a.kind a.name b ≡ false) world.imports
+Holds HostClasses rows world = HoldsAll rows (map class_cells world.classes) × AreInOrder world.classes
+Holds WorkClasses rows world = ListsAll rows (map stored_class world.workunits)
 
 -- whether a schema of this version has the part
 abbrev pub IsIn : Part → ℕ → Type 0
-IsIn Project version = ⊤
+IsIn HostClasses version = IsClassedVersion version
+IsIn WorkClasses version = IsClassedVersion version
 IsIn _ version = ⊤
-
--- each part is in every version
-pub in_all : (version : ℕ) (p : Part) → IsIn p version
-in_all version Project = tt
-in_all version _ = tt
 
 -- ---- they are what stands for a world
 
@@ -71,7 +79,7 @@ in_all version _ = tt
 abbrev pub HasParts : ℕ → Schema → ProjectTrees → Type 0
 HasParts version schema t = (p : Part) → IsIn p version → HasNamed schema (name_of p) (table_of t p)
 
-pub parts_in : (version : ℕ) (schema : Schema) (t : ProjectTrees) → HasTables schema t → HasParts version schema t
+pub parts_in : (version : ℕ) (schema : Schema) (t : ProjectTrees) → HasTables version schema t → HasParts version schema t
 parts_in version schema t has Project is_in = has.project
 parts_in version schema t has Workunits is_in = has.workunit
 parts_in version schema t has Instances is_in = has.result
@@ -79,6 +87,8 @@ parts_in version schema t has Grants is_in = has.grant
 parts_in version schema t has Hosts is_in = has.host
 parts_in version schema t has Archive is_in = has.archived
 parts_in version schema t has Imports is_in = has.import
+parts_in version schema t has HostClasses is_in = has.host_class is_in
+parts_in version schema t has WorkClasses is_in = has.workunit_class is_in
 
 abbrev pub parts_there : (db : Database) (world : World) (s : Refines db world) → HasParts world.version db.schema s.trees
 parts_there db world s = parts_in world.version db.schema s.trees s.tables
@@ -91,10 +101,19 @@ parts_hold db world s Grants is_in = s.rows.grants
 parts_hold db world s Hosts is_in = s.rows.hosts
 parts_hold db world s Archive is_in = s.rows.archived
 parts_hold db world s Imports is_in = (s.rows.imports, s.rows.imported_once)
+parts_hold db world s HostClasses is_in = ((s.rows.classes is_in).hosts, s.rows.classes_in_order)
+parts_hold db world s WorkClasses is_in = (s.rows.classes is_in).workunits
+
+-- a version has classes or has none
+pub classed_or_not : (version : ℕ) → IsClassedVersion version ⊎ (¬ IsClassedVersion version)
+classed_or_not version = elim (cases_Bool (nat_le 3 version)) [ inl on ↦ inl (leb-true 3 version on) | inr off ↦ inr (λ on. absurd (let e = sym off ∙ le-leb 3 version on in cc)) ]
+
+pub none_in_order : (classes : List HostClass) → classes ≡ [] → AreInOrder classes
+none_in_order classes none = subst AreInOrder (sym none) (λ i j d low high. absurd (omega (arith, high)))
 
 -- and the other way round
-pub rows_stand : (db : Database) (t : ProjectTrees) (world : World) → ((p : Part) → IsIn p world.version → Holds p (db.trees (tree_in t p)) world) → HasRows db.trees t world
-rows_stand db t world holds = record {
+pub rows_stand : (db : Database) (t : ProjectTrees) (world : World) → ((p : Part) → IsIn p world.version → Holds p (db.trees (tree_in t p)) world) → (¬ IsClassedVersion world.version → IsClassless world) → HasRows db.trees t world
+rows_stand db t world holds classless = record {
   project = holds Project tt;
   workunits = holds Workunits tt;
   instances = holds Instances tt;
@@ -103,13 +122,20 @@ rows_stand db t world holds = record {
   archived = holds Archive tt;
   imports = (holds Imports tt).0;
   imported_once = (holds Imports tt).1;
+  classes = λ on. record { hosts = (holds HostClasses on).0; workunits = holds WorkClasses on };
+  classless = classless;
+  classes_in_order = elim (classed_or_not world.version) [ inl on ↦ (holds HostClasses on).1 | inr off ↦ none_in_order world.classes (classless off).hosts ];
 }
 
 -- over the same schema
 pub all_stand : (old new : Database) (world after : World) (s : Refines old world) → new.schema ≡ old.schema → after.version ≡ world.version
-    → ((p : Part) → IsIn p after.version → Holds p (new.trees (tree_in s.trees p)) after) → IsDatabase new → Refines new after
-all_stand old new world after s same version holds sound =
-    record { trees = s.trees; tables = subst (λ (x : Schema). HasTables x s.trees) (sym same) s.tables; rows = rows_stand new s.trees after holds; sound = sound }
+    → ((p : Part) → IsIn p after.version → Holds p (new.trees (tree_in s.trees p)) after) → (¬ IsClassedVersion after.version → IsClassless after) → IsDatabase new → Refines new after
+all_stand old new world after s same version holds classless sound = record {
+  trees = s.trees;
+  tables = subst (λ v. HasTables v new.schema s.trees) (sym version) (subst (λ (x : Schema). HasTables world.version x s.trees) (sym same) s.tables);
+  rows = rows_stand new s.trees after holds classless;
+  sound = sound;
+}
 
 -- ---- no two parts have one name
 
@@ -121,7 +147,9 @@ by_name name =
     else if bytes_eq name (codes "credit_grant") then Grants
     else if bytes_eq name (codes "host") then Hosts
     else if bytes_eq name (codes "archived") then Archive
-    else Imports
+    else if bytes_eq name (codes "import") then Imports
+    else if bytes_eq name (codes "host_class") then HostClasses
+    else WorkClasses
 
 found_again : (p : Part) → by_name (name_of p) ≡ p
 found_again Project = refl
@@ -147,6 +175,7 @@ placed t _ = refl
 -- the column by which the rows of a part refer to their workunits
 abbrev pub child_column : Part → Option ℕ
 child_column Instances = Some 1
+child_column WorkClasses = Some 0
 child_column _ = None
 
 -- what goes with a workunit, and the workunits themselves
@@ -164,6 +193,7 @@ references_in t _ = refl
 -- the store keeps each child as a table
 pub child_shaped : (p : Part) (c : ℕ) (rows : List Row) (world : World) → child_column p ≡ Some c → Holds p rows world → IsShaped shape.Table rows
 child_shaped Instances c rows world is h = h.shaped
+child_shaped WorkClasses c rows world is h = h.shaped
 child_shaped _ c rows world is h = absurd (cc)
 
 -- ---- what a change leaves alone
@@ -240,29 +270,69 @@ module _ (version : ℕ) (old : Database) (t : ProjectTrees) (there : HasParts v
       → new.trees (tree_in t q) ≡ left c (old.trees (tree_in t q))
   child_left new left are q c in_q is = subst (λ n. IsShaped shape.Table (old.trees n) → new.trees n ≡ left c (old.trees n)) (placed t q) (are (table_of t q) c (child_there q c in_q is))
 
+-- ---- a world without classes
+
+abbrev IsUnbound : Workunit → Type 0
+IsUnbound w = w.class ≡ 0
+
+-- rows of classes rise where those of the workunits do
+below_classes : (n : ℕ) (ws : List Workunit) → AllByRecursion (λ r. value_cmp (number n) (rowid r) ≡ Less) (map stored_workunit ws) → AllByRecursion (λ r. value_cmp (number n) (rowid r) ≡ Less) (map stored_class ws)
+below_classes n [] low = tt
+below_classes n (w ∷ ws) low = (low.0, below_classes n ws low.1)
+
+classes_rise : (ws : List Workunit) → IsTable (map stored_workunit ws) → IsShaped shape.Table (map stored_class ws)
+classes_rise [] up = (tt, tt)
+classes_rise (w ∷ ws) up = let more = classes_rise ws up.1 in ((below_classes w.number ws up.0, more.0), (refl, more.1))
+
+-- what lists the same classes has none either
+unbound_too : (ws vs : List Workunit) → map stored_class ws ≡ map stored_class vs → AllByRecursion IsUnbound ws → AllByRecursion IsUnbound vs
+unbound_too ws [] same none = tt
+unbound_too [] (v ∷ vs) same none = absurd (cc)
+unbound_too (w ∷ ws) (v ∷ vs) same none = (class_too w v none.0 (cc), unbound_too ws vs (ap (drop 1) same) none.1)
+  where
+    class_too : (w v : Workunit) → w.class ≡ 0 → stored_class w ≡ stored_class v → v.class ≡ 0
+    class_too w v none same = let e : number w.class ≡ number v.class = ap (λ (r : Row). column r 2) same in let k : w.class ≡ v.class = cc in sym k ∙ none
+
+no_hosts : (classes : List HostClass) → HoldsAll [] (map class_cells classes) → classes ≡ []
+no_hosts [] h = refl
+no_hosts (it ∷ more) h = let few = length_permutation (map class_cells (it ∷ more)) [] h.same in absurd (cc)
+
+module _ (old : Database) (world after : World) (s : Refines old world) (none : IsClassless world) where
+  -- so a world that has the same rows of classes has none
+  classless_too : ((rows : List Row) → Holds HostClasses rows world → Holds HostClasses rows after) → ((rows : List Row) → Holds WorkClasses rows world → Holds WorkClasses rows after) → IsClassless after
+  classless_too hosts works =
+      let empty : HoldsAll [] (map class_cells world.classes) = subst (λ (cs : List HostClass). HoldsAll [] (map class_cells cs)) (sym none.hosts) (record { shaped = (tt, tt); same = IsPermutation-refl [] }) in
+      let up = classes_rise world.workunits (subst IsTable s.rows.workunits.same s.rows.workunits.shaped.0) in
+      record {
+        hosts = no_hosts after.classes (hosts [] (empty, none_in_order world.classes none.hosts)).0;
+        workunits = unbound_too world.workunits after.workunits (works (map stored_class world.workunits) (record { shaped = up; same = refl })).same none.workunits;
+      }
+
 -- ---- the law of a change
 
 module _ (old new : Database) (world after : World) (s : Refines old world) where
   -- what it does not touch it keeps, and the new world lists there what the old one listed; what it touches has the
-  -- rows of the new world
+  -- rows of the new world, which has no classes either before their version
   pub frame_in : (touched : Part → Bool) → new.schema ≡ old.schema → after.version ≡ world.version → Keeps world.version s.trees old new touched
       → ((q : Part) → touched q ≡ false → (rows : List Row) → Holds q rows world → Holds q rows after)
-      → ((q : Part) → IsIn q world.version → touched q ≡ true → Holds q (new.trees (tree_in s.trees q)) after) → IsDatabase new → Refines new after
-  frame_in touched same version keeps carries fits sound =
+      → ((q : Part) → IsIn q world.version → touched q ≡ true → Holds q (new.trees (tree_in s.trees q)) after) → (¬ IsClassedVersion world.version → IsClassless world → IsClassless after) → IsDatabase new → Refines new after
+  frame_in touched same version keeps carries fits classless sound =
       all_stand old new world after s same version (λ q is_in.
       let was = subst (IsIn q) version is_in in
       elim (cases_Bool (touched q)) [
         | inl on ↦ fits q was on
         | inr off ↦ carries q off (new.trees (tree_in s.trees q)) (subst (λ rows. Holds q rows world) (sym (keeps q was off)) (parts_hold old world s q was))
-      ]) sound
+      ]) (λ off. let was : ¬ IsClassedVersion world.version = λ on. off (subst IsClassedVersion (sym version) on) in classless was (s.rows.classless was)) sound
 
-  -- whatever the version
-  pub frame : (touched : Part → Bool) → new.schema ≡ old.schema → after.version ≡ world.version → Keeps world.version s.trees old new touched
+  -- of parts that the version has, so that before the version of classes it touches none of theirs
+  pub frame : (touched : Part → Bool) → ((q : Part) → touched q ≡ true → IsIn q world.version) → new.schema ≡ old.schema → after.version ≡ world.version → Keeps world.version s.trees old new touched
       → ((q : Part) → touched q ≡ false → (rows : List Row) → Holds q rows world → Holds q rows after) → ((q : Part) → touched q ≡ true → Holds q (new.trees (tree_in s.trees q)) after) → IsDatabase new → Refines new after
-  frame touched same version keeps carries fits = frame_in touched same version keeps carries (λ q was. fits q)
+  frame touched is_in same version keeps carries fits = frame_in touched same version keeps carries (λ q was. fits q) (λ off none.
+      let beside = λ (q : Part) (never : ¬ (touched q ≡ true)) (rows : List Row). carries q (false_from_ne_true (touched q) never) rows in
+      classless_too old world after s none (beside HostClasses (λ on. off (is_in HostClasses on))) (beside WorkClasses (λ on. off (is_in WorkClasses on))))
 
   -- of one part
-  pub frame_one : (p : Part) → new.schema ≡ old.schema → after.version ≡ world.version → Keeps world.version s.trees old new (is_part p)
+  pub frame_one : (p : Part) → IsIn p world.version → new.schema ≡ old.schema → after.version ≡ world.version → Keeps world.version s.trees old new (is_part p)
       → ((q : Part) → is_part p q ≡ false → (rows : List Row) → Holds q rows world → Holds q rows after) → Holds p (new.trees (tree_in s.trees p)) after → IsDatabase new → Refines new after
-  frame_one p same version keeps carries fits sound =
-      frame (is_part p) same version keeps carries (λ q on. subst (λ r. Holds r (new.trees (tree_in s.trees r)) after) (same_part p q on) fits) sound
+  frame_one p is_in same version keeps carries fits sound =
+      frame (is_part p) (λ q on. subst (λ r. IsIn r world.version) (same_part p q on) is_in) same version keeps carries (λ q on. subst (λ r. Holds r (new.trees (tree_in s.trees r)) after) (same_part p q on) fits) sound

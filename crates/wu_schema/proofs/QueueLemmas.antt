@@ -1,5 +1,5 @@
 -- The queue: made beside what was there, and what a change of something else leaves of it.
-use Rattle.wu_schema.proofs.Words.{AllByRecursion, Database, Enforced, Has, HasMade, HasNamed, IsCalm, IsDatabase, List, ListsAll, ProjectTrees, PutsOne, Refines, Row, Schema, Table, World, ap, bytes_eq, codes, false, inl, inr, length, map, next_tree, refl, subst, sym, true, ℕ, ◌∙◌, ◌≡◌, ◌≢◌}
+use Rattle.wu_schema.proofs.Words.{AllByRecursion, all_from, all_has, Database, Enforced, Has, HasMade, HasNamed, IsCalm, IsDatabase, List, ListsAll, ProjectTrees, PutsOne, Refines, Row, Schema, Table, World, bytes_eq, codes, false, inl, inr, length, map, next_tree, refl, subst, sym, ℕ, ◌∙◌, ◌≡◌, ◌≢◌}
 use Rattle.wu_core.specs.declared.marks.Marks.{Marks}
 use Rattle.wu_core.specs.World.{empty_world}
 use Rattle.wu_schema.specs.Fresh.{MakesProject}
@@ -9,10 +9,11 @@ use Rattle.wu_schema.specs.Queue.{AddsIndexes, HasQueue, MakesIndexes, MakesQueu
 use Rattle.wu_schema.specs.Stored.{stored_marks}
 use Rattle.wu_schema.specs.Tables.{queue_at}
 use Rattle.wu_schema.specs.Calm.{IsSteady}
-use Rattle.wu_schema.proofs.StandsLemmas.{IsChild, but_one, child_calm, child_steady, is_there, lists_still}
-use Rattle.wu_schema.proofs.Parts.{Part, Project, Workunits, IsIn, apart, calm_from, frame, is_part, kept, parts_there, stands_in, table_of, tree_in, placed}
+use Rattle.wu_schema.proofs.StandsLemmas.{IsChild, is_there, lists_still}
+use Rattle.wu_schema.proofs.Parts.{Part, Project, Workunits, IsIn, is_part, table_of, tree_in}
+use Rattle.wu_schema.proofs.BesideLemmas.{IsBeside, beside_apart, beside_calm, beside_self, beside_steady, keeps_world, leaves_rows, puts_beside}
 use Rattle.wu_schema.proofs.MadeLemmas.{made_grows, no_list, still_made}
-use Rattle.wu_schema.proofs.StandsOver.{Grows, grows_both, stands_over}
+use Rattle.wu_schema.proofs.StandsOver.{Grows, grows_both, stands_over, still_named}
 use Rattle.wu_schema.proofs.IndexEffect.{added_then, all_added_grow, all_added_sound, all_indexed, only_indexed}
 
 pub queue_is_made : (old first next new : Database) → HasMade old first queue_table → MakesIndexes queue_table mark_indexes first next → MakesIndexes queue_table moment_indexes next new → MakesQueue old new
@@ -87,6 +88,15 @@ module _ (old new : Database) (marked after : List (ℕ × Marks)) (q : HasQueue
 pub queue_still : (old new : Database) (marked : List (ℕ × Marks)) (q : HasQueue old marked) → new.schema ≡ old.schema → new.trees q.tree ≡ old.trees q.tree → HasQueue new marked
 queue_still old new marked q same rows = queue_has old new marked marked q same (lists_still rows q.rows)
 
+-- a queue that was there is there still, whatever else was made
+pub queue_over : (old new : Database) (marked : List (ℕ × Marks)) → Grows old new → HasQueue old marked → HasQueue new marked
+queue_over old new marked grows q = record {
+  tree = q.tree;
+  table = still_named old new grows (codes "queue") (queue_at q.tree) q.table;
+  indexes = all_from (IsIndexed new.schema q.tree) queue_indexes (λ named has. let it = all_has (IsIndexed old.schema q.tree) queue_indexes named q.indexes has in (it.0, grows.keeps.indexes _ it.1));
+  rows = lists_still (grows.keeps.tables (queue_at q.tree) (is_there old.schema _ _ q.table)).1 q.rows;
+}
+
 -- no table of a project is called so
 called_otherwise : (t : ProjectTrees) (p : Part) → bytes_eq (table_of t p).name (codes "queue") ≡ false
 called_otherwise t Project = refl
@@ -96,12 +106,12 @@ module _ (old : Database) (world : World) (s : Refines old world) (marked : List
   pub queue_listed : Has old.schema.tables (queue_at q.tree)
   queue_listed = is_there old.schema _ _ q.table
 
-  -- its tree is apart from those of the seven tables
+  is_beside : IsBeside old world s (queue_at q.tree)
+  is_beside = record { listed = queue_listed; owns = q.table.2; other = λ p is_in. called_otherwise s.trees p }
+
+  -- its tree is apart from those of the project's tables
   pub queue_apart : (p : Part) → IsIn p world.version → tree_in s.trees p ≢ q.tree
-  queue_apart p is_in same =
-      let listed = stands_in world.version old s.trees (parts_there old world s) p is_in in
-      let one : table_of s.trees p ≡ queue_at q.tree = q.table.2 (table_of s.trees p) listed (placed s.trees p ∙ same) in
-      absurd (let e : true ≡ false = ap (λ (u : Table). bytes_eq u.name (codes "queue")) (sym one) ∙ called_otherwise s.trees p in cc)
+  queue_apart = beside_apart old world s (queue_at q.tree) is_beside
 
   -- its rows go with their workunits
   pub queue_child : IsChild old.schema (queue_at q.tree) 0
@@ -109,39 +119,27 @@ module _ (old : Database) (world : World) (s : Refines old world) (marked : List
 
   -- a row that is put into one of them leaves it
   pub rows_beside : (new : Database) (p : Part) → IsIn p world.version → (row : Row) → PutsOne old new (tree_in s.trees p) row → new.trees q.tree ≡ old.trees q.tree
-  rows_beside new p is_in row put = but_one old new (tree_in s.trees p) row put (queue_at q.tree) queue_listed (λ same. queue_apart p is_in (sym same))
+  rows_beside = leaves_rows old world s (queue_at q.tree) is_beside
 
   pub queue_beside : (new : Database) (p : Part) → IsIn p world.version → (row : Row) → PutsOne old new (tree_in s.trees p) row → HasQueue new marked
   queue_beside new p is_in row put = queue_still old new marked q put.schema (rows_beside new p is_in row put)
 
   -- so does a write of one of them but of the workunits
   pub queue_calm : (p : Part) → IsIn p world.version → is_part p Workunits ≡ false → IsCalm old.schema Enforced (queue_at q.tree) (tree_in s.trees p)
-  queue_calm p is_in none =
-      let there = parts_there old world s in
-      child_calm old.schema s.trees.workunit (there Workunits tt) (queue_at q.tree) 0 queue_child (tree_in s.trees p) (apart world.version old s.trees there p Workunits is_in tt none)
+  queue_calm = beside_calm old world s (queue_at q.tree) is_beside 0 queue_child
 
   -- and one of its own rows leads to no other
   pub queue_self : IsCalm old.schema Enforced (queue_at q.tree) q.tree
-  queue_self = child_calm old.schema s.trees.workunit (parts_there old world s Workunits tt) (queue_at q.tree) 0 queue_child q.tree (queue_apart Workunits tt)
+  queue_self = beside_self old world s (queue_at q.tree) is_beside 0 queue_child
 
   -- where rows of the workunits are set, it stays
   pub queue_steady : IsSteady old.schema Enforced (queue_at q.tree)
-  queue_steady = child_steady old.schema s.trees.workunit (parts_there old world s Workunits tt) (queue_at q.tree) 0 queue_child
+  queue_steady = beside_steady old world s (queue_at q.tree) is_beside 0 queue_child
 
   -- and a change of its rows leaves the world
-  module _ (new : Database) (same : new.schema ≡ old.schema) (sound : IsDatabase new) where
-    beside_all : ((p : Part) → IsIn p world.version → new.trees (table_of s.trees p).tree ≡ old.trees (table_of s.trees p).tree) → Refines new world
-    beside_all stays = frame old new world world s (λ p. false) same refl (λ p is_in off. kept world.version old s.trees (parts_there old world s) new p (stays p is_in)) (λ p off rows h. h) (λ p on. absurd (cc)) sound
-
-    -- one that is no tree of ours has another table
-    off_queue : (p : Part) → IsIn p world.version → (table_of s.trees p).tree ≢ q.tree
-    off_queue p is_in one = queue_apart p is_in (sym (placed s.trees p) ∙ one)
-
-    pub world_kept : ((u : Table) → Has old.schema.tables u → u.tree ≢ q.tree → IsCalm old.schema Enforced u q.tree → new.trees u.tree ≡ old.trees u.tree) → Refines new world
-    world_kept others = beside_all (λ p is_in.
-        let there = parts_there old world s in
-        others (table_of s.trees p) (stands_in world.version old s.trees there p is_in) (off_queue p is_in) (calm_from world.version old s.trees there q.tree (queue_apart Workunits tt) p is_in))
+  pub world_kept : (new : Database) → new.schema ≡ old.schema → IsDatabase new → ((u : Table) → Has old.schema.tables u → u.tree ≢ q.tree → IsCalm old.schema Enforced u q.tree → new.trees u.tree ≡ old.trees u.tree) → Refines new world
+  world_kept = keeps_world old world s (queue_at q.tree) is_beside
 
   -- so does a row that is put into it
   pub world_beside : (new : Database) (row : Row) → PutsOne old new q.tree row → Refines new world
-  world_beside new row put = beside_all new put.schema put.sound (λ p is_in. but_one old new q.tree row put (table_of s.trees p) (stands_in world.version old s.trees (parts_there old world s) p is_in) (off_queue new put.schema put.sound p is_in))
+  world_beside = puts_beside old world s (queue_at q.tree) is_beside

@@ -95,8 +95,8 @@ module _ (schema : Schema) (work : ℕ) (has : HasNamed schema (codes "workunit"
     pub child_apart : child.tree ≢ work
     child_apart same = absurd (let bare = sym (ap (λ (u : Table). u.references) (has.2 child is.listed same)) ∙ is.refers in cc)
 
-pub workunit_found : (schema : Schema) (t : ProjectTrees) → HasTables schema t → find (λ u. same_name u.name (codes "workunit")) schema.tables ≡ Some (workunit_at t.workunit)
-workunit_found schema t has = work_found schema t.workunit has.workunit
+pub workunit_found : (version : ℕ) (schema : Schema) (t : ProjectTrees) → HasTables version schema t → find (λ u. same_name u.name (codes "workunit")) schema.tables ≡ Some (workunit_at t.workunit)
+workunit_found version schema t has = work_found schema t.workunit has.workunit
 
 -- each of our tables in another tree keeps its rows
 abbrev pub KeepsBut : Database → Database → ℕ → Type 0

@@ -2,7 +2,7 @@
 use Rattle.wu_schema.proofs.Words.{Binary, Database, Has, HasNamed, HasTable, HasTables, Index, IsDatabase, List, OwnsTree, ProjectTrees, Schema, Refines, Table, World, [], false, first_key, guards, host_at, inl, inr, refl, subst, sym, true, ℕ, ◌∙◌, ◌∷◌, ◌≡◌, ◌⊎◌}
 use Rattle.wu_schema.specs.Made.{KeepsOthers}
 use Rattle.wu_schema.proofs.StandsLemmas.{is_there}
-use Rattle.wu_schema.proofs.Parts.{Project, Workunits, Instances, Grants, Hosts, Archive, Imports, HasParts, name_of, table_of, parts_there, parts_hold, Holds, kept, stands_in, rows_stand}
+use Rattle.wu_schema.proofs.Parts.{Project, Workunits, Instances, Grants, Hosts, Archive, Imports, HostClasses, WorkClasses, HasParts, name_of, table_of, parts_there, parts_hold, Holds, kept, stands_in, rows_stand}
 
 -- what was there is there still, by its name and in a tree of its own, and no new index guards a table that was there
 pub record Grows (old new : Database) : Type 0 where
@@ -35,7 +35,7 @@ grows_both old mid new one two = record {
 abbrev pub ByBytes : Schema → ℕ → Type 0
 ByBytes schema tree = (i : Index) → Has schema.indexes i → guards i (host_at tree) ≡ true → i.columns ≡ 1 ∷ [] → (first_key i.order).collation ≡ Binary
 
-pub tables_are : (version : ℕ) (schema : Schema) (t : ProjectTrees) → HasParts version schema t → ByBytes schema t.host → HasTables schema t
+pub tables_are : (version : ℕ) (schema : Schema) (t : ProjectTrees) → HasParts version schema t → ByBytes schema t.host → HasTables version schema t
 tables_are version schema t there by = record {
   project = there Project tt;
   workunit = there Workunits tt;
@@ -44,6 +44,8 @@ tables_are version schema t there by = record {
   host = there Hosts tt;
   archived = there Archive tt;
   import = there Imports tt;
+  host_class = there HostClasses;
+  workunit_class = there WorkClasses;
   by_bytes = by;
 }
 
@@ -61,6 +63,6 @@ module _ (old new : Database) (grows : Grows old new) where
       record {
         trees = s.trees;
         tables = tables_are world.version new.schema s.trees (λ p is_in. still_named (name_of p) (table_of s.trees p) (there p is_in)) (still_compares s.trees.host (stands Hosts tt) s.tables.by_bytes);
-        rows = rows_stand new s.trees world (λ p is_in. subst (λ rs. Holds p rs world) (sym (kept world.version old s.trees there new p (grows.keeps.tables (table_of s.trees p) (stands p is_in)).1)) (parts_hold old world s p is_in));
+        rows = rows_stand new s.trees world (λ p is_in. subst (λ rs. Holds p rs world) (sym (kept world.version old s.trees there new p (grows.keeps.tables (table_of s.trees p) (stands p is_in)).1)) (parts_hold old world s p is_in)) s.rows.classless;
         sound = sound;
       }

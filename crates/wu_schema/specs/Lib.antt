@@ -12,4 +12,5 @@ pub mod Versions
 pub mod Indexes
 pub mod Restoring
 pub mod Queue
+pub mod Classes
 pub mod Fresh

@@ -11,7 +11,7 @@ use Rattle.sqlite_schema.specs.declared.schema.Index.{Index}
 use Rattle.sqlite_catalog.specs.Change.{next_tree, automatics, KeepsRows}
 use Rattle.sqlite_rules.specs.Lists.{Has}
 use Rattle.wu_core.specs.World.{empty_world}
-use Rattle.wu_schema.specs.Tables.{HasTable, OwnsTree, project_at, workunit_at, result_at, grant_at, host_at, archived_at, import_at}
+use Rattle.wu_schema.specs.Tables.{HasTable, OwnsTree, project_at, workunit_at, result_at, grant_at, host_at, archived_at, import_at, host_class_at, workunit_class_at}
 use Rattle.wu_schema.specs.Refines.{Refines}
 
 -- one row is put in, and every other table stays
@@ -78,15 +78,19 @@ work_tables = (codes "project", project_at) ∷ (codes "workunit", workunit_at) 
 abbrev pub record_tables : List Named
 record_tables = (codes "credit_grant", grant_at) ∷ (codes "host", host_at) ∷ (codes "archived", archived_at) ∷ (codes "import", import_at) ∷ []
 
+-- of classes
+abbrev pub class_tables : List Named
+class_tables = (codes "host_class", host_class_at) ∷ (codes "workunit_class", workunit_class_at) ∷ []
+
 -- what was there, ours or not, is as it was
 pub record KeepsOthers (old new : Database) : Type 0 where
   pub tables : (t : Table) → Has old.schema.tables t → Has new.schema.tables t × (new.trees t.tree ≡ old.trees t.tree)
   pub indexes : (i : Index) → Has old.schema.indexes i → Has new.schema.indexes i
   pub views : new.schema.views ≡ old.schema.views
 
--- the seven tables of a project
+-- the tables of a project, but for its queue
 abbrev pub project_tables : List Named
-project_tables = work_tables ++ record_tables
+project_tables = work_tables ++ (record_tables ++ class_tables)
 
 -- one of them, in any tree
 abbrev pub IsOurTable : Table → Type 0
@@ -101,7 +105,7 @@ pub record AddsOurs (old new : Database) : Type 0 where
   pub tables : (t : Table) → Has new.schema.tables t → Has old.schema.tables t ⊎ (IsOurTable t ⊎ IsSequence t)
   pub indexes : (i : Index) → Has new.schema.indexes i → Has old.schema.indexes i ⊎ IsOurKey i
 
--- the seven tables stand for the empty world beside what was there
+-- they stand for the empty world beside what was there
 pub record MakesEmpty (old new : Database) : Type 0 where
   pub stands : Refines new empty_world
   pub keeps : KeepsOthers old new

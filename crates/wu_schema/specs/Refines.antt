@@ -1,6 +1,6 @@
 -- When a database stands for a world: the tables are there, and their rows are what the world holds.
 use Rattle.std.specs.Prelude.{◌≡◌, false, ℕ, List, [], ◌∷◌, map, drop, None}
-use Rattle.std.specs.List.{enumerate_from, flat_map}
+use Rattle.std.specs.List.{AllByRecursion, enumerate_from, flat_map}
 use Rattle.std.specs.List.Sorted.{IsPermutation}
 use Rattle.sqlite.specs.Order.{Row}
 use Rattle.sqlite.specs.Tree.{IsAscending, Trees}
@@ -12,10 +12,11 @@ use Rattle.sqlite_schema.specs.Names.{table_named, index_named, view_named}
 use Rattle.wu_core.specs.declared.workunit.Grant.{Grant}
 use Rattle.wu_core.specs.declared.workunit.Instance.{Instance}
 use Rattle.wu_core.specs.declared.workunit.Workunit.{Workunit}
+use Rattle.wu_core.specs.Classes.{AreInOrder}
 use Rattle.wu_core.specs.Hosts.{credit_of, grants_of, hosts_of}
 use Rattle.wu_core.specs.World.{World, Import, is_import}
-use Rattle.wu_schema.specs.Stored.{stored_project, stored_workunit, stored_grant, stored_archived, instance_cells, host_cells, import_cells}
-use Rattle.wu_schema.specs.Tables.{ProjectTrees, HasTables}
+use Rattle.wu_schema.specs.Stored.{stored_project, stored_workunit, stored_grant, stored_archived, stored_class, class_cells, instance_cells, host_cells, import_cells}
+use Rattle.wu_schema.specs.Tables.{ProjectTrees, HasTables, IsClassedVersion}
 
 -- the instances of a workunit, numbered from 0
 abbrev pub instances_of : Workunit → List Row
@@ -35,7 +36,17 @@ pub record HoldsAll (rows cells : List Row) : Type 0 where
   pub shaped : IsShaped shape.Table rows
   pub same : IsPermutation cells (map (drop 1) rows)
 
--- the rows of the seven tables are what the world holds
+-- the rows of the tables of classes are what the world holds
+pub record HasClasses (db : Trees) (trees : ProjectTrees) (world : World) : Type 0 where
+  pub hosts : HoldsAll (db trees.host_class) (map class_cells world.classes)
+  pub workunits : ListsAll (db trees.workunit_class) (map stored_class world.workunits)
+
+-- no host and no workunit has a class
+pub record IsClassless (world : World) : Type 0 where
+  pub hosts : world.classes ≡ []
+  pub workunits : AllByRecursion (λ (w : Workunit). w.class ≡ 0) world.workunits
+
+-- the rows of the tables are what the world holds, the queue aside
 pub record HasRows (db : Trees) (trees : ProjectTrees) (world : World) : Type 0 where
   pub project : db trees.project ≡ stored_project world ∷ []
   pub workunits : ListsAll (db trees.workunit) (map stored_workunit world.workunits)
@@ -46,11 +57,15 @@ pub record HasRows (db : Trees) (trees : ProjectTrees) (world : World) : Type 0 
   pub imports : HoldsAll (db trees.import) (map import_cells world.imports)
   -- no two imports are of one kind and name
   pub imported_once : IsAscending (λ (a b : Import). is_import a.kind a.name b ≡ false) world.imports
+  -- classes stand in tables of their own from their version on, and before it there are none
+  pub classes : IsClassedVersion world.version → HasClasses db trees world
+  pub classless : ¬ IsClassedVersion world.version → IsClassless world
+  pub classes_in_order : AreInOrder world.classes
 
 -- the tables are there, wherever the store put them and whatever else there is, and have these rows
 pub record Refines (db : Database) (world : World) : Type 0 where
   pub trees : ProjectTrees
-  pub tables : HasTables db.schema trees
+  pub tables : HasTables world.version db.schema trees
   pub rows : HasRows db.trees trees world
   -- the trees list the schema and obey it, so that what an open finds in these trees is this database
   pub sound : IsDatabase db

@@ -7,6 +7,7 @@ use Rattle.sqlite.specs.declared.types.Value.TheVariants.{Null, Int, Text, Blob}
 use Rattle.wu_core.specs.declared.marks.Marks.{Marks}
 use Rattle.wu_core.specs.declared.workunit.Archived.{Archived}
 use Rattle.wu_core.specs.declared.workunit.Grant.{Grant}
+use Rattle.wu_core.specs.declared.workunit.HostClass.{HostClass}
 use Rattle.wu_core.specs.declared.workunit.Instance.{Instance}
 use Rattle.wu_core.specs.declared.workunit.Workunit.{Workunit}
 use Rattle.wu_core.specs.Codes.{server_state_code, outcome_code, validate_state_code, assimilate_code, file_delete_code, import_kind_code}
@@ -95,6 +96,17 @@ marks_cells m = number_or_null m.wake ∷ flag m.to_validate ∷ flag m.to_assim
 -- as the table keeps it, by the workunit's number
 abbrev pub stored_marks : ℕ × Marks → Row
 stored_marks p = number p.0 ∷ Null ∷ marks_cells p.1
+
+-- a host and its class
+abbrev pub class_cells : HostClass → Row
+class_cells it = Text it.host ∷ number it.class ∷ []
+
+-- a workunit's number and its class, as the table keeps them
+abbrev pub class_row : ℕ × ℕ → Row
+class_row p = number p.0 ∷ Null ∷ number p.1 ∷ []
+
+abbrev pub stored_class : Workunit → Row
+stored_class w = class_row (w.number, w.class)
 
 -- the one row of the project, as the table keeps it
 abbrev pub stored_project : World → Row

@@ -1,5 +1,6 @@
--- The tables of schema versions 1 and 2, wherever the store puts them, and a schema that has those of version 1.
-use Rattle.std.specs.Prelude.{◌≡◌, ◌^◌, ◌==◌, find, nat_le, false, [], ◌∷◌, Some, None, codes, List, ℕ, true, pos, slice_get}
+-- The tables of schema versions 1 to 3, wherever the store puts them, and a schema that has those of a version, but for
+-- the queue.
+use Rattle.std.specs.Prelude.{◌≡◌, ◌≤◌, ◌^◌, ◌==◌, find, nat_le, false, [], ◌∷◌, Some, None, codes, List, ℕ, true, pos, slice_get}
 use Rattle.sqlite.specs.Collation.TheVariants.{Binary}
 use Rattle.sqlite.specs.declared.types.Value.TheVariants.{Null, Int}
 use Rattle.sqlite.specs.Term.{lit, col, op2}
@@ -133,16 +134,32 @@ import_at tree = record (blank (codes "import") tree (needs (codes "kind") Integ
   orders = record { digits = 0 } ∷ [];
 }
 
--- a row of the queue goes with its workunit, whose number is its key
-abbrev pub queue_refers : Reference
-queue_refers = record result_refers { columns = 0 ∷ [] }
+-- a row whose key is the number of a workunit goes with it
+abbrev pub number_refers : Reference
+number_refers = record result_refers { columns = 0 ∷ [] }
 
 -- what the passes select by, for each workunit
 abbrev pub queue_at : ℕ → Table
 queue_at tree = record (blank (codes "queue") tree (may (codes "workunit") Integer ∷ may (codes "wake") Integer ∷ needs (codes "to_validate") Integer ∷ needs (codes "to_assimilate") Integer ∷ needs (codes "to_delete") Integer ∷ may (codes "purge_from") Integer ∷ [])) {
   key = Some 0;
   primary = 0 ∷ [];
-  references = queue_refers ∷ [];
+  references = number_refers ∷ [];
+}
+
+-- the class of each host that has one
+abbrev pub host_class_at : ℕ → Table
+host_class_at tree = record (blank (codes "host_class") tree (needs (codes "host") Text ∷ needs (codes "class") Integer ∷ [])) {
+  primary = 1 ∷ [];
+  uniques = (1 ∷ []) ∷ [];
+  orders = record { digits = 0 } ∷ [];
+}
+
+-- the class of each workunit
+abbrev pub workunit_class_at : ℕ → Table
+workunit_class_at tree = record (blank (codes "workunit_class") tree (may (codes "workunit") Integer ∷ needs (codes "class") Integer ∷ [])) {
+  key = Some 0;
+  primary = 0 ∷ [];
+  references = number_refers ∷ [];
 }
 
 -- the name finds this table
@@ -161,6 +178,10 @@ OwnsTree schema table = (other : Table) → Has schema.tables other → other.tr
 abbrev pub HasNamed : Schema → List ℕ → Table → Type 0
 HasNamed schema name table = (at : ℕ) × HasTable schema name at table × OwnsTree schema table
 
+-- a version of the schema that has classes of hosts and of workunits
+abbrev pub IsClassedVersion : ℕ → Type 0
+IsClassedVersion version = 3 ≤ version
+
 -- where the store put each table
 pub record ProjectTrees : Type 0 where
   pub project : ℕ
@@ -170,9 +191,11 @@ pub record ProjectTrees : Type 0 where
   pub host : ℕ
   pub archived : ℕ
   pub import : ℕ
+  pub host_class : ℕ
+  pub workunit_class : ℕ
 
--- all seven are there, beside whatever else
-pub record HasTables (schema : Schema) (trees : ProjectTrees) : Type 0 where
+-- all tables of a version but the queue are there, beside whatever else
+pub record HasTables (version : ℕ) (schema : Schema) (trees : ProjectTrees) : Type 0 where
   pub project : HasNamed schema (codes "project") (project_at trees.project)
   pub workunit : HasNamed schema (codes "workunit") (workunit_at trees.workunit)
   pub result : HasNamed schema (codes "result") (result_at trees.result)
@@ -180,5 +203,7 @@ pub record HasTables (schema : Schema) (trees : ProjectTrees) : Type 0 where
   pub host : HasNamed schema (codes "host") (host_at trees.host)
   pub archived : HasNamed schema (codes "archived") (archived_at trees.archived)
   pub import : HasNamed schema (codes "import") (import_at trees.import)
+  pub host_class : IsClassedVersion version → HasNamed schema (codes "host_class") (host_class_at trees.host_class)
+  pub workunit_class : IsClassedVersion version → HasNamed schema (codes "workunit_class") (workunit_class_at trees.workunit_class)
   -- each unique index on the names of hosts alone compares their bytes
   pub by_bytes : (i : Index) → Has schema.indexes i → guards i (host_at trees.host) ≡ true → i.columns ≡ 1 ∷ [] → (first_key i.order).collation ≡ Binary

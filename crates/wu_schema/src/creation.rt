@@ -6,6 +6,7 @@ ghost use Rattle.wu_schema.specs.Made.{MakesEmpty, MakesTables, PutsProject, wor
 ghost use Rattle.wu_schema.specs.Calls.{StatementFrame, Does, Commits, CrashAllows, Refuses, Undoes};
 ghost use Rattle.wu_schema.specs.Faults.{IsStoreFault};
 
+use crate::classes::create_classes;
 use crate::queue::make_queue;
 use crate::texts::{
     CREATE_ARCHIVED, CREATE_CREDIT_GRANT, CREATE_HOST, CREATE_IMPORT, CREATE_PROJECT,
@@ -44,13 +45,14 @@ fn create_records<S: Alter>(tx: &mut Transaction<'_, S>) -> Result<(), Error>
     execute(tx, CREATE_IMPORT, &[])
 }
 
-/// The tables that every version has, with the row of a fresh project of the present one.
+/// All tables of the present version but the queue, with the row of a fresh project.
 fn create_empty<S: Alter>(tx: &mut Transaction<'_, S>) -> Result<(), Error>
     ensures writes { StatementFrame S.Store tx.old tx.new result }
     ensures makes { Does S.Store tx.old tx.new result MakesEmpty }
 {
     create_work(tx)?;
     create_records(tx)?;
+    create_classes(tx)?;
     insert_project(tx, PRESENT_VERSION as i64)
 }
 

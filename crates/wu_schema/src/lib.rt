@@ -3,6 +3,7 @@
 #![tactic(auto)]
 
 mod asking;
+mod classes;
 mod columns;
 mod creation;
 mod fault;
@@ -13,6 +14,7 @@ mod transaction;
 mod version;
 
 pub use asking::query;
+pub use classes::make_classes;
 pub use columns::{number_at, read_column};
 pub use creation::create;
 pub use fault::fault_of;

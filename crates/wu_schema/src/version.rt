@@ -14,7 +14,7 @@ use sqlite_resolve::CompileError;
 use wu_core::Fault;
 
 /// The version of the schema that a project is created at.
-pub const PRESENT_VERSION: u64 = 2;
+pub const PRESENT_VERSION: u64 = 3;
 
 /// The rows of the table `project`.
 fn project_rows<S: Alter>(conn: &mut Connection<S>) -> Result<Vec<Row>, Error>

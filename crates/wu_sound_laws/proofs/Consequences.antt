@@ -37,6 +37,7 @@ shown world sound present view.Workunits = sound.storable
 shown world sound present view.Results = sound.storable
 shown world sound present view.Hosts = hosts_have IsName world.grants sound.granted_to
 shown world sound present view.Archive = sound.archivable
+shown world sound present view.Classes = sound.classed
 shown world sound present view.Summary = record {
   numbers = record { version = omega (arith, present); next = sound.next_number };
   credit = (let few = bounded_credit world.grants (placed world sound) sound.granted_once in omega (arith, few));

@@ -5,8 +5,7 @@ use Rattle.sqlite.specs.Store.{Ghosts}
 use Rattle.sqlite.specs.declared.transaction.Transaction.{Transaction}
 use Rattle.wu_schema.specs.Calls.{StatementFrame, TransactionFrame}
 use Rattle.wu_schema.proofs.CallLemmas.{part_then}
-use Rattle.wu_store.specs.Changes.{HasInstances, IsNextPlace, LacksNumber, PutsGrant, with_archived, with_import, with_instance, with_next, with_placed, with_version}
-use Rattle.wu_core.specs.Storable.{bare}
+use Rattle.wu_store.specs.Changes.{HasInstances, IsNextPlace, PutsGrant, with_archived, with_import, with_instance, with_next, with_version}
 use Rattle.std.specs.Prelude.{FitsSigned}
 use Rattle.std.proofs.lemmas.Int.{fits_signed_from_abs}
 use Rattle.sqlite.specs.Values as values
@@ -15,9 +14,12 @@ use Rattle.wu_store.proofs.InsertTexts.{workunit_put, workunit_fits, instance_pu
 use Rattle.wu_schema.proofs.InsertEffect.{cast_null, cast_int, puts_one}
 use Rattle.wu_store.proofs.UpdateLemmas.{next_made, next_set, next_text, version_made, version_set, version_set_text}
 use Rattle.wu_store.proofs.UpdateEffect.{updates_project, sets_next, sets_version}
+use Rattle.wu_schema.specs.Classes.{HasClassTables, unbound_in}
+use Rattle.wu_schema.specs.Tables.{IsClassedVersion}
+use Rattle.wu_schema.proofs.ClassLemmas.{stands_with_classes}
 use Rattle.wu_schema.proofs.StandsLemmas.{is_there}
-use Rattle.wu_store.proofs.StandsWith.{stands_with_import, stands_with_next, stands_with_version}
-use Rattle.wu_store.proofs.PlacedLemmas.{was_free, stands_with_placed, stands_with_instance}
+use Rattle.wu_store.proofs.StandsWith.{stands_with_import, stands_with_next}
+use Rattle.wu_store.proofs.PlacedLemmas.{stands_with_instance}
 use Rattle.wu_store.proofs.ListedLemmas.{stands_with_archived}
 
 pub cast_number : (n : ℕ) → cast Integer (number n) ≡ number n
@@ -72,17 +74,12 @@ grant_kept : (tree place : ℕ) (g : Grant) → map (λ s. cast_row (grant_at tr
 grant_kept tree place g = simp (cast_null, cast_number)
 
 pub puts_grant : (old new : State) (place : ℕ) (g : Grant) (count : ℕ) → Executes grant_put.text (number place ∷ grant_cells g) old new (Ok count) → PutsGrant place g old.now new.now
-puts_grant old new place g count h t has =
+puts_grant old new place g count h version t has =
     puts_one (codes "credit_grant") grant_at grant_put grant_fits (number place ∷ grant_cells g) old new has.grant.0 t.grant has.grant.1 (stored_grant (place, g)) (stored_grant (place, g)) (grant_kept t.grant place g) refl count h
 
 module _ (old new : State) (world : World) (s : Refines old.now world) where
   pub put_workunit : (w : Workunit) (count : ℕ) → Executes workunit_put.text (workunit_row w) old new (Ok count) → PutsOne old.now new.now s.trees.workunit (stored_workunit w)
   put_workunit w count h = puts_one (codes "workunit") workunit_at workunit_put workunit_fits (workunit_row w) old new s.tables.workunit.0 s.trees.workunit s.tables.workunit.1 (stored_workunit w) (stored_workunit w) (workunit_kept s.trees.workunit w) refl count h
-
-  pub puts_workunit : (w : Workunit) (count : ℕ) → Executes workunit_put.text (workunit_row w) old new (Ok count) → LacksNumber w.number world.workunits × Refines new.now (with_placed (bare w) world)
-  puts_workunit w count h =
-      let put = put_workunit w count h in
-      (was_free old.now new.now world s w put, stands_with_placed old.now new.now world s (bare w) put refl)
 
   pub put_instance : (number n : ℕ) (i : Instance) (count : ℕ) → Executes instance_put.text (instance_cells number n i) old new (Ok count) → PutsOne old.now new.now s.trees.result (Int (next_rowid (old.now.trees s.trees.result)) ∷ instance_cells number n i)
   put_instance number n i count h = puts_one (codes "result") result_at instance_put instance_fits (instance_cells number n i) old new s.tables.result.0 s.trees.result s.tables.result.1 (Null ∷ instance_cells number n i) _ (instance_kept s.trees.result number n i) refl count h
@@ -111,13 +108,14 @@ module _ (old new : State) (world : World) (s : Refines old.now world) where
       let sets = updates_project next_text (codes "next_number") next_made next_set old new has.0 tree has.1 has.2 there (pos n) count h in
       stands_with_next old.now new.now world s n sets.schema (sets_next old new has.0 tree has.1 has.2 there (pos n) (pos world.version) (pos world.next_number) count h s.rows.project) sets.others sets.sound
 
-  pub sets_version_to : (n count : ℕ) → Executes version_set_text (number n ∷ []) old new (Ok count) → Refines new.now (with_version n world)
-  sets_version_to n count h =
+  -- at the version of classes, where their tables are there, with no class yet
+  pub sets_classes : (older : ¬ IsClassedVersion world.version) → HasClassTables old.now (unbound_in world) → (count : ℕ) → Executes version_set_text (number 3 ∷ []) old new (Ok count) → Refines new.now (with_version 3 world)
+  sets_classes older c count h =
       let tree = s.trees.project in
       let has = s.tables.project in
       let there = is_there old.now.schema _ _ has in
-      let sets = updates_project version_set_text (codes "version") version_made version_set old new has.0 tree has.1 has.2 there (pos n) count h in
-      stands_with_version old.now new.now world s n sets.schema (sets_version old new has.0 tree has.1 has.2 there (pos n) (pos world.version) (pos world.next_number) count h s.rows.project) sets.others sets.sound
+      let sets = updates_project version_set_text (codes "version") version_made version_set old new has.0 tree has.1 has.2 there (pos 3) count h in
+      stands_with_classes old.now world s older c new.now sets.schema (sets_version old new has.0 tree has.1 has.2 there (pos 3) (pos world.version) (pos world.next_number) count h s.rows.project) sets.others sets.sound
 
 -- ---- statements, and one then
 

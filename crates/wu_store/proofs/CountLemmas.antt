@@ -226,6 +226,7 @@ pub whole_summary : (world : World) (numbers : Numbers) (results : Results) (oth
       grants = granted.grants;
       credit = granted.credit;
       imports = others.imports;
+      classes = others.classes;
     }) (summary_of world)
 whole_summary world numbers results others granted n r o d =
     let unsent = ap (λ (x : Results). x.unsent) r ∙ unsent_counted world in
@@ -243,4 +244,5 @@ whole_summary world numbers results others granted n r o d =
       grants = (d i).grants;
       credit = (d i).credit;
       imports = (o i).imports;
+      classes = (o i).classes;
     }

@@ -1,5 +1,5 @@
 -- What the SELECTs answer that count, of the world that the tables stand for.
-use Rattle.wu_schema.proofs.Words.{Binary, Bool, Instance, IsPermutation-filter, List, None, Refines, Row, Shown, State, Term, Workunit, World, [], ap, arith, codes, col, column, cond, drop, enumerate_from, equal, everything, false, filter-map, flat_map, holds, import_at, instance_cells, instances_of, length, length-map, length_permutation, list_all, map, number, refl, result_at, suc, sym, true, workunit_at, ℕ, ◌+◌, ◌==◌, ◌∙◌, ◌∷◌, ◌≡◌}
+use Rattle.wu_schema.proofs.Words.{Binary, Bool, Instance, IsPermutation-filter, List, None, Refines, Row, Shown, State, Term, Workunit, World, [], ap, arith, codes, col, column, cond, drop, enumerate_from, equal, everything, false, filter-map, flat_map, holds, host_class_at, import_at, instance_cells, instances_of, length, length-map, length_permutation, list_all, map, number, refl, result_at, suc, sym, true, workunit_at, ℕ, ◌+◌, ◌==◌, ◌∙◌, ◌∷◌, ◌≡◌}
 use Rattle.std.specs.Prelude.{filter}
 use Rattle.std.proofs.Common.{length-append}
 use Rattle.std.proofs.lemmas.List.Elements.{filter-append}
@@ -11,9 +11,10 @@ use Rattle.wu_core.specs.declared.states.ServerState.{ServerState}
 use Rattle.wu_core.specs.Codes.{server_state_code}
 use Rattle.wu_schema.proofs.CountAnswers.{all_counted}
 use Rattle.wu_schema.proofs.CountTexts.{CountFits, Counted}
-use Rattle.wu_schema.proofs.Parts.{Part, Imports, Instances, Workunits, IsIn, name_of, parts_there, table_in, tree_in}
+use Rattle.wu_schema.proofs.Parts.{Part, HostClasses, Imports, Instances, Workunits, IsIn, name_of, parts_there, table_in, tree_in}
 use Rattle.wu_schema.proofs.RowLemmas.{filter_same, no_test, one_test}
-use Rattle.wu_store.specs.Answers.{IsCount, all_instances, count_in, import_count, result_count, workunit_count}
+use Rattle.wu_store.specs.Answers.{IsCount, all_instances, class_count, count_in, import_count, result_count, workunit_count}
+use Rattle.wu_store.specs.StandsFor.{KnowsClasses}
 use Rattle.wu_store.proofs.EqualLemmas.{number_equal}
 
 -- a SELECT that counts with no test
@@ -29,6 +30,10 @@ workunits_fit tree = record { found = tt; tests = refl; strict = refl; height = 
 pub imports_fit : (tree : ℕ) → CountFits (codes "import") (import_at tree) (counting (codes "SELECT count(*) FROM import")) None
 unfolding everything
 imports_fit tree = record { found = tt; tests = refl; strict = refl; height = (0, tt); few = omega arith; read = refl; typed = refl }
+
+pub classes_fit : (tree : ℕ) → CountFits (codes "host_class") (host_class_at tree) (counting (codes "SELECT count(*) FROM host_class")) None
+unfolding everything
+classes_fit tree = record { found = tt; tests = refl; strict = refl; height = (0, tt); few = omega arith; read = refl; typed = refl }
 
 pub results_fit : (tree : ℕ) → CountFits (codes "result") (result_at tree) (counting (codes "SELECT count(*) FROM result")) None
 unfolding everything
@@ -55,6 +60,10 @@ module _ (old new : State) (world : World) (s : Refines old.now world) (rows : L
   pub imports_counted : Shown (codes "SELECT count(*) FROM import") [] old new rows → IsCount rows (import_count world)
   imports_counted h =
       part_counted Imports tt _ imports_fit h ∙ ap (λ n. (count n ∷ []) ∷ []) (sym (length-map (old.now.trees s.trees.import) (drop 1)) ∙ length_permutation _ _ s.rows.imports.same ∙ length-map world.imports _)
+
+  pub classes_counted : KnowsClasses world → Shown (codes "SELECT count(*) FROM host_class") [] old new rows → IsCount rows (class_count world)
+  classes_counted known h =
+      part_counted HostClasses known _ classes_fit h ∙ ap (λ n. (count n ∷ []) ∷ []) (sym (length-map (old.now.trees s.trees.host_class) (drop 1)) ∙ length_permutation _ _ (s.rows.classes known).hosts.same ∙ length-map world.classes _)
 
   pub results_counted : Shown (codes "SELECT count(*) FROM result") [] old new rows → IsCount rows (result_count world)
   results_counted h =

@@ -21,7 +21,7 @@ use Rattle.wu_schema.proofs.RowLemmas.{int_value, map_same}
 use Rattle.wu_store.proofs.FallLemmas.{has_own}
 use Rattle.wu_schema.proofs.InsertEffect.{also, no_more, cast_int}
 use Rattle.wu_store.proofs.ListedLemmas.{listed_next}
-use Rattle.wu_schema.proofs.Parts.{Grants, HasParts, Holds, Hosts, Part, Keeps, frame, is_part, keeps_both, keeps_calm, parts_there, tree_in}
+use Rattle.wu_schema.proofs.Parts.{Grants, HasParts, Holds, HostClasses, Hosts, IsIn, Part, WorkClasses, Keeps, frame, is_part, keeps_both, keeps_calm, parts_there, tree_in}
 use Rattle.wu_store.proofs.InPlaceLemmas.{in_place, replaced}
 use Rattle.wu_store.proofs.OnceLemmas.{has_permuted, key_once}
 use Rattle.wu_store.proofs.PlacedLemmas.{holds_put, holds_permuted, keeps_put}
@@ -144,7 +144,7 @@ typed db tree sound stands x credit has =
     let more_typed = (and_parts _ _ (and_parts _ _ passed).0).1 in
     ((and_parts _ _ more_typed).0, (and_parts _ _ (and_parts _ _ more_typed).1).0)
 
-module _ (old new : State) (t : ProjectTrees) (grants : List Grant) (g : Grant) (has : HasTables old.now.schema t) (sound : IsDatabase old.now) (h : HoldsHosts (old.now.trees t.host) grants) where
+module _ (old new : State) (version : ℕ) (t : ProjectTrees) (grants : List Grant) (g : Grant) (has : HasTables version old.now.schema t) (sound : IsDatabase old.now) (h : HoldsHosts (old.now.trees t.host) grants) where
   stands : Has old.now.schema.tables (host_at t.host)
   stands = is_there old.now.schema _ _ has.host
 
@@ -178,6 +178,11 @@ module _ (old mid new : Database) (world : World) (s : Refines old world) (place
   fits lists holds Hosts on = holds
   fits lists holds _ on = absurd (cc)
 
+  in_version : (q : Part) → of_grants q ≡ true → IsIn q world.version
+  in_version HostClasses on = absurd (cc)
+  in_version WorkClasses on = absurd (cc)
+  in_version _ on = tt
+
   module _ (put : PutsOne old mid s.trees.grant (stored_grant (place, g))) where
     first : Keeps world.version s.trees old mid (is_part Grants)
     first = keeps_put old mid world s Grants _ tt put
@@ -190,9 +195,9 @@ module _ (old mid new : Database) (world : World) (s : Refines old world) (place
       listed = lists_still (second Grants tt refl ∙ put.rows) (listed_next grant_cells (old.trees s.trees.grant) world.grants place g next s.rows.grants)
 
       with_both : Refines new (with_grant g world)
-      with_both = frame old new world (with_grant g world) s of_grants (it.schema ∙ put.schema) refl (keeps_both world.version s.trees old mid new (is_part Grants) (is_part Hosts) first second) carry (fits listed it.hosts) it.sound
+      with_both = frame old new world (with_grant g world) s of_grants in_version (it.schema ∙ put.schema) refl (keeps_both world.version s.trees old mid new (is_part Grants) (is_part Hosts) first second) carry (fits listed it.hosts) it.sound
 
   pub stands_with_grant : PutsGrant place g old mid → Credits g mid new → IsNextPlace place world.grants → Refines new (with_grant g world)
   stands_with_grant puts credits next =
-      let put = puts s.trees s.tables in
-      with_both put (credits s.trees world.grants (subst (λ (x : Schema). HasTables x s.trees) (sym put.schema) s.tables) put.sound (holds_still (first put Hosts tt refl) s.rows.hosts)) next
+      let put = puts world.version s.trees s.tables in
+      with_both put (credits world.version s.trees world.grants (subst (λ (x : Schema). HasTables world.version x s.trees) (sym put.schema) s.tables) put.sound (holds_still (first put Hosts tt refl) s.rows.hosts)) next

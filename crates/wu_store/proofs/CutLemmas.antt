@@ -1,10 +1,10 @@
 -- The world that the tables stand for once a workunit is deleted.
-use Rattle.wu_schema.proofs.Words.{Executes, List, Ok, Row, Some, Refines, State, Workunit, World, [], has_rowid, not, number, pos, stored_workunit, subst, ℕ, ◌==◌, ◌∷◌, ◌≡◌}
+use Rattle.wu_schema.proofs.Words.{Binary, column, equal, stored_class, Executes, List, Ok, Row, Some, Refines, State, Workunit, World, [], has_rowid, not, number, pos, stored_workunit, subst, ℕ, ◌==◌, ◌∷◌, ◌≡◌}
 use Rattle.wu_store.specs.Changes.{without_workunit}
-use Rattle.wu_store.proofs.EqualLemmas.{number_tied}
+use Rattle.wu_store.proofs.EqualLemmas.{number_equal, number_tied}
 use Rattle.wu_store.proofs.InstanceLemmas.{instances_hold}
 use Rattle.wu_schema.proofs.QuietLemmas.{same_some}
-use Rattle.wu_schema.proofs.Parts.{Part, Instances, Holds, child_column}
+use Rattle.wu_schema.proofs.Parts.{Part, Instances, WorkClasses, Holds, child_column}
 use Rattle.wu_schema.proofs.StandsLemmas.{lists_still, lists_left}
 use Rattle.wu_store.proofs.StandsWith.{stands_without_workunit}
 use Rattle.wu_store.proofs.DeleteTexts.{delete_text}
@@ -15,6 +15,8 @@ module _ (old new : State) (world : World) (s : Refines old.now world) (n : ℕ)
   -- of each child the rows go that refer to the workunit, in the world as in the table
   child_goes : (q : Part) (c : ℕ) (rows : List Row) → child_column q ≡ Some c → Holds q rows world → Holds q (without_number (pos n) c rows) (without_workunit n world)
   child_goes Instances c rows is h = subst (λ k. Holds Instances (without_number (pos n) k rows) (without_workunit n world)) (same_some is) (instances_hold n not world.workunits rows h)
+  child_goes WorkClasses c rows is h =
+      subst (λ k. Holds WorkClasses (without_number (pos n) k rows) (without_workunit n world)) (same_some is) (lists_left stored_class (λ r. equal Binary (column r 0) (number n)) (λ (w : Workunit). w.number == n) rows world.workunits (λ w. number_equal w.number n) h)
   child_goes _ c rows is h = absurd (cc)
 
   pub deletes_workunit : (count : ℕ) → Executes delete_text (number n ∷ []) old new (Ok count) → Refines new.now (without_workunit n world)

@@ -4,8 +4,9 @@ use Rattle.std.specs.Prelude.{All, IfSome, ◌^◌}
 use Rattle.std.proofs.lemmas.List.Elements.{All-head, All-tail}
 use Rattle.sqlite_rules.proofs.ListLemmas.{has_found}
 use Rattle.wu_store.specs.Answers.{first_above, numbered}
-use Rattle.wu_store.specs.Loading.{LoadsAbove, LoadsNumbered}
-use Rattle.wu_core.specs.Storable.{AreStorable, IsStorable}
+use Rattle.wu_store.specs.Due.{AreEarly}
+use Rattle.wu_store.specs.Loading.{LoadsAbove, LoadsEarly}
+use Rattle.wu_core.specs.Storable.{IsStorable}
 use Rattle.wu_store.proofs.PlacedLemmas.{Rises, world_rises}
 
 -- ---- what is found can be read
@@ -17,11 +18,11 @@ found_has P p (x ∷ xs) all = elim (cases_Bool (p x)) [
   | inr not ↦ rw not (found_has P p xs (All-tail P x xs all))
 ]
 
-pub numbered_loads : (number : ℕ) (world : World) → number < 2 ^ 63 → AreStorable world → LoadsNumbered number world
-numbered_loads number world low storable = (low, found_has IsStorable (λ (w : Workunit). w.number == number) world.workunits storable)
+pub numbered_loads : (number : ℕ) (world : World) → number < 2 ^ 63 → AreEarly world → LoadsEarly number world
+numbered_loads number world low (early, storable) = (early, low, found_has IsStorable (λ (w : Workunit). w.number == number) world.workunits storable)
 
-pub above_loads : (number : ℕ) (world : World) → number < 2 ^ 63 → AreStorable world → LoadsAbove number world
-above_loads number world low storable = (low, found_has IsStorable (λ (w : Workunit). nat_lt number w.number) world.workunits storable)
+pub above_loads : (number : ℕ) (world : World) → number < 2 ^ 63 → AreEarly world → LoadsAbove number world
+above_loads number world low (early, storable) = (early, low, found_has IsStorable (λ (w : Workunit). nat_lt number w.number) world.workunits storable)
 
 -- what is above a number has a higher one
 pub higher : (number : ℕ) (world : World) (w : Workunit) → first_above number world ≡ Some w → number < w.number

@@ -21,7 +21,7 @@ pub without_is : (ids : List ℤ) (rows : List Row) → without_all rows ids ≡
 without_is [] rows = sym (no_test rows)
 without_is (id ∷ ids) rows = without_is ids (without_rowid id rows) ∙ filter_twice (has_rowid id) (λ r. list_any (λ j. has_rowid j r) ids) rows
 
-both_ways : (b c : Bool) → (b ≡ true → c ≡ true) → (c ≡ true → b ≡ true) → b ≡ c
+pub both_ways : (b c : Bool) → (b ≡ true → c ≡ true) → (c ≡ true → b ≡ true) → b ≡ c
 both_ways true c to from = sym (to refl)
 both_ways false true to from = from refl
 both_ways false false to from = refl

@@ -16,6 +16,9 @@ pub mod CreditEffect
 pub mod StandsWith
 pub mod SameWorld
 pub mod ChangeLemmas
+pub mod ClassEffect
+pub mod HostClassEffect
+pub mod ClassAnswers
 pub mod QueueLemmas
 pub mod QueueAnswers
 pub mod UpdateLemmas
@@ -50,8 +53,11 @@ mod ViewAnswers
 mod PageLemmas
 mod PageAnswers
 mod SpanAnswers
+mod KeyedLemmas
 mod PageLines
 mod HostPageAnswers
+mod ClassPageAnswers
+mod PageWorkunits
 mod PageHosts
 mod PageResults
 mod CountLemmas

@@ -55,9 +55,9 @@ same_file_delete file_delete.Error file_delete.Error is = refl
 same_mask : (a b : ErrorMask) → error_mask_code a ≡ error_mask_code b → a ≡ b
 same_mask a b is = sym (flags_of-error_mask_code a (error_mask_code b) is) ∙ flags_of-error_mask_code b (error_mask_code b) refl
 
--- a line shows nothing but what the row keeps
-pub same_line : (v w : Workunit) → workunit_row v ≡ workunit_row w → line_of v ≡ line_of w
-same_line v w is =
+-- a line shows nothing but what the row keeps, and the class
+pub same_line : (class : ℕ) (v w : Workunit) → workunit_row v ≡ workunit_row w → record (line_of v) { class = class } ≡ record (line_of w) { class = class }
+same_line class v w is =
     let number : v.number ≡ w.number = cc in
     let name : v.name ≡ w.name = cc in
     let quorum : v.params.min_quorum ≡ w.params.min_quorum = cc in
@@ -78,8 +78,8 @@ same_line v w is =
 -- ---- the lines of rows
 
 -- a row that can't be read is that of no workunit that can be
-pub line_unread : (row : Row) (f : Fault) → Restores workunit_row IsStoredWorkunit row (Err f) → ReadsLine row (Err f)
-line_unread row f reads = record {
+pub line_unread : (class : ℕ) (row : Row) (f : Fault) → Restores workunit_row IsStoredWorkunit row (Err f) → ReadsLine class row (Err f)
+line_unread class row f reads = record {
   value = tt;
   found = λ w can is. never_unread workunit_row IsStoredWorkunit row (Err f) (bare w) reads can is;
   refused = reads.refused;

@@ -32,7 +32,7 @@ module _ {X : Type 0} (cells : X → Row) where
 -- an archived row behind the others
 pub stands_with_archived : (old new : Database) (world : World) (s : Refines old world) (place : ℕ) (a : Archived) → PutsOne old new s.trees.archived (stored_archived (place, a)) → IsNextPlace place world.archived → Refines new (with_archived a world)
 stands_with_archived old new world s place a put next =
-    frame_one old new world (with_archived a world) s Archive put.schema refl (keeps_put old new world s Archive (stored_archived (place, a)) tt put) carry
+    frame_one old new world (with_archived a world) s Archive tt put.schema refl (keeps_put old new world s Archive (stored_archived (place, a)) tt put) carry
     (lists_still put.rows (listed_next archived_cells (old.trees s.trees.archived) world.archived place a next s.rows.archived)) put.sound
   where
     carry : (q : Part) → is_part Archive q ≡ false → (rows : List Row) → Holds q rows world → Holds q rows (with_archived a world)

@@ -1,6 +1,7 @@
 -- What is loaded of a project is what the world has, step by step.
-use Rattle.wu_schema.proofs.Words.{Bool, Err, Fault, Ghosts, IsOrWantsMemory, HasCleanDisk, Held, IfErr, IfOk, Import, ImportKind, Instance, List, None, NotAProject, Ok, Option, Result, Row, Some, Refines, State, Workunit, World, [], ap, arith, cases_Bool, filter, find, if◌then◌else◌, inl, inr, instance_row, is_import, length, length-map, map, map-append, number, option_map, refl, slice_get, state, subst, sym, take, verdict_digits, workunit_row, ℕ, ◌++◌, ◌+◌, ◌-◌, ◌<◌, ◌==◌, ◌∙◌, ◌∷◌, ◌≡◌, ◌≢◌, ◌≤◌}
-use Rattle.std.specs.Prelude.{All, MatchResult, get_or}
+use Rattle.wu_schema.proofs.Words.{AllByRecursion, Bool, Err, Fault, Ghosts, IsOrWantsMemory, HasCleanDisk, Held, IfErr, IfOk, Import, ImportKind, Instance, List, None, NotAProject, Ok, Option, Result, Row, Some, Refines, State, Workunit, World, [], ap, arith, cases_Bool, filter, find, if◌then◌else◌, inl, inr, instance_row, is_import, length, length-map, map, map-append, number, option_map, refl, slice_get, state, subst, sym, take, verdict_digits, workunit_row, ℕ, ◌++◌, ◌+◌, ◌-◌, ◌<◌, ◌==◌, ◌∙◌, ◌∷◌, ◌≡◌, ◌≢◌, ◌≤◌}
+use Rattle.std.specs.Prelude.{All, IfSome, MatchResult, cond, false, get_or, true, ◌^◌}
+use Rattle.wu_core.specs.Storable.{IsClass}
 use Rattle.std.specs.Option.{option_map_or}
 use Rattle.sqlite_rules.proofs.ListLemmas.{has_found}
 use Rattle.wu_schema.proofs.QuietLemmas.{same_some}
@@ -13,7 +14,9 @@ use Rattle.wu_schema.proofs.AskingLemmas.{asks_stands, back_then, survives_none}
 use Rattle.wu_schema.specs.Restoring.{Restores}
 use Rattle.wu_schema.specs.Stored.{kept_cells}
 use Rattle.wu_store.specs.Answers.{instance_rows_of, kept_of, last_of, last_place, numbered}
-use Rattle.wu_store.specs.Loading.{Asks, Finds, FindsIfThere, FindsInstances, LoadsInstances, LoadsImport, IsEarlier, IsLoadable, IsLoadableIfThere, IsReadOnly, IsRowIfThere, IsRowOfPresent, IsStoreFault, NotRefusedIn, ForEachWorld, instances_at}
+use Rattle.wu_store.specs.StandsFor.{KnowsClasses}
+use Rattle.wu_store.specs.Classes.{class_numbered, LoadsClass}
+use Rattle.wu_store.specs.Loading.{classless, FindsClassless, IsWholeIfThere, Asks, Finds, FindsIfThere, FindsInstances, LoadsInstances, LoadsImport, IsEarlier, IsLoadable, IsLoadableIfThere, IsReadOnly, IsRowIfThere, IsRowOfPresent, IsStoreFault, NotRefusedIn, ForEachWorld, instances_at}
 pub use Rattle.wu_store.proofs.AskLemmas.{never_refused}
 use Rattle.wu_store.specs.Reading.{IsStoredImport, row_before, stored_import_row}
 use Rattle.wu_core.specs.Storable.{AreStoredInstances, IsNextNumber, IsStoredInstance, IsStorable, IsStoredWorkunit, bare}
@@ -187,11 +190,11 @@ at_present w world is = ap (λ o. option_map_or (λ (v : Workunit). v.instances)
 
 module _ (row : Row) (world : World) (w : Workunit) (of : IsRowOfPresent row w world) where
   -- a row that was read, and its instances
-  pub whole_found : (v : Workunit) (are : List Instance) → Restores workunit_row IsStoredWorkunit row (Ok v) → are ≡ instances_at v.number world → record v { instances = are } ≡ w
+  pub whole_found : (v : Workunit) (are : List Instance) → Restores workunit_row IsStoredWorkunit row (Ok v) → are ≡ instances_at v.number world → record v { instances = are } ≡ classless w
   whole_found v are reads is =
       let same = same_workunit v w (sym reads.value.0 ∙ of.row_is) in
       let instances : are ≡ w.instances = is ∙ ap (λ (u : Workunit). instances_at u.number world) same ∙ at_present w world of.present in
-      λ i. record (same i) { instances = instances i }
+      λ i. record (same i) { instances = instances i; class = reads.value.1.classless i }
 
   -- the row of a workunit that can be read is read,
   pub row_read : (r : Result Workunit Fault) → Restores workunit_row IsStoredWorkunit row r → IsStorable w → IfErr r (λ fault. fault ≢ NotAProject)
@@ -205,7 +208,7 @@ module _ (row : Row) (world : World) (w : Workunit) (of : IsRowOfPresent row w w
 
 -- ---- what is found where there is a row, and where there is none
 
-pub none_there : (row : Option Row) → row ≡ None → (found : Option Workunit) (world : World) → IsRowIfThere row found world → None ≡ found
+pub none_there : (row : Option Row) → row ≡ None → (found : Option Workunit) (world : World) → IsRowIfThere row found world → None ≡ option_map classless found
 none_there None is None world of = refl
 none_there None is (Some w) world of = absurd of
 none_there (Some row) is found world of = absurd cc
@@ -228,6 +231,50 @@ first_there p world row up is = go (find p world.workunits) refl row is
       row_is = same_some is;
     }
 
+-- a workunit without a class is found as it is
+found_classless : (p : Workunit → Bool) (ws : List Workunit) → AllByRecursion (λ (w : Workunit). w.class ≡ 0) ws → option_map classless (find p ws) ≡ find p ws
+found_classless p [] all = refl
+found_classless p (w ∷ ws) all = go (found_classless p ws all.1) (p w)
+  where
+    go : option_map classless (find p ws) ≡ find p ws → (b : Bool) → option_map classless (cond b (Some w) (find p ws)) ≡ cond b (Some w) (find p ws)
+    go again true = λ i. Some (record w { class = sym all.0 i })
+    go again false = again
+
+-- a workunit that was found without its class, and is this present one
+pub record IsBack (v w : Workunit) (found : Option Workunit) (world : World) : Type 0 where
+  pub found_is : found ≡ Some w
+  pub same : v ≡ classless w
+  pub present : numbered w.number world ≡ Some w
+
+pub back_there : (row : Option Row) (found : Option Workunit) (world : World) (v : Workunit) → IsRowIfThere row found world → Some v ≡ option_map classless found → (w : Workunit) × IsBack v w found world
+back_there row None world v of is = absurd (cc)
+back_there None (Some w) world v of is = absurd of
+back_there (Some row) (Some w) world v of is = (w, record { found_is = refl; same = same_some is; present = of.present })
+
+pub nothing_back : (found : Option Workunit) → None ≡ option_map classless found → None ≡ found
+nothing_back None is = refl
+nothing_back (Some w) is = absurd (cc)
+
+module _ (v w : Workunit) (found : Option Workunit) (world : World) (it : IsBack v w found world) where
+  number_back : v.number ≡ w.number
+  number_back = ap (λ (x : Workunit). x.number) it.same
+
+  -- the class that is told of its number is its own
+  pub class_told : class_numbered v.number world ≡ Some w.class
+  class_told = ap (λ n. class_numbered n world) number_back ∙ ap (option_map (λ (x : Workunit). x.class)) it.present
+
+  pub class_back : (class : ℕ) → Some class ≡ class_numbered v.number world → Some (record v { class = class }) ≡ found
+  class_back class told =
+      let same : class ≡ w.class = same_some (told ∙ class_told) in
+      let one : record v { class = class } ≡ w = λ i. record (it.same i) { class = same i } in
+      ap (λ (x : Workunit). Some x) one ∙ sym it.found_is
+
+  pub class_can : IsStorable w → LoadsClass v.number world
+  class_can can = subst (λ o. IfSome o IsClass) (sym class_told) can.class
+
+  pub number_can : IsStorable w → v.number < 2 ^ 63
+  number_can can = omega (arith, number_back, can.number)
+
 -- a row that was read, of the first workunit that passes a test, and then its instances
 module _ {S : Type 0} (g : Ghosts S) (old mid new : Held S) (p : Workunit → Bool) (row : Option Row) (result : Result (Option Workunit) Fault)
     (asks : Asks g old mid (Ok row)) (answers : Answers g old mid (Ok row) (λ world. option_map workunit_row (find p world.workunits))) (next : Asks g mid new result) where
@@ -240,8 +287,16 @@ module _ {S : Type 0} (g : Ghosts S) (old mid new : Held S) (p : Workunit → Bo
   there : HasCleanDisk (state g new) → (world : World) → Refines (state g old).now world → IsRowIfThere row (find p world.workunits) world
   there clean world stands = first_there p world row (world_rises (state g old).now world stands) (answers (mid_clean clean) world stands)
 
-  pub load_found : ForEachWorld g mid new (FindsIfThere row result) → ForEachWorld g old new (λ world. Finds (find p world.workunits) result)
-  load_found found clean world stands = found clean world (still clean world stands) (find p world.workunits) (there clean world stands)
+  pub load_found : ForEachWorld g mid new (FindsIfThere row result) → ForEachWorld g old new (λ world. KnowsClasses world → Finds (find p world.workunits) result)
+  load_found found clean world stands known = found clean world (still clean world stands) known (find p world.workunits) (there clean world stands)
 
-  pub load_unrefused : NotRefusedIn g mid new result (IsLoadableIfThere row) → NotRefusedIn g old new result (λ world. IsLoadable (find p world.workunits))
-  load_unrefused unrefused clean world stands can limit = unrefused clean world (still clean world stands) (find p world.workunits, there clean world stands, can) (asks.crash.limit ∙ limit)
+  pub load_unrefused : NotRefusedIn g mid new result (IsWholeIfThere row) → NotRefusedIn g old new result (λ world. KnowsClasses world × IsLoadable (find p world.workunits))
+  load_unrefused unrefused clean world stands can limit = unrefused clean world (still clean world stands) (record { known = can.0; loadable = (find p world.workunits, there clean world stands, can.1) }) (asks.crash.limit ∙ limit)
+
+  -- where there are no classes
+  pub early_found : ForEachWorld g mid new (FindsClassless row result) → ForEachWorld g old new (λ world. ¬ KnowsClasses world → Finds (find p world.workunits) result)
+  early_found found clean world stands early =
+      subst (λ o. Finds o result) (found_classless p world.workunits (stands.rows.classless early).workunits) (found clean world (still clean world stands) (find p world.workunits) (there clean world stands))
+
+  pub early_unrefused : NotRefusedIn g mid new result (IsLoadableIfThere row) → NotRefusedIn g old new result (λ world. IsLoadable (find p world.workunits))
+  early_unrefused unrefused clean world stands can limit = unrefused clean world (still clean world stands) (find p world.workunits, there clean world stands, can) (asks.crash.limit ∙ limit)

@@ -55,26 +55,30 @@ stands_without old new world n stands deletes goes = record {
 pub stands_replaced : (old new : Database) (world : World) (w : Workunit) → Refines old world → HasNumber w.number world.workunits → StandsFor new (with_placed w (without_workunit w.number world)) → StandsFor new (with_replaced w world)
 stands_replaced old new world w s there stands = subst (StandsFor new) (replaced_is old world s w there) stands
 
--- ---- a queue that is filled in order
+-- ---- a table that is filled in order
 
-last_in_place : (ps : List (ℕ × Marks)) (one : ℕ × Marks) → AllByRecursion (λ (p : ℕ × Marks). p.0 < one.0) ps → at_place by_number one ps ≡ ps ++ one ∷ []
-last_in_place [] one low = refl
-last_in_place (p ∷ ps) one low = let less : nat_cmp p.0 one.0 ≡ Less = sym (nat_cmp_is p.0 one.0 Less low.0) in rw less (ap (λ l. p ∷ l) (last_in_place ps one low.1))
+module _ {X : Type 0} (of : Workunit → X) where
+  abbrev with_number : Workunit → ℕ × X
+  with_number w = (w.number, of w)
 
-all_below : (n : ℕ) (ws : List Workunit) → AllByRecursion (λ (u : Workunit). n < u.number) ws → (k : ℕ) (d : ℕ × Marks) → k < length (map tagged ws) → n < (get_or (map tagged ws) k d).0
-all_below n [] up k d low = absurd (omega (arith, low))
-all_below n (u ∷ us) up zero d low = up.0
-all_below n (u ∷ us) up (suc k) d low = all_below n us up.1 k d (omega (arith, low))
+  last_in_place : (ps : List (ℕ × X)) (one : ℕ × X) → AllByRecursion (λ (p : ℕ × X). p.0 < one.0) ps → at_place (λ (p : ℕ × X). p.0) one ps ≡ ps ++ one ∷ []
+  last_in_place [] one low = refl
+  last_in_place (p ∷ ps) one low = let less : nat_cmp p.0 one.0 ≡ Less = sym (nat_cmp_is p.0 one.0 Less low.0) in rw less (ap (λ l. p ∷ l) (last_in_place ps one low.1))
 
-below : (ws : List Workunit) → Rises ws → (i : ℕ) (d : ℕ × Marks) → i < length (map tagged ws) → AllByRecursion (λ (p : ℕ × Marks). p.0 < (get_or (map tagged ws) i d).0) (take i (map tagged ws))
-below [] up i d low = absurd (omega (arith, low))
-below (v ∷ vs) up zero d low = tt
-below (v ∷ vs) up (suc k) d low = (all_below v.number vs up.0 k d (omega (arith, low)), below vs up.1 k d (omega (arith, low)))
+  all_below : (n : ℕ) (ws : List Workunit) → AllByRecursion (λ (u : Workunit). n < u.number) ws → (k : ℕ) (d : ℕ × X) → k < length (map with_number ws) → n < (get_or (map with_number ws) k d).0
+  all_below n [] up k d low = absurd (omega (arith, low))
+  all_below n (u ∷ us) up zero d low = up.0
+  all_below n (u ∷ us) up (suc k) d low = all_below n us up.1 k d (omega (arith, low))
 
--- the next row comes behind those that are there
-pub filled_more : (ws : List Workunit) → Rises ws → (i : ℕ) (d one : ℕ × Marks) → i < length (map tagged ws) → get_or (map tagged ws) i d ≡ one → with_marks one.0 one.1 (take i (map tagged ws)) ≡ take (i + 1) (map tagged ws)
-filled_more ws up i d one low at =
-    ap (λ (p : ℕ × Marks). at_place by_number p (take i (map tagged ws))) (sym at) ∙ last_in_place (take i (map tagged ws)) (get_or (map tagged ws) i d) (below ws up i d low) ∙ sym (take_more (map tagged ws) i d low)
+  below : (ws : List Workunit) → Rises ws → (i : ℕ) (d : ℕ × X) → i < length (map with_number ws) → AllByRecursion (λ (p : ℕ × X). p.0 < (get_or (map with_number ws) i d).0) (take i (map with_number ws))
+  below [] up i d low = absurd (omega (arith, low))
+  below (v ∷ vs) up zero d low = tt
+  below (v ∷ vs) up (suc k) d low = (all_below v.number vs up.0 k d (omega (arith, low)), below vs up.1 k d (omega (arith, low)))
+
+  -- the next row comes behind those that are there
+  pub filled_more : (ws : List Workunit) → Rises ws → (i : ℕ) (d one : ℕ × X) → i < length (map with_number ws) → get_or (map with_number ws) i d ≡ one → at_place (λ (p : ℕ × X). p.0) one (take i (map with_number ws)) ≡ take (i + 1) (map with_number ws)
+  filled_more ws up i d one low at =
+      ap (λ (p : ℕ × X). at_place (λ (q : ℕ × X). q.0) p (take i (map with_number ws))) (sym at) ∙ last_in_place (take i (map with_number ws)) (get_or (map with_number ws) i d) (below ws up i d low) ∙ sym (take_more (map with_number ws) i d low)
 
 -- ---- what leaves the workunits
 

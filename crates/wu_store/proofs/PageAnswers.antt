@@ -1,13 +1,14 @@
 -- What the SELECTs of pages answer of the world that the tables stand for.
-use Rattle.wu_schema.proofs.Words.{Grant, grant_at, stored_grant, Archived, Bool, Database, Expr-F, Int, List, ListsAll, Row, Shown, Some, Refines, State, Term, Workunit, World, [], ap, archived_at, arith, codes, col, eval_all, everything, filter, holds, list_all, lit, map, map-map, nat_le, pos, refl, roll-Expr, stored_archived, stored_workunit, take, false, workunit_at, workunit_row, ℕ, ℤ, ◌++◌, ◌^◌, ◌∙◌, ◌∷◌, ◌≡◌}
+use Rattle.wu_schema.proofs.Words.{Grant, grant_at, stored_grant, Archived, Bool, Database, Expr-F, Int, List, ListsAll, Row, Shown, Some, Refines, State, Term, Workunit, World, [], ap, archived_at, arith, codes, col, eval_all, everything, filter, holds, list_all, lit, map, map-map, nat_le, pos, refl, roll-Expr, stored_archived, stored_class, stored_workunit, take, false, workunit_at, workunit_class_at, workunit_row, ℕ, ℤ, ◌++◌, ◌^◌, ◌∙◌, ◌∷◌, ◌≡◌}
 use Rattle.sqlite_sql.specs.declared.ops.CompareOp.TheVariants as compare
 use Rattle.sqlite.specs.Program.{overlay}
 use Rattle.sqlite.specs.Query.{IsSureAnswer}
-use Rattle.wu_schema.proofs.Parts.{Archive, Grants, Workunits}
+use Rattle.wu_schema.proofs.Parts.{Archive, Grants, WorkClasses, Workunits}
 use Rattle.wu_schema.proofs.RowLemmas.{one_test}
 use Rattle.wu_schema.proofs.SelectLemmas.{Asked, Fits}
 use Rattle.wu_store.specs.Answers.{credit_page, credit_row, placed_grants}
-use Rattle.wu_store.specs.Pages.{archive_of, archive_page, name_page, named_of, named_row, placed_archived_row, workunit_page}
+use Rattle.wu_store.specs.StandsFor.{KnowsClasses}
+use Rattle.wu_store.specs.Pages.{archive_of, archive_page, class_page, classed_of, classed_row, name_page, named_of, named_row, placed_archived_row, workunit_page}
 use Rattle.std.proofs.lemmas.List.{take-map}
 use Rattle.wu_store.proofs.EqualLemmas.{int_above}
 use Rattle.wu_store.proofs.OrderAnswers.{sorted, sure_in_order}
@@ -73,6 +74,26 @@ module _ (old new : State) (world : World) (s : Refines old.now world) (key : �
       let above = is_above (λ (w : Workunit). w.number) key in
       first_found s.trees.workunit (col 1 0 ∷ col 1 2 ∷ []) key 100 stored_workunit name_row above world.workunits old.now rows s.tables.workunit.1.low s.rows.workunits (λ w. one_test _ ∙ int_above (pos w.number) key) (λ w. refl) read.answer
       ∙ take-map name_row 100 (filter above world.workunits)
+
+-- ---- numbers and classes of workunits
+
+abbrev pub class_page_asked : Asked
+class_page_asked = page_asked (codes "SELECT workunit, class FROM workunit_class WHERE workunit > ?1 ORDER BY workunit LIMIT 100") (0 ∷ 1 ∷ []) (codes "100") 100
+
+pub class_page_fits : (tree : ℕ) → Fits (codes "workunit_class") (workunit_class_at tree) class_page_asked
+unfolding everything
+class_page_fits tree = record { shown = refl; tests = refl; strict = refl; order = refl; height = (698, refl); few = omega arith; limit = λ schema. refl; read = refl; typed = refl }
+
+abbrev class_row : Workunit → Row
+class_row w = classed_row (classed_of w)
+
+module _ (old new : State) (world : World) (known : KnowsClasses world) (s : Refines old.now world) (key : ℤ) where
+  pub class_page_found : (rows : List Row) → Shown class_page_asked.text (Int key ∷ []) old new rows → rows ≡ class_page key world
+  class_page_found rows h =
+      let read = asked_answers WorkClasses class_page_asked class_page_fits old new world s known (Int key ∷ []) rows h in
+      let above = is_above (λ (w : Workunit). w.number) key in
+      first_found s.trees.workunit_class (col 1 0 ∷ col 1 2 ∷ []) key 100 stored_class class_row above world.workunits old.now rows (s.tables.workunit_class known).1.low (s.rows.classes known).workunits (λ w. one_test _ ∙ int_above (pos w.number) key) (λ w. refl) read.answer
+      ∙ take-map class_row 100 (filter above world.workunits)
 
 -- ---- the archive
 

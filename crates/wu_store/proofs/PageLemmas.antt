@@ -166,26 +166,31 @@ module _ {X A : Type 0} (R : X → X → Type 0) (above : A → X → Bool) (at 
           ])
 
   module _ {T : Type 0} (row_of : X → Row) (line_of : X → T) where
-    zipped : (xs page : List X) → ((x : X) → Has page x → Contains xs x) → AllZip (IsRowOf row_of line_of xs) (map row_of page) (map line_of page)
-    zipped xs [] within = tt
-    zipped xs (x ∷ page) within = (record { shown = x; there = within x (inl refl); row_is = refl; line_is = refl }, zipped xs page (λ z has. within z (inr has)))
+    zipped : (IsRow : Row → T → Type 0) (page : List X) → ((x : X) → Has page x → IsRow (row_of x) (line_of x)) → AllZip IsRow (map row_of page) (map line_of page)
+    zipped IsRow [] fits = tt
+    zipped IsRow (x ∷ page) fits = (fits x (inl refl), zipped IsRow page (λ z has. fits z (inr has)))
 
     no_page : (n : ℕ) (ys : List X) → take (suc n) (map row_of ys) ≡ [] → map line_of ys ≡ []
     no_page n [] none = refl
     no_page n (y ∷ ys) none = absurd (cc)
 
     -- the rows of a page are those of the first lines above a place, and above the one behind it are the others
-    pub turned : (n : ℕ) (a b : A) (xs : List X) (rows : List Row) → IsAscending R xs → rows ≡ take (suc n) (map row_of (filter (above a) xs)) → Follows at a (take (suc n) (filter (above a) xs)) b
-        → TurnsTo (IsRowOf row_of line_of xs) (map line_of (filter (above a) xs)) rows (map line_of (filter (above b) xs))
-    turned n a b xs rows up are follows =
+    pub turned_as : (IsRow : Row → T → Type 0) (n : ℕ) (a b : A) (xs : List X) (rows : List Row) → IsAscending R xs → rows ≡ take (suc n) (map row_of (filter (above a) xs)) → Follows at a (take (suc n) (filter (above a) xs)) b
+        → ((x : X) → Has (take (suc n) (filter (above a) xs)) x → IsRow (row_of x) (line_of x)) → TurnsTo IsRow (map line_of (filter (above a) xs)) rows (map line_of (filter (above b) xs))
+    turned_as IsRow n a b xs rows up are follows fits =
         let all = filter (above a) xs in
         let page = take (suc n) all in
         record {
           lines = map line_of page;
-          each = subst (λ rs. AllZip (IsRowOf row_of line_of xs) rs (map line_of page)) (sym (are ∙ take-map row_of (suc n) all)) (zipped xs page (λ x has. among_all (above a) (suc n) xs x has));
+          each = subst (λ rs. AllZip IsRow rs (map line_of page)) (sym (are ∙ take-map row_of (suc n) all)) (zipped IsRow page fits);
           all = ap (map line_of) (cut (suc n) all) ∙ map-append line_of page (drop (suc n) all) ∙ ap (λ l. map line_of page ++ map line_of l) (sym (left (suc n) a b xs up follows));
           end = λ none. no_page n all (sym are ∙ none);
         }
+
+    pub turned : (n : ℕ) (a b : A) (xs : List X) (rows : List Row) → IsAscending R xs → rows ≡ take (suc n) (map row_of (filter (above a) xs)) → Follows at a (take (suc n) (filter (above a) xs)) b
+        → TurnsTo (IsRowOf row_of line_of xs) (map line_of (filter (above a) xs)) rows (map line_of (filter (above b) xs))
+    turned n a b xs rows up are follows =
+        turned_as (IsRowOf row_of line_of xs) n a b xs rows up are follows (λ x has. record { shown = x; there = among_all (above a) (suc n) xs x has; row_is = refl; line_is = refl })
 
 -- ---- keys
 
@@ -256,11 +261,16 @@ module _ {X : Type 0} (key_of : X → ℕ) where
     all_of a xs = filter (is_above key_of a) xs
 
     -- the lines behind a page whose last key is read
+    pub keys_turned_as : (IsRow : Row → T → Type 0) (n : ℕ) (a : ℤ) (xs : List X) (rows : List Row) (b : ℤ) → IsAscending IsLower xs → rows ≡ take (suc n) (map row_of (all_of a xs)) → ReadsLastKey a rows (Ok b)
+        → ((x : X) → Has (take (suc n) (all_of a xs)) x → IsRow (row_of x) (line_of x)) → TurnsTo IsRow (map line_of (all_of a xs)) rows (map line_of (all_of b xs))
+    keys_turned_as IsRow n a xs rows b up are reads fits =
+        turned_as IsLower (is_above key_of) key_at orders_keys row_of line_of IsRow n a b xs rows up are
+        (follows a (take (suc n) (all_of a xs)) b (subst (λ rs. ReadsLastKey a rs (Ok b)) (are ∙ take-map row_of (suc n) (all_of a xs)) reads)) fits
+
     pub keys_turned : (n : ℕ) (a : ℤ) (xs : List X) (rows : List Row) (b : ℤ) → IsAscending IsLower xs → rows ≡ take (suc n) (map row_of (all_of a xs)) → ReadsLastKey a rows (Ok b)
         → TurnsTo (IsRowOf row_of line_of xs) (map line_of (all_of a xs)) rows (map line_of (all_of b xs))
     keys_turned n a xs rows b up are reads =
-        turned IsLower (is_above key_of) key_at orders_keys row_of line_of n a b xs rows up are
-        (follows a (take (suc n) (all_of a xs)) b (subst (λ rs. ReadsLastKey a rs (Ok b)) (are ∙ take-map row_of (suc n) (all_of a xs)) reads))
+        keys_turned_as (IsRowOf row_of line_of xs) n a xs rows b up are reads (λ x has. record { shown = x; there = among_all (is_above key_of a) (suc n) xs x has; row_is = refl; line_is = refl })
 
     -- and it can be read
     pub key_read : (n : ℕ) (a : ℤ) (xs : List X) (rows : List Row) (r : Result ℤ Fault) → rows ≡ take (suc n) (map row_of (all_of a xs)) → ReadsLastKey a rows r → IfErr r (λ fault. fault ≢ NotAProject)

@@ -1,9 +1,11 @@
 -- A row of a page is read as the line that it stands for.
-use Rattle.std.proofs.Common.{◌≡◌, ◌≢◌, ◌∙◌, ℕ, ◌+◌, ◌<◌, arith, List, [], ◌∷◌, length, map, Result, Ok, Err, IfOk, IfErr, ap, inl, inr, refl, subst, sym}
-use Rattle.std.specs.Prelude.{All}
+use Rattle.std.proofs.Common.{Global, Option, Some, Vec, of_z, pos, to_z, w64, ℤ, ◌≡◌, ◌≢◌, ◌∙◌, ℕ, ◌+◌, ◌<◌, arith, List, [], ◌∷◌, length, map, Result, Ok, Err, IfOk, IfErr, ap, inl, inr, refl, subst, sym}
+use Rattle.std.specs.Prelude.{All, FitsSigned, option_and_then, ⊤}
+use Rattle.std.proofs.lemmas.Int.{to_z-of_z}
+use Rattle.sqlite.specs.declared.types.Value.TheVariants.{Int}
 use Rattle.std.specs.List.{AllByRecursion, Contains, enumerate_from}
 use Rattle.std.proofs.lemmas.List.Elements.{recursion_from_All}
-use Rattle.sqlite.specs.Order.{Row}
+use Rattle.sqlite.specs.Order.{Row, column}
 use Rattle.sqlite_rules.specs.Lists.{Has}
 use Rattle.sqlite_rules.proofs.ListLemmas.{has_contained}
 use Rattle.wu_core.specs.Storable.{AreStorable, IsArchiveStorable, IsStorable, IsStoredArchived}
@@ -13,10 +15,11 @@ use Rattle.wu_core.specs.declared.fault.Fault.TheVariants.{NotAProject}
 use Rattle.wu_core.specs.declared.workunit.Archived.{Archived}
 use Rattle.wu_schema.specs.Restoring.{Restores}
 use Rattle.wu_schema.specs.Stored.{archived_cells}
-use Rattle.wu_store.specs.Lines.{ReadsLine}
-use Rattle.wu_store.specs.Pages.{IsRowOfArchived, IsRowOfWorkunit}
+use Rattle.wu_store.specs.Lines.{ReadsLine, line_of}
+use Rattle.wu_store.specs.Pages.{IsRowOfArchived, IsRowOfWorkunit, class_among}
 use Rattle.wu_store.specs.Reading.{columns}
 use Rattle.wu_store.specs.declared.lines.WorkunitLine.{WorkunitLine}
+use Rattle.wu_store.specs.declared.pages.workunits.Classed.{Classed}
 use Rattle.wu_store.proofs.LineLemmas.{same_line}
 use Rattle.wu_store.proofs.ListingLemmas.{archived_again, archived_of}
 use Rattle.wu_store.proofs.LoadLemmas.{never_unread}
@@ -49,15 +52,30 @@ placed_under k (x ∷ xs) p (inr later) = let low = placed_under (k + 1) xs p la
 
 -- ---- workunits
 
-module _ (world : World) (row : Row) (line : WorkunitLine) (is : IsRowOfWorkunit world row line) where
-  -- the row is read as its line,
-  pub workunit_line : (r : Result WorkunitLine Fault) → ReadsLine row r → IfOk r (λ read. read ≡ line)
-  workunit_line (Ok read) reads = reads.value.2 ∙ same_line reads.value.0 is.shown (sym reads.value.1 ∙ is.row_is) ∙ sym is.line_is
-  workunit_line (Err f) reads = tt
+module _ (classed : Option (Vec Classed Global)) (world : World) (row : Row) (line : WorkunitLine) (is : IsRowOfWorkunit classed world row line) where
+  -- the number of the workunit is read,
+  pub workunit_number_read : (r : Result ℤ Fault) → Restores Int (λ _. ⊤) (column row 0) r → IfErr r (λ fault. fault ≢ NotAProject)
+  workunit_number_read r reads = never_unread Int (λ _. ⊤) (column row 0) r (pos is.of.shown.number) reads tt (ap (λ r. column r 0) is.of.row_is)
 
-  -- where its workunit can be read
-  pub workunit_unrefused : (r : Result WorkunitLine Fault) → ReadsLine row r → AreStorable world → IfErr r (λ fault. fault ≢ NotAProject)
-  workunit_unrefused r reads can = reads.found is.shown (held IsStorable world.workunits is.shown can is.there).row is.row_is
+  -- and the class that is found by it is its class
+  pub class_found : (page : Vec Classed Global) → classed ≡ Some page → (key : ℤ) → FitsSigned w64 key → Restores Int (λ _. ⊤) (column row 0) (Ok key) → (o : Option ℕ) → o ≡ class_among (to_z w64 (of_z w64 key)) page.items → o ≡ Some is.of.shown.class
+  class_found page given key fits reads o found =
+      let keys : Int key ≡ Int (pos is.of.shown.number) = sym reads.value.0 ∙ ap (λ r. column r 0) is.of.row_is in
+      let same : key ≡ pos is.of.shown.number = cc in
+      found ∙ ap (λ k. class_among k page.items) (to_z-of_z w64 key fits ∙ same) ∙ sym (ap (option_and_then (λ (all : Vec Classed Global). class_among (pos is.of.shown.number) all.items)) given) ∙ is.class
+
+  module _ (class : ℕ) (same : Some class ≡ Some is.of.shown.class) where
+    class_is : class ≡ is.of.shown.class
+    class_is = cc
+
+    -- its line is read,
+    pub workunit_line : (r : Result WorkunitLine Fault) → ReadsLine class row r → IfOk r (λ read. read ≡ line)
+    workunit_line (Ok read) reads = reads.value.2 ∙ same_line class reads.value.0 is.of.shown (sym reads.value.1 ∙ is.of.row_is) ∙ ap (λ (n : ℕ). record (line_of is.of.shown) { class = n }) class_is ∙ sym is.of.line_is
+    workunit_line (Err f) reads = tt
+
+    -- where its workunit can be read
+    pub workunit_unrefused : (r : Result WorkunitLine Fault) → ReadsLine class row r → AreStorable world → IfErr r (λ fault. fault ≢ NotAProject)
+    workunit_unrefused r reads can = reads.found is.of.shown (held IsStorable world.workunits is.of.shown can is.of.there).row is.of.row_is
 
 -- ---- the archive
 

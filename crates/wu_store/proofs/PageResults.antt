@@ -1,13 +1,11 @@
 -- The lines of results, by pages of the instances of many workunits.
-use Rattle.wu_schema.proofs.Words.{Blob, Database, eqb-true, Err, Fault, Has, IfErr, IfOk, Int, List, None, NotAProject, Ok, Option, Refines, Result, Row, Some, Vec, Workunit, World, [], ap, arith, cases_Bool, column, contains_had, drop, enumerate_from, eq-eqb, false, flat_map, has_contained, if◌then◌else◌, inl, inr, length, map, map-append, negsuc, number, pos, refl, slice_get, subst, sym, true, ℕ, ℤ, ⊤, ◌++◌, ◌-◌, ◌<◌, ◌==◌, ◌∙◌, ◌∷◌, ◌≡◌, ◌≢◌, ◌≤◌, ◌^◌, nat_tests, of_z, to_z, to_z-of_z, w64}
+use Rattle.wu_schema.proofs.Words.{Blob, Database, eqb-true, Err, Fault, Has, IfErr, IfOk, Int, List, None, NotAProject, Ok, Option, Refines, Result, Row, Some, Vec, Workunit, World, [], ap, arith, cases_Bool, column, contains_had, drop, enumerate_from, false, flat_map, has_contained, if◌then◌else◌, inl, inr, length, map, map-append, negsuc, number, pos, refl, slice_get, subst, sym, true, ℕ, ℤ, ⊤, ◌++◌, ◌-◌, ◌<◌, ◌==◌, ◌∙◌, ◌∷◌, ◌≡◌, ◌≢◌, ◌≤◌, ◌^◌, nat_tests, of_z, to_z, to_z-of_z, w64}
 use Rattle.std.specs.List.{AllZip, Contains}
-use Rattle.std.specs.Ordering.{int_eq}
-use Rattle.std.specs.Prelude.{FitsSigned, int_lt, option_and_then}
+use Rattle.std.specs.Prelude.{FitsSigned, int_lt, option_and_then, option_map}
 use Rattle.std.specs.declared.alloc.Global.{Global}
 use Rattle.std.proofs.lemmas.List.Concat.{flat_map-append}
 use Rattle.std.proofs.lemmas.List.Elements.{All-from_recursion, All-map, All-take, All-weaker, recursion_from_All}
 use Rattle.sqlite_trees.proofs.ListLemmas.{all-filter}
-use Rattle.sqlite_rules.proofs.ListLemmas.{has_kept}
 use Rattle.wu_core.specs.declared.workunit.Instance.{Instance}
 use Rattle.wu_core.specs.Limits.{most_instances}
 use Rattle.wu_core.specs.Storable.{AreStorable, IsStorable, IsStoredInstance}
@@ -21,9 +19,10 @@ use Rattle.wu_store.specs.declared.pages.results.OfWorkunits.{OfWorkunits}
 use Rattle.wu_store.proofs.LoadLemmas.{never_unread}
 use Rattle.wu_store.proofs.ReadingLemmas.{is_bare}
 use Rattle.wu_store.proofs.PageLemmas.{Follows, all_above, in_page, at_last, cut, is_above, key_at, keys_behind, keys_between, last_in_page, last_same, none_taken, parted}
+use Rattle.wu_store.proofs.KeyedLemmas.{find_keyed, once_in_page}
 use Rattle.wu_store.proofs.PageLines.{held, placed_held, placed_under}
 use Rattle.wu_store.proofs.PlacedLemmas.{Rises, world_rises}
-use Rattle.wu_store.proofs.SameWorld.{only_one, same_instances}
+use Rattle.wu_store.proofs.SameWorld.{same_instances}
 
 -- every number is above -1
 pub results_above : (world : World) → result_lines_above (negsuc 0) world ≡ result_lines world
@@ -110,18 +109,7 @@ keys_shrink (negsuc m) (negsuc n) low fits = grind (arith, nat_tests)
 
 -- names are those of the numbers
 find_named : (w : Workunit) (vs : List Workunit) → ((v : Workunit) → Has vs v → v.number ≡ w.number → v ≡ w) → Has vs w → name_among (pos w.number) (map named_of vs) ≡ Some w.name
-find_named w [] once has = absurd has
-find_named w (v ∷ vs) once has = elim (cases_Bool (int_eq (pos v.number) (pos w.number))) [
-  | inl on ↦ rw on (let same : v ≡ w = once v (inl refl) (same_key on) in ap (λ (u : Workunit). Some u.name) same)
-  | inr off ↦ rw off (find_named w vs (λ u later. once u (inr later)) (elsewhere off has))
-]
-  where
-    same_key : int_eq (pos v.number) (pos w.number) ≡ true → v.number ≡ w.number
-    same_key on = grind (arith, nat_tests, on)
-
-    elsewhere : int_eq (pos v.number) (pos w.number) ≡ false → Has (v ∷ vs) w → Has vs w
-    elsewhere off (inl is) = absurd (let same : w.number ≡ v.number = ap (λ (u : Workunit). u.number) is in grind (arith, nat_tests, off, same))
-    elsewhere off (inr later) = later
+find_named w vs once has = ap (option_map (λ (n : Named). n.name)) (find_keyed (λ (n : Named). n.key) named_of (λ v. refl) w vs once has)
 
 zip_append : {X Y : Type 0} (R : X → Y → Type 0) (xs us : List X) (ys vs : List Y) → AllZip R xs ys → AllZip R us vs → AllZip R (xs ++ us) (ys ++ vs)
 zip_append R [] us [] vs one two = two
@@ -181,11 +169,7 @@ module _ (db : Database) (world : World) (s : Refines db world) (key : ℤ) wher
     left = lines_left is.before is.final is.parts ∙ ap (λ k. flat_map result_lines_of page ++ result_lines_above k world) (sym is.last)
 
     once : (w : Workunit) → Has world.workunits w → (v : Workunit) → Has page v → v.number ≡ w.number → v ≡ w
-    once w there v has same = single (subst (λ vs. Has vs v) (only_one w world.workunits rises there) (has_kept (λ (u : Workunit). u.number == w.number) world.workunits v (in_page (is_above number_of key) 100 world.workunits v has).0 (eq-eqb v.number w.number same)))
-      where
-        single : Has (w ∷ []) v → v ≡ w
-        single (inl is) = is
-        single (inr none) = absurd none
+    once = once_in_page db world s key
 
     -- rows and lines of one workunit,
     of_one : (w : Workunit) → Has page w → (ps : List (ℕ × Instance)) → ((p : ℕ × Instance) → Has ps p → Has (placed_instances w) p) → AllZip (IsRowOfResult (Some named) world) (map (result_row w.number) ps) (map (result_line_of w.name) ps)

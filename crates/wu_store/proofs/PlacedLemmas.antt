@@ -1,5 +1,5 @@
 -- A workunit at its place in order of number, and its instances beside those of the others.
-use Rattle.wu_schema.proofs.Words.{AllByRecursion, Bool, None, Database, Equal, Greater, HoldsAll, Instance, Int, IsAscending, IsPermutation, IsPermutation-refl, IsPermutation-sym, IsPermutation-trans, IsShaped-put_row, IsTable, Less, List, ListsAll, Ordering, PutsOne, Row, Refines, Workunit, World, [], all_has, ap, arith, cases_Bool, drop, enumerate_from, eq-eqb, eqb-true, false, filter, flat_map, if◌then◌else◌, inl, inr, instance_cells, instances_of, int_cmp, is_eq, is_taken, length, list_any, map, map-append, nat_tests, next_rowid, not, pos, put_row, refl, rowid, some_has, stored_workunit, subst, sym, true, value_cmp, value_cmp-Int, ℕ, ◌++◌, ◌+◌, ◌<◌, ◌==◌, ◌||◌, ◌∙◌, ◌∷◌, ◌≡◌, find, take, get_or, Some, option_map, ne_eqb, ◌≢◌}
+use Rattle.wu_schema.proofs.Words.{AllByRecursion, Bool, None, Database, Equal, Greater, HoldsAll, Instance, Int, IsAscending, IsPermutation, IsPermutation-refl, IsPermutation-sym, IsPermutation-trans, IsShaped-put_row, IsTable, Less, List, ListsAll, Ordering, PutsOne, Row, Refines, Workunit, World, [], all_has, ap, arith, cases_Bool, drop, enumerate_from, eq-eqb, eqb-true, false, filter, flat_map, if◌then◌else◌, inl, inr, instance_cells, instances_of, int_cmp, is_eq, is_taken, length, list_any, map, map-append, nat_tests, next_rowid, not, pos, put_row, refl, rowid, some_has, stored_workunit, subst, sym, true, value_cmp, value_cmp-Int, ℕ, ◌++◌, ◌+◌, ◌<◌, ◌==◌, ◌||◌, ◌∙◌, ◌∷◌, ◌≡◌, find, take, get_or, Some, option_map, ne_eqb, ◌≢◌, Null, Schema, number, stored_class}
 use Rattle.wu_store.specs.Changes.{HasInstances, with_instance, with_placed, without_workunit, AddsInstance}
 use Rattle.std.proofs.Common.{append_assoc, length-take-le}
 use Rattle.std.proofs.lemmas.List.{take_more}
@@ -14,7 +14,9 @@ use Rattle.std.proofs.lemmas.List.Sorted.{IsPermutation-append_comm, IsPermutati
 use Rattle.wu_store.proofs.EqualLemmas.{number_tied}
 use Rattle.wu_schema.proofs.StandsLemmas.{but_one, no_instances, cells_put, lists_still}
 use Rattle.wu_schema.proofs.QuietLemmas.{same_some}
-use Rattle.wu_schema.proofs.Parts.{Part, Workunits, Instances, tree_in, Holds, is_part, IsIn, Keeps, parts_there, keeps_but, either_false, frame_one}
+use Rattle.wu_schema.specs.Stored.{workunit_cells}
+use Rattle.wu_schema.specs.Tables.{IsClassedVersion}
+use Rattle.wu_schema.proofs.Parts.{Part, Workunits, Instances, HostClasses, WorkClasses, HasParts, tree_in, Holds, is_part, IsIn, Keeps, parts_there, keeps_both, keeps_but, either_false, frame, frame_one}
 
 -- numbers rise
 abbrev pub Rises : List Workunit → Type 0
@@ -28,20 +30,23 @@ numbers_compare m n = value_cmp-Int (pos m) (pos n) ∙ tests
     tests : int_cmp (pos m) (pos n) ≡ nat_cmp m n
     tests = grind (arith, nat_tests)
 
-pub put_placed : (w : Workunit) (ws : List Workunit) → put_row (stored_workunit w) (map stored_workunit ws) ≡ map stored_workunit (placed w ws)
-put_placed w [] = refl
-put_placed w (v ∷ vs) =
-    ap (λ o. match_ordering o (stored_workunit v ∷ put_row (stored_workunit w) (map stored_workunit vs)) (stored_workunit w ∷ map stored_workunit vs) (stored_workunit w ∷ stored_workunit v ∷ map stored_workunit vs)) (numbers_compare v.number w.number)
-    ∙ go (put_placed w vs) (nat_cmp v.number w.number)
-  where
-    go : put_row (stored_workunit w) (map stored_workunit vs) ≡ map stored_workunit (placed w vs) → (o : Ordering)
-        → match_ordering o (stored_workunit v ∷ put_row (stored_workunit w) (map stored_workunit vs)) (stored_workunit w ∷ map stored_workunit vs) (stored_workunit w ∷ stored_workunit v ∷ map stored_workunit vs) ≡ map stored_workunit (match_ordering o (v ∷ placed w vs) (w ∷ vs) (w ∷ v ∷ vs))
-    go again Less = ap (λ rs. stored_workunit v ∷ rs) again
-    go again Equal = refl
-    go again Greater = refl
+-- of a table that keeps something of each by its number
+module _ (cells : Workunit → Row) where
+  abbrev keyed : Workunit → Row
+  keyed w = number w.number ∷ cells w
 
-pub lists_placed : (w : Workunit) (ws : List Workunit) (rows : List Row) → ListsAll rows (map stored_workunit ws) → ListsAll (put_row (stored_workunit w) rows) (map stored_workunit (placed w ws))
-lists_placed w ws rows l = record { shaped = IsShaped-put_row (stored_workunit w) rows refl l.shaped; same = ap (put_row (stored_workunit w)) l.same ∙ put_placed w ws }
+  put_placed : (w : Workunit) (ws : List Workunit) → put_row (keyed w) (map keyed ws) ≡ map keyed (placed w ws)
+  put_placed w [] = refl
+  put_placed w (v ∷ vs) = ap (λ o. match_ordering o (keyed v ∷ put_row (keyed w) (map keyed vs)) (keyed w ∷ map keyed vs) (keyed w ∷ keyed v ∷ map keyed vs)) (numbers_compare v.number w.number) ∙ go (put_placed w vs) (nat_cmp v.number w.number)
+    where
+      go : put_row (keyed w) (map keyed vs) ≡ map keyed (placed w vs) → (o : Ordering)
+          → match_ordering o (keyed v ∷ put_row (keyed w) (map keyed vs)) (keyed w ∷ map keyed vs) (keyed w ∷ keyed v ∷ map keyed vs) ≡ map keyed (match_ordering o (v ∷ placed w vs) (w ∷ vs) (w ∷ v ∷ vs))
+      go again Less = ap (λ rs. keyed v ∷ rs) again
+      go again Equal = refl
+      go again Greater = refl
+
+  pub lists_placed : (w : Workunit) (ws : List Workunit) (rows : List Row) → ListsAll rows (map keyed ws) → ListsAll (put_row (keyed w) rows) (map keyed (placed w ws))
+  lists_placed w ws rows l = record { shaped = IsShaped-put_row (keyed w) rows refl l.shaped; same = ap (put_row (keyed w)) l.same ∙ put_placed w ws }
 
 -- ---- what each workunit brings
 
@@ -152,6 +157,14 @@ works_same number i (w ∷ ws) = (λ k. go (w.number == number) k ∷ works_same
     go true = refl
     go false = refl
 
+classes_same : (number : ℕ) (i : Instance) (ws : List Workunit) → map stored_class (map (and_instance number i) ws) ≡ map stored_class ws
+classes_same number i [] = refl
+classes_same number i (w ∷ ws) = (λ k. go (w.number == number) k ∷ classes_same number i ws k)
+  where
+    go : (b : Bool) → stored_class (if b then record w { instances = w.instances ++ i ∷ [] } else w) ≡ stored_class w
+    go true = refl
+    go false = refl
+
 -- a workunit of another number stays
 others_same : (number : ℕ) (i : Instance) (ws : List Workunit) → LacksNumber number ws → map (and_instance number i) ws ≡ ws
 others_same number i [] none = refl
@@ -222,32 +235,52 @@ module _ (old new : Database) (world : World) (s : Refines old world) where
   pub was_free : (w : Workunit) → PutsOne old new s.trees.workunit (stored_workunit w) → LacksNumber w.number world.workunits
   was_free w put = absent_from w world.workunits (subst (λ rs. is_taken rs (stored_workunit w) ≡ false) s.rows.workunits.same put.fresh)
 
-  -- a workunit that has no instances yet; since its row was put in, no other had its number
-  pub stands_with_placed : (w : Workunit) → PutsOne old new s.trees.workunit (stored_workunit w) → w.instances ≡ [] → Refines new (with_placed w world)
-  stands_with_placed w put none =
-      frame_one old new world (with_placed w world) s Workunits put.schema refl (keeps_put Workunits (stored_workunit w) tt put) carry
-      (lists_still put.rows (lists_placed w world.workunits (old.trees s.trees.workunit) s.rows.workunits)) put.sound
-    where
-      brings : IsPermutation (flat_map instances_of world.workunits) (flat_map instances_of (placed w world.workunits))
-      brings = subst (λ front. IsPermutation (front ++ flat_map instances_of world.workunits) (flat_map instances_of (placed w world.workunits))) (no_instances w none) (placed_brings instances_of w world.workunits (was_free w put))
-
-      carry : (q : Part) → is_part Workunits q ≡ false → (rows : List Row) → Holds q rows world → Holds q rows (with_placed w world)
-      carry Workunits off rows h = absurd (cc)
-      carry Instances off rows h = holds_permuted brings h
-      carry _ off rows h = h
-
   -- an instance behind those of its workunit
   pub stands_with_instance : (number n : ℕ) (i : Instance) → PutsOne old new s.trees.result (Int (next_rowid (old.trees s.trees.result)) ∷ instance_cells number n i) → HasInstances number n world.workunits → Refines new (with_instance number i world)
   stands_with_instance number n i put has =
-      frame_one old new world (with_instance number i world) s Instances put.schema refl (keeps_put Instances (Int (next_rowid (old.trees s.trees.result)) ∷ instance_cells number n i) tt put) carry
+      frame_one old new world (with_instance number i world) s Instances tt put.schema refl (keeps_put Instances (Int (next_rowid (old.trees s.trees.result)) ∷ instance_cells number n i) tt put) carry
       (holds_permuted (instance_brings number n i world.workunits (table_rises world.workunits (subst IsTable s.rows.workunits.same s.rows.workunits.shaped.0)) has)
       (subst (λ rs. HoldsAll rs (flat_map instances_of world.workunits ++ instance_cells number n i ∷ [])) (sym put.rows) (holds_put (instance_cells number n i) (flat_map instances_of world.workunits) (old.trees s.trees.result) put.fresh s.rows.instances)))
       put.sound
     where
       carry : (q : Part) → is_part Instances q ≡ false → (rows : List Row) → Holds q rows world → Holds q rows (with_instance number i world)
       carry Workunits off rows h = subst (ListsAll rows) (sym (works_same number i world.workunits)) h
+      carry WorkClasses off rows h = subst (ListsAll rows) (sym (classes_same number i world.workunits)) h
       carry Instances off rows h = absurd (cc)
       carry _ off rows h = h
+
+-- a workunit that has no instances yet, and its class; since its row was put in, no other had its number
+module _ (old mid new : Database) (world : World) (s : Refines old world) (known : IsClassedVersion world.version) (w : Workunit) (put : PutsOne old mid s.trees.workunit (stored_workunit w)) (class : PutsOne mid new s.trees.workunit_class (stored_class w)) where
+  abbrev is_new : Part → Bool
+  is_new q = is_part Workunits q || is_part WorkClasses q
+
+  first : Keeps world.version s.trees old mid (is_part Workunits)
+  first = keeps_put old mid world s Workunits (stored_workunit w) tt put
+
+  second : Keeps world.version s.trees mid new (is_part WorkClasses)
+  second = keeps_but world.version mid s.trees (subst (λ (x : Schema). HasParts world.version x s.trees) (sym put.schema) (parts_there old world s)) new WorkClasses known (but_one mid new s.trees.workunit_class (stored_class w) class)
+
+  brings : w.instances ≡ [] → IsPermutation (flat_map instances_of world.workunits) (flat_map instances_of (placed w world.workunits))
+  brings none = subst (λ front. IsPermutation (front ++ flat_map instances_of world.workunits) (flat_map instances_of (placed w world.workunits))) (no_instances w none) (placed_brings instances_of w world.workunits (was_free old mid world s w put))
+
+  carry : w.instances ≡ [] → (q : Part) → is_new q ≡ false → (rows : List Row) → Holds q rows world → Holds q rows (with_placed w world)
+  carry none Workunits off rows h = absurd (cc)
+  carry none WorkClasses off rows h = absurd (cc)
+  carry none Instances off rows h = holds_permuted (brings none) h
+  carry none _ off rows h = h
+
+  has_new : (q : Part) → is_new q ≡ true → IsIn q world.version
+  has_new HostClasses on = absurd (cc)
+  has_new WorkClasses on = known
+  has_new _ on = tt
+
+  fits : (q : Part) → is_new q ≡ true → Holds q (new.trees (tree_in s.trees q)) (with_placed w world)
+  fits Workunits on = lists_still (second Workunits tt refl ∙ put.rows) (lists_placed (λ v. Null ∷ workunit_cells v) w world.workunits (old.trees s.trees.workunit) s.rows.workunits)
+  fits WorkClasses on = lists_still (class.rows ∙ ap (put_row (stored_class w)) (first WorkClasses known refl)) (lists_placed (λ v. Null ∷ number v.class ∷ []) w world.workunits (old.trees s.trees.workunit_class) (s.rows.classes known).workunits)
+  fits _ on = absurd (cc)
+
+  pub stands_with_placed : w.instances ≡ [] → Refines new (with_placed w world)
+  stands_with_placed none = frame old new world (with_placed w world) s is_new has_new (class.schema ∙ put.schema) refl (keeps_both world.version s.trees old mid new (is_part Workunits) (is_part WorkClasses) first second) (carry none) fits class.sound
 
 -- one above all comes last, and no other has its number
 pub placed_above : (w : Workunit) (world : World) → IsAbove w.number world.workunits → with_placed w world ≡ with_workunit w world

@@ -94,9 +94,9 @@ module _ (old new : State) (world : World) (s : Refines old.now world) (marked :
 pub grant_leaves : (old mid new : Database) (place : ℕ) (g : Grant) → PutsGrant place g old mid → Credits g mid new → KeepsQueue old new
 grant_leaves old mid new place g puts credits world marked s q =
     let t = s.trees in
-    let put = puts t s.tables in
+    let put = puts world.version t s.tables in
     let first = keeps_put old mid world s Grants _ tt put in
-    let it = credits t world.grants (subst (λ (x : Schema). HasTables x t) (sym put.schema) s.tables) put.sound (holds_still (first Hosts tt refl) s.rows.hosts) in
+    let it = credits world.version t world.grants (subst (λ (x : Schema). HasTables world.version x t) (sym put.schema) s.tables) put.sound (holds_still (first Hosts tt refl) s.rows.hosts) in
     let listed = subst (λ (x : Schema). Has x.tables (queue_at q.tree)) (sym put.schema) (queue_listed old world s marked q) in
     let calm = subst (λ (x : Schema). IsCalm x Enforced (queue_at q.tree) t.host) (sym put.schema) (queue_calm old world s marked q Hosts tt refl) in
     queue_still old new marked q (it.schema ∙ put.schema) (it.others (queue_at q.tree) listed (λ same. queue_apart old world s marked q Hosts tt (sym same)) calm ∙ rows_beside old world s marked q mid Grants tt _ put)

@@ -18,7 +18,7 @@ use Rattle.wu_store.specs.Answers.{numbered}
 use Rattle.wu_store.specs.Due.{AreNumbersOf, IsNumberOf, IsRowOfStorable}
 use Rattle.wu_store.specs.Loading.{IsLoadable, IsStoreFault, LoadsNumbered}
 use Rattle.wu_store.specs.Queues.{first_marked, is_marked, waits_since}
-use Rattle.wu_store.specs.StandsFor.{marked}
+use Rattle.wu_store.specs.StandsFor.{IsQueued, KnowsClasses, marked}
 use Rattle.wu_store.proofs.LoadLemmas.{never_unread}
 use Rattle.wu_store.proofs.MarkedLemmas.{tagged}
 use Rattle.wu_store.proofs.PlacedLemmas.{Rises, world_rises}
@@ -139,8 +139,8 @@ module _ (row : Row) (w : Workunit) (world : World) (of : IsNumberOf row w world
   told_present n same found is = is ∙ ap (λ m. numbered m world) same ∙ of.present
 
   -- which can be read
-  pub loads_there : (n : ℕ) → n ≡ w.number → IsStorable w → LoadsNumbered n world
-  loads_there n same can = (omega (arith, same, can.number), subst IsLoadable (sym (ap (λ m. numbered m world) same ∙ of.present)) can)
+  pub loads_there : (n : ℕ) → n ≡ w.number → KnowsClasses world → IsStorable w → LoadsNumbered n world
+  loads_there n same known can = (known, omega (arith, same, can.number), subst IsLoadable (sym (ap (λ m. numbered m world) same ∙ of.present)) can)
 
 -- ---- row by row
 
@@ -153,10 +153,10 @@ module _ (rows : List Row) (ws : List Workunit) (world : World) (are : AreNumber
       let within : i < length ws = omega (arith, low, as_many) in
       record { present = are.present i d within; row_is = sym at ∙ ap (λ rs. get_or rs i row) are.rows_are ∙ get_or-map number_row ws i d row within }
 
-  pub storable_at : All IsStorable ws → (i : ℕ) (row : Row) → i < length rows → get_or rows i row ≡ row → IsRowOfStorable row world
-  storable_at storable i row low at =
+  pub storable_at : KnowsClasses world → All IsStorable ws → (i : ℕ) (row : Row) → i < length rows → get_or rows i row ≡ row → IsRowOfStorable row world
+  storable_at known storable i row low at =
       let it = some_at ws i (omega (arith, low, as_many)) in
-      (get_or ws i it, number_at i row it low at, storable i it (omega (arith, low, as_many)))
+      (known, get_or ws i it, number_at i row it low at, storable i it (omega (arith, low, as_many)))
     where
       some_at : (xs : List Workunit) (i : ℕ) → i < length xs → Workunit
       some_at [] i low = absurd (omega (arith, low))
@@ -189,3 +189,7 @@ never_project P (Err fault) memory = λ refused. cc
 pub memory_handed : {T : Type 0} (P : T → Type 0) (r : Result T Fault) (fault : Fault) → IsErrAnd r (λ other. other ≡ fault) → fault ≡ Memory → MatchResult r P (λ other. other ≡ Memory)
 memory_handed P (Ok x) fault same is = absurd same
 memory_handed P (Err other) fault same is = same ∙ is
+
+-- where there are classes, there is a queue
+pub queued : (world : World) → KnowsClasses world → IsQueued world
+queued world known = omega (arith, known)

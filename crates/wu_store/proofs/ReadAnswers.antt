@@ -66,17 +66,21 @@ find_only q (x ∷ xs) few = elim (cases_Bool (q x)) [
   | inr off ↦ rw off (find_only q xs (rw off at few))
 ]
 
--- the row of the one workunit that passes a test
-one_row : (q : Workunit → Bool) (p : Row → Bool) (shows : Row → Row) (ws : List Workunit) (stored rows : List Row) → stored ≡ map stored_workunit ws → length (filter q ws) ≤ 1 → ((w : Workunit) → p (stored_workunit w) ≡ q w)
-    → ((w : Workunit) → shows (stored_workunit w) ≡ workunit_row w) → IsPermutation (map shows (filter p stored)) rows → rows ≡ option_to_list (option_map workunit_row (find q ws))
-one_row q p shows ws stored rows are once same shown found =
-    let kept : filter p stored ≡ map stored_workunit (filter q ws) = ap (filter p) are ∙ kept_mapped p q stored_workunit ws same in
-    let seen : map shows (filter p stored) ≡ map workunit_row (filter q ws) = ap (map shows) kept ∙ map-map shows stored_workunit (filter q ws) ∙ (λ i. map (λ w. shown w i) (filter q ws)) in
-    only_answer workunit_row (filter q ws) rows once (subst (λ rs. IsPermutation rs rows) seen found) ∙ ap (map workunit_row) (find_only q ws once) ∙ listed (find q ws)
+-- of things of which at most one passes, what is shown of it
+pub only_shown : {X : Type 0} (row : X → Row) (q : X → Bool) (xs : List X) (rows : List Row) → length (filter q xs) ≤ 1 → IsPermutation (map row (filter q xs)) rows → rows ≡ option_to_list (option_map row (find q xs))
+only_shown {X} row q xs rows once found = only_answer row (filter q xs) rows once found ∙ ap (map row) (find_only q xs once) ∙ listed (find q xs)
   where
-    listed : (o : Option Workunit) → map workunit_row (option_to_list o) ≡ option_to_list (option_map workunit_row o)
+    listed : (o : Option X) → map row (option_to_list o) ≡ option_to_list (option_map row o)
     listed None = refl
-    listed (Some w) = refl
+    listed (Some x) = refl
+
+-- the row of the one thing that passes a test
+pub one_row : {X : Type 0} (keeps row : X → Row) (q : X → Bool) (p : Row → Bool) (shows : Row → Row) (xs : List X) (stored rows : List Row) → stored ≡ map keeps xs → length (filter q xs) ≤ 1 → ((x : X) → p (keeps x) ≡ q x)
+    → ((x : X) → shows (keeps x) ≡ row x) → IsPermutation (map shows (filter p stored)) rows → rows ≡ option_to_list (option_map row (find q xs))
+one_row keeps row q p shows xs stored rows are once same shown found =
+    let kept : filter p stored ≡ map keeps (filter q xs) = ap (filter p) are ∙ kept_mapped p q keeps xs same in
+    let seen : map shows (filter p stored) ≡ map row (filter q xs) = ap (map shows) kept ∙ map-map shows keeps (filter q xs) ∙ (λ i. map (λ x. shown x i) (filter q xs)) in
+    only_shown row q xs rows once (subst (λ rs. IsPermutation rs rows) seen found)
 
 -- ---- the next number
 
@@ -108,7 +112,7 @@ module _ (old new : State) (world : World) (s : Refines old.now world) (name : L
   -- the row of the one workunit of the name
   pub named_found : Shown named_asked.text (Text name ∷ []) old new rows → rows ≡ option_to_list (row_named name world)
   named_found h =
-      one_row (λ (w : Workunit). bytes_eq w.name name) (λ r. list_all (holds ((Text name ∷ []) ∷ r ∷ [])) workunit_tests) (λ r. eval_all all_shows ((Text name ∷ []) ∷ r ∷ [])) world.workunits _ rows s.rows.workunits.same (once_named old.now world s name)
+      one_row stored_workunit workunit_row (λ (w : Workunit). bytes_eq w.name name) (λ r. list_all (holds ((Text name ∷ []) ∷ r ∷ [])) workunit_tests) (λ r. eval_all all_shows ((Text name ∷ []) ∷ r ∷ [])) world.workunits _ rows s.rows.workunits.same (once_named old.now world s name)
       (λ w. one_test _ ∙ text_equal w.name name) (λ w. refl) (asked_rows Workunits named_asked named_fits old new world s tt (Text name ∷ []) rows refl h)
 
 -- ---- by number
@@ -117,7 +121,7 @@ module _ (old new : State) (world : World) (s : Refines old.now world) (n : ℕ)
   -- the row of the one workunit of the number
   pub numbered_found : Shown numbered_asked.text (number n ∷ []) old new rows → rows ≡ option_to_list (row_numbered n world)
   numbered_found h =
-      one_row (λ (w : Workunit). w.number == n) (λ r. list_all (holds ((number n ∷ []) ∷ r ∷ [])) numbered_tests) (λ r. eval_all all_shows ((number n ∷ []) ∷ r ∷ [])) world.workunits _ rows s.rows.workunits.same
+      one_row stored_workunit workunit_row (λ (w : Workunit). w.number == n) (λ r. list_all (holds ((number n ∷ []) ∷ r ∷ [])) numbered_tests) (λ r. eval_all all_shows ((number n ∷ []) ∷ r ∷ [])) world.workunits _ rows s.rows.workunits.same
       (once_number old.now world s n) (λ w. one_test _ ∙ number_equal w.number n) (λ w. refl)
       (asked_rows Workunits numbered_asked numbered_fits old new world s tt (number n ∷ []) rows refl h)
 

@@ -130,6 +130,7 @@ module _ (row : Row) (n : ℕ) (name : List ℕ) (params : Parameters) (input : 
     assimilate = progress.assimilate;
     file_delete = progress.file_delete;
     done_at = progress.done_at;
+    class = 0;
     instances = [];
   }
 
@@ -139,7 +140,7 @@ module _ (row : Row) (n : ℕ) (name : List ℕ) (params : Parameters) (input : 
       → Restores progress_cells IsProgress (columns row 10 5) (Ok progress)
       → Restores workunit_row IsStoredWorkunit row (Ok read)
   workunit_read long number_is name_is params_are input_is progress_is = record {
-    value = (stored, record { name = name_is.value.1; parameters = params_are.value.1; input = input_is.value.1; canonical = progress_is.value.1.canonical; stamped = progress_is.value.1.stamped; bare = refl });
+    value = (stored, record { name = name_is.value.1; parameters = params_are.value.1; input = input_is.value.1; canonical = progress_is.value.1.canonical; stamped = progress_is.value.1.stamped; bare = refl; classless = refl });
     found = λ w is same. inl (ap (λ w. Ok w) (only w is same));
     refused = tt;
   }
@@ -157,7 +158,7 @@ module _ (row : Row) (n : ℕ) (name : List ℕ) (params : Parameters) (input : 
           let d = ok_is params w.params (params_are.found w.params is.parameters (ap (λ r. columns r 2 7) same)) in
           let e = ok_is input w.input (input_is.found w.input is.input (ap (λ r. column r 9) same)) in
           let g = ok_is progress (progress_of w) (progress_is.found (progress_of w) (record { canonical = is.canonical; stamped = is.stamped }) (ap (λ r. columns r 10 5) same)) in
-          rw (a, b, d, e, g, ← is.bare) refl
+          rw (a, b, d, e, g, ← is.bare, ← is.classless) refl
 
 -- a digit that is no verdict of the kind stands in no text of verdicts
 pub no_digit : (kind : ImportKind) (digits : List ℕ) (i : ℕ) → i < length digits → ((48 ≤ get_or digits i 0) × (get_or digits i 0 - 48 ≤ last_skip kind) → ⊥)

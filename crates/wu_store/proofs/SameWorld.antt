@@ -1,5 +1,5 @@
 -- Two worlds for which one database stands are one world, but for the order of their imports.
-use Rattle.wu_schema.proofs.Words.{Archived, Blob, Database, Grant, Has, HasNamed, HoldsAll, Import, ImportKind, Instance, Int, IsPermutation, IsPermutation-filter, IsPermutation-map, IsPermutation-sym, IsPermutation-trans, List, None, Option, Output, Row, Some, Refines, Table, Text, Value, Workunit, World, [], all_from, all_has, ap, append-nil, arith, column, drop, enumerate_from, eq-eqb, false, filter, filter_none, flat_map, if◌then◌else◌, import_cells, import_kind_code, inl, inr, instance_row, instances_of, map, ne_eqb, Null, number_or_null, on_total, pos, refl, slice_get, stored_archived, stored_grant, stored_project, stored_workunit, subst, sym, text_or_null, true, value_cmp_total, verdict_digits, workunit_row, ℕ, ◌+◌, ◌-◌, ◌<◌, ◌==◌, ◌∙◌, ◌∷◌, ◌≡◌}
+use Rattle.wu_schema.proofs.Words.{Archived, Blob, Database, Grant, Has, HasNamed, HoldsAll, Import, ImportKind, Instance, Int, IsPermutation, IsPermutation-filter, IsPermutation-map, IsPermutation-sym, IsPermutation-trans, List, None, Option, Output, Row, Some, Refines, Table, Text, Value, Workunit, World, [], all_from, all_has, ap, append-nil, arith, column, drop, enumerate_from, eq-eqb, false, filter, filter_none, flat_map, if◌then◌else◌, import_cells, import_kind_code, inl, inr, instance_row, instances_of, map, ne_eqb, Null, number_or_null, on_total, pos, refl, slice_get, stored_archived, stored_grant, stored_project, stored_workunit, subst, sym, text_or_null, true, value_cmp_total, verdict_digits, workunit_row, ℕ, ◌+◌, ◌-◌, ◌<◌, ◌==◌, ◌∙◌, ◌∷◌, ◌≡◌, AllByRecursion, IsAscending, Less, Ordering, class_cells, class_row, get_or, stored_class}
 use Rattle.wu_core.specs.declared.mask.ErrorMask.{ErrorMask}
 use Rattle.wu_core.specs.declared.states.ServerState.{ServerState}
 use Rattle.wu_core.specs.declared.states.ServerState.TheVariants as server
@@ -21,6 +21,12 @@ use Rattle.wu_store.proofs.InstanceLemmas.{fits, instances_left}
 use Rattle.wu_store.proofs.InstanceAnswers.{cell_pair, pairs_from, rising, shown_from}
 use Rattle.wu_store.proofs.OneOrder.{two_orders}
 use Rattle.wu_store.proofs.OrderAnswers.{by_key}
+use Rattle.std.proofs.lemmas.Cmp.{nat_list_cmp_total}
+use Rattle.wu_core.specs.Classes.{AreInOrder}
+use Rattle.wu_core.specs.declared.workunit.HostClass.{HostClass}
+use Rattle.wu_core.proofs.HostLemmas.{Ascends, order, pairs_ascend}
+use Rattle.wu_schema.specs.Tables.{IsClassedVersion}
+use Rattle.wu_schema.proofs.Parts.{classed_or_not}
 use Rattle.wu_store.proofs.PlacedLemmas.{Rises, world_rises}
 
 -- ---- what was stored is read back
@@ -93,7 +99,7 @@ delete_again file_delete.Init = refl
 delete_again _ = refl
 
 abbrev kind_of : ℕ → ImportKind
-kind_of n = if n == 1 then kind.Batch else if n == 2 then kind.Sent else kind.Reported
+kind_of n = if n == 1 then kind.Batch else if n == 2 then kind.Sent else if n == 3 then kind.Reported else kind.Classes
 
 kind_again : (s : ImportKind) → kind_of (import_kind_code s) ≡ s
 kind_again kind.Batch = refl
@@ -106,8 +112,8 @@ digits_again : (vs : List ℕ) → map (λ d. d - 48) (verdict_digits vs) ≡ vs
 digits_again [] = refl
 digits_again (v ∷ vs) = let one : (48 + v) - 48 ≡ v = omega arith in (λ i. one i ∷ digits_again vs i)
 
-abbrev read_workunit : Row → List Instance → Workunit
-read_workunit r is = record {
+abbrev read_workunit : Row → List Instance → ℕ → Workunit
+read_workunit r is class = record {
   number = read_number (column r 0);
   name = read_text (column r 2);
   params = record {
@@ -125,10 +131,11 @@ read_workunit r is = record {
   assimilate = assimilate_of (read_number (column r 13));
   file_delete = delete_of (read_number (column r 14));
   done_at = read_maybe (column r 15);
+  class = class;
   instances = is;
 }
 
-workunit_again : (w : Workunit) → read_workunit (stored_workunit w) w.instances ≡ w
+workunit_again : (w : Workunit) → read_workunit (stored_workunit w) w.instances w.class ≡ w
 workunit_again w = λ i. record w { error_mask = mask_again w.error_mask i; canonical = maybe_again w.canonical i; assimilate = assimilate_again w.assimilate i; file_delete = delete_again w.file_delete i; done_at = maybe_again w.done_at i }
 
 -- ---- lists of rows that are one
@@ -200,11 +207,11 @@ instance_again m = λ i. record m {
 pub same_instances : (a b : List Instance) → map instance_row a ≡ map instance_row b → a ≡ b
 same_instances a b rows = sym (restored instance_row read_instance instance_again a) ∙ ap (map read_instance) rows ∙ restored instance_row read_instance instance_again b
 
--- two workunits that have one row are one, but for their instances
-pub same_workunit : (v w : Workunit) → workunit_row v ≡ workunit_row w → v ≡ record w { instances = v.instances }
+-- two workunits that have one row are one, but for their instances and their class
+pub same_workunit : (v w : Workunit) → workunit_row v ≡ workunit_row w → v ≡ record w { instances = v.instances; class = v.class }
 same_workunit v w rows =
     let stored : stored_workunit v ≡ stored_workunit w = ap (λ r. column r 0 ∷ Null ∷ drop 1 r) rows in
-    sym (workunit_again v) ∙ (λ i. read_workunit (stored i) v.instances) ∙ workunit_again (record w { instances = v.instances })
+    sym (workunit_again v) ∙ (λ i. read_workunit (stored i) v.instances v.class) ∙ workunit_again (record w { instances = v.instances; class = v.class })
 
 -- ---- a workunit's instances
 
@@ -236,16 +243,17 @@ module _ (ws_a ws_b : List Workunit) (up_a : Rises ws_a) (up_b : Rises ws_b) (sa
       let left : filter (fits v.number (λ b. b)) (flat_map instances_of ws_b) ≡ instances_of u = subst (λ n. filter (fits n (λ b. b)) (flat_map instances_of ws_b) ≡ instances_of u) (sym is) (of_number u ws_b up_b has_u) in
       instances_one v u is (subst (λ xs. IsPermutation xs (instances_of u)) (of_number v ws_a up_a has_v) (subst (IsPermutation (filter (fits v.number (λ b. b)) (flat_map instances_of ws_a))) left kept))
 
-same_works : (ws_a ws_b : List Workunit) → map stored_workunit ws_a ≡ map stored_workunit ws_b → ((v u : Workunit) → Has ws_a v → Has ws_b u → v.number ≡ u.number → u.instances ≡ v.instances) → ws_a ≡ ws_b
-same_works [] [] e brings = refl
-same_works [] (u ∷ us) e brings = absurd (cc)
-same_works (v ∷ vs) [] e brings = absurd (cc)
-same_works (v ∷ vs) (u ∷ us) e brings =
+same_works : (ws_a ws_b : List Workunit) → map stored_workunit ws_a ≡ map stored_workunit ws_b → map stored_class ws_a ≡ map stored_class ws_b → ((v u : Workunit) → Has ws_a v → Has ws_b u → v.number ≡ u.number → u.instances ≡ v.instances) → ws_a ≡ ws_b
+same_works [] [] e classes brings = refl
+same_works [] (u ∷ us) e classes brings = absurd (cc)
+same_works (v ∷ vs) [] e classes brings = absurd (cc)
+same_works (v ∷ vs) (u ∷ us) e classes brings =
     let rows : stored_workunit v ≡ stored_workunit u = cc in
     let number : v.number ≡ u.number = cc in
     let instances = sym (brings v u (inl refl) (inl refl) number) in
-    let one : v ≡ u = sym (workunit_again v) ∙ (λ i. read_workunit (rows i) (instances i)) ∙ workunit_again u in
-    (λ i. one i ∷ same_works vs us (cc) (λ x y has_x has_y. brings x y (inr has_x) (inr has_y)) i)
+    let class : v.class ≡ u.class = ap (λ (rs : List Row). read_number (column (get_or rs 0 []) 2)) classes in
+    let one : v ≡ u = sym (workunit_again v) ∙ (λ i. read_workunit (rows i) (instances i) (class i)) ∙ workunit_again u in
+    (λ i. one i ∷ same_works vs us (cc) (ap (drop 1) classes) (λ x y has_x has_y. brings x y (inr has_x) (inr has_y)) i)
 
 -- ---- the worlds
 
@@ -259,19 +267,68 @@ one_table db name s t has_s has_t =
 one_cells : {rows other cells more : List Row} → rows ≡ other → HoldsAll rows cells → HoldsAll other more → IsPermutation cells more
 one_cells {rows} {other} {cells} {more} same one two = IsPermutation-trans _ _ _ (subst (λ rs. IsPermutation cells (map (drop 1) rs)) same one.same) (IsPermutation-sym more (map (drop 1) other) two.same)
 
+-- ---- the classes
+
+abbrev read_class : Row → HostClass
+read_class r = record { host = read_text (column r 0); class = read_number (column r 1) }
+
+abbrev by_host : HostClass → HostClass → Ordering
+by_host a b = order a.host b.host
+
+rising_hosts : (classes : List HostClass) → Ascends (λ (a b : HostClass). by_host a b ≡ Less) classes → IsAscending (λ (a b : HostClass). by_host a b ≡ Less) classes
+rising_hosts [] up = tt
+rising_hosts (it ∷ more) up = (up.0, rising_hosts more up.1)
+
+-- hosts in order have one order
+same_hosts : (a b : List HostClass) → AreInOrder a → AreInOrder b → IsPermutation (map class_cells a) (map class_cells b) → a ≡ b
+same_hosts a b up_a up_b same =
+    let hosts = IsPermutation-map read_class _ _ same in
+    let permuted : IsPermutation a b = subst (λ xs. IsPermutation xs b) (restored class_cells read_class (λ it. refl) a) (subst (IsPermutation (map read_class (map class_cells a))) (restored class_cells read_class (λ it. refl) b) hosts) in
+    sym (two_orders by_host (on_total (λ (it : HostClass). it.host) nat_list_cmp_total) a b (rising_hosts a (pairs_ascend _ a up_a)) (rising_hosts b (pairs_ascend _ b up_b)) permuted)
+
+-- of workunits without a class only the numbers tell in their rows
+unbound_same : (ws_a ws_b : List Workunit) → map stored_workunit ws_a ≡ map stored_workunit ws_b → AllByRecursion (λ (w : Workunit). w.class ≡ 0) ws_a → AllByRecursion (λ (w : Workunit). w.class ≡ 0) ws_b → map stored_class ws_a ≡ map stored_class ws_b
+unbound_same [] [] e none_a none_b = refl
+unbound_same [] (u ∷ us) e none_a none_b = absurd (cc)
+unbound_same (v ∷ vs) [] e none_a none_b = absurd (cc)
+unbound_same (v ∷ vs) (u ∷ us) e none_a none_b =
+    let number : v.number ≡ u.number = cc in
+    let class : v.class ≡ u.class = none_a.0 ∙ sym none_b.0 in
+    (λ i. class_row (number i, class i) ∷ unbound_same vs us (cc) none_a.1 none_b.1 i)
+
+module _ (db : Database) (a b : World) (s : Refines db a) (t : Refines db b) (version : a.version ≡ b.version) (works : map stored_workunit a.workunits ≡ map stored_workunit b.workunits) where
+  -- the classes of both are those of the tables, or none
+  one_classes : (a.classes ≡ b.classes) × (map stored_class a.workunits ≡ map stored_class b.workunits)
+  one_classes = elim (classed_or_not a.version) [
+    | inl known ↦
+        let also_known = subst IsClassedVersion version known in
+        let one = s.rows.classes known in
+        let two = t.rows.classes also_known in (
+          same_hosts a.classes b.classes s.rows.classes_in_order t.rows.classes_in_order (one_cells (one_table db _ _ _ (s.tables.host_class known) (t.tables.host_class also_known)) one.hosts two.hosts),
+          sym one.workunits.same ∙ one_table db _ _ _ (s.tables.workunit_class known) (t.tables.workunit_class also_known) ∙ two.workunits.same,
+        )
+    | inr older ↦
+        let one = s.rows.classless older in
+        let two = t.rows.classless (λ known. older (subst IsClassedVersion (sym version) known)) in
+        (one.hosts ∙ sym two.hosts, unbound_same a.workunits b.workunits works one.workunits two.workunits)
+  ]
+
 pub one_world : (db : Database) (a b : World) → Refines db a → Refines db b → SameWorld a b
 one_world db a b s t =
     let project : stored_project a ∷ [] ≡ stored_project b ∷ [] = sym s.rows.project ∙ one_table db _ _ _ s.tables.project t.tables.project ∙ t.rows.project in
+    let version : a.version ≡ b.version = cc in
     let works = sym s.rows.workunits.same ∙ one_table db _ _ _ s.tables.workunit t.tables.workunit ∙ t.rows.workunits.same in
     let grants = sym s.rows.grants.same ∙ one_table db _ _ _ s.tables.grant t.tables.grant ∙ t.rows.grants.same in
     let archived = sym s.rows.archived.same ∙ one_table db _ _ _ s.tables.archived t.tables.archived ∙ t.rows.archived.same in
     let instances = one_cells (one_table db _ _ _ s.tables.result t.tables.result) s.rows.instances t.rows.instances in
+    let classes = one_classes db a b s t version works in
     let imports = IsPermutation-map read_import _ _ (one_cells (one_table db _ _ _ s.tables.import t.tables.import) s.rows.imports t.rows.imports) in
     record {
-      workunits = same_works a.workunits b.workunits works (brought a.workunits b.workunits (world_rises db a s) (world_rises db b t) instances);
+      workunits = same_works a.workunits b.workunits works classes.1 (brought a.workunits b.workunits (world_rises db a s) (world_rises db b t) instances);
       grants = sym (restored_from stored_grant read_grant (λ p. refl) 1 a.grants) ∙ ap (map read_grant) grants ∙ restored_from stored_grant read_grant (λ p. refl) 1 b.grants;
       archived = sym (restored_from stored_archived read_archived archive_again 1 a.archived) ∙ ap (map read_archived) archived ∙ restored_from stored_archived read_archived archive_again 1 b.archived;
       imports = subst (λ xs. IsPermutation xs b.imports) (restored import_cells read_import import_again a.imports) (subst (IsPermutation (map read_import (map import_cells a.imports))) (restored import_cells read_import import_again b.imports) imports);
+      classes = classes.0;
       next_number = cc;
-      version = cc;
+      version = version;
     }

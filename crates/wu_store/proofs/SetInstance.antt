@@ -1,5 +1,5 @@
 -- What the statement that sets an instance does to the world and to the queue.
-use Rattle.wu_schema.proofs.Words.{Binary, Bool, Executes, Has, HoldsAll, Instance, Int, IsPermutation, IsPermutation-filter, IsPermutation-map, IsTable, IsTrue, List, ListsAll, Ok, Refines, Row, Some, State, Term, Workunit, World, [], all_has, ap, arith, cases_Bool, cast_row, codes, col, column, drop, enumerate_from, eq-eqb, eqb-true, equal, everything, false, filter, filter-map, find, flat_map, has_filtered, has_rowid, if◌then◌else◌, inl, inr, instance_cells, instance_row, instances_of, is_int, length, map, map-append, map-map, nat_tests, ne_eqb, number, one_permutation, put_row, refl, result_at, row_at_is, rowid, stored_workunit, subst, suc, sym, true, without_rowid, zero, ℕ, ℤ, ◌&&◌, ◌++◌, ◌+◌, ◌<◌, ◌==◌, ◌∙◌, ◌∷◌, ◌≡◌, ◌≤◌}
+use Rattle.wu_schema.proofs.Words.{Binary, Bool, Executes, Has, HoldsAll, Instance, Int, IsPermutation, IsPermutation-filter, IsPermutation-map, IsTable, IsTrue, List, ListsAll, Ok, Refines, Row, Some, State, Term, Workunit, World, [], all_has, ap, arith, cases_Bool, cast_row, codes, col, column, drop, enumerate_from, eq-eqb, eqb-true, equal, everything, false, filter, filter-map, find, flat_map, has_filtered, has_rowid, if◌then◌else◌, inl, inr, instance_cells, instance_row, instances_of, is_int, length, map, map-append, map-map, nat_tests, ne_eqb, number, one_permutation, put_row, refl, result_at, row_at_is, rowid, stored_class, stored_workunit, subst, suc, sym, true, without_rowid, zero, ℕ, ℤ, ◌&&◌, ◌++◌, ◌+◌, ◌<◌, ◌==◌, ◌∙◌, ◌∷◌, ◌≡◌, ◌≤◌}
 use Rattle.std.specs.Prelude.{slice_set}
 use Rattle.sqlite_sql.specs.declared.ops.CompareOp.TheVariants as compare
 use Rattle.wu_core.specs.declared.marks.Marks.{Marks}
@@ -8,7 +8,7 @@ use Rattle.wu_schema.specs.Tables.{queue_at}
 use Rattle.wu_schema.proofs.AnswerLemmas.{meeting, showing}
 use Rattle.wu_schema.proofs.ExprLemmas.{same}
 use Rattle.wu_schema.proofs.InsertEffect.{cast_int}
-use Rattle.wu_schema.proofs.Parts.{Holds, Instances, Part, Workunits, apart, calm_from, frame_one, is_part, keeps_calm, parts_there}
+use Rattle.wu_schema.proofs.Parts.{Holds, Instances, Part, WorkClasses, Workunits, apart, calm_from, frame_one, is_part, keeps_calm, parts_there}
 use Rattle.wu_schema.proofs.QueueLemmas.{queue_apart, queue_calm, queue_listed, queue_still}
 use Rattle.wu_schema.proofs.QuietLemmas.{same_some}
 use Rattle.wu_schema.proofs.RowLemmas.{filter_same, int_value, map_same, one_test}
@@ -157,6 +157,14 @@ module _ (w n : ℕ) where
     all_set [] = refl
     all_set (v ∷ vs) = map-append set_cells (instances_of v) (flat_map instances_of vs) ∙ ap (λ cs. cs ++ map set_cells (flat_map instances_of vs)) (of_one v) ∙ ap (λ cs. instances_of (and_set w n i v) ++ cs) (all_set vs)
 
+    classes_stay : (ws : List Workunit) → map stored_class (map (and_set w n i) ws) ≡ map stored_class ws
+    classes_stay [] = refl
+    classes_stay (v ∷ vs) = ap (λ rs. stored_class (and_set w n i v) ∷ rs) (classes_stay vs) ∙ ap (λ r. r ∷ map stored_class vs) (one (v.number == w))
+      where
+        one : (b : Bool) → stored_class (if b then record v { instances = slice_set v.instances n i } else v) ≡ stored_class v
+        one true = refl
+        one false = refl
+
     rows_stay : (ws : List Workunit) → map stored_workunit (map (and_set w n i) ws) ≡ map stored_workunit ws
     rows_stay [] = refl
     rows_stay (v ∷ vs) = ap (λ rs. stored_workunit (and_set w n i v) ∷ rs) (rows_stay vs) ∙ ap (λ r. r ∷ map stored_workunit vs) (one (v.number == w))
@@ -262,12 +270,13 @@ module _ (old new : State) (world : World) (s : Refines old.now world) (w n : �
   }
 
   pub sets_instance : Refines new.now (with_set w n i world)
-  sets_instance = frame_one old.now new.now world (with_set w n i world) s Instances instance_sets.schema refl
+  sets_instance = frame_one old.now new.now world (with_set w n i world) s Instances tt instance_sets.schema refl
       (keeps_calm world.version old.now s.trees (parts_there old.now world s) new.now Instances tt refl instance_sets.others) carry (holds_still rows_are holds_set) instance_sets.sound
     where
       carry : (p : Part) → is_part Instances p ≡ false → (rs : List Row) → Holds p rs world → Holds p rs (with_set w n i world)
       carry Instances off rs h = absurd (cc)
       carry Workunits off rs h = subst (ListsAll rs) (sym (rows_stay w n i world.workunits)) h
+      carry WorkClasses off rs h = subst (ListsAll rs) (sym (classes_stay w n i world.workunits)) h
       carry _ off rs h = h
 
   pub set_leaves : (marked : List (ℕ × Marks)) → HasQueue old.now marked → HasQueue new.now marked

@@ -1,5 +1,5 @@
 -- What the statements that set a row do to the world and to the queue.
-use Rattle.wu_schema.proofs.Words.{Bool, Executes, HoldsAll, Instance, List, ListsAll, Null, Ok, Refines, Row, State, Workunit, World, [], ap, arith, cases_Bool, cast_row, codes, col, enumerate_from, eqb-true, eval_all, everything, false, flat_map, has_rowid, if◌then◌else◌, inl, inr, instance_cells, instances_of, length, list_any, lit, map, number, pos, refl, rowid, stored_workunit, subst, sym, true, workunit_at, workunit_row, ℕ, ◌==◌, ◌++◌, ◌∙◌, ◌∷◌, ◌≡◌}
+use Rattle.wu_schema.proofs.Words.{Bool, Executes, HoldsAll, Instance, List, ListsAll, Null, Ok, Refines, Row, State, Workunit, World, [], ap, arith, cases_Bool, cast_row, codes, col, enumerate_from, eqb-true, eval_all, everything, false, flat_map, has_rowid, if◌then◌else◌, inl, inr, instance_cells, instances_of, length, list_any, lit, map, number, pos, refl, rowid, class_row, stored_class, stored_workunit, subst, sym, true, workunit_at, workunit_row, ℕ, ◌==◌, ◌++◌, ◌∙◌, ◌∷◌, ◌≡◌}
 use Rattle.sqlite_sql.specs.declared.ops.CompareOp.TheVariants as compare
 use Rattle.wu_core.specs.declared.marks.Marks.{Marks}
 use Rattle.wu_schema.specs.Queue.{HasQueue}
@@ -7,7 +7,7 @@ use Rattle.wu_schema.specs.Stored.{marks_cells, stored_marks, workunit_cells}
 use Rattle.wu_schema.specs.Tables.{queue_at}
 use Rattle.wu_schema.proofs.InsertEffect.{cast_null}
 use Rattle.wu_schema.proofs.CalmLemmas.{calm_bare}
-use Rattle.wu_schema.proofs.Parts.{Holds, Instances, Part, Workunits, frame_one, is_part, keeps_set, parts_there}
+use Rattle.wu_schema.proofs.Parts.{Holds, Instances, Part, WorkClasses, Workunits, frame_one, is_part, keeps_set, parts_there}
 use Rattle.wu_schema.proofs.QueueLemmas.{queue_apart, queue_has, queue_listed, queue_self, queue_steady, queue_still, world_kept}
 use Rattle.wu_schema.proofs.SetTexts.{SetBy, SetFits}
 use Rattle.wu_schema.proofs.StandsLemmas.{is_there, lists_still}
@@ -90,7 +90,7 @@ stored_set : (w : Workunit) (ws : List Workunit) → map stored_workunit (in_its
 stored_set w [] = refl
 stored_set w (v ∷ vs) = ap (λ r. r ∷ map stored_workunit (in_its_place (λ (v : Workunit). v.number) (λ v. Null ∷ workunit_cells v) w vs)) (one (v.number == w.number)) ∙ ap (λ rs. stored_workunit (and_row w v) ∷ rs) (stored_set w vs)
   where
-    one : (b : Bool) → stored_workunit (if b then w else v) ≡ stored_workunit (if b then record w { instances = v.instances } else v)
+    one : (b : Bool) → stored_workunit (if b then w else v) ≡ stored_workunit (if b then record w { instances = v.instances; class = v.class } else v)
     one true = refl
     one false = refl
 
@@ -98,8 +98,16 @@ instances_set : (w : Workunit) (ws : List Workunit) → flat_map instances_of (m
 instances_set w [] = refl
 instances_set w (v ∷ vs) = ap (λ is. is ++ flat_map instances_of (map (and_row w) vs)) (one (v.number == w.number) refl) ∙ ap (λ is. instances_of v ++ is) (instances_set w vs)
   where
-    one : (b : Bool) → (v.number == w.number) ≡ b → instances_of (if b then record w { instances = v.instances } else v) ≡ instances_of v
+    one : (b : Bool) → (v.number == w.number) ≡ b → instances_of (if b then record w { instances = v.instances; class = v.class } else v) ≡ instances_of v
     one true same = ap (λ n. map (λ (p : ℕ × Instance). instance_cells n p.0 p.1) (enumerate_from 0 v.instances)) (sym (eqb-true v.number w.number same))
+    one false other = refl
+
+classes_set : (w : Workunit) (ws : List Workunit) → map stored_class (map (and_row w) ws) ≡ map stored_class ws
+classes_set w [] = refl
+classes_set w (v ∷ vs) = ap (λ r. r ∷ map stored_class (map (and_row w) vs)) (one (v.number == w.number) refl) ∙ ap (λ rs. stored_class v ∷ rs) (classes_set w vs)
+  where
+    one : (b : Bool) → (v.number == w.number) ≡ b → stored_class (if b then record w { instances = v.instances; class = v.class } else v) ≡ stored_class v
+    one true same = ap (λ n. class_row (n, v.class)) (sym (eqb-true v.number w.number same))
     one false other = refl
 
 module _ (old new : State) (world : World) (s : Refines old.now world) (w : Workunit) (there : HasNumber w.number world.workunits) (count : ℕ) (ran : Executes workunit_set.text (workunit_row w) old new (Ok count)) where
@@ -127,7 +135,7 @@ module _ (old new : State) (world : World) (s : Refines old.now world) (w : Work
   some_found = ap (λ rs. length rs == 0) (found_is (pos w.number) (stored_workunit w) rows s.rows.workunits.shaped refl (workunit_at tree) workunit_set.made (workunit_cells w) (stored_workunit w) (workunit_kept tree w) shows_row workunit_sets.found workunit_sets.shown one_row.0 one_row.1)
 
   pub sets_row : Refines new.now (with_row w world)
-  sets_row = frame_one old.now new.now world (with_row w world) s Workunits workunit_sets.schema refl
+  sets_row = frame_one old.now new.now world (with_row w world) s Workunits tt workunit_sets.schema refl
       (keeps_set world.version old.now s.trees (parts_there old.now world s) new.now workunit_sets.others (λ u listed other steady. workunit_sets.steady u listed other steady some_found))
       carry
       (lists_still rows_are (subst (ListsAll (replaced (pos w.number) (stored_workunit w) rows)) (stored_set w world.workunits) (lists_in_its_place (λ (v : Workunit). v.number) (λ v. Null ∷ workunit_cells v) w world.workunits rows s.rows.workunits)))
@@ -136,6 +144,7 @@ module _ (old new : State) (world : World) (s : Refines old.now world) (w : Work
       carry : (p : Part) → is_part Workunits p ≡ false → (rs : List Row) → Holds p rs world → Holds p rs (with_row w world)
       carry Workunits off rs h = absurd (cc)
       carry Instances off rs h = subst (HoldsAll rs) (sym (instances_set w world.workunits)) h
+      carry WorkClasses off rs h = subst (ListsAll rs) (sym (classes_set w world.workunits)) h
       carry _ off rs h = h
 
   pub row_leaves : (marked : List (ℕ × Marks)) → HasQueue old.now marked → HasQueue new.now marked

@@ -1,6 +1,6 @@
 -- What each change keeps of the world that a database stands for.
-use Rattle.wu_schema.proofs.Words.{Binary, Database, Enforced, Has, HasTables, HoldsAll, cases_Bool, inl, ℕ, Import, Int, IsCalm, IsDatabase, IsTrue, List, ListsAll, OwnsTree, PutsOne, Row, Schema, Some, Refines, Table, World, [], all_has, and_from, and_parts, ap, bytes_eq, column, drop, eq-eqb, eqb-true, equal, false, false_from_ne_true, first_key, has_mapped, import_at, import_cells, import_kind_code, inr, is_eq, is_import, is_int, map, map-append, mapped_has, next_rowid, put_row, refl, rowid, stored_project, stored_workunit, subst, sym, true, value_cmp, ℕ, ◌++◌, ◌==◌, ◌∙◌, ◌∷◌, ◌≡◌, ◌≢◌}
-use Rattle.wu_store.specs.Changes.{with_import, with_next, with_version, without_workunit}
+use Rattle.wu_schema.proofs.Words.{AllByRecursion, Binary, Database, Enforced, Has, HoldsAll, Workunit, cases_Bool, filter, inl, not, ℕ, Import, Int, IsCalm, IsDatabase, IsTrue, List, ListsAll, OwnsTree, PutsOne, Row, Schema, Some, Refines, Table, World, [], all_has, and_from, and_parts, ap, bytes_eq, column, drop, eq-eqb, eqb-true, equal, false, false_from_ne_true, first_key, has_mapped, import_at, import_cells, import_kind_code, inr, is_eq, is_import, is_int, map, map-append, mapped_has, next_rowid, put_row, refl, rowid, stored_project, stored_workunit, subst, sym, true, value_cmp, ℕ, ◌++◌, ◌==◌, ◌∙◌, ◌∷◌, ◌≡◌, ◌≢◌}
+use Rattle.wu_store.specs.Changes.{with_import, with_next, without_workunit}
 use Rattle.sqlite_rules.proofs.TableLemmas.{has_put}
 use Rattle.sqlite_catalog.proofs.ListFacts.{ascending_push}
 use Rattle.wu_schema.proofs.RowLemmas.{int_value}
@@ -9,7 +9,7 @@ use Rattle.wu_store.proofs.OnceLemmas.{has_permuted, kind_in, key_once}
 use Rattle.wu_schema.proofs.PutLemmas.{put_beside}
 use Rattle.wu_schema.proofs.StandsLemmas.{ChildrenAre, is_there, bytes_back, none_has}
 use Rattle.wu_store.proofs.PlacedLemmas.{holds_put, keeps_put}
-use Rattle.wu_schema.proofs.Parts.{Part, Project, Workunits, Instances, Imports, tree_in, Holds, is_part, IsIn, child_column, child_shaped, falls_with_work, Keeps, in_all, parts_there, parts_hold, keeps_calm, keeps_bare, child_left, frame_in, frame_one, rows_stand, same_part}
+use Rattle.wu_schema.proofs.Parts.{Part, Project, Workunits, Instances, Imports, WorkClasses, tree_in, Holds, is_part, IsIn, child_column, child_shaped, falls_with_work, parts_there, parts_hold, keeps_calm, keeps_bare, child_left, frame_in, frame_one}
 
 module _ (old new : Database) (world : World) (s : Refines old world) where
   module _ (import : Import) (put : PutsOne old new s.trees.import (Int (next_rowid (old.trees s.trees.import)) ∷ import_cells import)) (a : Import) where
@@ -52,7 +52,7 @@ module _ (old new : Database) (world : World) (s : Refines old world) where
   stands_with_import import put =
       let row : Row = Int (next_rowid (old.trees s.trees.import)) ∷ import_cells import in
       let before = old.trees s.trees.import in
-      frame_one old new world (with_import import world) s Imports put.schema refl (keeps_put old new world s Imports row tt put) carry (
+      frame_one old new world (with_import import world) s Imports tt put.schema refl (keeps_put old new world s Imports row tt put) carry (
         subst (λ rs. HoldsAll rs (map import_cells (world.imports ++ import ∷ []))) (sym put.rows)
             (subst (HoldsAll (put_row row before)) (sym (map-append import_cells world.imports (import ∷ []))) (holds_put (import_cells import) (map import_cells world.imports) before put.fresh s.rows.imports)),
         ascending_push (λ (a b : Import). is_import a.kind a.name b ≡ false) world.imports import s.rows.imported_once (new_once import put),
@@ -65,41 +65,27 @@ module _ (old new : Database) (world : World) (s : Refines old world) where
   -- the row of the project has another number, and our other tables stay
   pub stands_with_next : (n : ℕ) → new.schema ≡ old.schema → new.trees s.trees.project ≡ stored_project (with_next n world) ∷ []
       → ((t : Table) → Has old.schema.tables t → t.tree ≢ s.trees.project → IsCalm old.schema Enforced t s.trees.project → new.trees t.tree ≡ old.trees t.tree) → IsDatabase new → Refines new (with_next n world)
-  stands_with_next n same is others sound = frame_one old new world (with_next n world) s Project same refl (keeps_calm world.version old s.trees (parts_there old world s) new Project tt refl others) carry is sound
+  stands_with_next n same is others sound = frame_one old new world (with_next n world) s Project tt same refl (keeps_calm world.version old s.trees (parts_there old world s) new Project tt refl others) carry is sound
     where
       carry : (q : Part) → is_part Project q ≡ false → (rows : List Row) → Holds q rows world → Holds q rows (with_next n world)
       carry Project off rows h = absurd (cc)
       carry _ off rows h = h
-
-  -- it has another version: each table that every version has is as it was
-  pub stands_with_version : (n : ℕ) → new.schema ≡ old.schema → new.trees s.trees.project ≡ stored_project (with_version n world) ∷ []
-      → ((t : Table) → Has old.schema.tables t → t.tree ≢ s.trees.project → IsCalm old.schema Enforced t s.trees.project → new.trees t.tree ≡ old.trees t.tree) → IsDatabase new → Refines new (with_version n world)
-  stands_with_version n same is others sound =
-      record { trees = s.trees; tables = subst (λ (x : Schema). HasTables x s.trees) (sym same) s.tables; rows = rows_stand new s.trees (with_version n world) held; sound = sound }
-    where
-      keeps : Keeps world.version s.trees old new (is_part Project)
-      keeps = keeps_calm world.version old s.trees (parts_there old world s) new Project tt refl others
-
-      of_others : (q : Part) → is_part Project q ≡ false → (rows : List Row) → Holds q rows world → Holds q rows (with_version n world)
-      of_others Project off rows h = absurd (cc)
-      of_others _ off rows h = h
-
-      held : (q : Part) → IsIn q n → Holds q (new.trees (tree_in s.trees q)) (with_version n world)
-      held q in_q = elim (cases_Bool (is_part Project q)) [
-        | inl on ↦ subst (λ p. Holds p (new.trees (tree_in s.trees p)) (with_version n world)) (same_part Project q on) is
-        | inr off ↦ of_others q off _ (subst (λ rows. Holds q rows world) (sym (keeps q (in_all world.version q) off)) (parts_hold old world s q (in_all world.version q)))
-      ]
 
   -- the row of a workunit is gone, something of its children is left, and our other tables stay
   pub stands_without_workunit : (n : ℕ) (left : ℕ → List Row → List Row) → new.schema ≡ old.schema → ListsAll (new.trees s.trees.workunit) (map stored_workunit (without_workunit n world).workunits)
       → ChildrenAre old new left → ((q : Part) (c : ℕ) (rows : List Row) → child_column q ≡ Some c → Holds q rows world → Holds q (left c rows) (without_workunit n world))
       → ((u : Table) → Has old.schema.tables u → OwnsTree old.schema u → u.tree ≢ s.trees.workunit → u.references ≡ [] → new.trees u.tree ≡ old.trees u.tree) → IsDatabase new → Refines new (without_workunit n world)
   stands_without_workunit n left same workunits children hold bare sound =
-      frame_in old new world (without_workunit n world) s falls_with_work same refl (keeps_bare world.version old s.trees (parts_there old world s) new bare) carry fits sound
+      frame_in old new world (without_workunit n world) s falls_with_work same refl (keeps_bare world.version old s.trees (parts_there old world s) new bare) carry fits (λ off none. record { hosts = none.hosts; workunits = kept_of world.workunits none.workunits }) sound
     where
+      kept_of : (ws : List Workunit) → AllByRecursion (λ (w : Workunit). w.class ≡ 0) ws → AllByRecursion (λ (w : Workunit). w.class ≡ 0) (filter (λ (w : Workunit). not (w.number == n)) ws)
+      kept_of [] none = tt
+      kept_of (w ∷ ws) none = elim (cases_Bool (w.number == n)) [ inl on ↦ rw on (kept_of ws none.1) | inr off ↦ rw off (none.0, kept_of ws none.1) ]
+
       carry : (q : Part) → falls_with_work q ≡ false → (rows : List Row) → Holds q rows world → Holds q rows (without_workunit n world)
       carry Workunits off rows h = absurd (cc)
       carry Instances off rows h = absurd (cc)
+      carry WorkClasses off rows h = absurd (cc)
       carry _ off rows h = h
 
       child : (q : Part) (c : ℕ) → IsIn q world.version → child_column q ≡ Some c → Holds q (new.trees (tree_in s.trees q)) (without_workunit n world)
@@ -110,4 +96,5 @@ module _ (old new : Database) (world : World) (s : Refines old world) where
       fits : (q : Part) → IsIn q world.version → falls_with_work q ≡ true → Holds q (new.trees (tree_in s.trees q)) (without_workunit n world)
       fits Workunits in_q on = workunits
       fits Instances in_q on = child Instances 1 in_q refl
+      fits WorkClasses in_q on = child WorkClasses 0 in_q refl
       fits _ in_q on = absurd (cc)

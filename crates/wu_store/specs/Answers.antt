@@ -117,6 +117,9 @@ result_count world = length (all_instances world)
 abbrev pub import_count : World → ℕ
 import_count world = length world.imports
 
+abbrev pub class_count : World → ℕ
+class_count world = length world.classes
+
 -- ---- the last row of an answer
 
 -- what is taken from the end of these rows: the last one, where there is one

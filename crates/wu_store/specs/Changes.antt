@@ -18,11 +18,10 @@ use Rattle.wu_schema.specs.Tables.{ProjectTrees, HasTables}
 use Rattle.wu_schema.specs.Refines.{Refines, HoldsAll, host_of}
 use Rattle.wu_schema.specs.Queue.{HasQueue}
 use Rattle.wu_store.specs.Answers.{numbered}
-use Rattle.wu_store.specs.StandsFor.{IsQueued, StandsFor, marked as marks_in}
+use Rattle.wu_store.specs.StandsFor.{KnowsClasses, StandsFor, marked as marks_in}
 use Rattle.wu_core.specs.declared.marks.Marks.{Marks}
 use Rattle.wu_schema.specs.Made.{PutsOne}
 use Rattle.wu_schema.specs.Calm.{IsCalm}
-use Rattle.wu_core.specs.Storable.{bare}
 
 -- of this version of the schema
 abbrev pub with_version : ℕ → World → World
@@ -41,6 +40,10 @@ placed w (v ∷ vs) = match_ordering (nat_cmp v.number w.number) (v ∷ placed w
 abbrev pub with_placed : Workunit → World → World
 with_placed w world = record world { workunits = placed w world.workunits }
 
+-- without its instances
+abbrev pub without_instances : Workunit → Workunit
+without_instances w = record w { instances = [] }
+
 -- no workunit has this number
 abbrev pub LacksNumber : ℕ → List Workunit → Type 0
 LacksNumber number ws = list_any (λ (w : Workunit). w.number == number) ws ≡ false
@@ -56,9 +59,13 @@ WasFree number old new = (world : World) → Refines old world → LacksNumber n
 abbrev pub with_replaced : Workunit → World → World
 with_replaced w world = record world { workunits = map (λ v. if v.number == w.number then w else v) world.workunits }
 
--- with its row in place of that of its number, whose instances stay
+-- with the instances and the class of another
+abbrev pub keeping : Workunit → Workunit → Workunit
+keeping was w = record w { instances = was.instances; class = was.class }
+
+-- with its row in place of that of its number, whose instances and class stay
 abbrev pub and_row : Workunit → Workunit → Workunit
-and_row w v = if v.number == w.number then record w { instances = v.instances } else v
+and_row w v = if v.number == w.number then keeping v w else v
 
 abbrev pub with_row : Workunit → World → World
 with_row w world = record world { workunits = map (and_row w) world.workunits }
@@ -74,17 +81,17 @@ LeavesMarks number old new =
 
 -- the workunit is at its place
 abbrev pub Places : Workunit → Database → Database → Type 0
-Places w old new = (world : World) → IsQueued world → StandsFor old world → StandsFor new (with_placed w world)
+Places w old new = (world : World) → KnowsClasses world → StandsFor old world → StandsFor new (with_placed w world)
 
 -- the workunit takes the place of the present one of its number
 abbrev pub Replaces : Workunit → Workunit → Database → Database → Type 0
 Replaces was w old new =
-    (world : World) → IsQueued world → StandsFor old world → numbered w.number world ≡ Some was → StandsFor new (with_replaced w world)
+    (world : World) → KnowsClasses world → StandsFor old world → numbered w.number world ≡ Some was → StandsFor new (with_replaced w world)
 
 -- it takes the place of whichever is there
 abbrev pub ReplacesAny : Workunit → Database → Database → Type 0
 ReplacesAny w old new =
-    (world : World) → IsQueued world → StandsFor old world → HasNumber w.number world.workunits → StandsFor new (with_replaced w world)
+    (world : World) → KnowsClasses world → StandsFor old world → HasNumber w.number world.workunits → StandsFor new (with_replaced w world)
 
 -- without the workunit of this number, and so without its instances
 abbrev pub without_workunit : ℕ → World → World
@@ -156,6 +163,12 @@ PutsInstances w was old new =
 abbrev pub PutsRow : Workunit → Workunit → Database → Database → Type 0
 PutsRow was w old new =
     (world : World) → Refines old world → numbered w.number world ≡ Some was
+    → StandsBeside (with_replaced (keeping was w) world) old new
+
+-- and then its class, where the world has classes
+abbrev pub PutsClassOf : Workunit → Workunit → Database → Database → Type 0
+PutsClassOf was w old new =
+    (world : World) → KnowsClasses world → Refines old (with_replaced (keeping was w) world)
     → StandsBeside (with_replaced (record w { instances = was.instances }) world) old new
 
 -- its marks are in the queue, where those of this one were, which had its number at first
@@ -167,12 +180,12 @@ PutsMarks was w old new =
 
 -- the instances of a new workunit are added, where its row stands without them
 abbrev pub AddsInstances : Workunit → Database → Database → Type 0
-AddsInstances w old new = (world : World) → LacksNumber w.number world.workunits → Refines old (with_placed (bare w) world) → Refines new (with_placed w world)
+AddsInstances w old new = (world : World) → LacksNumber w.number world.workunits → Refines old (with_placed (without_instances w) world) → Refines new (with_placed w world)
 
 -- a queue beside it is as it was
 abbrev pub LeavesQueue : Workunit → Database → Database → Type 0
 LeavesQueue w old new =
-    (world : World) (marked : List (ℕ × Marks)) → LacksNumber w.number world.workunits → Refines old (with_placed (bare w) world)
+    (world : World) (marked : List (ℕ × Marks)) → LacksNumber w.number world.workunits → Refines old (with_placed (without_instances w) world)
     → HasQueue old marked → HasQueue new marked
 
 -- with a grant more
@@ -191,9 +204,15 @@ IsNextPlace place xs = place ≡ length xs + 1
 abbrev pub FillsQueue : List (ℕ × Marks) → Database → Database → Type 0
 FillsQueue rows old new = (world : World) → Refines old world → rows ≡ marks_in world → HasQueue old [] → Refines new world × HasQueue new rows
 
--- a world of an older version gets the queue, with these rows, and is of the version that has it
-abbrev pub Upgrades : List (ℕ × Marks) → Database → Database → Type 0
-Upgrades rows old new = (world : World) → Refines old world → rows ≡ marks_in world → StandsFor new (with_version 2 world)
+-- a world of this version, of which these are the marks, has a queue then, with these rows
+abbrev pub UpgradesQueue : ℕ → List (ℕ × Marks) → Database → Database → Type 0
+UpgradesQueue from rows old new =
+    (world : World) → from ≡ world.version → StandsFor old world → rows ≡ marks_in world → Refines new world × HasQueue new rows
+
+-- a world of this version, which has no classes, and of which these are the marks, is of the present version then
+abbrev pub Upgrades : ℕ → List (ℕ × Marks) → Database → Database → Type 0
+Upgrades from rows old new =
+    (world : World) → from ≡ world.version → ¬ KnowsClasses world → StandsFor old world → rows ≡ marks_in world → StandsFor new (with_version 3 world)
 
 -- the grant is added, where its place is the next one of the world's grants
 abbrev pub AddsGrant : ℕ → Grant → Database → Database → Type 0
@@ -217,7 +236,7 @@ HoldsHosts rows grants = HoldsAll rows (map (host_of grants) (hosts_of grants))
 
 -- the row of a grant is put at its place
 abbrev pub PutsGrant : ℕ → Grant → Database → Database → Type 0
-PutsGrant place g old new = (t : ProjectTrees) → HasTables old.schema t → PutsOne old new t.grant (stored_grant (place, g))
+PutsGrant place g old new = (version : ℕ) (t : ProjectTrees) → HasTables version old.schema t → PutsOne old new t.grant (stored_grant (place, g))
 
 -- a grant's host has its credit and one grant more, and each table that no action leads to is as it was
 pub record IsCredited (g : Grant) (t : ProjectTrees) (grants : List Grant) (old new : Database) : Type 0 where
@@ -228,4 +247,5 @@ pub record IsCredited (g : Grant) (t : ProjectTrees) (grants : List Grant) (old 
 
 -- whatever grants the rows of hosts stood for
 abbrev pub Credits : Grant → Database → Database → Type 0
-Credits g old new = (t : ProjectTrees) (grants : List Grant) → HasTables old.schema t → IsDatabase old → HoldsHosts (old.trees t.host) grants → IsCredited g t grants old new
+Credits g old new =
+    (version : ℕ) (t : ProjectTrees) (grants : List Grant) → HasTables version old.schema t → IsDatabase old → HoldsHosts (old.trees t.host) grants → IsCredited g t grants old new

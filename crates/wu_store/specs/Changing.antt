@@ -8,9 +8,10 @@ use Rattle.wu_core.specs.World.{World, Import}
 use Rattle.wu_store.specs.Changes.{with_workunit, with_replaced, without_workunit, with_grant, with_archived, with_import, with_next, with_version, IsNextPlace}
 use Rattle.wu_core.specs.Storable.{IsAbove}
 use Rattle.wu_store.specs.Answers.{numbered}
-use Rattle.wu_store.specs.StandsFor.{IsQueued, StandsFor, marked}
+use Rattle.wu_store.specs.Classes.{with_host_class}
+use Rattle.wu_store.specs.StandsFor.{KnowsClasses, StandsFor, marked}
 use Rattle.wu_store.specs.declared.changes.Change.{Change}
-use Rattle.wu_store.specs.declared.changes.Change.TheVariants.{Add, Replace, Remove, Granted, Archive, Next, Keep, Upgrade}
+use Rattle.wu_store.specs.declared.changes.Change.TheVariants.{Add, Replace, Remove, Granted, Archive, Next, Keep, Class, Upgrade}
 use Rattle.wu_store.specs.declared.changes.Import.{Import as Kept}
 
 -- an import as it is kept
@@ -33,7 +34,8 @@ made (Granted _ g) world = with_grant g world
 made (Archive _ a) world = with_archived a world
 made (Next number) world = with_next number world
 made (Keep kept) world = with_import (import_of_change kept) world
-made (Upgrade rows) world = with_version 2 world
+made (Class host class) world = with_host_class host class world
+made (Upgrade from rows) world = with_version 3 world
 
 -- the world with one change after another
 abbrev pub made_all : List Change → World → World
@@ -41,16 +43,18 @@ made_all [] world = world
 made_all (change ∷ more) world = made_all more (made change world)
 
 -- a workunit that is added has a number above all, one that takes a place has that of the present one that it is said to
--- take it from, each in a world with a queue; a grant and an archived row have the next place of their list; an upgrade has the marks of all workunits
+-- take it from, each in a world with classes, and so a class is set; a grant and an archived row have the next place of
+-- their list; an upgrade is of a world of that version without classes, and has the marks of all workunits
 abbrev pub IsRight : Change → World → Type 0
-IsRight (Add w) world = IsQueued world × IsAbove w.number world.workunits
-IsRight (Replace was w) world = IsQueued world × (numbered w.number world ≡ Some was)
+IsRight (Add w) world = KnowsClasses world × IsAbove w.number world.workunits
+IsRight (Replace was w) world = KnowsClasses world × (numbered w.number world ≡ Some was)
 IsRight (Remove number) world = ⊤
 IsRight (Granted place g) world = IsNextPlace place world.grants
 IsRight (Archive place a) world = IsNextPlace place world.archived
 IsRight (Next number) world = ⊤
 IsRight (Keep kept) world = ⊤
-IsRight (Upgrade rows) world = rows.items ≡ marked world
+IsRight (Class host class) world = KnowsClasses world
+IsRight (Upgrade from rows) world = (from ≡ world.version) × (¬ KnowsClasses world) × (rows.items ≡ marked world)
 
 abbrev pub AreRight : List Change → World → Type 0
 AreRight [] world = ⊤

@@ -11,4 +11,5 @@ pub mod Lines
 pub mod Pages
 pub mod Summaries
 pub mod Queues
+pub mod Classes
 pub mod Differences

@@ -6,6 +6,7 @@ use Rattle.wu_core.specs.declared.fault.Fault.{Fault}
 use Rattle.wu_core.specs.declared.fault.Fault.TheVariants.{NotAProject}
 use Rattle.wu_core.specs.declared.workunit.Archived.{Archived}
 use Rattle.wu_core.specs.declared.workunit.Grant.{Grant}
+use Rattle.wu_core.specs.declared.workunit.HostClass.{HostClass}
 use Rattle.wu_core.specs.declared.workunit.Instance.{Instance}
 use Rattle.wu_core.specs.declared.workunit.Workunit.{Workunit}
 use Rattle.wu_core.specs.Hosts.{credit_of, grants_of, hosts_of}
@@ -35,6 +36,7 @@ line_of w =
       assimilate = w.assimilate;
       file_delete = w.file_delete;
       done_at = w.done_at;
+      class = w.class;
     }
 
 -- the lines of a world's workunits, in order of number
@@ -84,6 +86,12 @@ host_lines world = map (host_line_of world.grants) (hosts_of world.grants)
 abbrev pub archived_lines : World → List Archived
 archived_lines world = world.archived
 
+-- ---- classes of hosts
+
+-- the hosts that a file named, each with its class, by their names' bytes
+abbrev pub class_lines : World → List HostClass
+class_lines world = world.classes
+
 -- ---- the summary
 
 -- how many of each there are, and the credit of all grants
@@ -101,13 +109,14 @@ summary_of world =
       grants = length world.grants;
       credit = sum_by (λ grant. grant.credit) world.grants;
       imports = length world.imports;
+      classes = length world.classes;
     }
 
 -- ---- what is read
 
--- a row is read as the line of a workunit that it stands for
-pub record ReadsLine (row : Row) (result : Result WorkunitLine Fault) : Type 0 where
-  pub value : IfOk result (λ line. (w : Workunit) × (row ≡ workunit_row w) × (line ≡ line_of w))
+-- a row is read as the line of a workunit that it stands for, with this class
+pub record ReadsLine (class : ℕ) (row : Row) (result : Result WorkunitLine Fault) : Type 0 where
+  pub value : IfOk result (λ line. (w : Workunit) × (row ≡ workunit_row w) × (line ≡ record (line_of w) { class = class }))
   -- that of each workunit that can be read is, want of memory aside
   pub found : (w : Workunit) → IsStoredWorkunit (bare w) → row ≡ workunit_row w → IfErr result (λ fault. fault ≢ NotAProject)
   pub refused : IfErr result IsReadFault

@@ -1,6 +1,6 @@
 -- What is loaded of a project: the present workunit of a number or a name, or the first one above a number, with its
 -- instances; an import; the next number, and the next place of a grant or of an archived row.
-use Rattle.std.specs.Prelude.{◌≡◌, ◌≢◌, ℕ, ◌<◌, ◌^◌, List, [], Option, Some, None, Result, find, IfErr, IfSome, IsTrue, MatchResult, ⊤}
+use Rattle.std.specs.Prelude.{◌≡◌, ◌≢◌, ℕ, ◌<◌, ◌^◌, List, [], Option, Some, None, option_map, Result, find, IfErr, IfSome, IsTrue, MatchResult, ⊤}
 use Rattle.std.specs.Option.{option_map_or}
 use Rattle.sqlite.specs.Held.{Held, state}
 use Rattle.sqlite.specs.Order.{Row}
@@ -19,6 +19,7 @@ use Rattle.wu_schema.specs.Refines.{Refines}
 use Rattle.wu_schema.specs.Stored.{workunit_row}
 use Rattle.wu_store.specs.Answers.{first_above, named, numbered}
 use Rattle.wu_store.specs.Changes.{IsNextPlace}
+use Rattle.wu_store.specs.StandsFor.{KnowsClasses}
 use Rattle.wu_core.specs.Storable.{AreStoredInstances, AreVerdicts, IsStorable}
 use Rattle.wu_store.specs.declared.rows.StoredImport.{StoredImport}
 
@@ -48,33 +49,41 @@ NotRefusedIn g old new result Is =
 abbrev pub IsLoadable : Option Workunit → Type 0
 IsLoadable found = IfSome found IsStorable
 
--- the number is one that a row may have, and its workunit, if there is one, can be read
+-- there are classes, the number is one that a row may have, and its workunit, if there is one, can be read
 abbrev pub LoadsNumbered : ℕ → World → Type 0
-LoadsNumbered number world = (number < 2 ^ 63) × IsLoadable (numbered number world)
+LoadsNumbered number world = KnowsClasses world × (number < 2 ^ 63) × IsLoadable (numbered number world)
 
--- the workunit of this name, if there is one, can be read
+-- there are no classes, the number is one that a row may have, and its workunit, if there is one, can be read
+abbrev pub LoadsEarly : ℕ → World → Type 0
+LoadsEarly number world = (¬ KnowsClasses world) × (number < 2 ^ 63) × IsLoadable (numbered number world)
+
+-- there are classes, and the workunit of this name, if there is one, can be read
 abbrev pub LoadsNamed : List ℕ → World → Type 0
-LoadsNamed name world = IsLoadable (named name world)
+LoadsNamed name world = KnowsClasses world × IsLoadable (named name world)
 
--- if there is a workunit above the number, which is one that a row may have, the first can be read
+-- there are no classes, and if there is a workunit above the number, which is one that a row may have, the first can be read
 abbrev pub LoadsAbove : ℕ → World → Type 0
-LoadsAbove number world = (number < 2 ^ 63) × IsLoadable (first_above number world)
+LoadsAbove number world = (¬ KnowsClasses world) × (number < 2 ^ 63) × IsLoadable (first_above number world)
 
 -- this workunit is found, or none; or a fault
 abbrev pub Finds : Option Workunit → Result (Option Workunit) Fault → Type 0
 Finds found result = MatchResult result (λ loaded. loaded ≡ found) IsStoreFault
 
--- the present workunit of this number is found, with its instances, or none where there is none
+-- the present workunit of this number is found, with its class and its instances, or none where there is none
 abbrev pub FindsNumbered : ℕ → Result (Option Workunit) Fault → World → Type 0
-FindsNumbered number result world = Finds (numbered number world) result
+FindsNumbered number result world = KnowsClasses world → Finds (numbered number world) result
+
+-- the same with its instances alone, where there are no classes
+abbrev pub FindsEarly : ℕ → Result (Option Workunit) Fault → World → Type 0
+FindsEarly number result world = ¬ KnowsClasses world → Finds (numbered number world) result
 
 -- that of this name
 abbrev pub FindsNamed : List ℕ → Result (Option Workunit) Fault → World → Type 0
-FindsNamed name result world = Finds (named name world) result
+FindsNamed name result world = KnowsClasses world → Finds (named name world) result
 
--- that of the least number above this one
+-- that of the least number above this one, where there are no classes
 abbrev pub FindsAbove : ℕ → Result (Option Workunit) Fault → World → Type 0
-FindsAbove number result world = Finds (first_above number world) result
+FindsAbove number result world = ¬ KnowsClasses world → Finds (first_above number world) result
 
 -- the instances of the workunit of this number; none where it is not there
 abbrev pub instances_at : ℕ → World → List Instance
@@ -100,13 +109,26 @@ IsRowIfThere (Some row) (Some w) world = IsRowOfPresent row w world
 IsRowIfThere None (Some w) world = ⊥
 IsRowIfThere (Some row) None world = ⊥
 
--- the workunit of a row is found, with its instances, or none where there is no row
+-- a workunit without its class
+abbrev pub classless : Workunit → Workunit
+classless w = record w { class = 0 }
+
+-- the workunit of a row is found, with its instances and without its class, or none where there is no row
+abbrev pub FindsClassless : Option Row → Result (Option Workunit) Fault → World → Type 0
+FindsClassless row result world = (found : Option Workunit) → IsRowIfThere row found world → Finds (option_map classless found) result
+
+-- it is found with its class, where there are classes
 abbrev pub FindsIfThere : Option Row → Result (Option Workunit) Fault → World → Type 0
-FindsIfThere row result world = (found : Option Workunit) → IsRowIfThere row found world → Finds found result
+FindsIfThere row result world = KnowsClasses world → (found : Option Workunit) → IsRowIfThere row found world → Finds found result
 
 -- the row, if there is one, is that of a workunit that can be read
 abbrev pub IsLoadableIfThere : Option Row → World → Type 0
 IsLoadableIfThere row world = (found : Option Workunit) × IsRowIfThere row found world × IsLoadable found
+
+-- so it is, and there are classes
+pub record IsWholeIfThere (row : Option Row) (world : World) : Type 0 where
+  pub known : KnowsClasses world
+  pub loadable : IsLoadableIfThere row world
 
 -- ---- an import, the next number, and the next places
 

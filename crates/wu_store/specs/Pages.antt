@@ -9,14 +9,15 @@ use Rattle.sqlite.specs.declared.types.Value.TheVariants.{Int, Text}
 use Rattle.wu_core.specs.declared.fault.Fault.{Fault}
 use Rattle.wu_core.specs.declared.fault.Fault.TheVariants.{NotAProject}
 use Rattle.wu_core.specs.declared.workunit.Archived.{Archived}
+use Rattle.wu_core.specs.declared.workunit.HostClass.{HostClass}
 use Rattle.wu_core.specs.declared.workunit.Instance.{Instance}
 use Rattle.wu_core.specs.declared.workunit.Workunit.{Workunit}
 use Rattle.wu_core.specs.Hosts.{hosts_of}
-use Rattle.wu_core.specs.Storable.{IsName, IsStoredInstance}
+use Rattle.wu_core.specs.Storable.{IsClass, IsName, IsStoredInstance}
 use Rattle.wu_core.specs.World.{World}
 use Rattle.wu_schema.specs.Refines.{host_of}
 use Rattle.wu_schema.specs.Restoring.{Restores}
-use Rattle.wu_schema.specs.Stored.{archived_cells, number, workunit_row}
+use Rattle.wu_schema.specs.Stored.{archived_cells, class_cells, number, workunit_row}
 use Rattle.wu_store.specs.Lines.{host_line_of, line_of, result_line_of, result_lines_of}
 use Rattle.wu_store.specs.Reading.{bare_instance_row, IsReadFault}
 use Rattle.wu_store.specs.declared.lines.HostLine.{HostLine}
@@ -24,6 +25,7 @@ use Rattle.wu_store.specs.declared.lines.ResultLine.{ResultLine}
 use Rattle.wu_store.specs.declared.lines.WorkunitLine.{WorkunitLine}
 use Rattle.wu_store.specs.declared.pages.results.Named.{Named}
 use Rattle.wu_store.specs.declared.pages.results.OfWorkunits.{OfWorkunits}
+use Rattle.wu_store.specs.declared.pages.workunits.Classed.{Classed}
 
 -- The rows of a page are those of the first of these lines, in order, and these others are left behind it. A page without
 -- rows stands behind the last line.
@@ -64,9 +66,48 @@ workunit_page key world = take page_rows (map workunit_row (workunits_above key 
 abbrev pub workunit_lines_above : ℤ → World → List WorkunitLine
 workunit_lines_above key world = map line_of (workunits_above key world)
 
--- a row and a line are those of a workunit of the world
-abbrev pub IsRowOfWorkunit : World → Row → WorkunitLine → Type 0
-IsRowOfWorkunit world = IsRowOf workunit_row line_of world.workunits
+-- the row of a workunit's number and class
+abbrev pub classed_row : Classed → Row
+classed_row w = Int w.key ∷ number w.class ∷ []
+
+-- it has a class that there may be
+abbrev pub HasClass : Classed → Type 0
+HasClass w = IsClass w.class
+
+-- the number and the class of a workunit
+abbrev pub classed_of : Workunit → Classed
+classed_of w = record { key = pos w.number; class = w.class }
+
+-- the one of a number among these, and its class
+abbrev pub classed_among : ℤ → List Classed → Option Classed
+classed_among number all = find (λ (w : Classed). int_eq w.key number) all
+
+abbrev pub class_among : ℤ → List Classed → Option ℕ
+class_among number all = option_map (λ (w : Classed). w.class) (classed_among number all)
+
+-- rows are read as those of numbers and classes
+pub record ReadsClassed (rows : List Row) (result : Result (Vec Classed Global) Fault) : Type 0 where
+  pub value : IfOk result (λ all. rows ≡ map classed_row all.items)
+  -- those of classes that there may be are, want of memory aside
+  pub found : (all : List Classed) → All HasClass all → rows ≡ map classed_row all → IfErr result (λ fault. fault ≢ NotAProject)
+  pub refused : IfErr result IsReadFault
+
+-- the workunits of a page: the next ones above a key
+abbrev pub next_workunits : ℤ → World → List Workunit
+next_workunits key world = take page_rows (workunits_above key world)
+
+-- their numbers and classes, as they are asked for
+abbrev pub class_page : ℤ → World → List Row
+class_page key world = map (λ (w : Workunit). classed_row (classed_of w)) (next_workunits key world)
+
+-- they are found
+abbrev pub FindsClassesAbove : ℤ → Result (Vec Classed Global) Fault → World → Type 0
+FindsClassesAbove key result world = IfOk result (λ found. found.items ≡ map classed_of (next_workunits key world))
+
+-- a row and a line are those of a workunit of the world, whose class these give
+pub record IsRowOfWorkunit (classed : Option (Vec Classed Global)) (world : World) (row : Row) (line : WorkunitLine) : Type 0 where
+  pub of : IsRowOf workunit_row line_of world.workunits row line
+  pub class : option_and_then (λ (all : Vec Classed Global). class_among (pos of.shown.number) all.items) classed ≡ Some of.shown.class
 
 -- ---- the archive
 
@@ -117,6 +158,29 @@ host_lines_behind after world = map (host_line_of world.grants) (hosts_behind af
 abbrev pub IsRowOfHost : World → Row → HostLine → Type 0
 IsRowOfHost world = IsRowOf (host_of world.grants) (host_line_of world.grants) (hosts_of world.grants)
 
+-- ---- classes of hosts
+
+-- the hosts with a class, from behind a name on
+abbrev pub classes_behind : Option (List ℕ) → World → List HostClass
+classes_behind after world = filter (λ (it : HostClass). is_behind after it.host) world.classes
+
+-- the rows of the first of them
+abbrev pub class_page_behind : Option (List ℕ) → World → List Row
+class_page_behind after world = take page_rows (map class_cells (classes_behind after world))
+
+-- they are found
+abbrev pub FindsClassPage : Option (List ℕ) → Result (Vec Row Global) Fault → World → Type 0
+FindsClassPage after result world = IfOk result (λ rows. rows.items ≡ class_page_behind after world)
+
+-- a host's name, and a class that there may be
+pub record IsOfClass (it : HostClass) : Type 0 where
+  pub host : IsName it.host
+  pub class : IsClass it.class
+
+-- a row is that of this host with a class
+abbrev pub IsRowOfClass : World → Row → HostClass → Type 0
+IsRowOfClass world = IsRowOf class_cells (λ (it : HostClass). it) world.classes
+
 -- ---- results
 
 -- the row of a workunit's number and name
@@ -158,11 +222,7 @@ abbrev pub keys_left : ℤ → ℕ
 keys_left (pos n) = 2 ^ 63 - n
 keys_left (negsuc n) = 2 ^ 63 + suc n
 
--- the workunits of a page: the next ones above a key
-abbrev pub next_workunits : ℤ → World → List Workunit
-next_workunits key world = take page_rows (workunits_above key world)
-
--- their numbers and names, as they are asked for
+-- the numbers and names of the workunits of a page, as they are asked for
 abbrev pub name_page : ℤ → World → List Row
 name_page key world = map (λ (w : Workunit). named_row (named_of w)) (next_workunits key world)
 

@@ -6,7 +6,7 @@ use Rattle.wu_core.specs.declared.fault.Fault.TheVariants.{NotAProject}
 use Rattle.wu_core.specs.declared.states.ServerState.TheVariants.{InProgress, Over, Unsent}
 use Rattle.wu_core.specs.declared.workunit.Grant.{Grant}
 use Rattle.wu_core.specs.World.{World}
-use Rattle.wu_store.specs.Answers.{count_in, credit_row, grants_behind, import_count, result_count, workunit_count}
+use Rattle.wu_store.specs.Answers.{class_count, count_in, credit_row, grants_behind, import_count, result_count, workunit_count}
 use Rattle.wu_store.specs.Reading.{IsReadFault}
 use Rattle.wu_core.specs.Storable.{LoadsNext}
 use Rattle.wu_store.specs.declared.counts.Counted.{Counted}
@@ -24,10 +24,10 @@ abbrev pub results_of : World → Results
 results_of world =
     record { all = result_count world; unsent = count_in Unsent world; in_progress = count_in InProgress world; over = count_in Over world }
 
--- how many workunits, archived rows and imports
+-- how many workunits, archived rows, imports and hosts with a class
 abbrev pub others_of : World → Others
 others_of world =
-    record { workunits = workunit_count world; archived = length world.archived; imports = import_count world }
+    record { workunits = workunit_count world; archived = length world.archived; imports = import_count world; classes = class_count world }
 
 -- the credit of grants
 abbrev pub credit_sum : List Grant → ℕ

@@ -9,5 +9,6 @@ pub record SameWorld (a b : World) : Type 0 where
   pub grants : a.grants ≡ b.grants
   pub archived : a.archived ≡ b.archived
   pub imports : IsPermutation a.imports b.imports
+  pub classes : a.classes ≡ b.classes
   pub next_number : a.next_number ≡ b.next_number
   pub version : a.version ≡ b.version

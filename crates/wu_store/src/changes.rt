@@ -4,14 +4,15 @@ ghost use Rattle.std.specs.Prelude.{◌≡◌, [], ◌∷◌, option_map, Some};
 ghost use Rattle.wu_core.specs.Storable.{bare};
 ghost use Rattle.wu_rules.specs.Marks.{marks};
 ghost use Rattle.wu_schema.specs.Calls.{StatementFrame, TransactionFrame, Does};
-ghost use Rattle.wu_store.specs.Changes.{AddsInstances, FillsQueue, LeavesQueue, Places, PutsInstance, PutsInstances, PutsMarks, PutsRow, Replaces, ReplacesAny, Upgrades};
+ghost use Rattle.wu_store.specs.Changes.{AddsInstances, FillsQueue, LeavesQueue, Places, PutsClassOf, PutsInstance, PutsInstances, PutsMarks, PutsRow, Replaces, ReplacesAny, Upgrades, UpgradesQueue};
 ghost use Rattle.wu_store.specs.Changing.{MakesWorlds};
 
+use crate::classes::{put_host_class, set_class, upgrade_classes};
 use crate::differences::{is_same_instance, is_same_marks, is_same_row};
 use crate::sets::{set_instance, set_marks, set_workunit};
 use crate::statements::{
     delete_workunit, insert_archived, insert_grant, insert_import, insert_instance, insert_marks,
-    insert_workunit, set_next_number, set_version,
+    insert_workunit, set_next_number,
 };
 use crate::verdicts::Verdicts;
 use sqlite::{Alter, Error, Transaction};
@@ -48,11 +49,14 @@ pub enum Change<'a> {
     Next(u64),
     /// An import is kept.
     Keep(Import<'a>),
-    /// The schema of version 1 gets the queue of version 2, with these marks, each of the workunit of this number.
-    Upgrade(Vec<(u64, Marks)>),
+    /// The class of a host is set.
+    Class(Name, u32),
+    /// The schema of this older version gets what it lacks of the present one: the queue, with these marks, each of the
+    /// workunit of this number, where it has none, and the tables of classes, with class 0 for each of these workunits.
+    Upgrade(u64, Vec<(u64, Marks)>),
 }
 
-/// The version of the schema that has the queue.
+/// The version of the schema from which on there is a queue.
 const QUEUE_VERSION: u64 = 2;
 
 // It is written out, so that a caller does not prove again how each part is dropped.
@@ -65,7 +69,8 @@ impl Drop for Change<'_> {
             Change::Archive(_seq, _archived) => {}
             Change::Remove(_number) | Change::Next(_number) => {}
             Change::Keep(_import) => {}
-            Change::Upgrade(_rows) => {}
+            Change::Class(_host, _class) => {}
+            Change::Upgrade(_from, _rows) => {}
         }
     }
 }
@@ -102,6 +107,38 @@ fn replace_whole<S: Alter>(tx: &mut Transaction<'_, S>, workunit: &Workunit) -> 
 {
     delete_workunit(tx, workunit.number)?;
     add(tx, workunit)
+}
+
+/// Sets the row of a workunit, where it is not as it was.
+fn put_row<S: Alter>(
+    tx: &mut Transaction<'_, S>,
+    was: &Workunit,
+    workunit: &Workunit,
+) -> Result<(), Error>
+    ensures works { TransactionFrame S.Store tx.old tx.new result }
+    ensures puts { Does S.Store tx.old tx.new result (PutsRow was.now workunit.now) }
+    ensures idle { bare was.now ≡ bare workunit.now → tx.new ≡ tx.old }
+{
+    if is_same_row(was, workunit) {
+        return Ok(());
+    }
+    set_workunit(tx, workunit)
+}
+
+/// Sets the class of a workunit, where it is not as it was.
+fn put_class<S: Alter>(
+    tx: &mut Transaction<'_, S>,
+    was: &Workunit,
+    workunit: &Workunit,
+) -> Result<(), Error>
+    ensures works { TransactionFrame S.Store tx.old tx.new result }
+    ensures puts { Does S.Store tx.old tx.new result (PutsClassOf was.now workunit.now) }
+    ensures idle { was.now.class ≡ workunit.now.class → tx.new ≡ tx.old }
+{
+    if was.class == workunit.class {
+        return Ok(());
+    }
+    set_class(tx, workunit.number, workunit.class)
 }
 
 /// Sets the instance of this number where it is not as it was, or adds it where there was none.
@@ -148,22 +185,6 @@ fn put_instances<S: Alter>(
     Ok(())
 }
 
-/// Sets the row of a workunit, where it is not as it was.
-fn put_row<S: Alter>(
-    tx: &mut Transaction<'_, S>,
-    was: &Workunit,
-    workunit: &Workunit,
-) -> Result<(), Error>
-    ensures works { TransactionFrame S.Store tx.old tx.new result }
-    ensures puts { Does S.Store tx.old tx.new result (PutsRow was.now workunit.now) }
-    ensures idle { bare was.now ≡ bare workunit.now → tx.new ≡ tx.old }
-{
-    if is_same_row(was, workunit) {
-        return Ok(());
-    }
-    set_workunit(tx, workunit)
-}
-
 /// Sets the marks of a workunit, where they are not as they were.
 fn put_marks<S: Alter>(
     tx: &mut Transaction<'_, S>,
@@ -196,6 +217,7 @@ fn replace<S: Alter>(
         return replace_whole(tx, workunit);
     }
     put_row(tx, was, workunit)?;
+    put_class(tx, was, workunit)?;
     put_instances(tx, was.instances.as_slice(), workunit)?;
     put_marks(tx, was, workunit)
 }
@@ -211,14 +233,33 @@ fn fill_queue<S: Alter>(tx: &mut Transaction<'_, S>, rows: &[(u64, Marks)]) -> R
     Ok(())
 }
 
-/// Makes the queue with these rows, and sets the version that has it.
-fn upgrade<S: Alter>(tx: &mut Transaction<'_, S>, rows: &[(u64, Marks)]) -> Result<(), Error>
-    ensures writes { StatementFrame S.Store tx.old tx.new result }
-    ensures upgrades { Does S.Store tx.old tx.new result (Upgrades rows.now) }
+/// Makes the queue with these rows, where this older version has none.
+fn upgrade_queue<S: Alter>(
+    tx: &mut Transaction<'_, S>,
+    from: u64,
+    rows: &[(u64, Marks)],
+) -> Result<(), Error>
+    ensures works { TransactionFrame S.Store tx.old tx.new result }
+    ensures upgrades { Does S.Store tx.old tx.new result (UpgradesQueue from rows.now) }
 {
+    if from >= QUEUE_VERSION {
+        return Ok(());
+    }
     make_queue(tx)?;
-    fill_queue(tx, rows)?;
-    set_version(tx, QUEUE_VERSION)
+    fill_queue(tx, rows)
+}
+
+/// Makes what this older version lacks of the present one, with these rows, and sets the version.
+fn upgrade<S: Alter>(
+    tx: &mut Transaction<'_, S>,
+    from: u64,
+    rows: &[(u64, Marks)],
+) -> Result<(), Error>
+    ensures writes { StatementFrame S.Store tx.old tx.new result }
+    ensures upgrades { Does S.Store tx.old tx.new result (Upgrades from rows.now) }
+{
+    upgrade_queue(tx, from, rows)?;
+    upgrade_classes(tx, rows)
 }
 
 fn make<S: Alter>(tx: &mut Transaction<'_, S>, change: &Change<'_>) -> Result<(), Error>
@@ -233,7 +274,8 @@ fn make<S: Alter>(tx: &mut Transaction<'_, S>, change: &Change<'_>) -> Result<()
         Change::Archive(seq, archived) => insert_archived(tx, *seq, archived),
         Change::Next(number) => set_next_number(tx, *number),
         Change::Keep(import) => insert_import(tx, import),
-        Change::Upgrade(rows) => upgrade(tx, rows.as_slice()),
+        Change::Class(host, class) => put_host_class(tx, host, *class),
+        Change::Upgrade(from, rows) => upgrade(tx, *from, rows.as_slice()),
     }
 }
 

@@ -1,7 +1,8 @@
 //! The summary of a project: how much it holds.
 
 ghost use Rattle.std.specs.Prelude.{◌≡◌, ◌≤◌, ⊤, int_lt, true, IfErr, IfOk, IfSome};
-ghost use Rattle.wu_store.specs.Answers.{count_in, import_count, result_count, workunit_count};
+ghost use Rattle.wu_store.specs.Answers.{class_count, count_in, import_count, result_count, workunit_count};
+ghost use Rattle.wu_store.specs.Classes.{ForEachClassed, NotRefusedClass};
 ghost use Rattle.wu_store.specs.Lines.{summary_of};
 ghost use Rattle.wu_store.specs.Summaries.{CountsOn, FindsAt, granted_of, HasNumbers, IsCountable, IsCreditCountable, MayCountOn, project_numbers, others_of, results_of, SumsCredit};
 ghost use Rattle.wu_store.specs.Loading.{Asks, IsStoreFault, NotRefusedIn, ForEachWorld, ServesUnlessFailed};
@@ -34,6 +35,17 @@ fn count_imports<S: Alter>(conn: &mut Connection<S>) -> Result<u64, Fault>
     ensures unrefused { NotRefusedIn S.Store conn.old conn.new result (λ _. ⊤) }
 {
     ask_count(conn, "SELECT count(*) FROM import", &[])
+}
+
+/// How many hosts have a class.
+fn count_classes<S: Alter>(conn: &mut Connection<S>) -> Result<u64, Fault>
+    ensures asks { Asks S.Store conn.old conn.new result }
+    ensures opens { ServesUnlessFailed S.Store conn.new result }
+    ensures fault { IfErr result IsStoreFault }
+    ensures found { ForEachClassed S.Store conn.old conn.new (FindsAt class_count result) }
+    ensures unrefused { NotRefusedClass S.Store conn.old conn.new result (λ _. ⊤) }
+{
+    ask_count(conn, "SELECT count(*) FROM host_class", &[])
 }
 
 /// How many instances the present workunits have.
@@ -96,22 +108,25 @@ struct Others {
     workunits: u64,
     archived: u64,
     imports: u64,
+    classes: u64,
 }
 
 fn count_others<S: Alter>(conn: &mut Connection<S>) -> Result<Others, Fault>
     ensures asks { Asks S.Store conn.old conn.new result }
     ensures opens { ServesUnlessFailed S.Store conn.new result }
     ensures fault { IfErr result IsStoreFault }
-    ensures found { ForEachWorld S.Store conn.old conn.new (FindsAt others_of result) }
-    ensures unrefused { NotRefusedIn S.Store conn.old conn.new result (λ _. ⊤) }
+    ensures found { ForEachClassed S.Store conn.old conn.new (FindsAt others_of result) }
+    ensures unrefused { NotRefusedClass S.Store conn.old conn.new result (λ _. ⊤) }
 {
     let workunits = count_workunits(conn)?;
     let place = next_archived_place(conn)?;
     let imports = count_imports(conn)?;
+    let classes = count_classes(conn)?;
     Ok(Others {
         workunits,
         archived: place - 1,
         imports,
+        classes,
     })
 }
 
@@ -223,14 +238,14 @@ fn read_numbers<S: Alter>(conn: &mut Connection<S>) -> Result<Numbers, Fault>
     })
 }
 
-/// How much a project holds. `NotAProject` where a row is no value, or where the credit of all grants is not below
+/// How much a project with classes holds. `NotAProject` where a row is no value, or where the credit of all grants is not below
 /// 2^64.
 pub fn summary<S: Alter>(conn: &mut Connection<S>) -> Result<Summary, Fault>
     ensures asks { Asks S.Store conn.old conn.new result }
     ensures opens { ServesUnlessFailed S.Store conn.new result }
     ensures fault { IfErr result IsStoreFault }
-    ensures found { ForEachWorld S.Store conn.old conn.new (FindsAt summary_of result) }
-    ensures unrefused { NotRefusedIn S.Store conn.old conn.new result IsCountable }
+    ensures found { ForEachClassed S.Store conn.old conn.new (FindsAt summary_of result) }
+    ensures unrefused { NotRefusedClass S.Store conn.old conn.new result IsCountable }
 {
     let numbers = read_numbers(conn)?;
     let results = count_results(conn)?;
@@ -248,5 +263,6 @@ pub fn summary<S: Alter>(conn: &mut Connection<S>) -> Result<Summary, Fault>
         grants: granted.grants,
         credit: granted.credit,
         imports: others.imports,
+        classes: others.classes,
     })
 }

@@ -4,14 +4,14 @@ ghost use Rattle.std.specs.Prelude.{◌≡◌, ◌≤◌, ◌<◌, ◌+◌, ◌+
 ghost use Rattle.wu_core.specs.declared.fault.Fault.TheVariants.{Memory};
 ghost use Rattle.wu_core.specs.declared.marks.Marks.{Marks};
 ghost use Rattle.wu_rules.specs.Marks.{marks, selects};
-ghost use Rattle.wu_store.specs.Due.{numbers_left, FindsDue, FindsDueNumbers, FindsFirst, FindsNumbers, AreRowsOfStorable, FindsAllPresent, FindsMarks, FindsPresent, IsRowOfStorable};
+ghost use Rattle.wu_store.specs.Due.{AreEarly, numbers_left, FindsDue, FindsDueNumbers, FindsFirst, FindsNumbers, AreRowsOfStorable, FindsAllPresent, FindsMarks, FindsPresent, IsRowOfStorable};
 ghost use Rattle.wu_store.specs.Queues.{AnswersQueue, first_marked, is_marked, NotRefusedQueue};
 ghost use Rattle.wu_store.specs.StandsFor.{ForEachQueued, NotRefusedQueued};
 ghost use Rattle.wu_store.specs.Loading.{Asks, FindsAbove, IsStoreFault, LoadsAbove, NotRefusedIn, ForEachWorld, ServesUnlessFailed};
 ghost use Rattle.wu_store.specs.Reading.{IsReadFault};
 ghost use Rattle.wu_core.specs.Storable.{AreStorable};
 
-use crate::loading::{load, load_above};
+use crate::loading::{load, load_above, load_early};
 use crate::statements::marked_rows;
 use sqlite::{Alter, Connection, Row};
 use std::alloc::Global;
@@ -19,7 +19,8 @@ use wu_core::{Fault, Marks, Moment, Workunit};
 use wu_rules::{Pass, marks_of};
 use wu_schema::number_at;
 
-/// The present workunit of the least number, with its instances, or none: that of 0, or the first above it.
+/// The present workunit of the least number, with its instances, or none, where there are no classes: that of 0, or the
+/// first above it.
 pub(crate) fn first<S: Alter>(
     conn: &mut Connection<S>,
     alloc: Global,
@@ -28,15 +29,15 @@ pub(crate) fn first<S: Alter>(
     ensures opens { ServesUnlessFailed S.Store conn.new result }
     ensures fault { IfErr result IsStoreFault }
     ensures found { ForEachWorld S.Store conn.old conn.new (FindsFirst result) }
-    ensures unrefused { NotRefusedIn S.Store conn.old conn.new result AreStorable }
+    ensures unrefused { NotRefusedIn S.Store conn.old conn.new result AreEarly }
 {
-    match load(conn, alloc, 0)? {
+    match load_early(conn, alloc, 0)? {
         Some(workunit) => Ok(Some(workunit)),
         None => load_above(conn, alloc, 0),
     }
 }
 
-/// The present workunit of the least number above this one, with its instances, or none.
+/// The present workunit of the least number above this one, with its instances, or none, where there are no classes.
 ///
 /// `NotAProject` where a row is no value, or where its number is not above this one.
 pub(crate) fn next_after<S: Alter>(
@@ -69,7 +70,7 @@ fn add_marks(rows: &mut Vec<(u64, Marks)>, workunit: &Workunit) -> Result<(), Fa
     Ok(())
 }
 
-/// The marks of all workunits, each with its number, in order of number.
+/// The marks of all workunits, each with its number, in order of number, where there are no classes.
 ///
 /// One workunit after another is loaded, and only its marks are kept.
 pub fn load_marks<S: Alter>(
@@ -80,7 +81,7 @@ pub fn load_marks<S: Alter>(
     ensures opens { ServesUnlessFailed S.Store conn.new result }
     ensures fault { IfErr result IsStoreFault }
     ensures marks { ForEachWorld S.Store conn.old conn.new (FindsMarks result) }
-    ensures unrefused { NotRefusedIn S.Store conn.old conn.new result AreStorable }
+    ensures unrefused { NotRefusedIn S.Store conn.old conn.new result AreEarly }
 {
     let mut rows = Vec::new(alloc);
     let mut next = first(conn, alloc)?;

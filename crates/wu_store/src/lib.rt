@@ -2,6 +2,7 @@
 #![tactic(auto)]
 
 mod changes;
+mod classes;
 mod counts;
 mod differences;
 mod due;
@@ -15,13 +16,14 @@ mod statements;
 mod verdicts;
 
 pub use changes::{Change, Import, apply};
+pub use classes::{class_of, class_of_workunit};
 pub use counts::summary;
 pub use due::{due_numbers, load_due, load_marks};
 pub use lines::{HostLine, ResultLine, Summary, WorkunitLine};
 pub use loading::{
     import_of, load, load_named, next_archived_place, next_grant_place, next_number,
 };
-pub use pages::{ArchivePages, HostPages, Pages, ResultPages, WorkunitPages};
+pub use pages::{ArchivePages, ClassPages, HostPages, Pages, ResultPages, WorkunitPages};
 pub use rows::StoredImport;
 pub use statements::{has_archived, has_workunit};
 pub use verdicts::Verdicts;

@@ -29,13 +29,15 @@ pub struct WorkunitLine {
     pub file_delete: FileDelete,
     /// When it was assimilated.
     pub done_at: Option<Moment>,
+    pub class: u32,
 }
 
 impl WorkunitLine {
     ghost use Rattle.wu_store.specs.Lines.{line_of, ReadsLine};
 
-    fn of(workunit: Workunit) -> Self
-        ensures { result ≡ line_of workunit }
+    /// The line of a workunit, with this class.
+    fn of(workunit: Workunit, class: u32) -> Self
+        ensures { result ≡ record (line_of workunit) { class = class } }
     {
         let Workunit {
             number,
@@ -47,6 +49,7 @@ impl WorkunitLine {
             assimilate,
             file_delete,
             done_at,
+            class: _,
             instances: _,
         } = workunit;
         WorkunitLine {
@@ -59,15 +62,16 @@ impl WorkunitLine {
             assimilate,
             file_delete,
             done_at,
+            class,
         }
     }
 
-    /// The line of the workunit that a row stands for. A row that stands for none is `NotAProject`.
-    pub(crate) fn read(alloc: Global, row: &Row) -> Result<Self, Fault>
-        ensures { ReadsLine row.now result }
+    /// The line of the workunit that a row stands for, with this class. A row that stands for none is `NotAProject`.
+    pub(crate) fn read(alloc: Global, row: &Row, class: u32) -> Result<Self, Fault>
+        ensures { ReadsLine class row.now result }
     {
         let workunit = workunit_from(alloc, row)?;
-        Ok(WorkunitLine::of(workunit))
+        Ok(WorkunitLine::of(workunit, class))
     }
 }
 
@@ -193,4 +197,6 @@ pub struct Summary {
     pub credit: u64,
     /// How many files were imported, each once.
     pub imports: u64,
+    /// How many hosts have a class.
+    pub classes: u64,
 }

@@ -2,10 +2,13 @@
 //! number, and the next places.
 
 ghost use Rattle.std.specs.Prelude.{◌<◌, ◌^◌, ⊤, IfErr, IfOk};
-ghost use Rattle.wu_store.specs.Loading.{Asks, FindsAbove, FindsEarlier, FindsIfThere, FindsInstances, FindsNamed, FindsNumbered, LoadsInstances, LoadsImport, IsLoadableIfThere, IsStoreFault, KnowsArchivedPlace, KnowsGrantPlace, KnowsNext, LoadsAbove, LoadsNamed, LoadsNumbered, NotRefusedIn, ForEachWorld, ServesUnlessFailed};
+ghost use Rattle.wu_store.specs.Loading.{Asks, FindsAbove, FindsClassless, FindsEarlier, FindsEarly, FindsIfThere, FindsInstances, FindsNamed, FindsNumbered, LoadsInstances, LoadsImport, IsLoadableIfThere, IsStoreFault, IsWholeIfThere, KnowsArchivedPlace, KnowsGrantPlace, KnowsNext, LoadsAbove, LoadsEarly, LoadsNamed, LoadsNumbered, NotRefusedIn, ForEachWorld, ServesUnlessFailed};
+ghost use Rattle.wu_schema.specs.Calls.{Answers};
+ghost use Rattle.wu_store.specs.Answers.{row_numbered};
 ghost use Rattle.wu_store.specs.Reading.{IsPlaceToGive};
 ghost use Rattle.wu_core.specs.Storable.{IsNextNumber, LoadsNext};
 
+use crate::classes::class_of_workunit;
 use crate::rows::{
     StoredImport, import_from, instances_from, next_number_from, place_behind, workunit_from,
 };
@@ -35,7 +38,7 @@ fn instances_of<S: Alter>(
     instances_from(alloc, &rows)
 }
 
-/// The workunit of a row, with its instances; none where there is no row.
+/// The workunit of a row, with its instances and without its class; none where there is no row.
 fn loaded<S: Alter>(
     conn: &mut Connection<S>,
     alloc: Global,
@@ -43,7 +46,7 @@ fn loaded<S: Alter>(
 ) -> Result<Option<Workunit>, Fault>
     ensures asks { Asks S.Store conn.old conn.new result }
     ensures fault { IfErr result IsStoreFault }
-    ensures found { ForEachWorld S.Store conn.old conn.new (FindsIfThere row result) }
+    ensures found { ForEachWorld S.Store conn.old conn.new (FindsClassless row result) }
     ensures unrefused { NotRefusedIn S.Store conn.old conn.new result (IsLoadableIfThere row) }
 {
     let Some(row) = row else {
@@ -54,7 +57,47 @@ fn loaded<S: Alter>(
     Ok(Some(workunit))
 }
 
-/// The present workunit of this number, with its instances, or none.
+/// The workunit of a row, with its class and its instances; none where there is no row. `NotAProject` where it has no
+/// class.
+fn whole<S: Alter>(
+    conn: &mut Connection<S>,
+    alloc: Global,
+    row: Option<Row>,
+) -> Result<Option<Workunit>, Fault>
+    ensures asks { Asks S.Store conn.old conn.new result }
+    ensures fault { IfErr result IsStoreFault }
+    ensures found { ForEachWorld S.Store conn.old conn.new (FindsIfThere row result) }
+    ensures unrefused { NotRefusedIn S.Store conn.old conn.new result (IsWholeIfThere row) }
+{
+    let Some(mut workunit) = loaded(conn, alloc, row)? else {
+        return Ok(None);
+    };
+    match class_of_workunit(conn, workunit.number)? {
+        Some(class) => {
+            workunit.class = class;
+            Ok(Some(workunit))
+        }
+        None => Err(Fault::NotAProject),
+    }
+}
+
+/// The row of the present workunit of this number, if there is one. `NotAProject` where the number is not below 2^63.
+fn numbered_row<S: Alter>(conn: &mut Connection<S>, number: u64) -> Result<Option<Row>, Fault>
+    ensures asks { Asks S.Store conn.old conn.new result }
+    ensures opens { number < 2 ^ 63 → ServesUnlessFailed S.Store conn.new result }
+    ensures fault { IfErr result IsStoreFault }
+    ensures answers { Answers S.Store conn.old conn.new result (row_numbered number) }
+    ensures unrefused { NotRefusedIn S.Store conn.old conn.new result (λ _. number < 2 ^ 63) }
+{
+    let key = key_of(number)?;
+    ask_row(
+        conn,
+        "SELECT number, name, min_quorum, target_nresults, max_error_results, max_total_results, max_success_results, delay_bound, credit, input, error_mask, canonical, assimilate, file_delete, done_at FROM workunit WHERE number = ?1",
+        params![key],
+    )
+}
+
+/// The present workunit of this number, with its class and its instances, or none.
 ///
 /// `NotAProject` where a row is no value, or the number is not below 2^63.
 pub fn load<S: Alter>(
@@ -68,16 +111,29 @@ pub fn load<S: Alter>(
     ensures found { ForEachWorld S.Store conn.old conn.new (FindsNumbered number result) }
     ensures unrefused { NotRefusedIn S.Store conn.old conn.new result (LoadsNumbered number) }
 {
-    let key = key_of(number)?;
-    let row = ask_row(
-        conn,
-        "SELECT number, name, min_quorum, target_nresults, max_error_results, max_total_results, max_success_results, delay_bound, credit, input, error_mask, canonical, assimilate, file_delete, done_at FROM workunit WHERE number = ?1",
-        params![key],
-    )?;
+    let row = numbered_row(conn, number)?;
+    whole(conn, alloc, row)
+}
+
+/// The present workunit of this number, with its instances, or none, where there are no classes.
+///
+/// `NotAProject` where a row is no value, or the number is not below 2^63.
+pub fn load_early<S: Alter>(
+    conn: &mut Connection<S>,
+    alloc: Global,
+    number: u64,
+) -> Result<Option<Workunit>, Fault>
+    ensures asks { Asks S.Store conn.old conn.new result }
+    ensures opens { number < 2 ^ 63 → ServesUnlessFailed S.Store conn.new result }
+    ensures fault { IfErr result IsStoreFault }
+    ensures found { ForEachWorld S.Store conn.old conn.new (FindsEarly number result) }
+    ensures unrefused { NotRefusedIn S.Store conn.old conn.new result (LoadsEarly number) }
+{
+    let row = numbered_row(conn, number)?;
     loaded(conn, alloc, row)
 }
 
-/// The present workunit of the least number above this one, with its instances, or none.
+/// The present workunit of the least number above this one, with its instances, or none, where there are no classes.
 ///
 /// `NotAProject` where a row is no value, or the number is not below 2^63.
 pub fn load_above<S: Alter>(
@@ -100,7 +156,7 @@ pub fn load_above<S: Alter>(
     loaded(conn, alloc, row)
 }
 
-/// The present workunit of this name, with its instances, or none. `NotAProject` where a row is no value.
+/// The present workunit of this name, with its class and its instances, or none. `NotAProject` where a row is no value.
 pub fn load_named<S: Alter>(
     conn: &mut Connection<S>,
     alloc: Global,
@@ -117,7 +173,7 @@ pub fn load_named<S: Alter>(
         "SELECT number, name, min_quorum, target_nresults, max_error_results, max_total_results, max_success_results, delay_bound, credit, input, error_mask, canonical, assimilate, file_delete, done_at FROM workunit WHERE name = ?1",
         params![name.as_str()],
     )?;
-    loaded(conn, alloc, row)
+    whole(conn, alloc, row)
 }
 
 /// The import of this kind and name, if there was one. `NotAProject` where its row is no value.

@@ -3,12 +3,14 @@
 ghost use Rattle.wu_store.specs.Pages.{ReadsLastKey};
 
 mod archive;
+mod classes;
 mod hosts;
 mod results;
 mod workunits;
 
 use crate::rows::value_at;
 pub use archive::ArchivePages;
+pub use classes::ClassPages;
 pub use hosts::HostPages;
 pub use results::ResultPages;
 use sqlite::{Alter, Connection, Row};
@@ -22,7 +24,8 @@ pub trait Pages: Drop {
     ghost use Rattle.sqlite.specs.Order.{Row as Cells};
     ghost use Rattle.wu_core.specs.World.{World};
     ghost use Rattle.wu_core.specs.declared.fault.Fault.TheVariants.{NotAProject};
-    ghost use Rattle.wu_store.specs.Loading.{Asks, IsStoreFault, NotRefusedIn, ForEachWorld, ServesUnlessFailed};
+    ghost use Rattle.wu_store.specs.Classes.{ForEachClassed, NotRefusedClass};
+    ghost use Rattle.wu_store.specs.Loading.{Asks, IsStoreFault, ServesUnlessFailed};
     ghost use Rattle.wu_store.specs.Pages.{TurnsTo};
     ghost use Rattle.wu_store.specs.Reading.{IsReadFault};
 
@@ -38,14 +41,14 @@ pub trait Pages: Drop {
     /// The lines of such a world can be read.
     ghost is_readable: { World → Type 0 };
 
-    /// Turns to the next page: its rows, none behind the last line.
+    /// Turns to the next page of a world with classes: its rows, none behind the last line.
     fn turn<S: Alter>(&mut self, conn: &mut Connection<S>, alloc: Global) -> Result<Vec<Row>, Fault>
         ensures asks { Asks S.Store conn.old conn.new result }
         ensures opens { ServesUnlessFailed S.Store conn.new result }
         ensures fault { IfErr result IsStoreFault }
-        ensures rows { ForEachWorld S.Store conn.old conn.new (λ world. IfOk result (λ rows.
+        ensures rows { ForEachClassed S.Store conn.old conn.new (λ world. IfOk result (λ rows.
             TurnsTo (is_row_of self.new world) (rest self.old world) rows.items (rest self.new world))) }
-        ensures unrefused { NotRefusedIn S.Store conn.old conn.new result is_readable };
+        ensures unrefused { NotRefusedClass S.Store conn.old conn.new result is_readable };
 
     /// The line of a row of the present page. A row that is that of none is `NotAProject`.
     fn line(&self, alloc: Global, row: &Row) -> Result<Self::Line, Fault>

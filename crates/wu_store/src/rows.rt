@@ -141,7 +141,7 @@ fn params_from(row: &Row) -> Result<Params, Fault>
     .ok_or(Fault::NotAProject)
 }
 
-/// The workunit of a row of the table `workunit` with its columns in their order, and no instances.
+/// The workunit of a row of the table `workunit` with its columns in their order, no class and no instances.
 pub fn workunit_from(alloc: Global, row: &Row) -> Result<Workunit, Fault>
     ensures { Restores workunit_row IsStoredWorkunit row.now result }
 {
@@ -163,6 +163,7 @@ pub fn workunit_from(alloc: Global, row: &Row) -> Result<Workunit, Fault>
         assimilate: progress.assimilate,
         file_delete: progress.file_delete,
         done_at: progress.done_at,
+        class: 0,
         instances: Instances::new(alloc),
     })
 }
@@ -391,8 +392,8 @@ fn last_skip(kind: ImportKind) -> u8
     ensures { result ≡ last_skip kind }
 {
     match kind {
-        ImportKind::Batch => 0,
-        ImportKind::Sent => 3,
+        ImportKind::Batch | ImportKind::Classes => 0,
+        ImportKind::Sent => 4,
         ImportKind::Reported => 5,
     }
 }

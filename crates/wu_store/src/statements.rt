@@ -3,8 +3,8 @@
 ghost use Rattle.std.specs.Prelude.{ℕ, ◌≡◌, ◌<◌, ◌≤◌, ◌^◌, ⊤, [], ◌∷◌, None, Some, pos, option_map, IfOk, IfErr, OnOk};
 ghost use Rattle.sqlite.specs.Values.{bound};
 ghost use Rattle.wu_store.specs.Changing.{import_of_change};
-ghost use Rattle.wu_store.specs.Changes.{with_placed, without_workunit, with_import, with_next, with_version, AddsArchived, AddsGrant, AddsInstance, WasFree};
-ghost use Rattle.wu_core.specs.Storable.{bare};
+ghost use Rattle.wu_store.specs.Classes.{ChangesClasses, SetsVersion};
+ghost use Rattle.wu_store.specs.Changes.{with_placed, without_instances, without_workunit, with_import, with_next, AddsArchived, AddsGrant, AddsInstance, WasFree};
 ghost use Rattle.wu_core.specs.declared.fault.Fault.TheVariants.{NotAProject};
 ghost use Rattle.wu_schema.specs.Asking.{Asks, FailsAll, IsSelect};
 ghost use Rattle.wu_schema.specs.Calls.{Answers, AnswersRows, StatementFrame, Does, Changes, RunsText};
@@ -14,6 +14,7 @@ ghost use Rattle.wu_store.specs.Queues.{AnswersQueue, ChangesQueue, first_marked
 ghost use Rattle.wu_store.specs.Answers.{credit_page, FailsCount, has_name, ShowsCount, ShowsLast, was_archived};
 
 use crate::changes::Import;
+use crate::classes::insert_class;
 use crate::rows::count_at;
 use sqlite::types::ValueRef;
 use sqlite::{Alter, Connection, Error, Row, Transaction, params};
@@ -22,7 +23,7 @@ use wu_rules::Pass;
 use wu_schema::{execute, query};
 
 /// A number of the schema, none of which is above a signed 64-bit number's range.
-fn signed(number: u64) -> Result<i64, Error>
+pub fn signed(number: u64) -> Result<i64, Error>
     ensures value { IfOk result (λ n. n ≡ pos number) }
     ensures within { IfOk result (λ _. number < 2 ^ 63) }
     ensures beyond { IfErr result (λ _. 2 ^ 63 ≤ number) }
@@ -258,22 +259,23 @@ pub fn run_workunit<S: Alter>(
     )
 }
 
-/// Adds the row of a workunit at its place in order of number, without its instances. The table's key refuses a number
-/// that is there.
+/// Adds the row of a workunit at its place in order of number, and that of its class, without its instances. The table's
+/// key refuses a number that is there.
 pub fn insert_workunit<S: Alter>(
     tx: &mut Transaction<'_, S>,
     workunit: &Workunit,
 ) -> Result<(), Error>
     ensures writes { StatementFrame S.Store tx.old tx.new result }
     ensures free { Does S.Store tx.old tx.new result (WasFree workunit.now.number) }
-    ensures puts { Changes S.Store tx.old tx.new result (with_placed (bare workunit.now)) }
-    ensures queue { Does S.Store tx.old tx.new result KeepsQueue }
+    ensures puts { Does S.Store tx.old tx.new result
+        (ChangesClasses (with_placed (without_instances workunit.now))) }
 {
     run_workunit(
         tx,
         "INSERT INTO workunit (number, name, min_quorum, target_nresults, max_error_results, max_total_results, max_success_results, delay_bound, credit, input, error_mask, canonical, assimilate, file_delete, done_at) VALUES (?1, ?2, ?3, ?4, ?5, ?6, ?7, ?8, ?9, ?10, ?11, ?12, ?13, ?14, ?15)",
         workunit,
-    )
+    )?;
+    insert_class(tx, workunit.number, workunit.class)
 }
 
 /// Runs a statement whose parameters are a workunit's number, the number of an instance and its cells.
@@ -490,7 +492,7 @@ pub fn set_next_number<S: Alter>(tx: &mut Transaction<'_, S>, next_number: u64) 
 /// Sets the version of the project's schema.
 pub fn set_version<S: Alter>(tx: &mut Transaction<'_, S>, version: u64) -> Result<(), Error>
     ensures writes { StatementFrame S.Store tx.old tx.new result }
-    ensures sets { Changes S.Store tx.old tx.new result (with_version version) }
+    ensures sets { Does S.Store tx.old tx.new result (SetsVersion version) }
     ensures queue { Does S.Store tx.old tx.new result KeepsQueue }
 {
     let version = signed(version)?;

@@ -12,7 +12,8 @@ use Rattle.sqlite_value.specs.Keys.{first_key}
 use Rattle.wu_schema.specs.Indexes.{IsIndexed, queue_indexes}
 use Rattle.wu_schema.specs.Tables.{HasNamed, OwnsTree, host_at, queue_at}
 use Rattle.wu_tables.specs.Forms.{table_of}
-use Rattle.wu_tables.specs.Known.{name_of, table_at}
+use Rattle.wu_tables.specs.Known.{IsTableOf, name_of, table_at}
+use Rattle.wu_tables.specs.declared.known.ProjectTable.{ProjectTable}
 use Rattle.wu_tables.specs.declared.forms.TableForm.{TableForm}
 use Rattle.wu_tables.specs.declared.project.Misfit.{Misfit}
 use Rattle.wu_tables.specs.declared.project.Misfit.TheVariants.{Missing, Altered, HostNames}
@@ -45,10 +46,14 @@ pub record HasQueueIn (schema : Schema) (tree : ℕ) : Type 0 where
   pub table : HasNamed schema (codes "queue") (queue_at tree)
   pub indexes : AllByRecursion (IsIndexed schema tree) queue_indexes
 
--- no table has the name; or one has it, and is nowhere as the program makes it; or an index does not compare the bytes of
--- the names of hosts
-abbrev pub StandsAgainst : Schema → Misfit → Type 0
-StandsAgainst schema (Missing which) = table_named schema (name_of which) ≡ None
-StandsAgainst schema (Altered which) =
-    IsSome (table_named schema (name_of which)) × ((tree : ℕ) → IsIn schema (name_of which) (table_at which) tree → ⊥)
-StandsAgainst schema HostNames = (tree : ℕ) × HasNamed schema (codes "host") (host_at tree) × (AreByBytes schema tree → ⊥)
+-- the name finds this table of a project in the tree, where its version has it
+abbrev pub IsThere : ℕ → Schema → ProjectTable → ℕ → Type 0
+IsThere version schema which tree = IsTableOf version which → IsIn schema (name_of which) (table_at which) tree
+
+-- no table has the name of one that the version has; or one has it, and is nowhere as the program makes it; or an index
+-- does not compare the bytes of the names of hosts
+abbrev pub StandsAgainst : ℕ → Schema → Misfit → Type 0
+StandsAgainst version schema (Missing which) = IsTableOf version which × (table_named schema (name_of which) ≡ None)
+StandsAgainst version schema (Altered which) =
+    IsTableOf version which × IsSome (table_named schema (name_of which)) × ((tree : ℕ) → IsIn schema (name_of which) (table_at which) tree → ⊥)
+StandsAgainst version schema HostNames = (tree : ℕ) × HasNamed schema (codes "host") (host_at tree) × (AreByBytes schema tree → ⊥)

@@ -1,9 +1,9 @@
--- The tables of a project of version 1.
-use Rattle.std.specs.Prelude.{ℕ, List, codes}
+-- The tables of a project, the queue aside.
+use Rattle.std.specs.Prelude.{ℕ, List, codes, ⊤}
 use Rattle.sqlite.specs.Table.{Table}
-use Rattle.wu_schema.specs.Tables.{archived_at, grant_at, host_at, import_at, project_at, result_at, workunit_at}
+use Rattle.wu_schema.specs.Tables.{IsClassedVersion, archived_at, grant_at, host_at, host_class_at, import_at, project_at, result_at, workunit_at, workunit_class_at}
 use Rattle.wu_tables.specs.declared.known.ProjectTable.{ProjectTable}
-use Rattle.wu_tables.specs.declared.known.ProjectTable.TheVariants.{Project, Workunit, Result, Grant, Host, Archived, Import}
+use Rattle.wu_tables.specs.declared.known.ProjectTable.TheVariants.{Project, Workunit, Result, Grant, Host, Archived, Import, HostClass, WorkunitClass}
 
 -- its name
 abbrev pub name_of : ProjectTable → List ℕ
@@ -14,6 +14,8 @@ name_of Grant = codes "credit_grant"
 name_of Host = codes "host"
 name_of Archived = codes "archived"
 name_of Import = codes "import"
+name_of HostClass = codes "host_class"
+name_of WorkunitClass = codes "workunit_class"
 
 -- it in any tree
 abbrev pub table_at : ProjectTable → ℕ → Table
@@ -24,3 +26,11 @@ table_at Grant = grant_at
 table_at Host = host_at
 table_at Archived = archived_at
 table_at Import = import_at
+table_at HostClass = host_class_at
+table_at WorkunitClass = workunit_class_at
+
+-- a project of this version has it
+abbrev pub IsTableOf : ℕ → ProjectTable → Type 0
+IsTableOf version HostClass = IsClassedVersion version
+IsTableOf version WorkunitClass = IsClassedVersion version
+IsTableOf version _ = ⊤

@@ -1,15 +1,15 @@
 //! The tables that the program makes.
 
-ghost use Rattle.std.specs.Prelude.{◌≡◌, ℕ, codes};
+ghost use Rattle.std.specs.Prelude.{◌≡◌, ◌↔◌, ℕ, IsTrue, codes};
 ghost use Rattle.wu_schema.specs.Tables.{queue_at};
 ghost use Rattle.wu_tables.specs.Forms.{table_of};
-ghost use Rattle.wu_tables.specs.Known.{name_of, table_at};
+ghost use Rattle.wu_tables.specs.Known.{IsTableOf, name_of, table_at};
 
 use crate::forms::ColumnForm::{May, Needs};
 use crate::forms::{ReferenceForm, TableForm};
 use sqlite_schema::schema::Kind::{Blob, Integer, Text};
 
-/// A table of a project of version 1.
+/// A table of a project, the queue aside.
 #[derive(Clone, Copy, PartialEq, Eq)]
 pub enum ProjectTable {
     Project,
@@ -19,7 +19,12 @@ pub enum ProjectTable {
     Host,
     Archived,
     Import,
+    HostClass,
+    WorkunitClass,
 }
+
+/// The first version that has classes.
+const CLASS_VERSION: u64 = 3;
 
 const PROJECT: TableForm = TableForm {
     name: "project",
@@ -152,6 +157,30 @@ const IMPORT: TableForm = TableForm {
     references: &[],
 };
 
+const HOST_CLASS: TableForm = TableForm {
+    name: "host_class",
+    columns: &[Needs("host", Text), Needs("class", Integer)],
+    key: None,
+    primary: &[1],
+    uniques: &[&[1]],
+    is_single: false,
+    references: &[],
+};
+
+const WORKUNIT_CLASS: TableForm = TableForm {
+    name: "workunit_class",
+    columns: &[May("workunit", Integer), Needs("class", Integer)],
+    key: Some(0),
+    primary: &[0],
+    uniques: &[],
+    is_single: false,
+    references: &[ReferenceForm {
+        places: &[0],
+        parent: "workunit",
+        parent_columns: &["number"],
+    }],
+};
+
 const QUEUE: TableForm = TableForm {
     name: "queue",
     columns: &[
@@ -187,6 +216,18 @@ impl ProjectTable {
             ProjectTable::Host => HOST,
             ProjectTable::Archived => ARCHIVED,
             ProjectTable::Import => IMPORT,
+            ProjectTable::HostClass => HOST_CLASS,
+            ProjectTable::WorkunitClass => WORKUNIT_CLASS,
+        }
+    }
+
+    /// Whether a project of this version has it.
+    pub fn is_of(self, version: u64) -> bool
+        ensures { IsTrue result ↔ IsTableOf version self }
+    {
+        match self {
+            ProjectTable::HostClass | ProjectTable::WorkunitClass => version >= CLASS_VERSION,
+            _ => true,
         }
     }
 }

@@ -1,9 +1,8 @@
-//! The tables of a project of version 1.
+//! The tables of a project, the queue aside.
 
 ghost use Rattle.std.specs.Prelude.{ℕ, IfErr, IfOk};
 ghost use Rattle.wu_schema.specs.Tables.{HasTables, ProjectTrees};
-ghost use Rattle.wu_tables.specs.Found.{IsIn, StandsAgainst};
-ghost use Rattle.wu_tables.specs.Known.{name_of, table_at};
+ghost use Rattle.wu_tables.specs.Found.{IsThere, StandsAgainst};
 
 use crate::known::ProjectTable;
 use crate::lookup::{are_by_bytes, tree_of};
@@ -20,6 +19,9 @@ pub struct Trees {
     pub host: u32,
     pub archived: u32,
     pub import: u32,
+    /// 0 where the version has none, as in the next.
+    pub host_class: u32,
+    pub workunit_class: u32,
 }
 
 impl Model for Trees {
@@ -35,6 +37,8 @@ impl Model for Trees {
       host = trees.host;
       archived = trees.archived;
       import = trees.import;
+      host_class = trees.host_class;
+      workunit_class = trees.workunit_class;
     } };
 }
 
@@ -49,11 +53,14 @@ pub enum Misfit {
     HostNames,
 }
 
-/// The tree of a table of a project, or why it is not there.
-fn project_tree(schema: &Schema, which: ProjectTable) -> Result<u32, Misfit>
-    ensures found { IfOk result (IsIn schema.now (name_of which) (table_at which)) }
-    ensures told { IfErr result (StandsAgainst schema.now) }
+/// The tree of a table of a project, or why it is not there; 0 for one that the version does not have.
+fn project_tree(schema: &Schema, version: u64, which: ProjectTable) -> Result<u32, Misfit>
+    ensures found { IfOk result (IsThere version schema.now which) }
+    ensures told { IfErr result (StandsAgainst version schema.now) }
 {
+    if !which.is_of(version) {
+        return Ok(0);
+    }
     let form = which.form();
     if let Some(tree) = tree_of(schema, &form) {
         return Ok(tree);
@@ -65,18 +72,20 @@ fn project_tree(schema: &Schema, which: ProjectTable) -> Result<u32, Misfit>
 }
 
 /// Where the tables of a project are, or what stands against them.
-fn find_trees(schema: &Schema) -> Result<Trees, Misfit>
-    ensures found { IfOk result (HasTables schema.now) }
-    ensures told { IfErr result (StandsAgainst schema.now) }
+fn find_trees(schema: &Schema, version: u64) -> Result<Trees, Misfit>
+    ensures found { IfOk result (HasTables version schema.now) }
+    ensures told { IfErr result (StandsAgainst version schema.now) }
 {
     let trees = Trees {
-        project: project_tree(schema, ProjectTable::Project)?,
-        workunit: project_tree(schema, ProjectTable::Workunit)?,
-        result: project_tree(schema, ProjectTable::Result)?,
-        grant: project_tree(schema, ProjectTable::Grant)?,
-        host: project_tree(schema, ProjectTable::Host)?,
-        archived: project_tree(schema, ProjectTable::Archived)?,
-        import: project_tree(schema, ProjectTable::Import)?,
+        project: project_tree(schema, version, ProjectTable::Project)?,
+        workunit: project_tree(schema, version, ProjectTable::Workunit)?,
+        result: project_tree(schema, version, ProjectTable::Result)?,
+        grant: project_tree(schema, version, ProjectTable::Grant)?,
+        host: project_tree(schema, version, ProjectTable::Host)?,
+        archived: project_tree(schema, version, ProjectTable::Archived)?,
+        import: project_tree(schema, version, ProjectTable::Import)?,
+        host_class: project_tree(schema, version, ProjectTable::HostClass)?,
+        workunit_class: project_tree(schema, version, ProjectTable::WorkunitClass)?,
     };
     if are_by_bytes(schema, trees.host) {
         Ok(trees)
@@ -85,12 +94,14 @@ fn find_trees(schema: &Schema) -> Result<Trees, Misfit>
     }
 }
 
-/// Where the tables of a project are: found exactly where all seven are there, each in its form and in a tree of its
-/// own, and each unique index on the names of hosts compares their bytes; else what stands against them.
-pub fn project_trees(schema: &Schema) -> Result<Trees, Misfit>
-    ensures found { IfOk result (HasTables schema.now) }
-    ensures missing { IfErr result (λ _. (trees : ProjectTrees) → HasTables schema.now trees → ⊥) }
-    ensures told { IfErr result (StandsAgainst schema.now) }
+/// Where the tables of a project of this version are, the queue aside: found exactly where all are there, each in its form
+/// and in a tree of its own, and each unique index on the names of hosts compares their bytes; else what stands against
+/// them.
+pub fn project_trees(schema: &Schema, version: u64) -> Result<Trees, Misfit>
+    ensures found { IfOk result (HasTables version schema.now) }
+    ensures missing { IfErr result (λ _. (trees : ProjectTrees)
+        → HasTables version schema.now trees → ⊥) }
+    ensures told { IfErr result (StandsAgainst version schema.now) }
 {
-    find_trees(schema)
+    find_trees(schema, version)
 }

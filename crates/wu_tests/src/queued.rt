@@ -1,4 +1,5 @@
-//! What an upgrade puts into the queue, which no view shows, and that a pass goes by it alone.
+//! What an upgrade puts into the queue and into the table of classes, which no view shows, and that a pass goes by the
+//! queue alone.
 
 use crate::setting::{adopted, memory, prints};
 use crate::stored::holds;
@@ -11,6 +12,8 @@ use wu_drive::{Command, Project};
 /// not sent; one that was given up and archived; one with two results that agree.
 const FOUR: &[&str] = &[
     "DROP TABLE queue",
+    "DROP TABLE workunit_class",
+    "DROP TABLE host_class",
     "UPDATE project SET version = 1, next_number = 5",
     "INSERT INTO workunit VALUES (1, 'new', 2, 2, 3, 10, 6, 604800, 1, x'00ff', 0, NULL, 0, 0, NULL)",
     "INSERT INTO workunit VALUES (2, 'sent', 2, 2, 3, 10, 6, 604800, 1, x'00ff', 0, NULL, 0, 0, NULL)",
@@ -27,6 +30,9 @@ const FOUR: &[&str] = &[
 const QUEUE: &str =
     "SELECT workunit || ' ' || coalesce(wake, '-') || ' ' || to_validate || ' ' || to_assimilate || ' ' || to_delete || ' ' || coalesce(purge_from, '-') FROM queue ORDER BY workunit";
 
+/// The class of each workunit, by its number.
+const CLASSES: &str = "SELECT workunit || ' ' || class FROM workunit_class ORDER BY workunit";
+
 /// Does these statements.
 fn does<S: Alter>(rt: &impl Abort, conn: &mut Connection<S>, statements: &[&str]) {
     for sql in statements {
@@ -41,17 +47,18 @@ fn older<S: Alter>(rt: &impl Abort, conn: Connection<S>) -> Project<S> {
     adopted(rt, conn)
 }
 
-/// Sees what an upgrade puts into the queue, and what a validation finds where a mark was taken away.
+/// Sees what an upgrade puts into the queue and the table of classes, and what a validation finds where a mark was taken away.
 fn sees_queued<S: Alter + Drop>(rt: &(impl Abort + AllocGlobal), conn: Connection<S>) {
     let mut project = older(rt, conn);
     let now = Moment::new(1_772_974_801).expect(rt, "a moment");
     let ask = Command::Transition { now, limit: 10 };
     prints(rt, &mut project, ask, "F11 OldSchema 1");
-    prints(rt, &mut project, Command::Upgrade, "upgrade: 1 to 2\n");
-    prints(rt, &mut project, Command::Upgrade, "upgrade: 2 to 2\n");
+    prints(rt, &mut project, Command::Upgrade, "upgrade: 1 to 3\n");
+    prints(rt, &mut project, Command::Upgrade, "upgrade: 3 to 3\n");
     let mut conn = project.release();
     let rows = "1 0 0 0 0 -\n2 1772974801 0 0 0 -\n3 - 0 0 0 1772377200\n4 - 1 0 0 -\n";
     holds(rt, &mut conn, QUEUE, rows);
+    holds(rt, &mut conn, CLASSES, "1 0\n2 0\n3 0\n4 0\n");
     does(
         rt,
         &mut conn,
@@ -69,6 +76,6 @@ fn sees_queued<S: Alter + Drop>(rt: &(impl Abort + AllocGlobal), conn: Connectio
 }
 
 #[test]
-fn an_upgrade_fills_the_queue(rt: HostRuntime) {
+fn an_upgrade_fills_its_tables(rt: HostRuntime) {
     sees_queued(&rt, memory(&rt));
 }

@@ -16,7 +16,7 @@ pub const FIRST_ADDED: &str = "batch b1: 1 added, first 1\n";
 
 /// The view of the workunits of both.
 pub const TWO_WORKUNITS: &str =
-    "1 job_1 input=2 quorum=2 target=2 max_error=3 max_total=10 max_success=6 delay=604800 credit=1 mask=0 canonical=- assimilate=INIT delete=INIT done=-\n2 job_2 input=0 quorum=2 target=2 max_error=3 max_total=10 max_success=6 delay=604800 credit=1 mask=0 canonical=- assimilate=INIT delete=INIT done=-\n";
+    "1 job_1 input=2 quorum=2 target=2 max_error=3 max_total=10 max_success=6 delay=604800 credit=1 mask=0 canonical=- assimilate=INIT delete=INIT done=- class=0\n2 job_2 input=0 quorum=2 target=2 max_error=3 max_total=10 max_success=6 delay=604800 credit=1 mask=0 canonical=- assimilate=INIT delete=INIT done=- class=0\n";
 
 pub fn memory(rt: &(impl Abort + AllocGlobal)) -> Connection<MemStore> {
     Connection::open_in_memory(rt.alloc()).expect(rt, "memory")

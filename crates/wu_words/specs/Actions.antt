@@ -23,6 +23,7 @@ abbrev pub files_of : Line → List (Option (List ℕ) × ℕ)
 files_of (line.Batch db name jobs template) = (Some jobs, longest_file) ∷ (template, longest_template) ∷ []
 files_of (line.Sent db name file) = (Some file, longest_file) ∷ []
 files_of (line.Reported db name file) = (Some file, longest_file) ∷ []
+files_of (line.Classes db name file) = (Some file, longest_file) ∷ []
 files_of _ = []
 
 abbrev pub asked_file : LineFile → Option (List ℕ) × ℕ
@@ -76,6 +77,7 @@ abbrev pub prepared : Line → List (Option (List ℕ)) → Result Action Fault
 prepared (line.Batch db name jobs template) contents = batch name contents
 prepared (line.Sent db name file) contents = and_then (rows_file name contents) (λ file. one (command.Sent file))
 prepared (line.Reported db name file) contents = and_then (rows_file name contents) (λ file. one (command.Reported file))
+prepared (line.Classes db name file) contents = and_then (rows_file name contents) (λ file. one (command.Classes file))
 prepared (line.Transition db now limit) contents = at_moment now (λ now. command.Transition now limit)
 prepared (line.Validate db limit) contents = one (command.Validate limit)
 prepared (line.Assimilate db now limit) contents = at_moment now (λ now. command.Assimilate now limit)

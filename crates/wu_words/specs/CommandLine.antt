@@ -6,7 +6,7 @@ use Rattle.clap.specs.declared.builder.value_parser.ValueParser.TheVariants.{Uns
 use Rattle.wu_words.specs.declared.option.LineOption.{LineOption}
 use Rattle.wu_words.specs.declared.option.LineOption.TheVariants.{Database, Name, Jobs, Template, File, Now, Limit, MinAge, Workunit, View}
 use Rattle.wu_words.specs.declared.subcommand.Subcommand.{Subcommand}
-use Rattle.wu_words.specs.declared.subcommand.Subcommand.TheVariants.{Batch, Sent, Reported, Transition, Validate, Assimilate, Delete, Purge, Cancel, Cycle, Show, Upgrade, Script}
+use Rattle.wu_words.specs.declared.subcommand.Subcommand.TheVariants.{Batch, Sent, Reported, Classes, Transition, Validate, Assimilate, Delete, Purge, Cancel, Cycle, Show, Upgrade, Script}
 
 -- an option without its two hyphens
 abbrev pub option_name : LineOption → List ℕ
@@ -36,6 +36,7 @@ abbrev pub subcommand_name : Subcommand → List ℕ
 subcommand_name Batch = codes "batch"
 subcommand_name Sent = codes "sent"
 subcommand_name Reported = codes "reported"
+subcommand_name Classes = codes "classes"
 subcommand_name Transition = codes "transition"
 subcommand_name Validate = codes "validate"
 subcommand_name Assimilate = codes "assimilate"
@@ -52,6 +53,7 @@ abbrev pub options_of : Subcommand → List LineOption
 options_of Batch = Database ∷ Name ∷ Jobs ∷ Template ∷ []
 options_of Sent = Database ∷ Name ∷ File ∷ []
 options_of Reported = Database ∷ Name ∷ File ∷ []
+options_of Classes = Database ∷ Name ∷ File ∷ []
 options_of Transition = Database ∷ Now ∷ Limit ∷ []
 options_of Validate = Database ∷ Limit ∷ []
 options_of Assimilate = Database ∷ Now ∷ Limit ∷ []
@@ -64,7 +66,7 @@ options_of Upgrade = Database ∷ []
 options_of Script = Database ∷ File ∷ []
 
 abbrev pub all_subcommands : List Subcommand
-all_subcommands = Batch ∷ Sent ∷ Reported ∷ Transition ∷ Validate ∷ Assimilate ∷ Delete ∷ Purge ∷ Cancel ∷ Cycle ∷ Show ∷ Upgrade ∷ Script ∷ []
+all_subcommands = Batch ∷ Sent ∷ Reported ∷ Classes ∷ Transition ∷ Validate ∷ Assimilate ∷ Delete ∷ Purge ∷ Cancel ∷ Cycle ∷ Show ∷ Upgrade ∷ Script ∷ []
 
 -- the subcommand of this name
 abbrev pub subcommand_named : List ℕ → Option Subcommand

@@ -3,7 +3,7 @@ use Rattle.std.specs.Prelude.{◌≡◌, ℕ, if◌then◌else◌, List, codes, 
 use Rattle.std.specs.Str.Parse.{digits_value, without_leading_plus}
 use Rattle.clap.specs.Words.{Row, first_of, one_of}
 use Rattle.wu_machine.specs.declared.view.View.{View}
-use Rattle.wu_machine.specs.declared.view.View.TheVariants.{Workunits, Results, Hosts, Archive, Summary}
+use Rattle.wu_machine.specs.declared.view.View.TheVariants.{Workunits, Results, Hosts, Archive, Summary, Classes}
 use Rattle.wu_words.specs.CommandLine.{option_name}
 use Rattle.wu_words.specs.declared.option.LineOption.{LineOption}
 use Rattle.wu_words.specs.declared.option.LineOption.TheVariants as option
@@ -23,6 +23,7 @@ view_named name =
     else if bytes_eq name (codes "hosts") then Some Hosts
     else if bytes_eq name (codes "archive") then Some Archive
     else if bytes_eq name (codes "summary") then Some Summary
+    else if bytes_eq name (codes "classes") then Some Classes
     else None
 
 -- what clap finds of an option: its first value
@@ -46,6 +47,7 @@ HasFoundValues found (line.Batch db name jobs template) =
     IsTextIn found option.Database db × IsTextIn found option.Name name × IsTextIn found option.Jobs jobs × (value_in found option.Template ≡ template)
 HasFoundValues found (line.Sent db name file) = IsTextIn found option.Database db × IsTextIn found option.Name name × IsTextIn found option.File file
 HasFoundValues found (line.Reported db name file) = IsTextIn found option.Database db × IsTextIn found option.Name name × IsTextIn found option.File file
+HasFoundValues found (line.Classes db name file) = IsTextIn found option.Database db × IsTextIn found option.Name name × IsTextIn found option.File file
 HasFoundValues found (line.Transition db now limit) = IsTextIn found option.Database db × IsTextIn found option.Now now × IsNumberIn found option.Limit limit
 HasFoundValues found (line.Validate db limit) = IsTextIn found option.Database db × IsNumberIn found option.Limit limit
 HasFoundValues found (line.Assimilate db now limit) = IsTextIn found option.Database db × IsTextIn found option.Now now × IsNumberIn found option.Limit limit
@@ -63,6 +65,7 @@ abbrev pub subcommand_of_line : Line → Subcommand
 subcommand_of_line (line.Batch db name jobs template) = subcommand.Batch
 subcommand_of_line (line.Sent db name file) = subcommand.Sent
 subcommand_of_line (line.Reported db name file) = subcommand.Reported
+subcommand_of_line (line.Classes db name file) = subcommand.Classes
 subcommand_of_line (line.Transition db now limit) = subcommand.Transition
 subcommand_of_line (line.Validate db limit) = subcommand.Validate
 subcommand_of_line (line.Assimilate db now limit) = subcommand.Assimilate
@@ -78,6 +81,7 @@ abbrev pub database_of : Line → List ℕ
 database_of (line.Batch db name jobs template) = db
 database_of (line.Sent db name file) = db
 database_of (line.Reported db name file) = db
+database_of (line.Classes db name file) = db
 database_of (line.Transition db now limit) = db
 database_of (line.Validate db limit) = db
 database_of (line.Assimilate db now limit) = db

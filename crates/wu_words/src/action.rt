@@ -180,6 +180,9 @@ pub fn prepare(alloc: Global, line: &Line, contents: Vec<Option<Vec<u8>>>) -> Re
         Line::Reported { name, .. } => {
             one(alloc, Command::Reported(rows_file(alloc, name, contents)?))
         }
+        Line::Classes { name, .. } => {
+            one(alloc, Command::Classes(rows_file(alloc, name, contents)?))
+        }
         Line::Transition { now, limit, .. } => {
             let now = moment(now)?;
             one(alloc, Command::Transition { now, limit: *limit })

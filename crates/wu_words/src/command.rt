@@ -52,7 +52,7 @@ fn subcommand<'a>(alloc: Global, subcommand: Subcommand) -> Result<Command<'a>, 
 
 /// What `--version` tells behind the program's name. No contract speaks of it: a play shows it, and `tools/docs` holds
 /// it against the schema's present version and the toolchain's logic.
-const VERSION: &str = "0.1.0 (schema version 2, logic dac8208d650f15bf)";
+const VERSION: &str = "0.1.0 (schema version 3, logic dac8208d650f15bf)";
 
 /// The command of the program without its subcommands.
 fn bare_command<'a>(alloc: Global) -> Command<'a>

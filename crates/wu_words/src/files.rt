@@ -43,8 +43,8 @@ fn template(path: &Option<Word>) -> LineFile<'_>
 }
 
 impl Line {
-    /// The files that the line names, in the order of its usage line: jobs and template, or the file of sends or of
-    /// reports, or none.
+    /// The files that the line names, in the order of its usage line: jobs and template, or the file of sends, of
+    /// reports or of classes, or none.
     pub fn files(&self, alloc: Global) -> Result<Vec<LineFile<'_>>, AllocError>
         ensures files { IfOk result (λ files. map asked_file files.items ≡ files_of self.now) }
         ensures count { IfOk result (λ files. vec_len files ≡ length (files_of self.now)) }
@@ -53,7 +53,7 @@ impl Line {
             Line::Batch { jobs, template, .. } => {
                 Vec::from_array(alloc, [rows(jobs), crate::files::template(template)])?
             }
-            Line::Sent { file, .. } | Line::Reported { file, .. } => {
+            Line::Sent { file, .. } | Line::Reported { file, .. } | Line::Classes { file, .. } => {
                 Vec::from_array(alloc, [rows(file)])?
             }
             _ => Vec::new(alloc),

@@ -28,6 +28,12 @@ pub enum Line {
         name: Word,
         file: Word,
     },
+    /// Applies a file of classes of hosts.
+    Classes {
+        db: Word,
+        name: Word,
+        file: Word,
+    },
     Transition {
         db: Word,
         now: Word,
@@ -94,6 +100,11 @@ impl Drop for Line {
                 db: _db,
                 name: _name,
                 file: _file,
+            }
+            | Line::Classes {
+                db: _db,
+                name: _name,
+                file: _file,
             } => {}
             Line::Transition {
                 db: _db,
@@ -147,6 +158,7 @@ impl Line {
             Line::Batch { db, .. }
             | Line::Sent { db, .. }
             | Line::Reported { db, .. }
+            | Line::Classes { db, .. }
             | Line::Transition { db, .. }
             | Line::Validate { db, .. }
             | Line::Assimilate { db, .. }

@@ -14,7 +14,7 @@ pub enum LineOption {
     Jobs,
     /// A file with the parameters of a batch's jobs. It may be left out.
     Template,
-    /// A file of sends, of reports or of commands.
+    /// A file of sends, of reports, of classes or of commands.
     File,
     /// The moment of a pass.
     Now,
@@ -93,7 +93,7 @@ impl LineOption {
             LineOption::Template =>
                 "TOML file of the jobs' parameters, at most 65,536 bytes; each parameter that is absent has its default",
             LineOption::File =>
-                "CSV file with the header result,host,moment of sends, or result,host,moment,status,output of reports, at most 1,000 rows and 1,048,576 bytes; of a script a command a line, without the program's name and without --db",
+                "CSV file with the header result,host,moment of sends, result,host,moment,status,output of reports, or host,class of classes, at most 1,000 rows and 1,048,576 bytes; of a script a command a line, without the program's name and without --db",
             LineOption::Now =>
                 "The moment in UTC as YYYY-MM-DDTHH:MM:SSZ, from 1970 to 2099; date -u +%FT%TZ prints the present one",
             LineOption::Limit =>
@@ -101,7 +101,7 @@ impl LineOption {
             LineOption::MinAge =>
                 "How many seconds ago a workunit was assimilated at least: 0 to 31536000",
             LineOption::Workunit => "The name of the workunit",
-            LineOption::View => "workunits, results, hosts, archive or summary",
+            LineOption::View => "workunits, results, hosts, archive, summary or classes",
         }
     }
 }

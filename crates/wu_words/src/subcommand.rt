@@ -11,6 +11,7 @@ pub enum Subcommand {
     Batch,
     Sent,
     Reported,
+    Classes,
     Transition,
     Validate,
     Assimilate,
@@ -24,10 +25,11 @@ pub enum Subcommand {
 }
 
 /// All subcommands, in the order of help.
-pub const SUBCOMMANDS: [Subcommand; 13] = [
+pub const SUBCOMMANDS: [Subcommand; 14] = [
     Subcommand::Batch,
     Subcommand::Sent,
     Subcommand::Reported,
+    Subcommand::Classes,
     Subcommand::Transition,
     Subcommand::Validate,
     Subcommand::Assimilate,
@@ -48,6 +50,7 @@ impl Subcommand {
             Subcommand::Batch => "batch",
             Subcommand::Sent => "sent",
             Subcommand::Reported => "reported",
+            Subcommand::Classes => "classes",
             Subcommand::Transition => "transition",
             Subcommand::Validate => "validate",
             Subcommand::Assimilate => "assimilate",
@@ -69,6 +72,7 @@ impl Subcommand {
             "batch" => Some(Subcommand::Batch),
             "sent" => Some(Subcommand::Sent),
             "reported" => Some(Subcommand::Reported),
+            "classes" => Some(Subcommand::Classes),
             "transition" => Some(Subcommand::Transition),
             "validate" => Some(Subcommand::Validate),
             "assimilate" => Some(Subcommand::Assimilate),
@@ -94,7 +98,7 @@ impl Subcommand {
                 LineOption::Jobs,
                 LineOption::Template,
             ],
-            Subcommand::Sent | Subcommand::Reported => &[
+            Subcommand::Sent | Subcommand::Reported | Subcommand::Classes => &[
                 LineOption::Database,
                 LineOption::Name,
                 LineOption::File,
@@ -126,6 +130,8 @@ impl Subcommand {
                 "Record which instances were sent to which hosts; a row that does not fit is skipped",
             Subcommand::Reported =>
                 "Record what hosts reported of their instances; a row that does not fit is skipped",
+            Subcommand::Classes =>
+                "Set the classes of hosts; the instances of a workunit run on hosts of one class",
             Subcommand::Transition =>
                 "Time out what is overdue, make the instances that are wanted, close what is given up",
             Subcommand::Validate => "Compare results, find canonical ones and grant credit",
@@ -152,6 +158,8 @@ impl Subcommand {
                 "Example: lintelthyme sent --db project.db --name s1 --file sends.csv",
             Subcommand::Reported =>
                 "Example: lintelthyme reported --db project.db --name r1 --file reports.csv",
+            Subcommand::Classes =>
+                "Example: lintelthyme classes --db project.db --name c1 --file classes.csv",
             Subcommand::Transition =>
                 "Example: lintelthyme transition --db project.db --now 2026-03-01T12:00:00Z --limit 1000",
             Subcommand::Validate => "Example: lintelthyme validate --db project.db --limit 1000",

@@ -15,6 +15,7 @@ pub fn view_named(name: &str) -> Option<View>
         "hosts" => Some(View::Hosts),
         "archive" => Some(View::Archive),
         "summary" => Some(View::Summary),
+        "classes" => Some(View::Classes),
         _ => None,
     }
 }

@@ -52,6 +52,18 @@ fn reported(alloc: Global, found: &ArgMatches<'_>) -> Result<Order, Usage>
     }))
 }
 
+/// The line of a file of classes.
+fn classes(alloc: Global, found: &ArgMatches<'_>) -> Result<Order, Usage>
+    ensures order { IfOk result (IsOrder (rows_of (found_of found.now)) Subcommand.Classes) }
+    ensures refused { IfErr result (IsUnread (rows_of (found_of found.now)) Subcommand.Classes) }
+{
+    Ok(Order::Line(Line::Classes {
+        db: text(alloc, found, LineOption::Database)?,
+        name: text(alloc, found, LineOption::Name)?,
+        file: text(alloc, found, LineOption::File)?,
+    }))
+}
+
 /// The line of a transition.
 fn transition(alloc: Global, found: &ArgMatches<'_>) -> Result<Order, Usage>
     ensures order { IfOk result (IsOrder (rows_of (found_of found.now)) Subcommand.Transition) }
@@ -181,6 +193,7 @@ fn order_of(alloc: Global, subcommand: Subcommand, found: &ArgMatches<'_>) -> Re
         Subcommand::Batch => batch(alloc, found),
         Subcommand::Sent => sent(alloc, found),
         Subcommand::Reported => reported(alloc, found),
+        Subcommand::Classes => classes(alloc, found),
         Subcommand::Transition => transition(alloc, found),
         Subcommand::Validate => validate(alloc, found),
         Subcommand::Assimilate => assimilate(alloc, found),

@@ -3,7 +3,7 @@
 ghost use Rattle.std.specs.Prelude.{◌≡◌, true, false, [], Ok, Err, IfErr, IfOk, IsTrue, OnOk};
 ghost use Rattle.sqlite.specs.Held.{state};
 ghost use Rattle.wu_machine.specs.Machine.{has_right_limits, is_upgrade};
-ghost use Rattle.wu_passes.specs.Planning.{ForEachProject, IsReadyFor, NeverEnded, NotRefusedOver, PlansAt, PlansFor};
+ghost use Rattle.wu_passes.specs.Planning.{ForEachProject, IsReadyAt, NeverEnded, NotRefusedOver, PlansAt, PlansFor};
 ghost use Rattle.wu_machine.specs.Commands.{request_of};
 ghost use Rattle.wu_machine.specs.Sound.{IsProject};
 ghost use Rattle.wu_store.specs.Loading.{Asks, ServesUnlessFailed, StaysUnlessFailed};
@@ -13,6 +13,7 @@ ghost use Rattle.wu_passes.specs.Projects.{AnswersEnded, AsksOn, CarriesOut, Car
 
 use crate::batch::plan_batch;
 use crate::cancel::plan_cancel;
+use crate::classes::plan_classes;
 use crate::commit::change_all;
 use crate::files::{plan_reported, plan_sent};
 use crate::passes::{Ask, plan_pass};
@@ -101,7 +102,7 @@ fn plan_at<'a, S: Alter>(
     ensures opens { StaysUnlessFailed S.Store conn.old conn.new result }
     ensures never { NeverEnded result }
     ensures unrefused { NotRefusedOver S.Store conn.old conn.new result
-        (IsReadyFor (request_of command.now)) }
+        (IsReadyAt version (request_of command.now)) }
     ensures plan { ForEachProject S.Store conn.old conn.new
         (PlansAt version (request_of command.now) result) }
 {
@@ -109,6 +110,7 @@ fn plan_at<'a, S: Alter>(
         Command::Batch(batch) => plan_batch(conn, alloc, batch),
         Command::Sent(file) => plan_sent(conn, alloc, file),
         Command::Reported(file) => plan_reported(conn, alloc, file),
+        Command::Classes(file) => plan_classes(conn, alloc, file),
         Command::Transition { now, limit } => plan_pass(
             conn,
             alloc,

@@ -2,7 +2,7 @@
 
 ghost use Rattle.std.specs.Prelude.{◌≡◌, [], IfErr, IfOk, IsOk};
 ghost use Rattle.std.specs.Vec.Iter.{into_iter_items};
-ghost use Rattle.wu_store.specs.Lines.{archived_lines, host_lines, result_lines, workunit_lines};
+ghost use Rattle.wu_store.specs.Lines.{archived_lines, class_lines, host_lines, result_lines, workunit_lines};
 ghost use Rattle.wu_store.specs.Loading.{Asks, IsStoreFault};
 
 use crate::project::Project;
@@ -10,7 +10,7 @@ use sqlite::{Alter, Connection, Row};
 use std::alloc::Global;
 use std::vec::IntoIter;
 use wu_core::Fault;
-use wu_store::{ArchivePages, HostPages, Pages, ResultPages, WorkunitPages};
+use wu_store::{ArchivePages, ClassPages, HostPages, Pages, ResultPages, WorkunitPages};
 
 /// What is left of a view: the rows of the present page that are not handed out, and the pages behind it.
 #[derive(Drop)]
@@ -101,6 +101,9 @@ pub type HostWalk<'a, S> = Walk<'a, S, HostPages>;
 
 /// A walk over the archived workunits, in order of their archiving.
 pub type ArchiveWalk<'a, S> = Walk<'a, S, ArchivePages>;
+
+/// A walk over the hosts that a file of classes named, in order of their names' bytes.
+pub type ClassWalk<'a, S> = Walk<'a, S, ClassPages>;
 
 impl<'a, S: Alter, P: Pages> Walk<'a, S, P> {
     ghost use Rattle.wu_passes.specs.Projects.{IsPresentSession};
@@ -253,5 +256,20 @@ impl<S: Alter> Project<S> {
         ensures lines { IfOk result (WalksOver ⟦<ArchivePages as Pages>⟧ archived_lines self.old) }
     {
         self.walk_pages(alloc, ArchivePages::new())
+    }
+
+    /// Begins a walk over all hosts that a file of classes named, in order of their names' bytes.
+    ///
+    /// Nothing is read yet. Over an older version it is `OldSchema`.
+    pub fn walk_classes(&mut self, alloc: Global) -> Result<ClassWalk<'_, S>, Fault>
+        ensures* refused { sem 𝓛 (RestsIfRefused S.row S.Store self.entry result) }
+        ensures same_reference { IfOk result
+            (λ walk. walk.project.ghost_name ≡ self.entry.ghost_name) }
+        ensures early { RefusesFirst self.old result }
+        ensures begins { IfOk result (Begins self.old) }
+        ensures fault { IsSessionOpen self.old → IsPresentSession self.old → IsOk result }
+        ensures lines { IfOk result (WalksOver ⟦<ClassPages as Pages>⟧ class_lines self.old) }
+    {
+        self.walk_pages(alloc, ClassPages::new())
     }
 }

@@ -42,7 +42,7 @@ returns-in-Some-3 c =
 
 pub returns : goal.returns
 returns c =
-    let at = goal.at.returns c in (
-      kept at.In_default-2 (backed at.In_default),
-      first_moved_by IsNameFree c.archived-archived.result.now c.args.loaded.now.archived c.workunits-workunits.result.now c.args.loaded.now.workunits c.in_ok-place-2.field-0 None c.archived-archived.ensures c.workunits-workunits.ensures c.in_default-3.is c.in_ok-place-2.ensures,
-    )
+    let at = goal.at.returns c in record {
+      earlier = kept at.In_default-2 (backed at.In_default);
+      free = first_moved_by IsNameFree c.archived-archived.result.now c.args.loaded.now.archived c.workunits-workunits.result.now c.args.loaded.now.workunits c.in_ok-place-2.field-0 None c.archived-archived.ensures c.workunits-workunits.ensures c.in_default-3.is c.in_ok-place-2.ensures;
+    }

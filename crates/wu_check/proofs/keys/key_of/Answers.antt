@@ -55,3 +55,12 @@ returns-in-Import c = record {
   key = IfOk-weaker c.import_key.result _ _ (λ k is. key_at c.args.loaded.now c.args.wrong table.Import c.in-Some.place k (sym c.table.ensures ∙ c.in-Import.is) (sym c.place.ensures ∙ c.in-Some.is) is) c.import_key.ensures.key;
   memory = c.import_key.ensures.memory;
 }
+
+pub class_key-requires : goal.class_key-requires
+class_key-requires c = row_within c.args.loaded.now c.args.wrong table.HostClass c.in-Some.place c.requires (sym c.table.ensures ∙ c.in-HostClass.is) (sym c.place.ensures ∙ c.in-Some.is)
+
+pub returns-in-HostClass : goal.returns-in-HostClass
+returns-in-HostClass c = record {
+  key = IfOk-weaker c.class_key.result _ _ (λ k is. key_at c.args.loaded.now c.args.wrong table.HostClass c.in-Some.place k (sym c.table.ensures ∙ c.in-HostClass.is) (sym c.place.ensures ∙ c.in-Some.is) is) c.class_key.ensures.key;
+  memory = c.class_key.ensures.memory;
+}

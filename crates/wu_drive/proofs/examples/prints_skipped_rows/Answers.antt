@@ -6,6 +6,10 @@ pub returns-clause-sends : goal.returns-clause-sends
 unfolding digits
 returns-clause-sends c = refl
 
+pub returns-clause-classes : goal.returns-clause-classes
+unfolding digits
+returns-clause-classes c = refl
+
 pub returns-clause-reports : goal.returns-clause-reports
 unfolding digits
 returns-clause-reports c = refl

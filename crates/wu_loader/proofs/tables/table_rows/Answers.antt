@@ -1,34 +1,23 @@
+use Rattle.wu_schema.proofs.Words.{arith}
+use Rattle.wu_schema.specs.Tables.{IsClassedVersion}
 use Rattle.wu_loader.proofs.LookLemmas.{looked, looks_ended, looks_fault, looks_made, looks_next}
 use Rattle.wu_loader.proofs.tables.table_rows.Goals as goal
 
-pub returns-in_err-rows_of : goal.returns-in_err-rows_of
-returns-in_err-rows_of g c =
-    looks_fault g.S.Store c.args.conn.now c.rows_of.new.conn c.in_err-rows_of.field-0.0 _ _ c.in_err-rows_of.ensures c.from_residual.result c.from_residual.ensures.1
+pub returns-in_err-plain : goal.returns-in_err-plain
+returns-in_err-plain g c =
+    looks_fault c.args.version g.S.Store c.args.conn.now c.plain_rows.new.conn c.in_err-plain.field-0.0 _ _ (c.in_err-plain.ensures c.args.version) c.from_residual.result c.from_residual.ensures.1
 
-pub returns-in_err-rows_of-2 : goal.returns-in_err-rows_of-2
-returns-in_err-rows_of-2 g c =
-    looks_ended g.S.Store c.args.conn.now c.rows_of.new.conn c.rows_of-2.new.conn _ (looked g.S.Store c.args.conn.now c.rows_of.new.conn c.in_ok-rows_of.field-0 _ c.in_ok-rows_of.ensures) c.in_err-rows_of-2.field-0.0 _ _ c.in_err-rows_of-2.ensures c.from_residual-in_err-rows_of-2.result c.from_residual-in_err-rows_of-2.ensures.1
+pub returns-then-version-lt-CLASS_VERSION : goal.returns-then-version-lt-CLASS_VERSION
+returns-then-version-lt-CLASS_VERSION g c =
+    let older : ¬ IsClassedVersion c.args.version = λ known. absurd (omega (arith, known, c.if-version-lt-CLASS_VERSION.true)) in
+    looks_made c.args.version g.S.Store c.args.conn.now c.plain_rows.new.conn _ _ _ (λ db trees all. record { plain = all; classes = older }) (looked c.args.version g.S.Store c.args.conn.now c.plain_rows.new.conn c.in_ok-plain.plain _ (c.in_ok-plain.ensures c.args.version))
 
-pub returns-in_err-rows_of-3 : goal.returns-in_err-rows_of-3
-returns-in_err-rows_of-3 g c =
-    looks_ended g.S.Store c.args.conn.now c.rows_of-2.new.conn c.rows_of-3.new.conn _ (looks_next g.S.Store c.args.conn.now c.rows_of.new.conn c.rows_of-2.new.conn _ (looked g.S.Store c.args.conn.now c.rows_of.new.conn c.in_ok-rows_of.field-0 _ c.in_ok-rows_of.ensures) c.in_ok-rows_of-2.field-0 _ c.in_ok-rows_of-2.ensures) c.in_err-rows_of-3.field-0.0 _ _ c.in_err-rows_of-3.ensures c.from_residual-in_err-rows_of-3.result c.from_residual-in_err-rows_of-3.ensures.1
-
-pub returns-in_err-rows_of-4 : goal.returns-in_err-rows_of-4
-returns-in_err-rows_of-4 g c =
-    looks_ended g.S.Store c.args.conn.now c.rows_of-3.new.conn c.rows_of-4.new.conn _ (looks_next g.S.Store c.args.conn.now c.rows_of-2.new.conn c.rows_of-3.new.conn _ (looks_next g.S.Store c.args.conn.now c.rows_of.new.conn c.rows_of-2.new.conn _ (looked g.S.Store c.args.conn.now c.rows_of.new.conn c.in_ok-rows_of.field-0 _ c.in_ok-rows_of.ensures) c.in_ok-rows_of-2.field-0 _ c.in_ok-rows_of-2.ensures) c.in_ok-rows_of-3.field-0 _ c.in_ok-rows_of-3.ensures) c.in_err-rows_of-4.field-0.0 _ _ c.in_err-rows_of-4.ensures c.from_residual-in_err-rows_of-4.result c.from_residual-in_err-rows_of-4.ensures.1
-
-pub returns-in_err-rows_of-5 : goal.returns-in_err-rows_of-5
-returns-in_err-rows_of-5 g c =
-    looks_ended g.S.Store c.args.conn.now c.rows_of-4.new.conn c.rows_of-5.new.conn _ (looks_next g.S.Store c.args.conn.now c.rows_of-3.new.conn c.rows_of-4.new.conn _ (looks_next g.S.Store c.args.conn.now c.rows_of-2.new.conn c.rows_of-3.new.conn _ (looks_next g.S.Store c.args.conn.now c.rows_of.new.conn c.rows_of-2.new.conn _ (looked g.S.Store c.args.conn.now c.rows_of.new.conn c.in_ok-rows_of.field-0 _ c.in_ok-rows_of.ensures) c.in_ok-rows_of-2.field-0 _ c.in_ok-rows_of-2.ensures) c.in_ok-rows_of-3.field-0 _ c.in_ok-rows_of-3.ensures) c.in_ok-rows_of-4.field-0 _ c.in_ok-rows_of-4.ensures) c.in_err-rows_of-5.field-0.0 _ _ c.in_err-rows_of-5.ensures c.from_residual-in_err-rows_of-5.result c.from_residual-in_err-rows_of-5.ensures.1
-
-pub returns-in_err-rows_of-6 : goal.returns-in_err-rows_of-6
-returns-in_err-rows_of-6 g c =
-    looks_ended g.S.Store c.args.conn.now c.rows_of-5.new.conn c.rows_of-6.new.conn _ (looks_next g.S.Store c.args.conn.now c.rows_of-4.new.conn c.rows_of-5.new.conn _ (looks_next g.S.Store c.args.conn.now c.rows_of-3.new.conn c.rows_of-4.new.conn _ (looks_next g.S.Store c.args.conn.now c.rows_of-2.new.conn c.rows_of-3.new.conn _ (looks_next g.S.Store c.args.conn.now c.rows_of.new.conn c.rows_of-2.new.conn _ (looked g.S.Store c.args.conn.now c.rows_of.new.conn c.in_ok-rows_of.field-0 _ c.in_ok-rows_of.ensures) c.in_ok-rows_of-2.field-0 _ c.in_ok-rows_of-2.ensures) c.in_ok-rows_of-3.field-0 _ c.in_ok-rows_of-3.ensures) c.in_ok-rows_of-4.field-0 _ c.in_ok-rows_of-4.ensures) c.in_ok-rows_of-5.field-0 _ c.in_ok-rows_of-5.ensures) c.in_err-rows_of-6.field-0.0 _ _ c.in_err-rows_of-6.ensures c.from_residual-in_err-rows_of-6.result c.from_residual-in_err-rows_of-6.ensures.1
-
-pub returns-in_err-rows_of-7 : goal.returns-in_err-rows_of-7
-returns-in_err-rows_of-7 g c =
-    looks_ended g.S.Store c.args.conn.now c.rows_of-6.new.conn c.rows_of-7.new.conn _ (looks_next g.S.Store c.args.conn.now c.rows_of-5.new.conn c.rows_of-6.new.conn _ (looks_next g.S.Store c.args.conn.now c.rows_of-4.new.conn c.rows_of-5.new.conn _ (looks_next g.S.Store c.args.conn.now c.rows_of-3.new.conn c.rows_of-4.new.conn _ (looks_next g.S.Store c.args.conn.now c.rows_of-2.new.conn c.rows_of-3.new.conn _ (looks_next g.S.Store c.args.conn.now c.rows_of.new.conn c.rows_of-2.new.conn _ (looked g.S.Store c.args.conn.now c.rows_of.new.conn c.in_ok-rows_of.field-0 _ c.in_ok-rows_of.ensures) c.in_ok-rows_of-2.field-0 _ c.in_ok-rows_of-2.ensures) c.in_ok-rows_of-3.field-0 _ c.in_ok-rows_of-3.ensures) c.in_ok-rows_of-4.field-0 _ c.in_ok-rows_of-4.ensures) c.in_ok-rows_of-5.field-0 _ c.in_ok-rows_of-5.ensures) c.in_ok-rows_of-6.field-0 _ c.in_ok-rows_of-6.ensures) c.in_err-rows_of-7.field-0.0 _ _ c.in_err-rows_of-7.ensures c.from_residual-in_err-rows_of-7.result c.from_residual-in_err-rows_of-7.ensures.1
+pub returns-in_err-classes : goal.returns-in_err-classes
+returns-in_err-classes g c =
+    let known : IsClassedVersion c.args.version = omega (arith, c.if-version-lt-CLASS_VERSION.false) in
+    looks_ended c.args.version g.S.Store c.args.conn.now c.plain_rows.new.conn c.class_rows.new.conn _ (looked c.args.version g.S.Store c.args.conn.now c.plain_rows.new.conn c.in_ok-plain.plain _ (c.in_ok-plain.ensures c.args.version)) c.in_err-classes.field-0.0 _ _ (c.in_err-classes.ensures c.args.version known) c.from_residual-in_err-classes.result c.from_residual-in_err-classes.ensures.1
 
 pub returns : goal.returns
 returns g c =
-    looks_made g.S.Store c.args.conn.now c.rows_of-7.new.conn _ _ _ (λ db trees all. record { project = all.0.0.0.0.0.0; workunits = all.0.0.0.0.0.1; instances = all.0.0.0.0.1; grants = all.0.0.0.1; hosts = all.0.0.1; archived = all.0.1; imports = all.1 }) (looks_next g.S.Store c.args.conn.now c.rows_of-6.new.conn c.rows_of-7.new.conn _ (looks_next g.S.Store c.args.conn.now c.rows_of-5.new.conn c.rows_of-6.new.conn _ (looks_next g.S.Store c.args.conn.now c.rows_of-4.new.conn c.rows_of-5.new.conn _ (looks_next g.S.Store c.args.conn.now c.rows_of-3.new.conn c.rows_of-4.new.conn _ (looks_next g.S.Store c.args.conn.now c.rows_of-2.new.conn c.rows_of-3.new.conn _ (looks_next g.S.Store c.args.conn.now c.rows_of.new.conn c.rows_of-2.new.conn _ (looked g.S.Store c.args.conn.now c.rows_of.new.conn c.in_ok-rows_of.field-0 _ c.in_ok-rows_of.ensures) c.in_ok-rows_of-2.field-0 _ c.in_ok-rows_of-2.ensures) c.in_ok-rows_of-3.field-0 _ c.in_ok-rows_of-3.ensures) c.in_ok-rows_of-4.field-0 _ c.in_ok-rows_of-4.ensures) c.in_ok-rows_of-5.field-0 _ c.in_ok-rows_of-5.ensures) c.in_ok-rows_of-6.field-0 _ c.in_ok-rows_of-6.ensures) c.in_ok-rows_of-7.field-0 _ c.in_ok-rows_of-7.ensures)
+    let known : IsClassedVersion c.args.version = omega (arith, c.if-version-lt-CLASS_VERSION.false) in
+    looks_made c.args.version g.S.Store c.args.conn.now c.class_rows.new.conn _ _ _ (λ db trees all. record { plain = all.0; classes = (known, all.1) }) (looks_next c.args.version g.S.Store c.args.conn.now c.plain_rows.new.conn c.class_rows.new.conn _ (looked c.args.version g.S.Store c.args.conn.now c.plain_rows.new.conn c.in_ok-plain.plain _ (c.in_ok-plain.ensures c.args.version)) c.in_ok-classes.classes _ (c.in_ok-classes.ensures c.args.version known))

@@ -1,6 +1,8 @@
+use Rattle.wu_schema.proofs.Words.{map}
 use Rattle.wu_schema.proofs.ReadLemmas.{if_ok}
+use Rattle.wu_loader.specs.Classing.{unclassed}
 use Rattle.wu_loader.proofs.WholeLemmas.{handed, refused}
-use Rattle.wu_loader.proofs.WorkLemmas.{never_placed, never_works, works_are, works_dealt}
+use Rattle.wu_loader.proofs.WorkLemmas.{never_placed, never_works, ordered_unclassed, works_are, works_dealt}
 use Rattle.wu_loader.proofs.works.works_from.Goals as goal
 
 pub returns-in_err-workunits-clause-none : goal.returns-in_err-workunits-clause-none
@@ -19,4 +21,4 @@ returns-clause-works c =
 pub returns-clause-none : goal.returns-clause-none
 returns-clause-none c =
     refused c.deal.result _ _ (λ wrong none works ordered storable are.
-    none works ordered (works_dealt c.args.rows.now c.args.instances.now c.in_ok-workunits.workunits.items c.in_ok-workunits.ensures.same c.in_ok-placed.placed.items c.in_ok-placed-2.placed.items c.in_ok-placed.ensures.same (rw c.in_ok-placed-2.ensures c.in_ok-sort.ensures.same) (rw c.in_ok-placed-2.ensures c.in_ok-sort.ensures.sorted) works ordered storable are)) c.deal.ensures.none
+    none (map unclassed works) (ordered_unclassed works ordered) (works_dealt c.args.rows.now c.args.instances.now c.in_ok-workunits.workunits.items c.in_ok-workunits.ensures.same c.in_ok-placed.placed.items c.in_ok-placed-2.placed.items c.in_ok-placed.ensures.same (rw c.in_ok-placed-2.ensures c.in_ok-sort.ensures.same) c.in_ok-workunits.ensures.each (rw c.in_ok-placed-2.ensures c.in_ok-sort.ensures.sorted) works ordered storable are)) c.deal.ensures.none

@@ -1,60 +1,23 @@
-use Rattle.wu_schema.proofs.Words.{Grant, IsPermutation, IsPermutation-refl, List, World, hosts_of, import_cells, map, subst, sym, ◌∙◌, ◌≡◌}
-use Rattle.std.specs.Prelude.{All}
-use Rattle.wu_core.specs.Storable.{IsStoredArchived}
-use Rattle.wu_schema.specs.Refines.{host_of}
-use Rattle.wu_loader.specs.Rows.{archived_row, grant_row, IsStoredGrant, IsStoredImport}
-use Rattle.wu_loader.specs.Worlds.{project_of, AreRowsOf}
-use Rattle.wu_loader.proofs.RowLemmas.{one_grant}
-use Rattle.wu_loader.proofs.WholeLemmas.{handed, no_rows, none_permuted, one_rows, rows_plain}
+use Rattle.wu_schema.proofs.Words.{ap, rules, subst, sym, ◌∙◌, ◌≡◌}
+use Rattle.wu_loader.specs.Worlds.{plain_world, AreRowsOf}
+use Rattle.wu_loader.proofs.ClassLemmas.{found_rows}
 use Rattle.wu_loader.proofs.world.world_from.Goals as goal
-
-pub returns-in_err-project-clause-none : goal.returns-in_err-project-clause-none
-returns-in_err-project-clause-none c =
-    handed c.from_residual.result c.in_err-project.field-0.0 _ _ (λ wrong none world readable ordered are. none (project_of world) readable.project (c.deref.ensures.value ∙ are.project)) c.from_residual.ensures.1 c.in_err-project.ensures.none
-
-pub returns-in_err-grants-clause-none : goal.returns-in_err-grants-clause-none
-returns-in_err-grants-clause-none c =
-    handed c.from_residual-in_err-grants.result c.in_err-grants.field-0.0 _ _ (λ wrong none world readable ordered are. no_rows grant_row IsStoredGrant _ wrong none world.grants readable.grants (c.deref-4.ensures.value ∙ are.grants))
-    c.from_residual-in_err-grants.ensures.1 c.in_err-grants.ensures.none
-
-pub returns-in_err-know_hosts-clause-none : goal.returns-in_err-know_hosts-clause-none
-returns-in_err-know_hosts-clause-none c =
-    handed c.from_residual-in_err-know_hosts.result c.in_err-know_hosts.field-0.0 _ _ (λ wrong none world readable ordered are.
-    let same : c.deref-6.result.now ≡ world.grants = c.deref-6.ensures.value ∙ one_rows grant_row one_grant c.in_ok-grants.grants.items world.grants (sym c.in_ok-grants.ensures.same ∙ c.deref-4.ensures.value ∙ are.grants) in
-    none (subst (All IsStoredGrant) (sym same) readable.grants) (subst (λ (gs : List Grant). IsPermutation (map (host_of gs) (hosts_of gs)) c.deref-5.result.now) (sym same) (subst (IsPermutation (map (host_of world.grants) (hosts_of world.grants))) (sym c.deref-5.ensures.value) are.hosts)))
-    c.from_residual-in_err-know_hosts.ensures.1 c.in_err-know_hosts.ensures.none
-
-pub returns-in_err-archived-clause-none : goal.returns-in_err-archived-clause-none
-returns-in_err-archived-clause-none c =
-    handed c.from_residual-in_err-archived.result c.in_err-archived.field-0.0 _ _ (λ wrong none world readable ordered are. no_rows archived_row IsStoredArchived _ wrong none world.archived readable.archived (c.deref-7.ensures.value ∙ are.archived))
-    c.from_residual-in_err-archived.ensures.1 c.in_err-archived.ensures.none
-
-pub returns-in_err-imports-clause-none : goal.returns-in_err-imports-clause-none
-returns-in_err-imports-clause-none c =
-    handed c.from_residual-in_err-imports.result c.in_err-imports.field-0.0 _ _ (λ wrong none world readable ordered are.
-    none_permuted import_cells IsStoredImport _ wrong none world.imports readable.imports (subst (IsPermutation (map import_cells world.imports)) (sym c.deref-8.ensures.value) are.imports))
-    c.from_residual-in_err-imports.ensures.1 c.in_err-imports.ensures.none
 
 pub returns-clause-world : goal.returns-clause-world
 returns-clause-world c =
-    let world : World = record {
-      workunits = c.in_ok-workunits.workunits.items;
-      grants = c.in_ok-grants.grants.items;
-      archived = c.in_ok-archived.archived.items;
-      imports = c.in_ok-imports.imports.items;
-      next_number = c.in_ok-project.project.next_number;
-      version = c.in_ok-project.project.version;
-    } in
+    let read = c.in_ok-project in
+    let with = c.in_ok-workunits in
+    let plain = plain_world read.field-0 in
+    let checked : read.project.version ≡ c.args.version = search rules in
+    let is : plain.version ≡ c.args.version = ap (λ p. p.version) read.project-is ∙ checked in
     let made = c.new.ensures in
-    let same : c.new.result ≡ world = λ i. record { workunits = made.workunits i; grants = made.grants i; archived = made.archived i; imports = made.imports i; next_number = made.next_number i; version = made.version i } in
-    let works = c.in_ok-workunits.ensures.works in
-    let imports : c.args.rows.now.imports.items ≡ map import_cells world.imports = sym c.deref-8.ensures.value ∙ c.in_ok-imports.ensures.same ∙ rows_plain import_cells c.in_ok-imports.imports.items in
-    subst (AreRowsOf c.args.rows.now) (sym same) (record {
-      project = sym c.deref.ensures.value ∙ c.in_ok-project.ensures.project;
-      workunits = sym c.deref-2.ensures.value ∙ works.workunits_are;
-      instances = rw c.deref-3.ensures.value at works.instances_are;
-      grants = sym c.deref-4.ensures.value ∙ c.in_ok-grants.ensures.same;
-      hosts = rw (c.deref-5.ensures.value, c.deref-6.ensures.value) at c.in_ok-know_hosts.ensures.hosts;
-      archived = sym c.deref-7.ensures.value ∙ c.in_ok-archived.ensures.same;
-      imports = subst (IsPermutation (map import_cells world.imports)) (sym imports) (IsPermutation-refl (map import_cells world.imports));
-    })
+    let same : c.new.result ≡ record plain { workunits = with.field-0.workunits.items; classes = with.field-0.hosts.items } = λ i. record {
+      workunits = made.workunits i;
+      grants = made.grants i;
+      archived = made.archived i;
+      imports = made.imports i;
+      classes = made.classes i;
+      next_number = made.next_number i;
+      version = (made.version ∙ sym is) i;
+    } in
+    subst (AreRowsOf c.args.version c.args.rows.now) (sym same) (found_rows c.args.version c.args.rows.now plain with.field-0 read.ensures.plain with.ensures.found is)

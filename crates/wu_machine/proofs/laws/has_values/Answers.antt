@@ -12,6 +12,9 @@ returns-in-Sent c = subst (λ command. HasValues (request_of command)) (sym c.in
 pub returns-in-Reported : goal.returns-in-Reported
 returns-in-Reported c = subst (λ command. HasValues (request_of command)) (sym c.in-Reported.is) c.as_bytes-in-Reported.ensures.name
 
+pub returns-in-Classes : goal.returns-in-Classes
+returns-in-Classes c = subst (λ command. HasValues (request_of command)) (sym c.in-Classes.is) c.as_bytes-in-Classes.ensures.name
+
 pub returns-in-Transition : goal.returns-in-Transition
 returns-in-Transition c = subst (λ command. HasValues (request_of command)) (sym c.in-Transition.is) c.seconds.ensures.within
 

@@ -3,23 +3,23 @@ use Rattle.sqlite.specs.Held.{state}
 use Rattle.wu_machine.specs.Worlds.{workunit_named}
 use Rattle.wu_passes.proofs.AskLemmas.{asks_handed, asks_made, handed_is, handed_on}
 use Rattle.wu_passes.proofs.CancelLemmas.{cancel_planned, cancel_unknown}
-use Rattle.wu_passes.proofs.PlanLemmas.{named_loads}
+use Rattle.wu_passes.proofs.PlanLemmas.{classed, named_loads}
 use Rattle.wu_passes.proofs.ExitLemmas.{handed_going}
 use Rattle.wu_passes.proofs.WalkLemmas.{serves_handed, serves_open}
 use Rattle.wu_passes.proofs.cancel.plan_cancel.Goals as goal
 
 pub returns-in-Some-clause-plan : goal.returns-in-Some-clause-plan
 returns-in-Some-clause-plan g c clean world stands is project =
-    let present : workunit_named world c.args.name.now ≡ Some c.in-Some.workunit = sym (sym c.in-Some.is ∙ c.in_ok-workunit.ensures.found clean world stands) in
+    let present : workunit_named world c.args.name.now ≡ Some c.in-Some.workunit = sym (sym c.in-Some.is ∙ c.in_ok-workunit.ensures.found clean world stands (classed world is)) in
     cancel_planned (state g.S.Store c.args.conn.now).now world stands is c.args.name.now c.in-Some.workunit present c.give_up.result c.give_up.ensures.plan c.give_up.ensures.fault
 
 pub returns-in-None-clause-plan : goal.returns-in-None-clause-plan
 returns-in-None-clause-plan g c clean world stands is project =
-    inl (cancel_unknown (state g.S.Store c.args.conn.now).now world stands is c.args.name.now (sym (sym c.in-None.is ∙ c.in_ok-workunit.ensures.found clean world stands)))
+    inl (cancel_unknown (state g.S.Store c.args.conn.now).now world stands is c.args.name.now (sym (sym c.in-None.is ∙ c.in_ok-workunit.ensures.found clean world stands (classed world is))))
 
 pub returns-in_err-workunit-clause-unrefused : goal.returns-in_err-workunit-clause-unrefused
-returns-in_err-workunit-clause-unrefused g c clean world stands project limit =
-    handed_on c.from_residual.result c.in_err-workunit.field-0.0 c.from_residual.ensures.1 (c.in_err-workunit.ensures.unrefused clean world stands (named_loads world project.storable c.args.name.now) limit)
+returns-in_err-workunit-clause-unrefused g c clean world stands (is, project) limit =
+    handed_on c.from_residual.result c.in_err-workunit.field-0.0 c.from_residual.ensures.1 (c.in_err-workunit.ensures.unrefused clean world stands (named_loads world (classed world is) project.storable c.args.name.now) limit)
 
 pub returns-in_err-workunit-clause-asks : goal.returns-in_err-workunit-clause-asks
 returns-in_err-workunit-clause-asks g c = asks_handed g.S.Store _ _ c.from_residual.result c.in_err-workunit.field-0.0 c.from_residual.ensures.1 c.in_err-workunit.ensures.asks

@@ -7,18 +7,18 @@ use Rattle.wu_passes.proofs.ExitLemmas.{handed_told, memory_told, memory_unbroke
 use Rattle.wu_passes.proofs.files.touch.Goals as goal
 
 pub returns-then-has-clause-touches : goal.returns-then-has-clause-touches
-returns-then-has-clause-touches g c clean world stands images = touched_has world c.args.touched.now c.args.name.now (sym c.has.ensures ∙ c.if-has.true) images
+returns-then-has-clause-touches g c clean world stands known images = touched_has world c.args.touched.now c.args.name.now (sym c.has.ensures ∙ c.if-has.true) images
 
 pub returns-in-Some-clause-touches : goal.returns-in-Some-clause-touches
-returns-in-Some-clause-touches g c clean world stands images =
+returns-in-Some-clause-touches g c clean world stands known images =
     let new = not_touched c.args.touched.now c.args.name.now (sym c.has.ensures ∙ c.if-has.false) in
-    let present : workunit_named world c.args.name.now ≡ Some c.in-Some.workunit = sym (sym c.in-Some.is ∙ c.in_ok-workunit.ensures.found clean world stands) in
+    let present : workunit_named world c.args.name.now ≡ Some c.in-Some.workunit = sym (sym c.in-Some.is ∙ c.in_ok-workunit.ensures.found clean world stands known) in
     taken_in world (once_named _ world stands) c.args.touched.now c.insert.new.self c.args.name.now c.in-Some.workunit present new images c.insert.result c.insert.ensures.also
 
 pub returns-in-None-clause-touches : goal.returns-in-None-clause-touches
-returns-in-None-clause-touches g c clean world stands images =
+returns-in-None-clause-touches g c clean world stands known images =
     let new = not_touched c.args.touched.now c.args.name.now (sym c.has.ensures ∙ c.if-has.false) in
-    touched_none world c.args.touched.now c.args.name.now new (sym (sym c.in-None.is ∙ c.in_ok-workunit.ensures.found clean world stands)) images
+    touched_none world c.args.touched.now c.args.name.now new (sym (sym c.in-None.is ∙ c.in_ok-workunit.ensures.found clean world stands known)) images
 
 pub returns-then-has-clause-asks : goal.returns-then-has-clause-asks
 returns-then-has-clause-asks g c = asks_none g.S.Store _ _ (λ is. absurd cc)

@@ -1,13 +1,13 @@
 use Rattle.std.proofs.Common.{rules, inr, ◌<◌, ◌^◌}
 use Rattle.wu_passes.proofs.AskLemmas.{asks_handed, asks_then, handed_is, handed_on}
-use Rattle.wu_passes.proofs.PlanLemmas.{queued}
+use Rattle.wu_passes.proofs.PlanLemmas.{classed}
 use Rattle.wu_passes.proofs.ExitLemmas.{handed_going, told_going}
 use Rattle.wu_passes.proofs.passes.plan_images.Goals as goal
 
 pub returns-in_err-taken-clause-unrefused : goal.returns-in_err-taken-clause-unrefused
 returns-in_err-taken-clause-unrefused g c clean world stands (is, project) limit =
     let low : c.args.ask.now.limit < 2 ^ 63 = search rules in
-    handed_on c.from_residual.result c.in_err-taken.field-0.0 c.from_residual.ensures.1 (c.in_err-taken.ensures.unrefused low clean world (queued world is) stands project.storable limit)
+    handed_on c.from_residual.result c.in_err-taken.field-0.0 c.from_residual.ensures.1 (c.in_err-taken.ensures.unrefused low clean world (classed world is) stands project.storable limit)
 
 pub returns-in_err-taken-clause-asks : goal.returns-in_err-taken-clause-asks
 returns-in_err-taken-clause-asks g c = asks_handed g.S.Store _ _ c.from_residual.result c.in_err-taken.field-0.0 c.from_residual.ensures.1 c.in_err-taken.ensures.asks

@@ -6,14 +6,14 @@ use Rattle.sqlite.specs.Held.{state}
 use Rattle.wu_store.proofs.AskLemmas.{asks_row, read_handed}
 use Rattle.wu_passes.proofs.AskLemmas.{asks_handed, asks_made, handed_is, handed_on}
 use Rattle.wu_passes.proofs.PassPlanLemmas.{purge_planned}
-use Rattle.wu_passes.proofs.PlanLemmas.{queued}
+use Rattle.wu_passes.proofs.PlanLemmas.{classed}
 use Rattle.wu_passes.proofs.ExitLemmas.{handed_going}
 use Rattle.wu_passes.proofs.passes.plan_purge.Goals as goal
 
 pub returns-in_err-numbers-clause-unrefused : goal.returns-in_err-numbers-clause-unrefused
 returns-in_err-numbers-clause-unrefused g c clean world stands (is, project) limit =
     let low : c.args.ask.now.limit < 2 ^ 63 = search rules in
-    handed_on c.from_residual.result c.in_err-numbers.field-0.0 c.from_residual.ensures.1 (c.in_err-numbers.ensures.unrefused low clean world (queued world is) stands tt limit)
+    handed_on c.from_residual.result c.in_err-numbers.field-0.0 c.from_residual.ensures.1 (c.in_err-numbers.ensures.unrefused low clean world (classed world is) stands tt limit)
 
 pub returns-in_err-numbers-clause-asks : goal.returns-in_err-numbers-clause-asks
 returns-in_err-numbers-clause-asks g c = asks_handed g.S.Store _ _ c.from_residual.result c.in_err-numbers.field-0.0 c.from_residual.ensures.1 c.in_err-numbers.ensures.asks
@@ -27,7 +27,7 @@ returns-in_err-numbers-clause-plan g c clean world stands is project = rw (hande
 pub returns-clause-plan : goal.returns-clause-plan
 returns-clause-plan g c clean world stands is project =
     let counted : c.len-count.result ≡ length c.in_ok-numbers.numbers.items = search rules in
-    let numbers = c.in_ok-numbers.ensures.due clean world (queued world is) stands in
+    let numbers = c.in_ok-numbers.ensures.due clean world (classed world is) stands in
     let planned = purge_planned (state g.S.Store c.args.conn.now).now world stands.refines is c.args.ask.now c.requires.purge c.requires.right c.in_ok-numbers.numbers.items numbers c.len-count.result counted in
     subst (λ cs. Plans world (asked c.args.ask.now) (answer.Passed c.args.ask.now.pass c.len-count.result) cs) (sym c.in_ok-changes.ensures.all) planned
 

@@ -8,7 +8,7 @@ use Rattle.wu_report.proofs.views.show.Goals as goal
 -- all lines were written, and then it was flushed
 pub returns-in-Ok : goal.returns-in-Ok
 returns-in-Ok g c = record {
-  text = λ going clean world goes. Writes-kept _ _ _ (view_text world c.args.view) c.flush.result (c.in-Ok.ensures.text going clean world goes) c.flush.ensures.bytes;
+  text = λ going clean world knows goes. Writes-kept _ _ _ (view_text world c.args.view) c.flush.result (c.in-Ok.ensures.text going clean world knows goes) c.flush.ensures.bytes;
   goes = λ clean world goes. goes_on (state_of c.args.project.now) _ world clean c.write_view.ensures.reads.read goes;
   reads = c.write_view.ensures.reads.read;
   clean = c.write_view.ensures.reads.read.survives.clean;

@@ -12,7 +12,7 @@ use Rattle.wu_report.proofs.views.write_pages.Goals as goal
 -- ---- no walk begins
 
 pub returns-in_err-walk-clause-text : goal.returns-in_err-walk-clause-text
-returns-in_err-walk-clause-text g c going clean world goes = Writes-failed _ _ _ c.from_residual.result c.from_residual.ensures.0 (AppendsFront-nothing _ _)
+returns-in_err-walk-clause-text g c going clean world knows goes = Writes-failed _ _ _ c.from_residual.result c.from_residual.ensures.0 (AppendsFront-nothing _ _)
 
 pub returns-in_err-walk-clause-reads : goal.returns-in_err-walk-clause-reads
 returns-in_err-walk-clause-reads g c =
@@ -25,7 +25,7 @@ returns-in_err-walk-clause-opens g c going =
     subst (λ new. ServesOn new c.from_residual.result) (sym same) (still_serves c.args.project.now c.in_err-walk.field-0.0 c.in_err-walk.ensures.early c.in_err-walk.ensures.fault c.from_residual.result c.from_residual.ensures.1 going)
 
 pub returns-in_err-walk-clause-unrefused : goal.returns-in_err-walk-clause-unrefused
-returns-in_err-walk-clause-unrefused g c going clean unlimited world can goes =
+returns-in_err-walk-clause-unrefused g c going clean unlimited world knows can goes =
     handed_on c.from_residual.result c.in_err-walk.field-0.0 c.from_residual.ensures.1
     (never_refused_so c.in_err-walk.field-0.0 (refusal_told c.args.project.now c.in_err-walk.field-0.0 c.in_err-walk.ensures.early c.in_err-walk.ensures.fault))
 
@@ -40,14 +40,14 @@ pub write_lines-requires : goal.write_lines-requires
 write_lines-requires g c = ap older_version c.in_ok-walk.ensures.begins.same ∙ c.in_ok-walk.ensures.begins.present
 
 pub returns-clause-text : goal.returns-clause-text
-returns-clause-text g c going clean world goes =
+returns-clause-text g c going clean world knows goes =
     let after : HasCleanDisk (state_of (walked c.write_lines.new.walk)) = search rules in
-    c.write_lines.ensures.text after world (g.P.Pages.rest c.args.pages world) (c.in_ok-walk.ensures.lines world (tables_shown c.args.project.now world goes))
+    c.write_lines.ensures.text after world (g.P.Pages.rest c.args.pages world) (c.in_ok-walk.ensures.lines world knows (tables_shown c.args.project.now world goes))
 
 pub returns-clause-unrefused : goal.returns-clause-unrefused
-returns-clause-unrefused g c going clean unlimited world can goes =
+returns-clause-unrefused g c going clean unlimited world knows can goes =
     let after : HasCleanDisk (state_of (walked c.write_lines.new.walk)) = search rules in
-    c.write_lines.ensures.unrefused after world (g.P.Pages.rest c.args.pages world) (c.in_ok-walk.ensures.lines world (tables_shown c.args.project.now world goes)) can (ap (λ project. (state_of project).step_limit) c.in_ok-walk.ensures.begins.same ∙ unlimited)
+    c.write_lines.ensures.unrefused after world (g.P.Pages.rest c.args.pages world) (c.in_ok-walk.ensures.lines world knows (tables_shown c.args.project.now world goes)) can (ap (λ project. (state_of project).step_limit) c.in_ok-walk.ensures.begins.same ∙ unlimited)
 
 pub returns-clause-reads : goal.returns-clause-reads
 returns-clause-reads g c =

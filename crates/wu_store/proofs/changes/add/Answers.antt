@@ -16,11 +16,12 @@ returns-clause-adds g c clean =
     let last : HasCleanDisk (state g.S.Store c.insert_instances.new.tx.conn.now) = omega (arith, clean, c.insert_marks.ensures.writes.part.survives.clean) in
     let first : HasCleanDisk (state g.S.Store c.insert_workunit.new.tx.conn.now) = omega (arith, last, c.in_ok-insert_instances.ensures.works.part.survives.clean) in
     let w = c.args.workunit.now in
-    ok_both c.insert_marks.result _ _ _ (λ puts stays world queued stands.
-    let q = stands.queue queued in
+    ok_both c.insert_marks.result _ _ _ (λ puts stays world known stands.
+    let q = stands.queue (omega (arith, known)) in
     let free = c.in_ok-insert_workunit.ensures.free first world stands.refines in
-    let alone = c.in_ok-insert_workunit.ensures.puts first world stands.refines in
-    let beside = c.in_ok-insert_workunit.ensures.queue first world (marked world) stands.refines q in
+    let placed = c.in_ok-insert_workunit.ensures.puts first in
+    let alone = placed.stands world known stands.refines in
+    let beside = placed.queue world (marked world) known stands.refines q in
     let whole = c.in_ok-insert_instances.ensures.adds last world free alone in
     let still = c.in_ok-insert_instances.ensures.queue last world (marked world) free alone beside in
     record {

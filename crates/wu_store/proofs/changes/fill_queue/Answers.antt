@@ -2,6 +2,7 @@ use Rattle.wu_schema.proofs.Words.{arith, get_or, length, refl, rules, state, su
 use Rattle.std.proofs.Math.Seq.{take-length}
 use Rattle.wu_schema.proofs.CallLemmas.{never_ok, part_none, part_then}
 use Rattle.wu_schema.specs.Queue.{HasQueue}
+use Rattle.wu_rules.specs.Marks.{marks}
 use Rattle.wu_store.specs.Queues.{with_marks}
 use Rattle.wu_store.proofs.MarkedLemmas.{filled_more}
 use Rattle.wu_store.proofs.PlacedLemmas.{world_rises}
@@ -27,7 +28,7 @@ loop-row-preserved g c =
             λ within. c.in_ok-insert_marks.ensures.writes.inside clean,
             λ world s same q.
                 let (stands, filled) = so_far.1 world s same q in
-                let more : with_marks one.0 one.1 (take i rows) ≡ take (i + 1) rows = subst (λ rs. with_marks one.0 one.1 (take i rs) ≡ take (i + 1) rs) (sym same) (filled_more world.workunits (world_rises _ world s) i one one (subst (λ rs. i < length rs) same low) (ap (λ rs. get_or rs i one) (sym same) ∙ at)) in (
+                let more : with_marks one.0 one.1 (take i rows) ≡ take (i + 1) rows = subst (λ rs. with_marks one.0 one.1 (take i rs) ≡ take (i + 1) rs) (sym same) (filled_more marks world.workunits (world_rises _ world s) i one one (subst (λ rs. i < length rs) same low) (ap (λ rs. get_or rs i one) (sym same) ∙ at)) in (
                   c.in_ok-insert_marks.ensures.stays clean world (take i rows) stands filled,
                   subst (HasQueue new) more (c.in_ok-insert_marks.ensures.puts clean world (take i rows) stands filled),
                 ),

@@ -5,7 +5,7 @@ use Rattle.wu_store.proofs.MarkedLemmas.{stands_kept, stands_without}
 use Rattle.wu_store.proofs.PlacedLemmas.{placed_above}
 use Rattle.wu_store.specs.Changes.{with_archived, with_grant, with_import, with_next}
 use Rattle.wu_store.specs.Changing.{MakesWorlds, import_of_change}
-use Rattle.wu_store.specs.StandsFor.{StandsFor}
+use Rattle.wu_store.specs.StandsFor.{StandsFor, marked}
 use Rattle.wu_store.proofs.changes.make.Goals as goal
 
 pub returns-in-Add-clause-makes : goal.returns-in-Add-clause-makes
@@ -61,9 +61,21 @@ returns-in-Keep-clause-makes g c clean =
     (ok_both c.insert_import.result _ _ _ (λ puts keeps world stands right.
     stands_kept old new world (with_import (import_of_change c.in-Keep.import) world) stands (λ queued. queued) refl (puts world stands.refines) keeps) (c.insert_import.ensures.puts clean) (c.insert_import.ensures.queue clean))
 
+pub returns-in-Class-clause-makes : goal.returns-in-Class-clause-makes
+returns-in-Class-clause-makes g c clean =
+    let old = (state g.S.Store c.args.tx.now.conn.now).now in
+    let new = (state g.S.Store c.put_host_class.new.tx.conn.now).now in
+    subst (λ change. OnOk c.put_host_class.result (MakesWorlds (change ∷ []) old new)) (sym c.in-Class.is)
+    (ok_on c.put_host_class.result _ _ (λ sets world stands right. record {
+      refines = sets.stands world right.0 stands.refines;
+      queue = λ queued. sets.queue world (marked world) right.0 stands.refines (stands.queue queued);
+    }) (c.put_host_class.ensures.sets clean))
+
 pub returns-in-Upgrade-clause-makes : goal.returns-in-Upgrade-clause-makes
 returns-in-Upgrade-clause-makes g c clean =
     let old = (state g.S.Store c.args.tx.now.conn.now).now in
     let new = (state g.S.Store c.upgrade.new.tx.conn.now).now in
     subst (λ change. OnOk c.upgrade.result (MakesWorlds (change ∷ []) old new)) (sym c.in-Upgrade.is)
-    (ok_on c.upgrade.result _ _ (λ upgrades world stands right. upgrades world stands.refines (c.as_slice.ensures.value ∙ right.0)) (c.upgrade.ensures.upgrades clean))
+    (ok_on c.upgrade.result _ _ (λ upgrades world stands right.
+    let (from, older, same) = right.0 in
+    upgrades world from older stands (c.as_slice.ensures.value ∙ same)) (c.upgrade.ensures.upgrades clean))

@@ -12,16 +12,19 @@ returns-then-len-clause-replaces g c clean =
 pub returns-clause-replaces : goal.returns-clause-replaces
 returns-clause-replaces g c clean =
     let old = (state g.S.Store c.args.tx.now.conn.now).now in
-    let mid = (state g.S.Store c.put_row.new.tx.conn.now).now in
-    let next = (state g.S.Store c.put_instances.new.tx.conn.now).now in
+    let next = (state g.S.Store c.put_class.new.tx.conn.now).now in
+    let late = (state g.S.Store c.put_instances.new.tx.conn.now).now in
     let was = c.args.was.now in
     let w = c.args.workunit.now in
     let last : HasCleanDisk (state g.S.Store c.put_instances.new.tx.conn.now) = omega (arith, clean, c.put_marks.ensures.works.part.survives.clean) in
-    let first : HasCleanDisk (state g.S.Store c.put_row.new.tx.conn.now) = omega (arith, last, c.in_ok-put_instances.ensures.works.part.survives.clean) in
+    let middle : HasCleanDisk (state g.S.Store c.put_class.new.tx.conn.now) = omega (arith, last, c.in_ok-put_instances.ensures.works.part.survives.clean) in
+    let first : HasCleanDisk (state g.S.Store c.put_row.new.tx.conn.now) = omega (arith, middle, c.in_ok-put_class.ensures.works.part.survives.clean) in
     let few : length was.instances ≤ length w.instances = omega (arith, c.if-len.false, c.len.ensures.len, c.len-2.ensures.len) in
-    let instances : PutsInstances w was.instances mid next = subst (λ is. PutsInstances w is mid next) c.as_slice.ensures.items (c.in_ok-put_instances.ensures.puts last) in
-    ok_on c.put_marks.result _ _ (λ marks world queued stands found.
+    let instances : PutsInstances w was.instances next late = subst (λ is. PutsInstances w is next late) c.as_slice.ensures.items (c.in_ok-put_instances.ensures.puts last) in
+    ok_on c.put_marks.result _ _ (λ marks world known stands found.
     let row = c.in_ok-put_row.ensures.puts first world stands.refines found in
-    let all = instances world was found few row.0 in
-    let done = marks old world stands.refines found all.0 (all.1 (marked world) (row.1 (marked world) (stands.queue queued))) in
+    let classed = c.in_ok-put_class.ensures.puts middle world known row.0 in
+    let all = instances world was found few classed.0 in
+    let q = stands.queue (omega (arith, known)) in
+    let done = marks old world stands.refines found all.0 (all.1 (marked world) (classed.1 (marked world) (row.1 (marked world) q))) in
     record { refines = done.0; queue = λ _. done.1 }) (c.put_marks.ensures.puts clean)

@@ -38,3 +38,17 @@ returns-in_err-over-clause-unrefused g c clean world stands can limit =
 pub returns-clause-asks : goal.returns-clause-asks
 returns-clause-asks g c =
     asks_made g.S.Store _ _ c.in_ok-over.over _ (λ is. absurd cc) (asks_then g.S.Store _ _ _ c.in_ok-in_progress.in_progress (asks_then g.S.Store _ _ _ c.in_ok-unsent.unsent (asks_then g.S.Store _ _ _ c.in_ok-all.all c.in_ok-all.ensures.asks _ c.in_ok-unsent.ensures.asks) _ c.in_ok-in_progress.ensures.asks) _ c.in_ok-over.ensures.asks)
+
+pub returns-clause-found : goal.returns-clause-found
+returns-clause-found g c clean world stands =
+    let third : HasCleanDisk (state g.S.Store c.count_results_in-2.new.conn) = omega (arith, clean, c.count_results_in-3.ensures.asks.crash.clean) in
+    let second : HasCleanDisk (state g.S.Store c.count_results_in.new.conn) = omega (arith, third, c.count_results_in-2.ensures.asks.crash.clean) in
+    let first : HasCleanDisk (state g.S.Store c.count_all_results.new.conn) = omega (arith, second, c.count_results_in.ensures.asks.crash.clean) in
+    let one = c.in_ok-all.ensures.asks in
+    let two = asks_then g.S.Store _ _ _ c.in_ok-all.all one _ c.in_ok-unsent.ensures.asks in
+    let three = asks_then g.S.Store _ _ _ c.in_ok-unsent.unsent two _ c.in_ok-in_progress.ensures.asks in
+    let all = c.in_ok-all.ensures.found first world stands in
+    let unsent = c.in_ok-unsent.ensures.found second world (asks_stands g.S.Store _ _ c.in_ok-all.all one first world stands) in
+    let in_progress = c.in_ok-in_progress.ensures.found third world (asks_stands g.S.Store _ _ c.in_ok-unsent.unsent two second world stands) in
+    let over = c.in_ok-over.ensures.found clean world (asks_stands g.S.Store _ _ c.in_ok-in_progress.in_progress three third world stands) in
+    (λ k. record { all = all k; unsent = unsent k; in_progress = in_progress k; over = over k })

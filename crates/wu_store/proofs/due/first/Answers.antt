@@ -16,9 +16,9 @@ returns-in_err-workunit g c =
     let same = c.from_residual.ensures.1 in
     record {
       asks = asks_handed g.S.Store _ _ r fault same c.in_err-workunit.ensures.asks;
-      opens = opens_handed r fault same g.S.Store c.load.new.conn (c.in_err-workunit.ensures.opens (omega arith));
+      opens = opens_handed r fault same g.S.Store c.load_early.new.conn (c.in_err-workunit.ensures.opens (omega arith));
       fault = fault_handed r fault same c.in_err-workunit.ensures.fault;
-      found = λ clean world stands. match_handed r fault same _ c.in_err-workunit.ensures.fault;
+      found = λ clean world stands early. match_handed r fault same _ c.in_err-workunit.ensures.fault;
       unrefused = λ clean world stands storable limit. handed_on r fault same (c.in_err-workunit.ensures.unrefused clean world stands (numbered_loads 0 world (omega arith) storable) limit);
     }
 
@@ -35,19 +35,19 @@ pub returns-in-None-clause-opens : goal.returns-in-None-clause-opens
 returns-in-None-clause-opens g c = c.load_above.ensures.opens (omega arith)
 
 pub returns-in-Some-clause-found : goal.returns-in-Some-clause-found
-returns-in-Some-clause-found g c clean world stands =
-    let found : Some c.in-Some.workunit ≡ numbered 0 world = sym c.in-Some.is ∙ c.in_ok-workunit.ensures.found clean world stands in
+returns-in-Some-clause-found g c clean world stands early =
+    let found : Some c.in-Some.workunit ≡ numbered 0 world = sym c.in-Some.is ∙ c.in_ok-workunit.ensures.found clean world stands early in
     zero_first (state g.S.Store c.args.conn.now).now world stands c.in-Some.workunit found
 
 pub returns-in-None-clause-found : goal.returns-in-None-clause-found
-returns-in-None-clause-found g c clean world stands =
-    let before : HasCleanDisk (state g.S.Store c.load.new.conn) = omega (arith, c.load_above.ensures.asks.crash.clean) in
-    let still : Refines (state g.S.Store c.load.new.conn).now world = asks_stands g.S.Store _ _ _ c.in_ok-workunit.ensures.asks before world stands in
-    let none : None ≡ numbered 0 world = sym c.in-None.is ∙ c.in_ok-workunit.ensures.found before world stands in
-    subst (λ (found : Option Workunit). Finds found c.load_above.result) (above_first world none) (c.load_above.ensures.found clean world still)
+returns-in-None-clause-found g c clean world stands early =
+    let before : HasCleanDisk (state g.S.Store c.load_early.new.conn) = omega (arith, c.load_above.ensures.asks.crash.clean) in
+    let still : Refines (state g.S.Store c.load_early.new.conn).now world = asks_stands g.S.Store _ _ _ c.in_ok-workunit.ensures.asks before world stands in
+    let none : None ≡ numbered 0 world = sym c.in-None.is ∙ c.in_ok-workunit.ensures.found before world stands early in
+    subst (λ (found : Option Workunit). Finds found c.load_above.result) (above_first world none) (c.load_above.ensures.found clean world still early)
 
 pub returns-in-None-clause-unrefused : goal.returns-in-None-clause-unrefused
 returns-in-None-clause-unrefused g c clean world stands storable limit =
-    let before : HasCleanDisk (state g.S.Store c.load.new.conn) = omega (arith, c.load_above.ensures.asks.crash.clean) in
-    let still : Refines (state g.S.Store c.load.new.conn).now world = asks_stands g.S.Store _ _ _ c.in_ok-workunit.ensures.asks before world stands in
-    c.load_above.ensures.unrefused clean world still (above_loads 0 world (omega arith) storable) (c.load.ensures.asks.crash.limit ∙ limit)
+    let before : HasCleanDisk (state g.S.Store c.load_early.new.conn) = omega (arith, c.load_above.ensures.asks.crash.clean) in
+    let still : Refines (state g.S.Store c.load_early.new.conn).now world = asks_stands g.S.Store _ _ _ c.in_ok-workunit.ensures.asks before world stands in
+    c.load_above.ensures.unrefused clean world still (above_loads 0 world (omega arith) storable) (c.load_early.ensures.asks.crash.limit ∙ limit)

@@ -6,6 +6,7 @@ use Rattle.wu_core.specs.declared.workunit.Workunit.{Workunit}
 use Rattle.wu_schema.specs.Refines.{Refines}
 use Rattle.wu_store.specs.Due.{AreNumbersOf}
 use Rattle.wu_store.specs.Loading.{Asks}
+use Rattle.wu_store.specs.StandsFor.{KnowsClasses}
 use Rattle.wu_store.proofs.due.load_all.Given as goal
 
 abbrev pub invariant-loop-row : goal.invariant-loop-row
@@ -13,5 +14,5 @@ invariant-loop-row g l = record {
   asks : Asks {T = Unit {0}} g.S.Store l.fn.conn l.conn (Ok tt);
   long : length l.found.items ≡ l.row-index;
   so_far : HasCleanDisk (state g.S.Store l.conn) → (world : World) → Refines (state g.S.Store l.fn.conn).now world
-      → (ws : List Workunit) → AreNumbersOf l.rows ws world → l.found.items ≡ take l.row-index ws;
+      → KnowsClasses world → (ws : List Workunit) → AreNumbersOf l.rows ws world → l.found.items ≡ take l.row-index ws;
 }

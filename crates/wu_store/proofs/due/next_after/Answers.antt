@@ -12,7 +12,7 @@ returns-in_err-next g c =
       shrinks = nothing_handed r fault same _;
       asks = asks_handed g.S.Store _ _ r fault same c.in_err-next.ensures.asks;
       fault = fault_handed r fault same c.in_err-next.ensures.fault;
-      found = λ clean world stands. match_handed r fault same _ c.in_err-next.ensures.fault;
+      found = λ clean world stands early. match_handed r fault same _ c.in_err-next.ensures.fault;
       unrefused = λ clean world stands can limit. handed_on r fault same (c.in_err-next.ensures.unrefused clean world stands can limit);
     }
 
@@ -20,16 +20,16 @@ pub returns-in_default-clause-asks : goal.returns-in_default-clause-asks
 returns-in_default-clause-asks g c = asks_made g.S.Store _ _ c.in_ok-next.field-0 (Ok None) (never_err None) c.in_ok-next.ensures.asks
 
 pub returns-in_default-clause-found : goal.returns-in_default-clause-found
-returns-in_default-clause-found g c clean world stands = sym c.in_default.is ∙ c.in_ok-next.ensures.found clean world stands
+returns-in_default-clause-found g c clean world stands early = sym c.in_default.is ∙ c.in_ok-next.ensures.found clean world stands early
 
 pub returns-then-next-number : goal.returns-then-next-number
 returns-then-next-number g c = record {
   shrinks = tt;
   asks = asks_row g.S.Store _ _ c.in_ok-next.field-0 (Err NotAProject) (inr refl) c.in_ok-next.ensures.asks;
   fault = inr (inr refl);
-  found = λ clean world stands. inr (inr refl);
+  found = λ clean world stands early. inr (inr refl);
   unrefused = λ clean world stands can limit refused.
-      let found = sym c.in-Some.is ∙ c.in_ok-next.ensures.found clean world stands in
+      let found = sym c.in-Some.is ∙ c.in_ok-next.ensures.found clean world stands can.0 in
       omega (arith, higher c.args.number world c.in-Some.next (sym found));
 }
 
@@ -37,4 +37,4 @@ pub returns-clause-asks : goal.returns-clause-asks
 returns-clause-asks g c = asks_made g.S.Store _ _ c.in_ok-next.field-0 _ (never_err _) c.in_ok-next.ensures.asks
 
 pub returns-clause-found : goal.returns-clause-found
-returns-clause-found g c clean world stands = sym c.in-Some.is ∙ c.in_ok-next.ensures.found clean world stands
+returns-clause-found g c clean world stands early = sym c.in-Some.is ∙ c.in_ok-next.ensures.found clean world stands early

@@ -12,8 +12,8 @@ returns-in_err-number g c =
     record {
       asks = asks_none g.S.Store c.args.conn.now r (never_broken r refused);
       fault = fault_read r refused;
-      found = λ clean world stands w of. match_handed r fault same _ (read_told fault c.in_err-number.ensures.refused);
-      unrefused = λ clean world stands can limit. handed_on r fault same (number_read c.args.row.now can.0 world can.1 _ c.in_err-number.ensures);
+      found = λ clean world stands known w of. match_handed r fault same _ (read_told fault c.in_err-number.ensures.refused);
+      unrefused = λ clean world stands can limit. handed_on r fault same (number_read c.args.row.now can.1 world can.2 _ c.in_err-number.ensures);
     }
 
 pub returns-in_err-workunit : goal.returns-in_err-workunit
@@ -24,19 +24,19 @@ returns-in_err-workunit g c =
     record {
       asks = asks_handed g.S.Store _ _ r fault same c.in_err-workunit.ensures.asks;
       fault = fault_handed r fault same c.in_err-workunit.ensures.fault;
-      found = λ clean world stands w of. match_handed r fault same _ c.in_err-workunit.ensures.fault;
+      found = λ clean world stands known w of. match_handed r fault same _ c.in_err-workunit.ensures.fault;
       unrefused = λ clean world stands can limit.
-          let number = number_told c.args.row.now can.0 world can.1 c.in_ok-number.number c.in_ok-number.ensures in
-          handed_on r fault same (c.in_err-workunit.ensures.unrefused clean world stands (loads_there c.args.row.now can.0 world can.1 c.in_ok-number.number number can.2) limit);
+          let number = number_told c.args.row.now can.1 world can.2 c.in_ok-number.number c.in_ok-number.ensures in
+          handed_on r fault same (c.in_err-workunit.ensures.unrefused clean world stands (loads_there c.args.row.now can.1 world can.2 c.in_ok-number.number number can.0 can.3) limit);
     }
 
 pub returns-in-Some : goal.returns-in-Some
 returns-in-Some g c = record {
   asks = asks_made g.S.Store _ _ c.in_ok-workunit.field-0 _ (never_err _) c.in_ok-workunit.ensures.asks;
   fault = tt;
-  found = λ clean world stands w of.
+  found = λ clean world stands known w of.
       let number = number_told c.args.row.now w world of c.in_ok-number.number c.in_ok-number.ensures in
-      let found : Some c.in-Some.workunit ≡ Some w = told_present c.args.row.now w world of c.in_ok-number.number number (Some c.in-Some.workunit) (sym c.in-Some.is ∙ c.in_ok-workunit.ensures.found clean world stands) in
+      let found : Some c.in-Some.workunit ≡ Some w = told_present c.args.row.now w world of c.in_ok-number.number number (Some c.in-Some.workunit) (sym c.in-Some.is ∙ c.in_ok-workunit.ensures.found clean world stands known) in
       cc;
   unrefused = λ clean world stands can limit. tt;
 }
@@ -45,9 +45,9 @@ pub returns-in-None : goal.returns-in-None
 returns-in-None g c = record {
   asks = asks_row g.S.Store _ _ c.in_ok-workunit.field-0 (Err NotAProject) (inr refl) c.in_ok-workunit.ensures.asks;
   fault = inr (inr refl);
-  found = λ clean world stands w of. inr (inr refl);
+  found = λ clean world stands known w of. inr (inr refl);
   unrefused = λ clean world stands can limit.
-      let number = number_told c.args.row.now can.0 world can.1 c.in_ok-number.number c.in_ok-number.ensures in
-      let none : None ≡ Some can.0 = told_present c.args.row.now can.0 world can.1 c.in_ok-number.number number None (sym c.in-None.is ∙ c.in_ok-workunit.ensures.found clean world stands) in
+      let number = number_told c.args.row.now can.1 world can.2 c.in_ok-number.number c.in_ok-number.ensures in
+      let none : None ≡ Some can.1 = told_present c.args.row.now can.1 world can.2 c.in_ok-number.number number None (sym c.in-None.is ∙ c.in_ok-workunit.ensures.found clean world stands can.0) in
       absurd cc;
 }

@@ -1,58 +1,32 @@
-use Rattle.wu_schema.proofs.Words.{Err, Ok, Workunit, [], arith, inr, number, refl, state, ◌∷◌, ◌^◌, ◌≤◌, ◌==◌}
-use Rattle.wu_schema.proofs.Parts.{Workunits}
-use Rattle.wu_schema.proofs.InsertEffect.{also, no_more}
-use Rattle.wu_store.specs.Answers.{row_numbered}
-use Rattle.wu_store.specs.Reading.{IsReadFault}
-use Rattle.wu_store.proofs.ChangeLemmas.{sent_number}
-use Rattle.wu_store.proofs.SelectTexts.{numbered_asked, numbered_fits}
-use Rattle.wu_store.proofs.ReadAnswers.{numbered_found}
-use Rattle.wu_store.proofs.AskLemmas.{asked_row, asks_handed, asks_none, asks_then, fault_handed, handed_on, match_handed, never_broken, opens_handed, opens_then, question, read_handed, read_told}
+use Rattle.wu_schema.proofs.Words.{Workunit, ◌==◌}
+use Rattle.wu_store.proofs.AskLemmas.{asks_handed, asks_then, fault_handed, handed_on, match_handed, opens_handed, opens_then}
 use Rattle.wu_store.proofs.LoadLemmas.{load_found, load_unrefused}
 use Rattle.wu_store.proofs.loading.load.Goals as goal
 
-pub returns-in_err-key : goal.returns-in_err-key
-returns-in_err-key g c =
-    let fault = c.in_err-key.field-0.0 in
-    let r = c.from_residual.result in
-    let same = c.from_residual.ensures.1 in
-    let refused : IsReadFault fault = inr c.in_err-key.ensures.refused in
-    let beyond : 2 ^ 63 ≤ c.args.number = c.in_err-key.ensures.beyond in
-    record {
-      asks = asks_none g.S.Store c.args.conn.now r (never_broken r (read_handed r fault same refused));
-      opens = λ low. absurd (omega (arith, low, beyond));
-      fault = fault_handed r fault same (read_told fault refused);
-      found = λ clean world stands. match_handed r fault same _ (read_told fault refused);
-      unrefused = λ clean world stands can limit. absurd (omega (arith, can.0, beyond));
-    }
-
 pub returns-in_err-row : goal.returns-in_err-row
 returns-in_err-row g c =
-    let q = c.in_err-row.ensures in
+    let it = c.in_err-row.ensures in
     let fault = c.in_err-row.field-0.0 in
-    let r = c.from_residual-in_err-row.result in
-    let same = c.from_residual-in_err-row.ensures.1 in
-    let it = asked_row g.S.Store (question Workunits (λ _. tt) numbered_asked numbered_fits (number c.args.number ∷ []) refl (λ _. refl)) c.args.conn.now c.ask_row.new.conn _ (also (sent_number c.args.number c.params-to_sql.ensures c.in_ok-key.ensures.value c.in_ok-key.ensures.within) no_more) (row_numbered c.args.number)
-    (λ rows h world s. numbered_found (state g.S.Store c.args.conn.now) (state g.S.Store c.ask_row.new.conn) world s c.args.number rows h) (Err fault) q.asks q.opens q.shows q.fails q.told in
+    let r = c.from_residual.result in
+    let same = c.from_residual.ensures.1 in
     record {
       asks = asks_handed g.S.Store _ _ r fault same it.asks;
-      opens = λ low. opens_handed r fault same g.S.Store c.ask_row.new.conn it.opens;
+      opens = λ low. opens_handed r fault same g.S.Store c.numbered_row.new.conn (it.opens low);
       fault = fault_handed r fault same it.fault;
-      found = λ clean world stands. match_handed r fault same _ it.fault;
-      unrefused = λ clean world stands can limit. handed_on r fault same (it.unrefused clean world stands tt limit);
+      found = λ clean world stands known. match_handed r fault same _ it.fault;
+      unrefused = λ clean world stands can limit. handed_on r fault same (it.unrefused clean world stands can.1 limit);
     }
 
 pub returns : goal.returns
 returns g c =
-    let q = c.in_ok-row.ensures in
+    let it = c.in_ok-row.ensures in
     let row = c.in_ok-row.row in
     let test = λ (w : Workunit). w.number == c.args.number in
-    let it = asked_row g.S.Store (question Workunits (λ _. tt) numbered_asked numbered_fits (number c.args.number ∷ []) refl (λ _. refl)) c.args.conn.now c.ask_row.new.conn _ (also (sent_number c.args.number c.params-to_sql.ensures c.in_ok-key.ensures.value c.in_ok-key.ensures.within) no_more) (row_numbered c.args.number)
-    (λ rows h world s. numbered_found (state g.S.Store c.args.conn.now) (state g.S.Store c.ask_row.new.conn) world s c.args.number rows h) (Ok row) q.asks q.opens q.shows q.fails q.told in
     record {
-      asks = asks_then g.S.Store _ _ _ row it.asks c.loaded.result c.loaded.ensures.asks;
-      opens = λ low. opens_then g.S.Store c.ask_row.new.conn c.loaded.new.conn it.opens c.loaded.result c.loaded.ensures.asks;
-      fault = c.loaded.ensures.fault;
-      found = load_found g.S.Store _ _ _ test row c.loaded.result it.asks it.answers c.loaded.ensures.asks c.loaded.ensures.found;
+      asks = asks_then g.S.Store _ _ _ row it.asks c.whole.result c.whole.ensures.asks;
+      opens = λ low. opens_then g.S.Store c.numbered_row.new.conn c.whole.new.conn (it.opens low) c.whole.result c.whole.ensures.asks;
+      fault = c.whole.ensures.fault;
+      found = load_found g.S.Store _ _ _ test row c.whole.result it.asks it.answers c.whole.ensures.asks c.whole.ensures.found;
       unrefused = λ clean world stands can limit.
-          load_unrefused g.S.Store _ _ _ test row c.loaded.result it.asks it.answers c.loaded.ensures.asks c.loaded.ensures.unrefused clean world stands can.1 limit;
+          load_unrefused g.S.Store _ _ _ test row c.whole.result it.asks it.answers c.whole.ensures.asks c.whole.ensures.unrefused clean world stands (can.0, can.2) limit;
     }

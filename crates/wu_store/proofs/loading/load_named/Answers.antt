@@ -20,7 +20,7 @@ returns-in_err-row g c =
       asks = asks_handed g.S.Store _ _ r fault same it.asks;
       opens = opens_handed r fault same g.S.Store c.ask_row.new.conn it.opens;
       fault = fault_handed r fault same it.fault;
-      found = λ clean world stands. match_handed r fault same _ it.fault;
+      found = λ clean world stands known. match_handed r fault same _ it.fault;
       unrefused = λ clean world stands can limit. handed_on r fault same (it.unrefused clean world stands tt limit);
     }
 
@@ -32,10 +32,10 @@ returns g c =
     let it = asked_row g.S.Store (question Workunits (λ _. tt) named_asked named_fits (Text c.args.name.now ∷ []) refl (λ _. refl)) c.args.conn.now c.ask_row.new.conn _ (also (ap bound_value c.params-to_sql.ensures ∙ ap (λ t. Text t) c.as_str.ensures) no_more) (row_named c.args.name.now)
     (λ rows h world s. named_found (state g.S.Store c.args.conn.now) (state g.S.Store c.ask_row.new.conn) world s c.args.name.now rows h) (Ok row) q.asks q.opens q.shows q.fails q.told in
     record {
-      asks = asks_then g.S.Store _ _ _ row it.asks c.loaded.result c.loaded.ensures.asks;
-      opens = opens_then g.S.Store c.ask_row.new.conn c.loaded.new.conn it.opens c.loaded.result c.loaded.ensures.asks;
-      fault = c.loaded.ensures.fault;
-      found = load_found g.S.Store _ _ _ test row c.loaded.result it.asks it.answers c.loaded.ensures.asks c.loaded.ensures.found;
+      asks = asks_then g.S.Store _ _ _ row it.asks c.whole.result c.whole.ensures.asks;
+      opens = opens_then g.S.Store c.ask_row.new.conn c.whole.new.conn it.opens c.whole.result c.whole.ensures.asks;
+      fault = c.whole.ensures.fault;
+      found = load_found g.S.Store _ _ _ test row c.whole.result it.asks it.answers c.whole.ensures.asks c.whole.ensures.found;
       unrefused = λ clean world stands can limit.
-          load_unrefused g.S.Store _ _ _ test row c.loaded.result it.asks it.answers c.loaded.ensures.asks c.loaded.ensures.unrefused clean world stands can limit;
+          load_unrefused g.S.Store _ _ _ test row c.whole.result it.asks it.answers c.whole.ensures.asks c.whole.ensures.unrefused clean world stands can limit;
     }

@@ -1,4 +1,6 @@
 use Rattle.wu_schema.proofs.Words.{None, Ok, Some, ap, sym, ◌∙◌}
+use Rattle.std.proofs.Common.{option_map}
+use Rattle.wu_store.specs.Loading.{classless}
 use Rattle.wu_store.proofs.AskLemmas.{asks_handed, asks_made, asks_none, fault_handed, handed_on, match_handed, never_err}
 use Rattle.wu_store.proofs.LoadLemmas.{instances_can, none_there, row_read, some_there, whole_found}
 use Rattle.wu_store.proofs.loading.loaded.Goals as goal
@@ -36,6 +38,6 @@ returns g c = record {
   fault = tt;
   found = λ clean world stands found of.
       let it = some_there c.args.row c.in-Some.row c.in-Some.is found world of in
-      ap (λ w. Some w) (whole_found c.in-Some.row world it.0 it.2 c.in_ok-workunit.workunit _ c.in_ok-workunit.ensures (c.in_ok-workunit-2.ensures.found clean world stands)) ∙ sym it.1;
+      ap (λ w. Some w) (whole_found c.in-Some.row world it.0 it.2 c.in_ok-workunit.workunit _ c.in_ok-workunit.ensures (c.in_ok-workunit-2.ensures.found clean world stands)) ∙ ap (option_map classless) (sym it.1);
   unrefused = λ clean world stands can limit. tt;
 }

@@ -28,7 +28,7 @@ returns g c =
     let puts : HasCleanDisk mid → PutsGrant c.args.seq it old.now mid.now =
     λ clean. ran_as old mid grant_put.text _ _ given done (c.in_ok-execute.ensures.ran clean) (λ count ran. puts_grant old mid c.args.seq it count ran) in
     let then : _ ≡ Text it.host ∷ number it.credit ∷ [] = also (ap bound_value c.params-to_sql-6.ensures ∙ ap (λ t. Text t) c.as_str-2.ensures) (also (sent_number it.credit c.params-to_sql-7.ensures c.in_ok-credit.ensures.value c.in_ok-credit.ensures.within) no_more) in
-    let credited : HasCleanDisk new → OnOk r (Credits it mid.now new.now) = λ clean. ran_as mid new upsert_text _ _ then r (c.execute-2.ensures.ran clean) (λ count ran t grants has sound h. credits mid new t grants it has sound h count ran) in
+    let credited : HasCleanDisk new → OnOk r (Credits it mid.now new.now) = λ clean. ran_as mid new upsert_text _ _ then r (c.execute-2.ensures.ran clean) (λ count ran version t grants has sound h. credits mid new version t grants it has sound h count ran) in
     record {
       writes = frame_then g.S.Store _ _ _ tt c.in_ok-execute.ensures.writes r c.execute-2.ensures.writes;
       grants = λ clean. ok_on r _ _ (λ summed world s. stands_with_grant old.now mid.now new.now world s c.args.seq it (puts (before clean)) summed) (credited clean);

@@ -1,8 +1,9 @@
-use Rattle.wu_schema.proofs.Words.{[], codes, number, state, ◌∷◌, ◌≡◌, Executes, HasCleanDisk, Ok, OnOk, ℕ}
+use Rattle.wu_store.specs.Changes.{with_version}
+use Rattle.wu_schema.proofs.Words.{Refines, [], codes, number, state, subst, sym, ◌∷◌, ◌≡◌, Executes, HasCleanDisk, Ok, OnOk, ℕ}
 use Rattle.wu_store.proofs.UpdateLemmas.{version_made, version_set, version_set_text}
 use Rattle.wu_schema.proofs.InsertEffect.{also, no_more}
 use Rattle.wu_schema.proofs.CallLemmas.{ok_on, ran_as}
-use Rattle.wu_store.proofs.ChangeLemmas.{sent_number, sets_version_to}
+use Rattle.wu_store.proofs.ChangeLemmas.{sent_number, sets_classes}
 use Rattle.wu_store.proofs.QueueLemmas.{project_leaves}
 use Rattle.wu_store.proofs.statements.set_version.Goals as goal
 
@@ -15,6 +16,6 @@ returns g c =
     λ clean. ran_as old new version_set_text _ _ given c.execute.result (c.execute.ensures.ran clean) (λ count ran. (count, ran)) in
     record {
       writes = c.execute.ensures.writes;
-      sets = λ clean. ok_on c.execute.result _ _ (λ it world s. sets_version_to old new world s c.args.version it.0 it.1) (ran clean);
+      sets = λ clean. ok_on c.execute.result _ _ (λ it world three older s c'. subst (λ n. Executes version_set_text (number n ∷ []) old new (Ok it.0) → Refines new.now (with_version n world)) (sym three) (sets_classes old new world s older c' it.0) it.1) (ran clean);
       queue = λ clean. ok_on c.execute.result _ _ (λ it world marked s q. project_leaves old new world s marked q version_set_text (codes "version") version_made version_set c.args.version it.0 it.1) (ran clean);
     }

@@ -13,6 +13,6 @@ returns g c = (
     early = search rules;
     begins = record { same = c.new.ensures.same; present = search rules; none = c.new.ensures.none };
     fault = λ still present. refl;
-    lines = λ world shows. all_left _ world _ c.args.pages _ _ _ (subst (λ project. ShowsTables (state_of project) world) (sym c.new.ensures.same) shows) c.new.ensures.none c.new.ensures.pages refl;
+    lines = λ world known shows. all_left _ world _ c.args.pages _ _ _ known (subst (λ project. ShowsTables (state_of project) world) (sym c.new.ensures.same) shows) c.new.ensures.none c.new.ensures.pages refl;
   },
 )

@@ -23,6 +23,17 @@ returns-clause-plan g c clean world stands project =
     ] in
     c.plan_at.ensures.plan clean world (asks_over g.S.Store _ _ _ c.in_ok-version.ensures.asks before world stands) version (ready, project)
 
+pub returns-clause-unrefused : goal.returns-clause-unrefused
+returns-clause-unrefused g c clean world stands project limit =
+    let before : HasCleanDisk (state g.S.Store c.known_version.new.conn) = omega (arith, c.plan_at.ensures.asks.crash.clean) in
+    let version : c.in_ok-version.version ≡ world.version = c.in_ok-version.ensures.version before world stands.refines project in
+    let known = project.known in
+    let ready : is_upgrade (request_of c.args.command.now) ≡ false → IsUpToDate world = elim c.else-version-lt-PRESENT_VERSION.branch [
+      | else-version-lt-PRESENT_VERSION-via-then-version-lt-PRESENT_VERSION+else-not-is_upgrade w ↦ λ other. absurd (let is = w.is_upgrade.ensures ∙ other in let no = w.if-not-is_upgrade.false in cc)
+      | else-version-lt-PRESENT_VERSION-via-else-version-lt-PRESENT_VERSION w ↦ λ other. omega (arith, version, known, w.if-version-lt-PRESENT_VERSION.false)
+    ] in
+    c.plan_at.ensures.unrefused clean world (asks_over g.S.Store _ _ _ c.in_ok-version.ensures.asks before world stands) (version, (ready, project)) (c.known_version.ensures.asks.crash.limit ∙ limit)
+
 pub returns-in_err-version-clause-asks : goal.returns-in_err-version-clause-asks
 returns-in_err-version-clause-asks g c = asks_handed g.S.Store _ _ c.from_residual.result c.in_err-version.field-0.0 c.from_residual.ensures.1 c.in_err-version.ensures.asks
 

@@ -7,7 +7,7 @@ returns-in-Batch g c = record {
   asks = c.plan_batch.ensures.asks;
   opens = λ was_open. c.plan_batch.ensures.opens;
   never = c.plan_batch.ensures.never;
-  unrefused = λ clean world stands ready. c.plan_batch.ensures.unrefused clean world stands.refines ready.1;
+  unrefused = λ clean world stands (of, ready). c.plan_batch.ensures.unrefused clean world stands.refines ready.1;
   plan = λ clean world stands version ready.
       let present = rw c.in-Batch.is at ready.0 in
       rw c.in-Batch.is (c.plan_batch.ensures.plan clean world stands.refines (present refl) ready.1);
@@ -18,7 +18,9 @@ returns-in-Sent g c = record {
   asks = c.plan_sent.ensures.asks;
   opens = λ was_open. c.plan_sent.ensures.opens;
   never = c.plan_sent.ensures.never;
-  unrefused = λ clean world stands ready. c.plan_sent.ensures.unrefused clean world stands.refines ready.1;
+  unrefused = λ clean world stands (of, ready).
+      let present = rw c.in-Sent.is at ready.0 in
+      c.plan_sent.ensures.unrefused clean world stands.refines (present refl, ready.1);
   plan = λ clean world stands version ready.
       let present = rw c.in-Sent.is at ready.0 in
       rw c.in-Sent.is (c.plan_sent.ensures.plan clean world stands.refines (present refl) ready.1);
@@ -29,10 +31,25 @@ returns-in-Reported g c = record {
   asks = c.plan_reported.ensures.asks;
   opens = λ was_open. c.plan_reported.ensures.opens;
   never = c.plan_reported.ensures.never;
-  unrefused = λ clean world stands ready. c.plan_reported.ensures.unrefused clean world stands.refines ready.1;
+  unrefused = λ clean world stands (of, ready).
+      let present = rw c.in-Reported.is at ready.0 in
+      c.plan_reported.ensures.unrefused clean world stands.refines (present refl, ready.1);
   plan = λ clean world stands version ready.
       let present = rw c.in-Reported.is at ready.0 in
       rw c.in-Reported.is (c.plan_reported.ensures.plan clean world stands.refines (present refl) ready.1);
+}
+
+pub returns-in-Classes : goal.returns-in-Classes
+returns-in-Classes g c = record {
+  asks = c.plan_classes.ensures.asks;
+  opens = λ was_open. c.plan_classes.ensures.opens;
+  never = c.plan_classes.ensures.never;
+  unrefused = λ clean world stands (of, ready).
+      let present = rw c.in-Classes.is at ready.0 in
+      c.plan_classes.ensures.unrefused clean world stands.refines (present refl, ready.1);
+  plan = λ clean world stands version ready.
+      let present = rw c.in-Classes.is at ready.0 in
+      rw c.in-Classes.is (c.plan_classes.ensures.plan clean world stands.refines (present refl) ready.1);
 }
 
 pub returns-in-Transition : goal.returns-in-Transition
@@ -40,7 +57,7 @@ returns-in-Transition g c = record {
   asks = c.plan_pass.ensures.asks;
   opens = λ was_open. c.plan_pass.ensures.opens;
   never = c.plan_pass.ensures.never;
-  unrefused = λ clean world stands ready.
+  unrefused = λ clean world stands (of, ready).
       let present = rw c.in-Transition.is at ready.0 in
       c.plan_pass.ensures.unrefused clean world stands (present refl, ready.1);
   plan = λ clean world stands version ready.
@@ -53,7 +70,7 @@ returns-in-Validate g c = record {
   asks = c.plan_pass-in-Validate.ensures.asks;
   opens = λ was_open. c.plan_pass-in-Validate.ensures.opens;
   never = c.plan_pass-in-Validate.ensures.never;
-  unrefused = λ clean world stands ready.
+  unrefused = λ clean world stands (of, ready).
       let present = rw c.in-Validate.is at ready.0 in
       c.plan_pass-in-Validate.ensures.unrefused clean world stands (present refl, ready.1);
   plan = λ clean world stands version ready.
@@ -66,7 +83,7 @@ returns-in-Assimilate g c = record {
   asks = c.plan_pass-in-Assimilate.ensures.asks;
   opens = λ was_open. c.plan_pass-in-Assimilate.ensures.opens;
   never = c.plan_pass-in-Assimilate.ensures.never;
-  unrefused = λ clean world stands ready.
+  unrefused = λ clean world stands (of, ready).
       let present = rw c.in-Assimilate.is at ready.0 in
       c.plan_pass-in-Assimilate.ensures.unrefused clean world stands (present refl, ready.1);
   plan = λ clean world stands version ready.
@@ -79,7 +96,7 @@ returns-in-Delete g c = record {
   asks = c.plan_pass-in-Delete.ensures.asks;
   opens = λ was_open. c.plan_pass-in-Delete.ensures.opens;
   never = c.plan_pass-in-Delete.ensures.never;
-  unrefused = λ clean world stands ready.
+  unrefused = λ clean world stands (of, ready).
       let present = rw c.in-Delete.is at ready.0 in
       c.plan_pass-in-Delete.ensures.unrefused clean world stands (present refl, ready.1);
   plan = λ clean world stands version ready.
@@ -92,7 +109,7 @@ returns-in-Purge g c = record {
   asks = c.plan_pass-in-Purge.ensures.asks;
   opens = λ was_open. c.plan_pass-in-Purge.ensures.opens;
   never = c.plan_pass-in-Purge.ensures.never;
-  unrefused = λ clean world stands ready.
+  unrefused = λ clean world stands (of, ready).
       let present = rw c.in-Purge.is at ready.0 in
       c.plan_pass-in-Purge.ensures.unrefused clean world stands (present refl, ready.1);
   plan = λ clean world stands version ready.
@@ -105,7 +122,9 @@ returns-in-Cancel g c = record {
   asks = c.plan_cancel.ensures.asks;
   opens = λ was_open. c.plan_cancel.ensures.opens;
   never = c.plan_cancel.ensures.never;
-  unrefused = λ clean world stands ready. c.plan_cancel.ensures.unrefused clean world stands.refines ready.1;
+  unrefused = λ clean world stands (of, ready).
+      let present = rw c.in-Cancel.is at ready.0 in
+      c.plan_cancel.ensures.unrefused clean world stands.refines (present refl, ready.1);
   plan = λ clean world stands version ready.
       let present = rw c.in-Cancel.is at ready.0 in
       rw c.in-Cancel.is (c.plan_cancel.ensures.plan clean world stands.refines (present refl) ready.1);
@@ -116,6 +135,6 @@ returns-in-Upgrade g c = record {
   asks = c.plan_upgrade.ensures.asks;
   opens = c.plan_upgrade.ensures.opens;
   never = c.plan_upgrade.ensures.never;
-  unrefused = λ clean world stands ready. c.plan_upgrade.ensures.unrefused clean world stands.refines ready.1;
+  unrefused = λ clean world stands (of, ready). c.plan_upgrade.ensures.unrefused clean world stands.refines (of, ready.1);
   plan = λ clean world stands version ready. rw c.in-Upgrade.is (c.plan_upgrade.ensures.plan clean world stands.refines version ready.1);
 }

@@ -4,7 +4,7 @@ use Rattle.wu_store.proofs.lines.WorkunitLine.read.Goals as goal
 
 pub returns-in_err-workunit : goal.returns-in_err-workunit
 returns-in_err-workunit c =
-    let p = err_from_is_err_and c.from_residual.result c.from_residual.ensures.1 in rw (p.1, p.2) (line_unread c.args.row.now _ c.in_err-workunit.ensures)
+    let p = err_from_is_err_and c.from_residual.result c.from_residual.ensures.1 in rw (p.1, p.2) (line_unread c.args.class c.args.row.now _ c.in_err-workunit.ensures)
 
 pub returns : goal.returns
 returns c =

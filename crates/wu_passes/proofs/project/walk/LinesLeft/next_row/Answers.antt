@@ -45,7 +45,7 @@ pub returns-in_err-rows-clause-unrefused : goal.returns-in_err-rows-clause-unref
 returns-in_err-rows-clause-unrefused g c clean world lines has can limit =
     handed_on c.from_residual.result c.in_err-rows.field-0.0 c.from_residual.ensures.1 (λ is.
     let still = refused_open (state g.S.Store c.turn.new.conn) c.in_err-rows.field-0.0 is (c.in_err-rows.ensures.opens clean) in
-    c.in_err-rows.ensures.unrefused clean world (has.stands ((c.turn.ensures.asks.back clean).was_open still)) can limit is)
+    c.in_err-rows.ensures.unrefused clean world has.known (has.stands ((c.turn.ensures.asks.back clean).was_open still)) can limit is)
 
 -- ---- it is turned
 
@@ -62,7 +62,7 @@ returns-clause-row g c clean world lines has =
     let after = state g.S.Store c.turn.new.conn in
     let still = c.in_ok-rows.ensures.opens clean in
     let stands = has.stands ((c.turn.ensures.asks.back clean).was_open still) in
-    let turn = c.in_ok-rows.ensures.rows clean world stands in
+    let turn = c.in_ok-rows.ensures.rows clean world has.known stands in
     let over = page_over c.args.self.now.rows c.next.new.self c.next.result c.in_default.is c.next.ensures.cases in
     let behind = subst (λ rows. AreLeft p world before c.args.self.now.pages rows lines) over has in
     let then = turned p world before after c.args.self.now.pages c.turn.new.self c.in_ok-rows.rows.items lines turn behind (λ is_open. asks_stands g.S.Store _ _ c.in_ok-rows.rows c.in_ok-rows.ensures.asks clean world stands) in

@@ -25,8 +25,8 @@ returns-in_err-rows g c =
       asks = asks_handed g.S.Store _ _ r fault same it.asks;
       opens = opens_handed r fault same g.S.Store c.query.new.conn it.opens;
       fault = fault_handed r fault same it.fault;
-      rows = λ clean world stands. nothing_handed r fault same _;
-      unrefused = λ clean world stands can limit. handed_on r fault same (it.unrefused clean world stands tt limit);
+      rows = λ clean world known stands. nothing_handed r fault same _;
+      unrefused = λ clean world known stands can limit. handed_on r fault same (it.unrefused clean world stands tt limit);
     }
 
 pub returns-in_err-self : goal.returns-in_err-self
@@ -45,8 +45,8 @@ returns-in_err-self g c =
       asks = asks_row g.S.Store _ _ c.in_ok-rows.rows r refused it.asks;
       opens = opens_made g.S.Store c.query.new.conn r it.opens;
       fault = fault_read r refused;
-      rows = λ clean world stands. nothing_handed r fault same _;
-      unrefused = λ clean world stands can limit.
+      rows = λ clean world known stands. nothing_handed r fault same _;
+      unrefused = λ clean world known stands can limit.
           let back : to_z w64 (of_z w64 old) ≡ old = to_z-of_z w64 old fits in
           handed_on r fault same
           (key_read (λ (p : ℕ × Archived). p.0) placed_archived_row (λ (p : ℕ × Archived). p.1) (λ p. refl) 99 old (archive_of world) c.deref.result.now (Err fault) (c.deref.ensures.value ∙ it.answers clean world stands) (subst (λ k. ReadsLastKey k c.deref.result.now (Err fault)) back c.in_err-self.ensures));
@@ -66,11 +66,11 @@ returns g c =
       asks = asks_made g.S.Store _ _ c.in_ok-rows.rows _ (never_err _) it.asks;
       opens = it.opens;
       fault = tt;
-      rows = λ clean world stands.
+      rows = λ clean world known stands.
           let fits_too : FitsSigned w64 c.in_ok-self.field-0 = search rules in
           let back : to_z w64 (of_z w64 old) ≡ old = to_z-of_z w64 old fits in
           let read = subst (λ k. ReadsLastKey k rows (Ok new)) back (subst (λ rs. ReadsLastKey (to_z w64 (of_z w64 old)) rs (Ok new)) c.deref.ensures.value c.in_ok-self.ensures) in
           subst (λ k. TurnsTo (IsRowOfArchived world) (archived_above old world) rows (archived_above k world)) (sym (to_z-of_z w64 new fits_too))
           (keys_turned (λ (p : ℕ × Archived). p.0) placed_archived_row (λ (p : ℕ × Archived). p.1) (λ p. refl) 99 old (archive_of world) rows new (places_rise 1 world.archived) (it.answers clean world stands) read);
-      unrefused = λ clean world stands can limit. tt;
+      unrefused = λ clean world known stands can limit. tt;
     }

@@ -14,8 +14,8 @@ returns-in_err-found g c =
       asks = asks_then g.S.Store _ _ _ tt c.loop-found.invariant.asks r (asks_handed g.S.Store _ _ r fault same c.in_err-found.ensures.asks);
       opens = opens_handed r fault same g.S.Store c.page_above.new.conn c.in_err-found.ensures.opens;
       fault = fault_handed r fault same c.in_err-found.ensures.fault;
-      rows = λ clean world stands. nothing_handed r fault same _;
-      unrefused = λ clean world stands can limit.
+      rows = λ clean world known stands. nothing_handed r fault same _;
+      unrefused = λ clean world known stands can limit.
           let before : HasCleanDisk (state g.S.Store c.loop-found.conn) = omega (arith, c.page_above.ensures.asks.crash.clean) in
           let still : Refines (state g.S.Store c.loop-found.conn).now world = asks_stands g.S.Store _ _ tt c.loop-found.invariant.asks before world stands in
           handed_on r fault same (c.in_err-found.ensures.unrefused clean world still can (c.loop-found.invariant.asks.crash.limit ∙ limit));
@@ -36,7 +36,7 @@ returns-then-not-is_empty-clause-asks g c =
     asks_then g.S.Store _ _ _ tt c.loop-found.invariant.asks _ (asks_made g.S.Store _ _ c.in_ok-found.field-0 (Ok c.in-Some.found.rows) (never_err _) c.in_ok-found.ensures.asks)
 
 pub returns-then-not-is_empty-clause-rows : goal.returns-then-not-is_empty-clause-rows
-returns-then-not-is_empty-clause-rows g c clean world stands =
+returns-then-not-is_empty-clause-rows g c clean world known stands =
     let before : HasCleanDisk (state g.S.Store c.loop-found.conn) = omega (arith, c.page_above.ensures.asks.crash.clean) in
     let still : Refines (state g.S.Store c.loop-found.conn).now world = asks_stands g.S.Store _ _ tt c.loop-found.invariant.asks before world stands in
     let left : result_lines_above c.args.self.now.after world ≡ result_lines_above c.loop-found.self.after world = c.loop-found.invariant.left before world stands in
@@ -61,7 +61,7 @@ loop-found-preserved g c = record {
 }
 
 pub returns-clause-rows : goal.returns-clause-rows
-returns-clause-rows g c clean world stands =
+returns-clause-rows g c clean world known stands =
     let before : HasCleanDisk (state g.S.Store c.loop-found.conn) = omega (arith, c.page_above.ensures.asks.crash.clean) in
     let still : Refines (state g.S.Store c.loop-found.conn).now world = asks_stands g.S.Store _ _ tt c.loop-found.invariant.asks before world stands in
     let left : result_lines_above c.args.self.now.after world ≡ result_lines_above c.loop-found.self.after world = c.loop-found.invariant.left before world stands in

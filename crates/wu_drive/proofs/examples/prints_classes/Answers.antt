@@ -1,0 +1,7 @@
+use Rattle.std.proofs.Common.{refl}
+use Rattle.std.specs.Fmt.{digits}
+use Rattle.wu_drive.proofs.examples.prints_classes.Goals as goal
+
+pub returns : goal.returns
+unfolding digits
+returns c = refl

@@ -1,0 +1,29 @@
+use Rattle.wu_schema.proofs.Words.{IsPermutation, IsPermutation-map, IsPermutation-sym, IsPermutation-trans, class_cells, map, subst, sym, ◌∙◌}
+use Rattle.wu_loader.specs.Classing.{AreRising}
+use Rattle.wu_loader.specs.Rows.{IsStoredHostClass}
+use Rattle.wu_loader.proofs.ClassLemmas.{rising_in_order, rising_must}
+use Rattle.wu_loader.proofs.WholeLemmas.{handed, none_permuted, rows_plain}
+use Rattle.wu_loader.proofs.classes.host_classes.Goals as goal
+
+pub returns-in_err-classes-clause-none : goal.returns-in_err-classes-clause-none
+returns-in_err-classes-clause-none c =
+    handed c.from_residual.result c.in_err-classes.field-0.0 _ _ (λ wrong none classes stored in_order. none_permuted class_cells IsStoredHostClass c.args.rows.now wrong none classes stored) c.from_residual.ensures.1 c.in_err-classes.ensures.none
+
+pub returns-in-Some-clause-none : goal.returns-in-Some-clause-none
+returns-in-Some-clause-none c classes stored in_order same =
+    let rows = c.in_ok-classes.ensures.same ∙ rows_plain class_cells c.in_ok-classes.classes.items in
+    let moved = IsPermutation-map class_cells c.in_ok-classes.classes.items c.sort.new.classes.items c.in_ok-sort.ensures.same in
+    let all = IsPermutation-trans _ _ _ (subst (IsPermutation (map class_cells classes)) rows same) moved in
+    let never : ¬ AreRising c.sort.new.classes.items = rw c.deref.ensures.value at c.in-Some.ensures.order in
+    never (rising_must classes c.sort.new.classes.items in_order c.in_ok-sort.ensures.sorted all)
+
+pub returns-in-None-clause-same : goal.returns-in-None-clause-same
+returns-in-None-clause-same c =
+    let rows = c.in_ok-classes.ensures.same ∙ rows_plain class_cells c.in_ok-classes.classes.items in
+    let moved = IsPermutation-map class_cells c.in_ok-classes.classes.items c.sort.new.classes.items c.in_ok-sort.ensures.same in
+    subst (IsPermutation (map class_cells c.sort.new.classes.items)) (sym rows) (IsPermutation-sym _ _ moved)
+
+pub returns-in-None-clause-order : goal.returns-in-None-clause-order
+returns-in-None-clause-order c =
+    let up : AreRising c.sort.new.classes.items = rw c.deref.ensures.value at c.in-None.ensures.order in
+    rising_in_order c.sort.new.classes.items up

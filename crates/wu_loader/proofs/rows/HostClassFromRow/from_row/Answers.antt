@@ -1,0 +1,10 @@
+use Rattle.wu_schema.proofs.Words.{refl}
+use Rattle.wu_core.specs.declared.workunit.HostClass.{HostClass}
+use Rattle.wu_loader.proofs.RowLemmas.{column_unread}
+use Rattle.wu_loader.proofs.rows.HostClassFromRow.from_row.Goals as goal
+
+pub returns-in_err-class : goal.returns-in_err-class
+returns-in_err-class c = column_unread (λ (v : HostClass). v.class) c.args.row.now 1 (λ v is. is.class) (λ v. refl) c.in_err-class.ensures c.from_residual.result c.from_residual.ensures.1
+
+pub returns-in_err-host : goal.returns-in_err-host
+returns-in_err-host c = column_unread (λ (v : HostClass). v.host) c.args.row.now 0 (λ v is. is.host) (λ v. refl) c.in_err-host.ensures c.from_residual-in_err-host.result c.from_residual-in_err-host.ensures.1

@@ -1,0 +1,31 @@
+-- The classes of workunits and of hosts, as their rows give them.
+use Rattle.std.specs.Prelude.{◌≡◌, ◌≢◌, ℕ, ◌+◌, ◌<◌, List, length, map, slice_index_or}
+use Rattle.std.specs.Cmp.Lexicographic.{slice_cmp}
+use Rattle.std.specs.Ordering.{nat_cmp}
+use Rattle.std.specs.declared.cmp.Ordering.{Ordering}
+use Rattle.std.specs.declared.cmp.Ordering.TheVariants.{Less}
+use Rattle.wu_core.specs.declared.workunit.HostClass.{HostClass}
+use Rattle.wu_core.specs.declared.workunit.Workunit.{Workunit}
+use Rattle.wu_loader.specs.Rows.{classed_of}
+use Rattle.wu_loader.specs.declared.rows.Classed.{Classed}
+
+-- with class 0
+abbrev pub unclassed : Workunit → Workunit
+unclassed w = record w { class = 0 }
+
+-- the workunits, with these classes
+pub record AreClassedBy (workunits : List Workunit) (given : List Classed) (classed : List Workunit) : Type 0 where
+  pub same : map unclassed classed ≡ map unclassed workunits
+  pub classes : map classed_of classed ≡ given
+
+-- these are the classes of other workunits
+abbrev pub AreOfOthers : List Workunit → List Classed → Type 0
+AreOfOthers workunits classes = map (λ (w : Workunit). w.number) workunits ≢ map (λ (c : Classed). c.workunit) classes
+
+-- by the bytes of their names
+abbrev pub by_host : HostClass → HostClass → Ordering
+by_host one other = slice_cmp nat_cmp one.host other.host
+
+-- each is below the one behind it
+abbrev pub AreRising : List HostClass → Type 0
+AreRising classes = (k : ℕ) (d : HostClass) → k + 1 < length classes → by_host (slice_index_or classes k d) (slice_index_or classes (k + 1) d) ≡ Less

@@ -1,0 +1,119 @@
+//! The classes of workunits and of hosts.
+
+ghost use Rattle.std.specs.Prelude.{◌≡◌, ◌↔◌, ◌<◌, All, IfErr, IfOk, IfSome, IsTrue, List, MatchOption, OnOk, length, map};
+ghost use Rattle.std.specs.List.Sorted.{IsPermutation, IsSorted};
+ghost use Rattle.std.specs.declared.cmp.Ordering.TheVariants.{Less};
+ghost use Rattle.wu_core.specs.Classes.{AreInOrder};
+ghost use Rattle.wu_core.specs.declared.workunit.HostClass.{HostClass};
+ghost use Rattle.wu_schema.specs.Stored.{class_cells};
+ghost use Rattle.wu_loader.specs.Classing.{by_host, unclassed, AreClassedBy, AreOfOthers, AreRising};
+ghost use Rattle.wu_loader.specs.Rows.{IsStoredHostClass};
+ghost use Rattle.wu_loader.specs.Whole.{UnlessMemory};
+
+use crate::finding::{NoWorld, Table, Wrong};
+use crate::rows::Classed;
+use crate::whole::all_from;
+use sqlite::Row;
+use std::alloc::{AllocError, Global};
+use wu_core::{HostClass, Workunit};
+
+/// The workunits, each with class 0.
+pub(crate) fn without_classes(
+    alloc: Global,
+    workunits: Vec<Workunit>,
+) -> Result<Vec<Workunit>, AllocError>
+    ensures { IfOk result (λ unbound. unbound.items ≡ map unclassed workunits.items) }
+{
+    let mut unbound = Vec::new(alloc);
+    for mut workunit in workunits {
+        workunit.class = 0;
+        unbound.push(workunit)?;
+    }
+    Ok(unbound)
+}
+
+/// The workunits, each with its class. A class that is that of none of them is told, or the place behind the last one
+/// where one lacks.
+pub(crate) fn with_classes(
+    alloc: Global,
+    workunits: Vec<Workunit>,
+    classes: &[Classed],
+) -> Result<Vec<Workunit>, NoWorld>
+    ensures classed { IfOk result (λ classed. AreClassedBy workunits.items classes.now
+        classed.items) }
+    ensures none { IfErr result (λ reason. UnlessMemory reason
+        (λ _. AreOfOthers workunits.items classes.now)) }
+{
+    let mut classed = Vec::new(alloc);
+    for mut workunit in workunits {
+        let n = classed.len();
+        match classes.get(n) {
+            Some(one) if one.workunit == workunit.number => workunit.class = one.class,
+            _ => {
+                return Err(NoWorld::Wrong(Wrong {
+                    table: Table::WorkunitClass,
+                    place: n as u64 + 1,
+                }));
+            }
+        }
+        classed.push(workunit)?;
+    }
+    let n = classed.len();
+    if n < classes.len() {
+        return Err(NoWorld::Wrong(Wrong {
+            table: Table::WorkunitClass,
+            place: n as u64 + 1,
+        }));
+    }
+    Ok(classed)
+}
+
+/// Sorts the hosts by their names.
+fn sort(classes: &mut Vec<HostClass>) -> Result<(), AllocError>
+    ensures same { IsPermutation classes.old.items classes.new.items }
+    ensures sorted { OnOk result (IsSorted by_host classes.new.items) }
+{
+    classes.sort_by(|one, other| one.host.as_str().cmp(other.host.as_str()))
+}
+
+/// Whether the name of the one is below that of the other.
+fn is_below(one: &HostClass, other: &HostClass) -> bool
+    ensures { IsTrue result ↔ (by_host one.now other.now ≡ Less) }
+{
+    one.host.as_str().cmp(other.host.as_str()).is_lt()
+}
+
+/// The first host whose name is not above that of the one before it.
+fn first_out_of_order(classes: &[HostClass]) -> Option<usize>
+    ensures order { MatchOption result (AreRising classes.now) (λ _. ¬ AreRising classes.now) }
+    ensures within { IfSome result (λ place. place < length classes.now) }
+{
+    for place in 1..classes.len() {
+        if !is_below(&classes[place - 1], &classes[place]) {
+            return Some(place);
+        }
+    }
+    None
+}
+
+/// The hosts of these rows with their classes, in order of their names. One that stands twice is told.
+pub(crate) fn host_classes(alloc: Global, rows: &[Row]) -> Result<Vec<HostClass>, NoWorld>
+    ensures same { IfOk result (λ classes. IsPermutation (map class_cells classes.items) rows.now) }
+    ensures order { IfOk result (λ classes. AreInOrder classes.items) }
+    ensures none { IfErr result (λ reason. UnlessMemory reason (λ _. (classes : List HostClass)
+        → All IsStoredHostClass classes → AreInOrder classes
+        → ¬ IsPermutation (map class_cells classes) rows.now)) }
+{
+    let mut classes = all_from::<HostClass>(alloc, Table::HostClass, rows)?;
+    sort(&mut classes)?;
+    match first_out_of_order(&classes) {
+        Some(wrong) => {
+            let place = wrong as u64 + 1;
+            Err(NoWorld::Wrong(Wrong {
+                table: Table::HostClass,
+                place,
+            }))
+        }
+        None => Ok(classes),
+    }
+}

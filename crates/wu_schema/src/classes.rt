@@ -1,0 +1,35 @@
+//! The tables of classes of schema version 3.
+
+ghost use Rattle.wu_schema.specs.Calls.{Does, StatementFrame};
+ghost use Rattle.wu_schema.specs.Classes.{MakesClasses};
+ghost use Rattle.wu_schema.specs.Made.{MakesTables, class_tables};
+
+use crate::transaction::execute;
+use sqlite::{Alter, Error, Transaction};
+
+const CREATE_HOST_CLASS: &str = "CREATE TABLE host_class (
+  host TEXT PRIMARY KEY NOT NULL,
+  class INTEGER NOT NULL) STRICT";
+
+const CREATE_WORKUNIT_CLASS: &str = "CREATE TABLE workunit_class (
+  workunit INTEGER PRIMARY KEY REFERENCES workunit (number) ON DELETE CASCADE,
+  class INTEGER NOT NULL) STRICT";
+
+/// The tables of the classes of hosts and of workunits.
+pub fn create_classes<S: Alter>(tx: &mut Transaction<'_, S>) -> Result<(), Error>
+    ensures writes { StatementFrame S.Store tx.old tx.new result }
+    ensures makes { Does S.Store tx.old tx.new result (MakesTables class_tables) }
+{
+    execute(tx, CREATE_HOST_CLASS, &[])?;
+    execute(tx, CREATE_WORKUNIT_CLASS, &[])
+}
+
+/// Makes the tables of classes, with no row, inside a transaction, beside the tables of an older version.
+///
+/// The store refuses it where one of the names is taken. What was made before a refusal goes with the transaction.
+pub fn make_classes<S: Alter>(tx: &mut Transaction<'_, S>) -> Result<(), Error>
+    ensures writes { StatementFrame S.Store tx.old tx.new result }
+    ensures makes { Does S.Store tx.old tx.new result MakesClasses }
+{
+    create_classes(tx)
+}

@@ -1,0 +1,105 @@
+use Rattle.wu_schema.proofs.Words.{Err, None, Ok, Some, [], ap, arith, inr, number, refl, state, subst, sym, ◌∙◌, ◌∷◌, ◌^◌, ◌≡◌, ◌≤◌}
+use Rattle.std.specs.Prelude.{IfSome}
+use Rattle.wu_core.specs.Storable.{IsClass}
+use Rattle.wu_schema.proofs.Parts.{WorkClasses}
+use Rattle.wu_schema.proofs.InsertEffect.{also, no_more}
+use Rattle.wu_store.specs.Reading.{IsReadFault}
+use Rattle.wu_store.proofs.AskLemmas.{asks_handed, asks_made, asks_none, asks_row, fault_handed, fault_read, handed_on, never_broken, never_err, nothing_handed, opens_handed, opens_made, read_handed, read_told}
+use Rattle.wu_store.proofs.ChangeLemmas.{sent_number}
+use Rattle.wu_store.proofs.ClassAnswers.{asked_class, class_asked, class_fits, class_found, no_work, row_classed, shown_work}
+use Rattle.wu_store.proofs.LoadLemmas.{never_unread}
+use Rattle.wu_store.proofs.classes.class_of_workunit.Goals as goal
+
+pub returns-in_err-key : goal.returns-in_err-key
+returns-in_err-key g c =
+    let fault = c.in_err-key.field-0.0 in
+    let r = c.from_residual.result in
+    let same = c.from_residual.ensures.1 in
+    let refused : IsReadFault fault = inr c.in_err-key.ensures.refused in
+    let beyond : 2 ^ 63 ≤ c.args.number = c.in_err-key.ensures.beyond in
+    record {
+      asks = asks_none g.S.Store c.args.conn.now r (never_broken r (read_handed r fault same refused));
+      opens = λ low. absurd (omega (arith, low, beyond));
+      fault = fault_handed r fault same (read_told fault refused);
+      found = λ clean. nothing_handed r fault same _;
+      unrefused = λ low. absurd (omega (arith, low, beyond));
+    }
+
+pub returns-in_err-row : goal.returns-in_err-row
+returns-in_err-row g c =
+    let q = c.in_err-row.ensures in
+    let n = c.args.number in
+    let given = also (sent_number n c.params-to_sql.ensures c.in_ok-key.ensures.value c.in_ok-key.ensures.within) no_more in
+    let fault = c.in_err-row.field-0.0 in
+    let r = c.from_residual-in_err-row.result in
+    let same = c.from_residual-in_err-row.ensures.1 in
+    let it = asked_class WorkClasses (λ version known. known) class_asked class_fits (number n ∷ []) refl (λ _. refl) g.S.Store c.args.conn.now c.ask_row.new.conn _ given (row_classed n)
+    (class_found (state g.S.Store c.args.conn.now) (state g.S.Store c.ask_row.new.conn) n) (Err fault) q.asks q.opens q.shows q.fails q.told in
+    record {
+      asks = asks_handed g.S.Store _ _ r fault same it.asks;
+      opens = λ low. opens_handed r fault same g.S.Store c.ask_row.new.conn it.opens;
+      fault = fault_handed r fault same it.fault;
+      found = λ clean. nothing_handed r fault same _;
+      unrefused = λ low clean world known s can limit. handed_on r fault same (it.unrefused clean world known s limit);
+    }
+
+pub returns-in_err-class_at-in-Some : goal.returns-in_err-class_at-in-Some
+returns-in_err-class_at-in-Some g c =
+    let q = c.in_ok-row.ensures in
+    let n = c.args.number in
+    let row = c.in_ok-row.row in
+    let given = also (sent_number n c.params-to_sql.ensures c.in_ok-key.ensures.value c.in_ok-key.ensures.within) no_more in
+    let fault = c.in_err-class_at-in-Some.field-0.0 in
+    let r = c.from_residual-in_err-class_at-in-Some.result in
+    let same = c.from_residual-in_err-class_at-in-Some.ensures.1 in
+    let reads = c.in_err-class_at-in-Some.ensures in
+    let refused = read_handed r fault same reads.refused in
+    let it = asked_class WorkClasses (λ version known. known) class_asked class_fits (number n ∷ []) refl (λ _. refl) g.S.Store c.args.conn.now c.ask_row.new.conn _ given (row_classed n)
+    (class_found (state g.S.Store c.args.conn.now) (state g.S.Store c.ask_row.new.conn) n) (Ok row) q.asks q.opens q.shows q.fails q.told in
+    record {
+      asks = asks_row g.S.Store _ _ row r refused it.asks;
+      opens = λ low. opens_made g.S.Store c.ask_row.new.conn r it.opens;
+      fault = fault_read r refused;
+      found = λ clean. nothing_handed r fault same _;
+      unrefused = λ low clean world known s can limit.
+          let class = shown_work _ c.in-Some.row (sym (it.answers clean world known s) ∙ c.in-Some.is) in
+          handed_on r fault same (never_unread number IsClass _ (Err fault) class.0 reads (subst (λ o. IfSome o IsClass) class.1 can) class.2);
+    }
+
+pub returns-in_ok-class_at-in-Some : goal.returns-in_ok-class_at-in-Some
+returns-in_ok-class_at-in-Some g c =
+    let q = c.in_ok-row.ensures in
+    let n = c.args.number in
+    let row = c.in_ok-row.row in
+    let given = also (sent_number n c.params-to_sql.ensures c.in_ok-key.ensures.value c.in_ok-key.ensures.within) no_more in
+    let reads = c.in_ok-class_at-in-Some.ensures in
+    let x = c.in_ok-class_at-in-Some.field-0 in
+    let it = asked_class WorkClasses (λ version known. known) class_asked class_fits (number n ∷ []) refl (λ _. refl) g.S.Store c.args.conn.now c.ask_row.new.conn _ given (row_classed n)
+    (class_found (state g.S.Store c.args.conn.now) (state g.S.Store c.ask_row.new.conn) n) (Ok row) q.asks q.opens q.shows q.fails q.told in
+    record {
+      asks = asks_made g.S.Store _ _ row (Ok (Some x)) (never_err (Some x)) it.asks;
+      opens = λ low. it.opens;
+      fault = tt;
+      found = λ clean world known s.
+          let class = shown_work _ c.in-Some.row (sym (it.answers clean world known s) ∙ c.in-Some.is) in
+          let e : number x ≡ number class.0 = sym reads.value.0 ∙ class.2 in
+          let k : x ≡ class.0 = cc in
+          ap (λ m. Some m) k ∙ sym class.1;
+      unrefused = λ low clean world known s can limit. tt;
+    }
+
+pub returns-in-None : goal.returns-in-None
+returns-in-None g c =
+    let q = c.in_ok-row.ensures in
+    let n = c.args.number in
+    let row = c.in_ok-row.row in
+    let given = also (sent_number n c.params-to_sql.ensures c.in_ok-key.ensures.value c.in_ok-key.ensures.within) no_more in
+    let it = asked_class WorkClasses (λ version known. known) class_asked class_fits (number n ∷ []) refl (λ _. refl) g.S.Store c.args.conn.now c.ask_row.new.conn _ given (row_classed n)
+    (class_found (state g.S.Store c.args.conn.now) (state g.S.Store c.ask_row.new.conn) n) (Ok row) q.asks q.opens q.shows q.fails q.told in
+    record {
+      asks = asks_made g.S.Store _ _ row (Ok None) (never_err None) it.asks;
+      opens = λ low. it.opens;
+      fault = tt;
+      found = λ clean world known s. sym (no_work _ (sym (it.answers clean world known s) ∙ c.in-None.is));
+      unrefused = λ low clean world known s can limit. tt;
+    }

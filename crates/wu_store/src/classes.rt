@@ -1,0 +1,159 @@
+//! The statements of classes, and the questions for them, each text in one function.
+
+ghost use Rattle.std.specs.Prelude.{◌≡◌, ◌<◌, ◌^◌, IfErr};
+ghost use Rattle.sqlite.specs.Order.{column};
+ghost use Rattle.wu_core.specs.Storable.{IsClass};
+ghost use Rattle.wu_schema.specs.Calls.{Does, StatementFrame, TransactionFrame};
+ghost use Rattle.wu_schema.specs.Restoring.{Restores};
+ghost use Rattle.wu_schema.specs.Stored.{number};
+ghost use Rattle.wu_store.specs.Classes.{AddsClass, AnswersClass, ChangesClasses, FillsClasses, LoadsClass, LoadsHostClass, NotRefusedClass, PutsClass, UpgradesClasses, class_named, class_numbered, with_host_class, with_set_class};
+ghost use Rattle.wu_store.specs.Loading.{Asks, IsStoreFault, ServesUnlessFailed};
+
+use crate::statements::{ask_row, key_of, set_version, signed};
+use sqlite::{Alter, Connection, Error, Row, Transaction, params};
+use wu_core::{Fault, HIGHEST_CLASS, Marks, Name};
+use wu_schema::{execute, make_classes, read_column};
+
+/// The version of the schema that has classes.
+const CLASS_VERSION: u64 = 3;
+
+/// Adds the class of a workunit, at its place in order of number. The table's key refuses a number that is there, and its
+/// reference one that no workunit has.
+pub fn insert_class<S: Alter>(
+    tx: &mut Transaction<'_, S>,
+    workunit: u64,
+    class: u32,
+) -> Result<(), Error>
+    ensures writes { StatementFrame S.Store tx.old tx.new result }
+    ensures puts { Does S.Store tx.old tx.new result (PutsClass workunit class) }
+    ensures adds { Does S.Store tx.old tx.new result (AddsClass workunit class) }
+{
+    let workunit = signed(workunit)?;
+    execute(
+        tx,
+        "INSERT INTO workunit_class (workunit, class) VALUES (?1, ?2)",
+        params![workunit, class],
+    )
+}
+
+/// Puts class 0 for the workunit of each of these rows into tables of classes that have none, in their order.
+fn fill_classes<S: Alter>(tx: &mut Transaction<'_, S>, rows: &[(u64, Marks)]) -> Result<(), Error>
+    ensures works { TransactionFrame S.Store tx.old tx.new result }
+    ensures fills { Does S.Store tx.old tx.new result (FillsClasses rows.now) }
+{
+    for row in rows {
+        insert_class(tx, row.0, 0)?;
+    }
+    Ok(())
+}
+
+/// Makes the tables of classes beside an older version, with class 0 for the workunit of each of these rows, and sets the
+/// version that has them.
+pub fn upgrade_classes<S: Alter>(
+    tx: &mut Transaction<'_, S>,
+    rows: &[(u64, Marks)],
+) -> Result<(), Error>
+    ensures writes { StatementFrame S.Store tx.old tx.new result }
+    ensures upgrades { Does S.Store tx.old tx.new result (UpgradesClasses rows.now) }
+{
+    make_classes(tx)?;
+    fill_classes(tx, rows)?;
+    set_version(tx, CLASS_VERSION)
+}
+
+/// Sets the class of the workunit of this number.
+pub fn set_class<S: Alter>(
+    tx: &mut Transaction<'_, S>,
+    workunit: u64,
+    class: u32,
+) -> Result<(), Error>
+    ensures writes { StatementFrame S.Store tx.old tx.new result }
+    ensures sets { Does S.Store tx.old tx.new result
+        (ChangesClasses (with_set_class workunit class)) }
+{
+    let workunit = signed(workunit)?;
+    execute(
+        tx,
+        "UPDATE workunit_class SET class = ?2 WHERE workunit = ?1",
+        params![workunit, class],
+    )
+}
+
+/// Sets the class of a host: its row, if it has one, gives way to a new one.
+pub fn put_host_class<S: Alter>(
+    tx: &mut Transaction<'_, S>,
+    host: &Name,
+    class: u32,
+) -> Result<(), Error>
+    ensures writes { StatementFrame S.Store tx.old tx.new result }
+    ensures sets { Does S.Store tx.old tx.new result
+        (ChangesClasses (with_host_class host.now class)) }
+{
+    execute(
+        tx,
+        "DELETE FROM host_class WHERE host = ?1",
+        params![host.as_str()],
+    )?;
+    execute(
+        tx,
+        "INSERT INTO host_class (host, class) VALUES (?1, ?2)",
+        params![host.as_str(), class],
+    )
+}
+
+/// The class in a column.
+pub(crate) fn class_at(row: &Row, at: usize) -> Result<u32, Fault>
+    ensures { Restores number IsClass (column row.now at) result }
+{
+    let class: u32 = read_column(row, at)?;
+    if class > HIGHEST_CLASS {
+        return Err(Fault::NotAProject);
+    }
+    Ok(class)
+}
+
+/// The class of the workunit of this number, or none where it is not there.
+///
+/// `NotAProject` where its row is no class, or the number is not below 2^63.
+pub fn class_of_workunit<S: Alter>(
+    conn: &mut Connection<S>,
+    number: u64,
+) -> Result<Option<u32>, Fault>
+    ensures asks { Asks S.Store conn.old conn.new result }
+    ensures opens { number < 2 ^ 63 → ServesUnlessFailed S.Store conn.new result }
+    ensures fault { IfErr result IsStoreFault }
+    ensures found { AnswersClass S.Store conn.old conn.new result (class_numbered number) }
+    ensures unrefused { number < 2 ^ 63
+        → NotRefusedClass S.Store conn.old conn.new result (LoadsClass number) }
+{
+    let key = key_of(number)?;
+    let row = ask_row(
+        conn,
+        "SELECT class FROM workunit_class WHERE workunit = ?1",
+        params![key],
+    )?;
+    match row {
+        Some(row) => Ok(Some(class_at(&row, 0)?)),
+        None => Ok(None),
+    }
+}
+
+/// The class of the host of this name: 0 where no file named it. `NotAProject` where its row is no class.
+pub fn class_of<S: Alter>(conn: &mut Connection<S>, host: &Name) -> Result<u32, Fault>
+    ensures asks { Asks S.Store conn.old conn.new result }
+    ensures opens { ServesUnlessFailed S.Store conn.new result }
+    ensures fault { IfErr result IsStoreFault }
+    ensures found { AnswersClass S.Store conn.old conn.new result (class_named host.now) }
+    ensures unrefused { NotRefusedClass S.Store conn.old conn.new result
+        (LoadsHostClass host.now) }
+{
+    let row = ask_row(
+        conn,
+        "SELECT class FROM host_class WHERE host = ?1",
+        params![host.as_str()],
+    )?;
+    match row {
+        Some(row) => class_at(&row, 0),
+        None => Ok(0),
+    }
+}
