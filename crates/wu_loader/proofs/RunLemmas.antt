@@ -1,15 +1,16 @@
 -- Grants in order of their hosts' names: those to one host stand together.
-use Rattle.std.proofs.Common.{◌≡◌, ℕ, zero, suc, ◌+◌, ◌-◌, ◌<◌, ◌≤◌, Bool, true, false, cond, List, [], ◌∷◌, length, get_or, take, drop, Bor, Ordering, Less, Equal, Greater, nat_cmp, is_eq, is_lt, is_le, bytes_eq, filter, sum_by, IsPermutation, IsSorted, inl, inr, refl, sym, ap, ◌∙◌, arith}
+use Rattle.std.proofs.Common.{◌≡◌, ℕ, zero, suc, ◌+◌, ◌-◌, ◌<◌, ◌≤◌, true, false, List, [], ◌∷◌, length, get_or, take, drop, Bor, Ordering, Less, Equal, Greater, nat_cmp, is_eq, is_lt, is_le, bytes_eq, filter, sum_by, IsPermutation, IsSorted, inl, inr, refl, sym, ap, ◌∙◌, arith}
 use Rattle.std.specs.Cmp.Lexicographic.{slice_cmp, texts_ties}
 use Rattle.std.specs.List.Sorted.{IsPartitionPoint, IsPartitionedBy}
 use Rattle.std.specs.Ordering.{ordering_index}
 use Rattle.std.proofs.lemmas.Bool.{cases_lt}
 use Rattle.std.proofs.lemmas.Cmp.{nat_list_cmp_total}
 use Rattle.std.proofs.lemmas.List.{length-map}
-use Rattle.std.proofs.lemmas.List.Sorted.{All-permutation, IsPermutation-sym, searchable_from_sorted, sum_by-IsPermutation}
+use Rattle.std.proofs.lemmas.List.Sorted.{All-permutation, IsPermutation-sym, searchable_from_sorted}
 use Rattle.std.proofs.lemmas.List.Sums.{length-filter, sum_by-cons}
 use Rattle.wu_core.specs.Hosts.{credit_of, grants_of, is_to}
 use Rattle.wu_core.specs.declared.workunit.Grant.{Grant}
+use Rattle.wu_store.proofs.GrantSums.{same_count, same_credit}
 use Rattle.wu_loader.specs.Granting.{by_host, referred, AreHosts, IsGranted, IsListed}
 use Rattle.wu_loader.specs.declared.rows.Host.{Host}
 
@@ -146,28 +147,10 @@ module _ (grants run : List (Bor Grant)) (host : Host) (is : referred run ≡ fi
 -- ---- grants in another order
 
 module _ (xs ys : List Grant) (moved : IsPermutation xs ys) where
-  -- the grants' credit to a host, one by one
-  abbrev to_host : List ℕ → Grant → ℕ
-  to_host name g = cond (is_to name g) g.credit 0
-
-  one_by_one : (name : List ℕ) (grants : List Grant) → credit_of grants name ≡ sum_by (to_host name) grants
-  one_by_one name [] = refl
-  one_by_one name (g ∷ grants) = go (is_to name g) (one_by_one name grants) ∙ sym (sum_by-cons (to_host name) g grants)
-    where
-      go : (b : Bool) → credit_of grants name ≡ sum_by (to_host name) grants → sum_by (λ (x : Grant). x.credit) (cond b (g ∷ filter (is_to name) grants) (filter (is_to name) grants)) ≡ cond b g.credit 0 + sum_by (to_host name) grants
-      go true so = sum_by-cons (λ (x : Grant). x.credit) g (filter (is_to name) grants) ∙ ap (λ n. g.credit + n) so
-      go false so = omega (arith, so)
-
-  same_credit : (name : List ℕ) → credit_of ys name ≡ credit_of xs name
-  same_credit name = one_by_one name ys ∙ sum_by-IsPermutation (to_host name) xs ys moved ∙ sym (one_by_one name xs)
-
-  same_count : (name : List ℕ) → grants_of ys name ≡ grants_of xs name
-  same_count name = sum_by-IsPermutation (λ g. cond (is_to name g) 1 0) xs ys moved
-
   -- the hosts of grants are those of the same grants in another order
   pub hosts_moved : (hosts : List Host) → AreHosts ys hosts → AreHosts xs hosts
   hosts_moved hosts are = record {
     rise = are.rise;
-    each = λ k d low. let is = are.each k d low in record { total = is.total ∙ same_credit (get_or hosts k d).name; count = is.count ∙ same_count (get_or hosts k d).name; some = is.some };
+    each = λ k d low. let is = are.each k d low in record { total = is.total ∙ same_credit xs ys moved (get_or hosts k d).name; count = is.count ∙ same_count xs ys moved (get_or hosts k d).name; some = is.some };
     listed = All-permutation (λ (g : Grant). IsListed hosts g.host) ys xs (IsPermutation-sym xs ys moved) are.listed;
   }

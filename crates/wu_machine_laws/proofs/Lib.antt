@@ -19,3 +19,4 @@ pub mod RowLaws
 pub mod Answered
 pub mod Staying
 pub mod Older
+pub mod Classing

@@ -150,7 +150,7 @@ module _ (classes : List HostClass) where
 only_reported : (row : ReportRow) (w : Workunit) (k : ℕ) → k ≢ row.n → slice_get (report_rule.image row w).instances k ≡ slice_get w.instances k
 only_reported row w k differ = (reports w row.n row.host row.moment row.status row.output).only.others k differ
 
-takes_report : (world : World) (row : ReportRow) → TakesReport row (row_verdict report_rule world row) world (after_row report_rule world row)
+pub takes_report : (world : World) (row : ReportRow) → TakesReport row (row_verdict report_rule world row) world (after_row report_rule world row)
 takes_report world row = record {
   told = verdict_told report_rule reports_keep (λ row. row.n) only_reported world row;
   applied = row_applied report_rule reports_keep (λ row. OfInstance row.n (MayBeReported row.host row.moment)) may_report world row;

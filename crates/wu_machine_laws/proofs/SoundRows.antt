@@ -45,7 +45,7 @@ use Rattle.wu_machine_laws.proofs.SoundParts.{Differ}
 -- ---- the workunit of a name changed
 
 -- where names differ, the workunit of a name is the one that is found
-found_named : (name : List ℕ) (ws : List Workunit) → Pairs Differ ws
+pub found_named : (name : List ℕ) (ws : List Workunit) → Pairs Differ ws
     → All (λ (w : Workunit). bytes_eq w.name name ≡ true → find (λ (v : Workunit). bytes_eq v.name name) ws ≡ Some w) ws
 found_named name [] apart = All-nil (λ (w : Workunit). bytes_eq w.name name ≡ true → find (λ (v : Workunit). bytes_eq v.name name) [] ≡ Some w)
 found_named name (w ∷ ws) apart =
@@ -147,7 +147,7 @@ module _ {Row : Type 0} (rule : Rule Row) (IsRow : Row → Type 0) (keeps : (row
       (rest.0, lasts_then world (after_row rule world row) (after_rows rule (after_row rule world row) rows) one.1 rest.1)
 
 -- the number 0 is that of a send that is applied
-send_applied : (verdict : SendVerdict) → send_verdict_code verdict ≡ 0 → verdict ≡ send.Applied
+pub send_applied : (verdict : SendVerdict) → send_verdict_code verdict ≡ 0 → verdict ≡ send.Applied
 send_applied send.Applied is = refl
 send_applied send.Unknown is = absurd cc
 send_applied send.NotUnsent is = absurd cc

@@ -4,7 +4,7 @@ use Rattle.std.proofs.lemmas.Bool.{cases_Bool}
 use Rattle.std.proofs.lemmas.Bool.Decides.{nat_tests}
 use Rattle.std.proofs.lemmas.List.Elements.{All-head, All-replicate, All-tail}
 use Rattle.std.specs.List.{All, enumerate_from}
-use Rattle.std.specs.Prelude.{◌&&◌, find, not, if◌then◌else◌}
+use Rattle.std.specs.Prelude.{find, if◌then◌else◌}
 use Rattle.wu_core.specs.Classes.{AreClassed}
 use Rattle.wu_core.specs.Limits.{most_workunits}
 use Rattle.wu_core.specs.Parameters.{Parameters}

@@ -1,14 +1,24 @@
 -- What lasts over any list of requests.
-use Rattle.std.specs.Prelude.{◌≡◌, true, false, ℕ, ◌<◌, ◌≤◌, ◌++◌, All, List, Some}
+use Rattle.std.specs.Prelude.{◌≡◌, ◌⊎◌, ◌↔◌, ⊤, true, false, ℕ, ◌<◌, ◌≤◌, ◌++◌, All, List, Some, None, Ok, IfSome, slice_get, take}
+use Rattle.wu_core.specs.Classes.{class_of}
 use Rattle.wu_core.specs.World.{World, empty_world}
+use Rattle.wu_core.specs.declared.import.ImportKind.TheVariants as kind
+use Rattle.wu_core.specs.declared.states.Status.TheVariants as status
+use Rattle.wu_core.specs.declared.workunit.Instance.{Instance}
 use Rattle.wu_core.specs.declared.workunit.Workunit.{Workunit}
-use Rattle.wu_rules.specs.Counts.{is_clear}
-use Rattle.wu_rules.specs.Consistent.{HostsApart, KeepsHosts, KeepsVerdicts}
+use Rattle.wu_feed.specs.declared.reports.ReportRow.{ReportRow}
+use Rattle.wu_feed.specs.Reports.{reports_of_file}
+use Rattle.wu_rules.specs.Counts.{has_active, is_clear}
+use Rattle.wu_rules.specs.Consistent.{HostsApart, IsOneClass, KeepsHosts, KeepsVerdicts}
+use Rattle.wu_rules.specs.Instances.{is_active, is_in_progress}
 use Rattle.wu_machine.specs.Batches.{is_one_of, taken_names}
-use Rattle.wu_machine.specs.Machine.{fold_steps, HasValues}
+use Rattle.wu_machine.specs.FileRows.{after_rows, report_rule}
+use Rattle.wu_machine.specs.Imports.{import_of, reported_given}
+use Rattle.wu_machine.specs.Machine.{fold_steps, HasValues, reply, step}
 use Rattle.wu_machine.specs.Passes.{is_among}
-use Rattle.wu_machine.specs.Requests.{Request}
+use Rattle.wu_machine.specs.Requests.{Request, AskClasses, AskReported, Imported}
 use Rattle.wu_machine.specs.Sound.{IsSound}
+use Rattle.wu_machine_laws.specs.Files.{MayReport, OfInstance, OfNamed}
 
 -- this holds of each world and of what any list of requests makes of it
 abbrev pub OverSteps : (World → World → Type 0) → Type 0
@@ -82,3 +92,85 @@ NamesStayTaken =
 abbrev pub NumbersAreGivenOnce : Type 0
 NumbersAreGivenOnce =
     OverSoundSteps (λ old new. All (λ v. v.number < old.next_number → is_among old.workunits v ≡ true) new.workunits)
+
+-- ---- classes of hosts
+
+-- a request that is no file of classes
+abbrev pub IsNoClasses : Request → Type 0
+IsNoClasses (AskClasses name file) = ⊥
+IsNoClasses _ = ⊤
+
+-- without such a file each host keeps its class
+abbrev pub ClassesStay : Type 0
+ClassesStay =
+    (world : World) (requests : List Request) → All IsNoClasses requests
+    → (fold_steps world requests).classes ≡ world.classes
+
+-- the active instances of each workunit are of one class
+abbrev pub AreOneClass : World → Type 0
+AreOneClass world = All (IsOneClass world.classes) world.workunits
+
+-- so they are where nothing is active
+abbrev pub IdleWorldsAreOneClass : Type 0
+IdleWorldsAreOneClass =
+    (world : World) → All (λ w. has_active w ≡ false) world.workunits → AreOneClass world
+
+-- the host of each active instance has the class that it had
+abbrev pub KeepsClass : World → World → Instance → Type 0
+KeepsClass old new i =
+    is_active i ≡ true
+    → IfSome i.host (λ host. class_of new.classes host ≡ class_of old.classes host)
+
+abbrev pub KeepsActiveClasses : World → World → Type 0
+KeepsActiveClasses old new = All (λ w. All (KeepsClass old new) w.instances) old.workunits
+
+-- the instance of the row is in progress, or its host is of the class of its workunit
+abbrev pub IsInTime : World → ReportRow → Type 0
+IsInTime world row =
+    OfNamed world row.workunit
+    (λ w. OfInstance row.n (λ i. is_in_progress i ≡ true) w
+    ⊎ (class_of world.classes row.host ≡ w.class))
+
+-- each success among these rows that may be reported is in time, in the world as the rows before it left it
+abbrev pub ComeInTime : World → List ReportRow → Type 0
+ComeInTime world rows =
+    (k : ℕ) (row : ReportRow) → slice_get rows k ≡ Some row → row.status ≡ status.Success
+    → MayReport (after_rows report_rule world (take k rows)) row
+    → IsInTime (after_rows report_rule world (take k rows)) row
+
+-- A file of classes gives the host of no active instance another class, and each success of a file of reports that
+-- comes for the first time is in time. Nothing is asked of the other requests.
+abbrev pub LeavesOneClass : World → Request → Type 0
+LeavesOneClass world (AskClasses name file) =
+    KeepsActiveClasses world (step world (AskClasses name file))
+LeavesOneClass world (AskReported name file) =
+    (rows : List ReportRow) (verdicts : List ℕ) → import_of world (reported_given name file) ≡ None
+    → reports_of_file file ≡ Ok rows
+    → reply world (AskReported name file) ≡ Ok (Imported kind.Reported name 0 verdicts)
+    → ComeInTime world rows
+LeavesOneClass world _ = ⊤
+
+-- in a sound world a request leaves the active instances of each workunit of one class exactly where this holds
+abbrev pub OneClassStaysByStep : Type 0
+OneClassStaysByStep =
+    (world : World) (request : Request) → IsSound world → AreOneClass world
+    → AreOneClass (step world request) ↔ LeavesOneClass world request
+
+-- this holds of each request, in the world as those before it left it
+abbrev pub EachAsked : (World → Request → Type 0) → World → List Request → Type 0
+EachAsked Is world requests =
+    (k : ℕ) (request : Request) → slice_get requests k ≡ Some request
+    → Is (fold_steps world (take k requests)) request
+
+-- so they stay over any list of requests of which each leaves them so
+abbrev pub OneClassStays : Type 0
+OneClassStays =
+    (world : World) (requests : List Request) → All HasValues requests → IsSound world
+    → EachAsked LeavesOneClass world requests → AreOneClass world
+    → AreOneClass (fold_steps world requests)
+
+-- so in a project that began fresh they are
+abbrev pub OneClassSince : Type 0
+OneClassSince =
+    (requests : List Request) → All HasValues requests
+    → EachAsked LeavesOneClass empty_world requests → AreOneClass (fold_steps empty_world requests)

@@ -1,6 +1,6 @@
 //! Laws of what lasts over any list of requests: each function's contract is one.
 
-ghost use Rattle.wu_machine_laws.specs.Lasting.{GrantsLast, ArchiveLasts, ImportsLast, NextNumberRises, CanonicalResultsLast, NamesLast, VerdictsLast, GivenUpLasts, HostsLast, HostsStayApart, HostsAreApart, NamesStayTaken, NumbersAreGivenOnce};
+ghost use Rattle.wu_machine_laws.specs.Lasting.{GrantsLast, ArchiveLasts, ImportsLast, NextNumberRises, CanonicalResultsLast, NamesLast, VerdictsLast, GivenUpLasts, HostsLast, HostsStayApart, HostsAreApart, NamesStayTaken, NumbersAreGivenOnce, ClassesStay, IdleWorldsAreOneClass, OneClassStaysByStep, OneClassStays, OneClassSince};
 
 /// No grant is ever taken away or changed.
 pub fn grants_last()
@@ -66,4 +66,32 @@ pub fn names_stay_taken()
 /// In a sound world no number is given to a second workunit.
 pub fn numbers_are_given_once()
     ensures { NumbersAreGivenOnce }
+{}
+
+/// Without a file of classes each host keeps its class.
+pub fn classes_stay()
+    ensures { ClassesStay }
+{}
+
+/// Where no workunit has an active instance, the active instances of each are of one class, whatever classes there are.
+pub fn idle_worlds_are_one_class()
+    ensures { IdleWorldsAreOneClass }
+{}
+
+/// In a sound world where the active instances of each workunit are of one class, a request leaves them so exactly where
+/// it tells no late success of a host of another class, and gives the host of no active instance another one.
+pub fn one_class_stays_by_step()
+    ensures { OneClassStaysByStep }
+{}
+
+/// Where a world is sound and the active instances of each of its workunits are of one class, they stay so, those of
+/// workunits that come later too, over any list of requests in which no success is reported late from a host of another
+/// class, and no file gives the host of an active instance another class.
+pub fn one_class_stays()
+    ensures { OneClassStays }
+{}
+
+/// In a project that began fresh they are so after each such list.
+pub fn one_class_since()
+    ensures { OneClassSince }
 {}

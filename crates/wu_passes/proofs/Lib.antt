@@ -1,5 +1,6 @@
 mod PlanLemmas
 mod PassPlanLemmas
+mod SumLemmas
 pub mod BatchLemmas
 mod AskLemmas
 mod ExitLemmas

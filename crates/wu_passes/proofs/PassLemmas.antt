@@ -10,7 +10,7 @@ use Rattle.wu_core.specs.declared.workunit.Workunit.{Workunit}
 use Rattle.wu_core.specs.World.{World}
 use Rattle.wu_schema.specs.Refines.{Refines}
 use Rattle.wu_store.specs.Changes.{IsNextPlace, with_replaced, without_workunit}
-use Rattle.wu_store.specs.Changing.{AreRight, archived_from, granted_from, made_all}
+use Rattle.wu_store.specs.Changing.{AreRight, archived_from, KeepsGrants, made_all}
 use Rattle.wu_store.specs.StandsFor.{KnowsClasses}
 use Rattle.wu_rules.specs.Due.{changes, chosen}
 use Rattle.wu_store.specs.declared.changes.Change.{Change}
@@ -192,59 +192,54 @@ pass_grants pass now min_age limit world = flat_map (granted pass) (chosen pass 
 abbrev pub pass_rows : Pass → ℕ → ℕ → ℕ → World → List Archived
 pass_rows pass now min_age limit world = flat_map (archives pass now) (chosen pass now min_age limit world)
 
--- changes, and then what a pass grants and archives at places from these on
-abbrev pub and_given : Pass → ℕ → ℕ → ℕ → World → ℕ → ℕ → List Change → List Change
-and_given pass now min_age limit world place row_place first =
-    first ++ granted_from place (pass_grants pass now min_age limit world) ++ archived_from row_place (pass_rows pass now min_age limit world)
+-- changes, and then those that keep what a pass grants, and what it archives at places from this one on
+abbrev pub and_given : Pass → ℕ → ℕ → ℕ → World → List Change → ℕ → List Change → List Change
+and_given pass now min_age limit world given row_place first = first ++ given ++ archived_from row_place (pass_rows pass now min_age limit world)
 
 -- where the first changes make the pass's workunits, all make what the pass makes
-module _ (world : World) (pass : Pass) (now min_age limit place row_place : ℕ) (first : List Change)
+module _ (world : World) (pass : Pass) (now min_age limit : ℕ) (given : List Change) (row_place : ℕ) (keeps : KeepsGrants world.grants (pass_grants pass now min_age limit world) given) (first : List Change)
     (makes : made_all first world ≡ record world { workunits = (passed pass now min_age limit world).workunits }) where
-  grants_follow : made_all (first ++ granted_from place (pass_grants pass now min_age limit world)) world
+  grants_follow : made_all (first ++ given) world
       ≡ record world { workunits = (passed pass now min_age limit world).workunits; grants = world.grants ++ pass_grants pass now min_age limit world }
   grants_follow =
-      let given = granted_from place (pass_grants pass now min_age limit world) in
       made_append first given world ∙ ap (made_all given) makes
-      ∙ grants_made place (pass_grants pass now min_age limit world) (record world { workunits = (passed pass now min_age limit world).workunits })
+      ∙ grants_made world.grants (pass_grants pass now min_age limit world) given (record world { workunits = (passed pass now min_age limit world).workunits }) keeps
 
-  pub pass_made : made_all (and_given pass now min_age limit world place row_place first) world ≡ passed pass now min_age limit world
+  pub pass_made : made_all (and_given pass now min_age limit world given row_place first) world ≡ passed pass now min_age limit world
   pass_made =
-      let given = granted_from place (pass_grants pass now min_age limit world) in
       let rows = archived_from row_place (pass_rows pass now min_age limit world) in
       made_append (first ++ given) rows world ∙ ap (made_all rows) grants_follow
       ∙ archived_made row_place (pass_rows pass now min_age limit world)
       (record world { workunits = (passed pass now min_age limit world).workunits; grants = world.grants ++ pass_grants pass now min_age limit world })
 
-  pub pass_made_right : AreRight first world → IsNextPlace place world.grants → IsNextPlace row_place world.archived
-      → AreRight (and_given pass now min_age limit world place row_place first) world
-  pass_made_right right next row_next =
-      let given = granted_from place (pass_grants pass now min_age limit world) in
+  pub pass_made_right : AreRight first world → IsNextPlace row_place world.archived → AreRight (and_given pass now min_age limit world given row_place first) world
+  pass_made_right right row_next =
       let rows = archived_from row_place (pass_rows pass now min_age limit world) in
       right_append (first ++ given) rows world
-      (right_append first given world right (subst (AreRight given) (sym makes) (grants_right place (pass_grants pass now min_age limit world) (record world { workunits = (passed pass now min_age limit world).workunits }) next)))
+      (right_append first given world right (subst (AreRight given) (sym makes) (grants_right (pass_grants pass now min_age limit world) given (record world { workunits = (passed pass now min_age limit world).workunits }) keeps)))
       (subst (AreRight rows) (sym grants_follow) (archived_right row_place (pass_rows pass now min_age limit world)
       (record world { workunits = (passed pass now min_age limit world).workunits; grants = world.grants ++ pass_grants pass now min_age limit world }) row_next))
 
 -- a pass of which each workunit leaves an image of its number
-module _ (db : Database) (world : World) (stands : Refines db world) (pass : Pass) (now min_age limit place row_place : ℕ)
+module _ (db : Database) (world : World) (stands : Refines db world) (pass : Pass) (now min_age limit : ℕ) (given : List Change) (row_place : ℕ) (keeps : KeepsGrants world.grants (pass_grants pass now min_age limit world) given)
     (image : Workunit → Workunit) (numbers : (w : Workunit) → (image w).number ≡ w.number) (is : (w : Workunit) → images pass now w ≡ image w ∷ []) where
-  pub pass_makes : made_all (and_given pass now min_age limit world place row_place (replacements image (chosen pass now min_age limit world))) world ≡ passed pass now min_age limit world
+  pub pass_makes : made_all (and_given pass now min_age limit world given row_place (replacements image (chosen pass now min_age limit world))) world ≡ passed pass now min_age limit world
   pass_makes =
-      pass_made world pass now min_age limit place row_place (replacements image (chosen pass now min_age limit world)) (pass_replaces db world stands pass now min_age limit image numbers is)
+      pass_made world pass now min_age limit given row_place keeps (replacements image (chosen pass now min_age limit world)) (pass_replaces db world stands pass now min_age limit image numbers is)
 
-  pub pass_makes_right : KnowsClasses world → IsNextPlace place world.grants → IsNextPlace row_place world.archived
-      → AreRight (and_given pass now min_age limit world place row_place (replacements image (chosen pass now min_age limit world))) world
+  pub pass_makes_right : KnowsClasses world → IsNextPlace row_place world.archived
+      → AreRight (and_given pass now min_age limit world given row_place (replacements image (chosen pass now min_age limit world))) world
   pass_makes_right classed =
-      pass_made_right world pass now min_age limit place row_place (replacements image (chosen pass now min_age limit world)) (pass_replaces db world stands pass now min_age limit image numbers is)
+      pass_made_right world pass now min_age limit given row_place keeps (replacements image (chosen pass now min_age limit world)) (pass_replaces db world stands pass now min_age limit image numbers is)
       (pass_replaces_right db world stands pass now min_age limit image numbers is classed)
 
 -- a purge
-module _ (db : Database) (world : World) (stands : Refines db world) (now min_age limit place row_place : ℕ) where
-  pub purge_makes : made_all (and_given Purge now min_age limit world place row_place (removals (chosen Purge now min_age limit world))) world ≡ passed Purge now min_age limit world
-  purge_makes = pass_made world Purge now min_age limit place row_place (removals (chosen Purge now min_age limit world)) (purge_removes db world stands now min_age limit)
+module _ (db : Database) (world : World) (stands : Refines db world) (now min_age limit : ℕ) (given : List Change) (row_place : ℕ) (keeps : KeepsGrants world.grants (pass_grants Purge now min_age limit world) given) where
+  pub purge_makes : made_all (and_given Purge now min_age limit world given row_place (removals (chosen Purge now min_age limit world))) world ≡ passed Purge now min_age limit world
+  purge_makes = pass_made world Purge now min_age limit given row_place keeps (removals (chosen Purge now min_age limit world)) (purge_removes db world stands now min_age limit)
 
-  pub purge_makes_right : IsNextPlace place world.grants → IsNextPlace row_place world.archived
-      → AreRight (and_given Purge now min_age limit world place row_place (removals (chosen Purge now min_age limit world))) world
+  pub purge_makes_right : IsNextPlace row_place world.archived
+      → AreRight (and_given Purge now min_age limit world given row_place (removals (chosen Purge now min_age limit world))) world
   purge_makes_right =
-      pass_made_right world Purge now min_age limit place row_place (removals (chosen Purge now min_age limit world)) (purge_removes db world stands now min_age limit)
+      pass_made_right world Purge now min_age limit given row_place keeps (removals (chosen Purge now min_age limit world)) (purge_removes db world stands now min_age limit)
       (purge_removes_right db world stands now min_age limit)

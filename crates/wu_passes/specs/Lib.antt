@@ -6,5 +6,6 @@ pub mod Adopting
 pub mod Leaving
 pub mod Projects
 pub mod Walks
+pub mod Summing
 pub mod PassPlans
 pub mod Older

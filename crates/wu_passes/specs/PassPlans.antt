@@ -9,7 +9,7 @@ use Rattle.wu_rules.specs.Transition.{transitioned}
 use Rattle.wu_rules.specs.Validation as validation
 use Rattle.wu_rules.specs.Assimilation.{assimilated, emptied}
 use Rattle.wu_store.specs.Changes.{IsNextPlace}
-use Rattle.wu_store.specs.Changing.{archived_from, granted_from}
+use Rattle.wu_store.specs.Changing.{archived_from, KeepsFrom, KeepsGrants}
 use Rattle.wu_rules.specs.Due.{chosen}
 use Rattle.wu_store.specs.declared.changes.Change.{Change}
 use Rattle.wu_store.specs.declared.changes.Change.TheVariants.{Remove, Replace}
@@ -55,11 +55,17 @@ pub record HandlesAll (pass : Pass) (now : ℕ) (taken : List Workunit) (handled
   pub grants : handled.grants.items ≡ flat_map (granted pass) taken
   pub archived : handled.archived.items ≡ flat_map (archives pass now) taken
 
--- changes, and then these grants at the next places of the world's
+-- changes, and then the one that keeps these grants from this place on
+pub record AddsFrom (place : ℕ) (grants : List Grant) (old new : List Change) : Type 0 where
+  pub given : List Change
+  pub keeps : KeepsFrom place grants given
+  pub changes : new ≡ old ++ given
+
+-- changes, and then what keeps these grants at the next places of the world's
 pub record HasGrants (world : World) (grants : List Grant) (old new : List Change) : Type 0 where
-  pub place : ℕ
-  pub next : IsNextPlace place world.grants
-  pub changes : new ≡ old ++ granted_from place grants
+  pub given : List Change
+  pub keeps : KeepsGrants world.grants grants given
+  pub changes : new ≡ old ++ given
 
 abbrev pub AddsGrants : {T : Type 0} → List Grant → List Change → List Change → Result T Fault → World → Type 0
 AddsGrants grants old new result world = OnOk result (HasGrants world grants old new)
@@ -75,11 +81,11 @@ AddsArchivedRows rows old new result world = OnOk result (HasArchivedRows world 
 
 -- the changes of workunits, then grants, then archived rows, each at the next places
 pub record HasGiven (world : World) (handled : Handled) (changes : List Change) : Type 0 where
-  pub place : ℕ
+  pub given : List Change
   pub row_place : ℕ
-  pub next : IsNextPlace place world.grants
+  pub keeps : KeepsGrants world.grants handled.grants.items given
   pub row_next : IsNextPlace row_place world.archived
-  pub changes_are : changes ≡ handled.changes.items ++ granted_from place handled.grants.items ++ archived_from row_place handled.archived.items
+  pub changes_are : changes ≡ handled.changes.items ++ given ++ archived_from row_place handled.archived.items
 
 abbrev pub AddsGiven : {A : Type 0} → Handled → Result (Vec Change A) Fault → World → Type 0
 AddsGiven handled result world = IfOk result (λ changes. HasGiven world handled changes.items)

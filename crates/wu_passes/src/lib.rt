@@ -11,6 +11,7 @@ mod imports;
 mod passes;
 mod plan;
 mod project;
+mod sums;
 mod touched;
 mod upgrade;
 mod version;

@@ -4,16 +4,17 @@
 ghost use Rattle.std.specs.Prelude.{◌≡◌, ◌+◌, ◌≤◌, ◌^◌, ◌++◌, [], true, length, map, None, IfErr, IfOk};
 ghost use Rattle.wu_core.specs.declared.fault.Fault.TheVariants.{Memory};
 ghost use Rattle.wu_machine.specs.Machine.{is_limit_right};
-ghost use Rattle.wu_passes.specs.PassPlans.{asked, AddsArchivedRows, AddsGrants, AddsGiven, HandlesAll, HandlesAlso, IsImageOf, PlansTaken};
+ghost use Rattle.wu_passes.specs.PassPlans.{asked, AddsArchivedRows, AddsFrom, AddsGrants, AddsGiven, HandlesAll, HandlesAlso, IsImageOf, PlansTaken};
 ghost use Rattle.wu_passes.specs.Planning.{ForEachProject, IsPresentProject, NeverEnded, NeverRefused, NotRefusedOver, PlansNow};
 ghost use Rattle.wu_machine.specs.Requests.{AskPass};
-ghost use Rattle.wu_store.specs.Changing.{archived_from, granted_from};
+ghost use Rattle.wu_store.specs.Changing.{archived_from};
 ghost use Rattle.wu_store.specs.Loading.{Asks, IsStoreFault, ForEachWorld, ServesUnlessFailed};
 ghost use Rattle.wu_rules.specs.declared.due.Pass.TheVariants as pass;
 ghost use Rattle.wu_store.specs.declared.changes.Change.TheVariants.{Remove};
 
 use crate::copies::copy_of;
 use crate::plan::Plan;
+use crate::sums::sums_of;
 use sqlite::{Alter, Connection};
 use std::alloc::Global;
 use wu_core::{Archived, Fault, Grant, LONGEST_AGE, Moment, Workunit};
@@ -220,18 +221,19 @@ fn handle<'a>(
     Ok(handled)
 }
 
-/// Adds the grants at places in a row, from this one on.
-fn with_grants(changes: &mut Vec<Change<'_>>, place: u64, grants: Vec<Grant>) -> Result<(), Fault>
-    requires { place ≤ 2 ^ 63 }
+/// Adds one change that keeps the grants at places in a row, from this one on, with their sums.
+fn with_grants(
+    alloc: Global,
+    changes: &mut Vec<Change<'_>>,
+    place: u64,
+    grants: Vec<Grant>,
+) -> Result<(), Fault>
     ensures added { IfOk result (λ _.
-        changes.new.items ≡ changes.old.items ++ granted_from place grants.items) }
+        AddsFrom place grants.items changes.old.items changes.new.items) }
     ensures fault { IfErr result (λ fault. fault ≡ Memory) }
 {
-    let mut seq = place;
-    for grant in grants {
-        changes.push(Change::Granted(seq, grant))?;
-        seq += 1;
-    }
+    let sums = sums_of(alloc, grants.as_slice())?;
+    changes.push(Change::Grants(place, grants, sums))?;
     Ok(())
 }
 
@@ -257,6 +259,7 @@ fn with_archived(
 /// Adds the grants at the next places, if there are any.
 fn and_grants<S: Alter>(
     conn: &mut Connection<S>,
+    alloc: Global,
     changes: &mut Vec<Change<'_>>,
     grants: Vec<Grant>,
 ) -> Result<(), Fault>
@@ -270,7 +273,7 @@ fn and_grants<S: Alter>(
         return Ok(());
     }
     let place = next_grant_place(conn)?;
-    with_grants(changes, place, grants)
+    with_grants(alloc, changes, place, grants)
 }
 
 /// Adds the archived rows at the next places, if there are any.
@@ -295,6 +298,7 @@ fn and_archived<S: Alter>(
 /// The changes of what was handled: of the workunits, then the grants, then the archived rows.
 fn changes_of<'a, S: Alter>(
     conn: &mut Connection<S>,
+    alloc: Global,
     handled: Handled<'a>,
 ) -> Result<Vec<Change<'a>>, Fault>
     ensures asks { Asks S.Store conn.old conn.new result }
@@ -307,7 +311,7 @@ fn changes_of<'a, S: Alter>(
         grants,
         archived,
     } = handled;
-    and_grants(conn, &mut changes, grants)?;
+    and_grants(conn, alloc, &mut changes, grants)?;
     and_archived(conn, &mut changes, archived)?;
     Ok(changes)
 }
@@ -328,7 +332,7 @@ fn plan_taken<'a, S: Alter>(
     let pass = ask.pass;
     let count = taken.len() as u32;
     let handled = handle(alloc, pass, ask.moment, taken)?;
-    let changes = changes_of(conn, handled)?;
+    let changes = changes_of(conn, alloc, handled)?;
     Ok(Plan {
         answer: Answer::Passed {
             pass,

@@ -1,5 +1,5 @@
 -- What the program does with the words of its process: the demonstration, an explanation, a check, or what they ask for.
-use Rattle.std.specs.Prelude.{◌≡◌, ℕ, Bool, List, map, Option, None, Result, Ok, Err, String, string_bytes}
+use Rattle.std.specs.Prelude.{◌≡◌, ℕ, List, map, Option, None, Result, Ok, Err, String, string_bytes}
 use Rattle.std.specs.declared.alloc.Global.{Global}
 use Rattle.std.specs.declared.io.Error.{Error}
 use Rattle.std.specs.declared.vec.Vec.{Vec}

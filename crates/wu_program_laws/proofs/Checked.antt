@@ -1,7 +1,7 @@
 -- From what a check did to what it told of the files.
-use Rattle.std.proofs.Common.{◌≡◌, ℕ, ◌==◌, true, false, Bool, List, [], filter, if◌then◌else◌, Option, Result, Ok, Err, inl, inr, refl, sym, ap, subst, ◌∙◌}
+use Rattle.std.proofs.Common.{◌≡◌, ℕ, ◌==◌, true, false, Bool, List, filter, if◌then◌else◌, Option, Result, Ok, Err, inl, inr, refl, sym, ap, subst, ◌∙◌}
 use Rattle.std.proofs.Math.Logic.{∥∥₁_elim}
-use Rattle.std.specs.Prelude.{IfErr, IfOk, MatchResult, IsOkUnless, None}
+use Rattle.std.specs.Prelude.{IfErr, IfOk, MatchResult, IsOkUnless}
 use Rattle.sqlite_disk.specs.declared.Files.{Files}
 use Rattle.sqlite_disk.specs.declared.memory.Memory.{Memory}
 use Rattle.sqlite_disk.specs.declared.tally.Tally.{Tally}
@@ -31,12 +31,11 @@ use Rattle.sqlite.specs.Table.{Table}
 use Rattle.sqlite.specs.declared.file.Leftover.{Leftover}
 use Rattle.sqlite.specs.declared.file.Leftover.TheVariants as left
 use Rattle.wu_schema.proofs.Words.{Has, all_has}
-use Rattle.wu_check.specs.Checking.{HasWholeRows, IsInOrder, IsKept, IsKnown, IsSoundProject}
+use Rattle.wu_check.specs.Checking.{HasWholeRows, IsInOrder, IsKept, IsSoundProject}
 use Rattle.wu_check.specs.Findings.{SaysSound, SaysUnsound, SaysWhy, Tells}
 use Rattle.wu_check.specs.declared.finding.Finding.{Finding}
 use Rattle.wu_check.specs.declared.finding.Verdict.{Verdict}
 use Rattle.wu_check.specs.declared.finding.Verdict.TheVariants as verdict
-use Rattle.wu_core.specs.World.{World}
 use Rattle.wu_core.specs.declared.fault.Fault.{Fault}
 use Rattle.wu_core.specs.declared.fault.Fault.TheVariants.{Output}
 use Rattle.wu_machine.specs.Sound.{IsSound as IsSoundWorld}
@@ -49,8 +48,7 @@ use Rattle.wu_cli.specs.Checking.{TellsFault, TellsVerdict}
 use Rattle.wu_cli.specs.Checks.{reason_of, sound_line}
 use Rattle.wu_cli.specs.declared.trouble.Trouble.{Trouble}
 use Rattle.wu_cli.specs.declared.trouble.Trouble.TheVariants as trouble
-use Rattle.wu_lives.specs.Runs.{HoldsWorld}
-use Rattle.wu_program.specs.Checks.{ChecksCopy, ChecksOpened, ChecksUnopened}
+use Rattle.wu_program.specs.Checks.{ChecksOpened, ChecksUnopened}
 use Rattle.wu_program.specs.Copies.{memory_disk}
 use Rattle.wu_program_laws.specs.Checked.{EachCheckIsTrue, FindsSound, FindsWith, image_of_bytes, IsWant, TellsOfFiles}
 use Rattle.wu_program_laws.proofs.Leaving.{none_beside}

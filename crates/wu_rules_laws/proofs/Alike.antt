@@ -1,10 +1,11 @@
 -- The active instances of a workunit are of one class.
-use Rattle.std.proofs.Common.{◌≡◌, ◌↔◌, ℕ, nat_lt, Bool, true, false, cond, ◌&&◌, ◌||◌, List, [], ◌∷◌, length, slice_get, slice_set, Option, Some, None, IfSome, refl, sym, ap, subst, ◌∙◌}
-use Rattle.std.proofs.lemmas.List.Elements.{All-from_recursion, All-set}
+use Rattle.std.proofs.Common.{◌≡◌, ◌↔◌, ℕ, zero, suc, nat_lt, ◌+◌, Bool, true, false, cond, ◌&&◌, ◌||◌, List, [], ◌∷◌, map, length, slice_get, slice_set, Option, Some, None, IfSome, is_none, bytes_eq, refl, sym, ap, subst, ◌∙◌}
+use Rattle.std.proofs.lemmas.List.Elements.{All-cons, All-from_recursion, All-head, All-nil, All-set, All-tail, All-weaker}
 use Rattle.std.specs.List.{All, AllByRecursion, list_any}
 use Rattle.std.specs.Option.{IsSomeAnd, option_map_or}
 use Rattle.wu_core.specs.Classes.{class_of}
 use Rattle.wu_core.specs.Statuses.{outcome_of}
+use Rattle.wu_core.specs.declared.workunit.Grant.{Grant}
 use Rattle.wu_core.specs.declared.workunit.HostClass.{HostClass}
 use Rattle.wu_core.specs.declared.workunit.Instance.{Instance}
 use Rattle.wu_core.specs.declared.workunit.Workunit.{Workunit}
@@ -16,19 +17,24 @@ use Rattle.wu_core.specs.declared.states.Status.TheVariants as status
 use Rattle.wu_core.specs.Workunit.{with_instance_set}
 use Rattle.wu_rules.specs.Assimilation.{assimilated, emptied}
 use Rattle.wu_rules.specs.Cancelling.{cancelled}
-use Rattle.wu_rules.specs.Consistent.{IsOneClass}
+use Rattle.wu_rules.specs.Consistent.{IsOneClass, instance_host}
 use Rattle.wu_rules.specs.Counts.{consensus, has_active, is_clear, viable}
-use Rattle.wu_rules.specs.Instances.{is_active, is_done_assimilate, is_in_progress, is_open_verdict, is_over, is_ready_assimilate, is_success_outcome, is_viable}
+use Rattle.wu_rules.specs.Instances.{is_active, is_done_assimilate, is_in_progress, is_open_verdict, is_over, is_over_state, is_ready_assimilate, is_success, is_success_outcome, is_viable}
 use Rattle.wu_rules.specs.Reporting.{report_verdict_in, report_verdict_of, reported_as, reported_in}
 use Rattle.wu_rules.specs.Sending.{send_verdict_in, send_verdict_of, sent_as, sent_in, sent_to}
 use Rattle.wu_rules.specs.Transition.{ended, extended, readied, settled, timed, transitioned, with_files_readied}
-use Rattle.wu_rules.specs.Validation.{checked, concluded, decided, is_to_validate, left_open, validated, validated_by, with_refused}
+use Rattle.wu_rules.specs.Validation.{checked, concluded, credited, decided, granted_by, granted_to, grants, grants_by, grants_decided, is_deleted_at, is_to_validate, judged_by, output_at, validated, validated_by, with_refused}
 use Rattle.wu_rules.specs.declared.verdicts.ReportVerdict.TheVariants as report
 use Rattle.wu_rules.specs.declared.verdicts.SendVerdict.TheVariants as send
-use Rattle.wu_rules.proofs.Keeping.{Keeps, StaysWithInstances, keeps_cancelled, keeps_emptied, keeps_transitioned, keeps_validated}
-use Rattle.wu_rules_laws.specs.Consistent.{RulesKeepOneClass}
-use Rattle.wu_rules_laws.proofs.Changed.{cond_keeps, or_left, or_right}
+use Rattle.wu_rules.proofs.Keeping.{Keeps, StaysWithInstances, keeps_cancelled, keeps_checked, keeps_emptied, keeps_transitioned, keeps_validated}
+use Rattle.wu_rules_laws.specs.Consistent.{AgreesWithin, IdleIsOneClass, RulesKeepOneClass}
+use Rattle.wu_rules_laws.proofs.Becoming.{all_become, becomes_judged_by, judged_is_viable, over_is, same_host}
+use Rattle.wu_rules_laws.proofs.Changed.{or_left, or_right}
+use Rattle.wu_rules_laws.proofs.Checking.{checked_canonical, grants_are, validated_is}
+use Rattle.wu_rules_laws.proofs.Choosing.{chooses, left_open_keeps}
+use Rattle.wu_rules_laws.proofs.Granting.{granted_number, kept_all, names}
 use Rattle.wu_rules_laws.proofs.Rewriting.{holds_at, was_alike}
+use Rattle.wu_rules_laws.proofs.Spent.{and_left, and_right}
 use Rattle.wu_rules_laws.proofs.Told.{may_be_reported, set_here}
 
 -- ---- one instance
@@ -84,6 +90,10 @@ none_alike classes class xs none = All-from_recursion (IsAlike classes class) xs
       by ys (or_right (is_active y) (list_any is_active ys) e),
     )
 
+-- so where none is active
+pub idle_is_one_class : IdleIsOneClass
+idle_is_one_class classes w idle = none_alike classes w.class w.instances idle
+
 -- ---- the class of a workunit
 
 class_either : (b : Bool) (v u : Workunit) (class : ℕ) → v.class ≡ class → u.class ≡ class → (cond b v u).class ≡ class
@@ -113,6 +123,31 @@ class_concluded w = class_either (is_to_validate w) (validated_by w w.canonical)
 class_validated : (w : Workunit) → (validated w).class ≡ w.class
 unfolding validated
 class_validated w = class_concluded (checked w) ∙ class_either (is_to_validate w) (with_refused _ w) w w.class refl refl
+
+-- ---- the hosts of a workunit that is decided
+
+-- where a result is chosen, each instance has the host that it had
+hosts_decided : (v : Workunit) (o : Option ℕ) (n : ℕ) → v.canonical ≡ None → (decided v o).canonical ≡ Some n
+    → instance_host (decided v o).instances n ≡ instance_host v.instances n
+hosts_decided v None n undecided is = let same = left_open_keeps v in cc
+hosts_decided v (Some m) n undecided is =
+    let output = output_at v.instances m in
+    same_host (λ i. is_viable i && bytes_eq i.output output) v.instances (map (judged_by output) v.instances)
+    (all_become (λ i. is_viable i && bytes_eq i.output output) (judged_by output) (becomes_judged_by output) v.instances) n
+
+hosts_concluded : (v : Workunit) (n : ℕ) → v.canonical ≡ None → (concluded v).canonical ≡ Some n
+    → instance_host (concluded v).instances n ≡ instance_host v.instances n
+unfolding concluded
+hosts_concluded v n undecided = by (is_to_validate v)
+  where
+    by_decision : (o : Option ℕ) → o ≡ None → (validated_by v o).canonical ≡ Some n → instance_host (validated_by v o).instances n ≡ instance_host v.instances n
+    by_decision None none is = hosts_decided v (consensus v) n undecided is
+    by_decision (Some m) some is = cc
+
+    by : (b : Bool) → (cond b (validated_by v v.canonical) v).canonical ≡ Some n
+        → instance_host (cond b (validated_by v v.canonical) v).instances n ≡ instance_host v.instances n
+    by true is = by_decision v.canonical undecided is
+    by false is = refl
 
 -- ---- the rules
 
@@ -224,3 +259,114 @@ module _ (classes : List HostClass) (w : Workunit) (alike : IsOneClass classes w
     reported = one_reported;
     in_time = one_in_time;
   }
+
+  -- ---- what agreed
+
+  -- of this class
+  abbrev IsOfClass : Grant → Type 0
+  IsOfClass grant = class_of classes grant.host ≡ w.class
+
+  -- what is granted by an output, where the active instances are of the class
+  granted_alike : (v : Workunit) → All (IsAlike classes w.class) v.instances → (output : List ℕ) → AllByRecursion IsOfClass (grants_by v output)
+  granted_alike v all output = kept_all IsOfClass (granted_to v output) 0 v.instances (λ k i grant here given.
+      let parts = granted_number v output (0 + k) i grant given in
+      let active = viable_active i (judged_is_viable (is_none v.canonical) i parts.0) in
+      class_at w.class grant.host i (holds_at (IsAlike classes w.class) v.instances k i all here) active (names v (0 + k) i grant parts.2).host)
+
+  -- all that is granted
+  credited_alike : (v : Workunit) → All (IsAlike classes w.class) v.instances → All IsOfClass (credited v)
+  unfolding credited
+  credited_alike v all = All-from_recursion IsOfClass (credited v) (by_case (is_to_validate v) (by_canonical v.canonical))
+    where
+      decide : (o : Option ℕ) → AllByRecursion IsOfClass (grants_decided v o)
+      decide None = tt
+      decide (Some n) = granted_alike v all (output_at v.instances n)
+
+      after : (b : Bool) (output : List ℕ) → AllByRecursion IsOfClass (cond b [] (grants_by v output))
+      after true output = tt
+      after false output = granted_alike v all output
+
+      by_canonical : (o : Option ℕ) → AllByRecursion IsOfClass (granted_by v o)
+      by_canonical None = decide (consensus v)
+      by_canonical (Some c) = after (is_deleted_at v.instances c) (output_at v.instances c)
+
+      by_case : (b : Bool) → AllByRecursion IsOfClass (granted_by v v.canonical) → AllByRecursion IsOfClass (cond b (granted_by v v.canonical) [])
+      by_case true all = all
+      by_case false all = tt
+
+  -- what is left without empty outputs
+  left_alike : All (IsAlike classes w.class) (checked w).instances
+  left_alike = (keeps_checked (IsAlike classes w.class) (alike_stays classes w.class) w).each alike
+
+  granted_of_class : All IsOfClass (grants w)
+  granted_of_class = subst (All IsOfClass) (sym (grants_are w)) (credited_alike (checked w) left_alike)
+
+  -- the host of the result that is chosen
+  chosen_of_class : (n : ℕ) (host : List ℕ) → w.canonical ≡ None → (validated w).canonical ≡ Some n → instance_host (validated w).instances n ≡ Some host
+      → class_of classes host ≡ w.class
+  chosen_of_class n host undecided is hosted =
+      let it = (chooses w).chosen n undecided is in
+      let same = hosts_concluded (checked w) n (checked_canonical w ∙ undecided) (sym (ap (λ (v : Workunit). v.canonical) (validated_is w)) ∙ is) in
+      let at : instance_host (checked w).instances n ≡ Some host = sym same ∙ (sym (ap (λ (v : Workunit). instance_host v.instances n) (validated_is w)) ∙ hosted) in
+      let its : it.chosen.host ≡ Some host = sym (ap (λ o. option_map_or (λ (i : Instance). i.host) o None) it.stands) ∙ at in
+      class_at w.class host it.chosen (holds_at (IsAlike classes w.class) (checked w).instances n it.chosen left_alike it.stands) (viable_active it.chosen it.is_viable) its
+
+  pub agrees_within : AgreesWithin classes w
+  agrees_within = record { granted = granted_of_class; chosen = chosen_of_class }
+
+-- ---- what no report takes back
+
+-- its host is of this class, where it is a viable success
+abbrev IsViablyAlike : List HostClass → ℕ → Instance → Type 0
+IsViablyAlike classes class i = is_viable i ≡ true → IfSome i.host (λ host. class_of classes host ≡ class)
+
+-- each viable success is of a host of the workunit's class
+abbrev pub ViablyAlike : List HostClass → Workunit → Type 0
+ViablyAlike classes w = All (IsViablyAlike classes w.class) w.instances
+
+-- so it is where the active instances are
+pub viably_alike : (classes : List HostClass) (w : Workunit) → IsOneClass classes w → ViablyAlike classes w
+viably_alike classes w alike =
+    All-weaker (IsAlike classes w.class) (IsViablyAlike classes w.class) (λ i so viable. so (viable_active i viable)) w.instances alike
+
+-- what holds of each with one changed holds of each where it holds of that one as it was
+all_unset : (P : Instance → Type 0) (xs : List Instance) (n : ℕ) (i j : Instance) → slice_get xs n ≡ Some i → P i → All P (slice_set xs n j) → All P xs
+all_unset P [] n i j here it all = All-nil P
+all_unset P (x ∷ xs) zero i j here it all = let same : x ≡ i = cc in All-cons P x xs (subst P (sym same) it) (All-tail P j xs all)
+all_unset P (x ∷ xs) (suc n) i j here it all =
+    All-cons P x xs (All-head P x (slice_set xs n j) all) (all_unset P xs n i j here it (All-tail P x (slice_set xs n j) all))
+
+-- what may be reported is no success
+awaited_no_success : (host : List ℕ) (moment : ℕ) (i : Instance) → report_verdict_of host moment i ≡ report.Applied → is_success i ≡ true → ⊥
+awaited_no_success host moment i e success =
+    let over = over_is i.server_state (and_left (is_over_state i.server_state) (is_success_outcome i.outcome) success) in
+    let none : is_success_outcome i.outcome ≡ false = ap is_success_outcome ((may_be_reported host moment i e).awaited over) in
+    let both : true ≡ false = sym (and_right (is_over_state i.server_state) (is_success_outcome i.outcome) success) ∙ none in
+    cc
+
+module _ (classes : List HostClass) (w : Workunit) (n : ℕ) (host : List ℕ) (moment : ℕ) (said : Status) (output : List ℕ)
+    (applied : report_verdict_in w n host moment ≡ report.Applied) (after : ViablyAlike classes (reported_in w n moment said output)) where
+  -- where the viable successes are alike after a report they were before
+  pub alike_before : ViablyAlike classes w
+  alike_before = by (slice_get w.instances n) refl applied after
+    where
+      by : (o : Option Instance) → slice_get w.instances n ≡ o → option_map_or (report_verdict_of host moment) o report.Unknown ≡ report.Applied
+          → ViablyAlike classes (option_map_or (λ instance. with_instance_set w n (reported_as moment said output instance)) o w) → ViablyAlike classes w
+      by None here e all = all
+      by (Some i) here e all =
+          all_unset (IsViablyAlike classes w.class) w.instances n i (reported_as moment said output i) here
+          (λ viable. absurd (awaited_no_success host moment i e (and_left (is_success i) (is_open_verdict i.validate_state) viable))) all
+
+  -- and a success that was told is of a host of the class
+  pub told_of_class : said ≡ status.Success → class_of classes host ≡ w.class
+  told_of_class is = by (slice_get w.instances n) refl applied after
+    where
+      by : (o : Option Instance) → slice_get w.instances n ≡ o → option_map_or (report_verdict_of host moment) o report.Unknown ≡ report.Applied
+          → ViablyAlike classes (option_map_or (λ instance. with_instance_set w n (reported_as moment said output instance)) o w) → class_of classes host ≡ w.class
+      by None here e all = absurd (cc)
+      by (Some i) here e all =
+          let j = reported_as moment said output i in
+          let viable = ap (λ s. is_success_outcome (outcome_of s) && true) is in
+          let its = (may_be_reported host moment i e).its in
+          subst (λ o. IfSome o (λ h. class_of classes h ≡ w.class)) its
+          (holds_at (IsViablyAlike classes w.class) (slice_set w.instances n j) n j all (set_here w.instances n i j here) viable)

@@ -239,7 +239,7 @@ pub becomes_given_up : (i : Instance) → Becomes false i (given_up i)
 becomes_given_up i = becomes_either false (is_viable i) i _ (closed i) (becomes_judged i validate.NoCheck) (λ e. becomes_closed i)
 
 -- what is judged is viable
-judged_is_viable : (undecided : Bool) (i : Instance) → is_judged_where undecided i ≡ true → is_viable i ≡ true
+pub judged_is_viable : (undecided : Bool) (i : Instance) → is_judged_where undecided i ≡ true → is_viable i ≡ true
 judged_is_viable true i e = e
 judged_is_viable false i e = new_is_viable i e
 

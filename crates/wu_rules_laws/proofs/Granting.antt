@@ -119,7 +119,7 @@ consensus-rehosted hosts w =
 -- ---- grants
 
 -- what holds of each that is kept of the elements holds of all
-kept_all : {A B : Type 0} (P : B → Type 0) (h : ℕ → A → Option B) (s : ℕ) (xs : List A) → ((k : ℕ) (x : A) (b : B) → slice_get xs k ≡ Some x → h (s + k) x ≡ Some b → P b) → AllByRecursion P (filter_map (λ p. h p.0 p.1) (enumerate_from s xs))
+pub kept_all : {A B : Type 0} (P : B → Type 0) (h : ℕ → A → Option B) (s : ℕ) (xs : List A) → ((k : ℕ) (x : A) (b : B) → slice_get xs k ≡ Some x → h (s + k) x ≡ Some b → P b) → AllByRecursion P (filter_map (λ p. h p.0 p.1) (enumerate_from s xs))
 kept_all P h s [] each = tt
 kept_all {A} {B} P h s (x ∷ xs) each = by_case (h s x) refl (kept_all P h (s + 1) xs (λ k y b here given. each (suc k) y b here ((let e : s + suc k ≡ s + 1 + k = omega arith in ap (λ m. h m y) e) ∙ given)))
   where

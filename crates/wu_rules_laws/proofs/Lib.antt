@@ -1,4 +1,4 @@
-mod Alike
+pub mod Alike
 pub mod Awake
 mod Becoming
 mod Changed

@@ -1,5 +1,5 @@
 -- Each rule keeps a workunit consistent, and no final verdict changes.
-use Rattle.std.specs.Prelude.{◌≡◌, ◌↔◌, ℕ, true, List, [], option_to_list, slice_get, IsSomeAnd}
+use Rattle.std.specs.Prelude.{◌≡◌, ◌↔◌, ℕ, true, false, All, List, [], None, Some, option_to_list, slice_get, IsSomeAnd}
 use Rattle.wu_core.specs.declared.workunit.Workunit.{Workunit}
 use Rattle.wu_core.specs.declared.workunit.HostClass.{HostClass}
 use Rattle.wu_core.specs.declared.states.Status.{Status}
@@ -10,13 +10,13 @@ use Rattle.wu_rules.specs.declared.verdicts.ReportVerdict.TheVariants as report
 use Rattle.wu_rules.specs.declared.verdicts.SendVerdict.TheVariants as send
 use Rattle.wu_rules.specs.Assimilation.{assimilated, archived, emptied}
 use Rattle.wu_rules.specs.Cancelling.{cancelled}
-use Rattle.wu_rules.specs.Counts.{is_undecided}
+use Rattle.wu_rules.specs.Counts.{has_active, is_undecided}
 use Rattle.wu_rules.specs.Instances.{is_in_progress}
 use Rattle.wu_rules.specs.Reporting.{report_verdict_in, reported_in}
 use Rattle.wu_rules.specs.Sending.{send_verdict_in, sent_in}
 use Rattle.wu_rules.specs.Transition.{transitioned}
 use Rattle.wu_rules.specs.Validation.{validated, grants}
-use Rattle.wu_rules.specs.Consistent.{IsConsistent, IsOneClass, KeepsVerdicts, Rewrites}
+use Rattle.wu_rules.specs.Consistent.{IsConsistent, IsOneClass, KeepsVerdicts, Rewrites, instance_host}
 
 -- each rule rewrites, a cancel where the workunit is undecided, a send and a report where they are applied
 pub record RulesRewrite (w : Workunit) : Type 0 where
@@ -48,8 +48,8 @@ pub record RulesKeepVerdicts (w : Workunit) : Type 0 where
 abbrev pub KeepsAllVerdicts : Type 0
 KeepsAllVerdicts = (w : Workunit) → RulesKeepVerdicts w
 
--- Where the active instances of a workunit are of one class, and hosts keep their classes, each rule leaves it so: a send
--- does that tells the class of its host, and a report, but for a success from a host of another class than the
+-- Where the active instances of a workunit are of one class, and hosts keep their classes, each rule leaves it so: a
+-- send does that tells the class of its host, and a report, but for a success from a host of another class than the
 -- workunit's. The host of an instance that is in progress is of that class.
 pub record RulesKeepOneClass (classes : List HostClass) (w : Workunit) : Type 0 where
   pub transitioned : (now : ℕ) → IsOneClass classes (transitioned w now)
@@ -67,6 +67,22 @@ pub record RulesKeepOneClass (classes : List HostClass) (w : Workunit) : Type 0 
 
 abbrev pub KeepsOneClass : Type 0
 KeepsOneClass = (classes : List HostClass) (w : Workunit) → IsOneClass classes w → RulesKeepOneClass classes w
+
+-- a workunit that has no active instance is of one class, whatever classes hosts have
+abbrev pub IdleIsOneClass : Type 0
+IdleIsOneClass =
+    (classes : List HostClass) (w : Workunit) → has_active w ≡ false → IsOneClass classes w
+
+-- Where the active instances of a workunit are of one class, so is what agreed: each host that the validator grants
+-- credit to is of the workunit's class, and the host of the result that it chooses.
+pub record AgreesWithin (classes : List HostClass) (w : Workunit) : Type 0 where
+  pub granted : All (λ grant. class_of classes grant.host ≡ w.class) (grants w)
+  pub chosen : (n : ℕ) (host : List ℕ) → w.canonical ≡ None → (validated w).canonical ≡ Some n
+      → instance_host (validated w).instances n ≡ Some host → class_of classes host ≡ w.class
+
+abbrev pub AgreesWithinOneClass : Type 0
+AgreesWithinOneClass =
+    (classes : List HostClass) (w : Workunit) → IsOneClass classes w → AgreesWithin classes w
 
 -- what is decided or given up has nothing to send: a send is applied of an undecided workunit alone
 abbrev pub SendsWhatIsUndecided : Type 0

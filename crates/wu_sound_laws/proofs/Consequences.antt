@@ -1,17 +1,16 @@
 -- What follows from soundness: grants are placed, views can be read, and beginnings of lists and lives stay sound.
-use Rattle.std.proofs.Common.{◌≡◌, ℕ, ◌<◌, ◌≤◌, Bool, true, false, List, [], ◌∷◌, ◌++◌, map, length, take, slice_get, Option, Some, None, refl, sym, subst, inl, inr, arith, cond}
+use Rattle.std.proofs.Common.{◌≡◌, ℕ, Bool, true, false, List, [], ◌∷◌, ◌++◌, map, take, slice_get, None, subst, inl, inr, arith, cond}
 use Rattle.std.proofs.lemmas.List.Elements.{All-append, All-from_recursion, All-map, All-take, recursion_from_All}
 use Rattle.std.proofs.lemmas.Option.{slice_get_cases}
 use Rattle.std.specs.List.{All, AllByRecursion}
 use Rattle.std.specs.Prelude.{option_map, option_to_list}
-use Rattle.wu_core.specs.Limits.{most_credit, most_instances, most_workunits}
 use Rattle.wu_core.specs.World.{World}
 use Rattle.wu_core.specs.Storable.{IsName}
 use Rattle.wu_machine.specs.declared.command.Command.{Command}
 use Rattle.wu_machine.specs.Machine.{fold_steps, HasValues, present_version}
 use Rattle.wu_machine.specs.Commands.{request_of}
 use Rattle.wu_machine.specs.Requests.{Request}
-use Rattle.wu_machine.specs.Sessions.{Lived, Session, accepted, world_lived, world_of_life}
+use Rattle.wu_machine.specs.Sessions.{Lived, accepted, world_lived, world_of_life}
 use Rattle.wu_machine.specs.Sound.{IsSound}
 use Rattle.wu_machine_laws.proofs.SoundSteps.{sound_steps}
 use Rattle.wu_report.specs.Views.{CanBeShown}

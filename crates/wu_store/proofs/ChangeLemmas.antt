@@ -5,7 +5,7 @@ use Rattle.sqlite.specs.Store.{Ghosts}
 use Rattle.sqlite.specs.declared.transaction.Transaction.{Transaction}
 use Rattle.wu_schema.specs.Calls.{StatementFrame, TransactionFrame}
 use Rattle.wu_schema.proofs.CallLemmas.{part_then}
-use Rattle.wu_store.specs.Changes.{HasInstances, IsNextPlace, PutsGrant, with_archived, with_import, with_instance, with_next, with_version}
+use Rattle.wu_store.specs.Changes.{HasInstances, IsNextPlace, PutsGrants, with_archived, with_import, with_instance, with_next, with_version}
 use Rattle.std.specs.Prelude.{FitsSigned}
 use Rattle.std.proofs.lemmas.Int.{fits_signed_from_abs}
 use Rattle.sqlite.specs.Values as values
@@ -17,10 +17,10 @@ use Rattle.wu_store.proofs.UpdateEffect.{updates_project, sets_next, sets_versio
 use Rattle.wu_schema.specs.Classes.{HasClassTables, unbound_in}
 use Rattle.wu_schema.specs.Tables.{IsClassedVersion}
 use Rattle.wu_schema.proofs.ClassLemmas.{stands_with_classes}
-use Rattle.wu_schema.proofs.StandsLemmas.{is_there}
+use Rattle.wu_schema.proofs.StandsLemmas.{but_one, is_there, lists_still}
 use Rattle.wu_store.proofs.StandsWith.{stands_with_import, stands_with_next}
 use Rattle.wu_store.proofs.PlacedLemmas.{stands_with_instance}
-use Rattle.wu_store.proofs.ListedLemmas.{stands_with_archived}
+use Rattle.wu_store.proofs.ListedLemmas.{listed_next, stands_with_archived}
 
 pub cast_number : (n : ℕ) → cast Integer (number n) ≡ number n
 cast_number n = cast_int (pos n)
@@ -73,9 +73,15 @@ bound_text now (Some b) t is = rw (← is) refl
 grant_kept : (tree place : ℕ) (g : Grant) → map (λ s. cast_row (grant_at tree) s) (value_rows (number place ∷ grant_cells g) 6 1 grant_put.terms) ≡ stored_grant (place, g) ∷ []
 grant_kept tree place g = simp (cast_null, cast_number)
 
-pub puts_grant : (old new : State) (place : ℕ) (g : Grant) (count : ℕ) → Executes grant_put.text (number place ∷ grant_cells g) old new (Ok count) → PutsGrant place g old.now new.now
-puts_grant old new place g count h version t has =
-    puts_one (codes "credit_grant") grant_at grant_put grant_fits (number place ∷ grant_cells g) old new has.grant.0 t.grant has.grant.1 (stored_grant (place, g)) (stored_grant (place, g)) (grant_kept t.grant place g) refl count h
+pub puts_grant : (old new : State) (place : ℕ) (g : Grant) (count : ℕ) → Executes grant_put.text (number place ∷ grant_cells g) old new (Ok count) → PutsGrants place (g ∷ []) old.now new.now
+puts_grant old new place g count h version t has sound =
+    let put = puts_one (codes "credit_grant") grant_at grant_put grant_fits (number place ∷ grant_cells g) old new has.grant.0 t.grant has.grant.1 (stored_grant (place, g)) (stored_grant (place, g)) (grant_kept t.grant place g) refl count h in
+    record {
+      schema = put.schema;
+      rows = λ grants next lists. lists_still put.rows (listed_next grant_cells (old.now.trees t.grant) grants place g next lists);
+      others = but_one old.now new.now t.grant (stored_grant (place, g)) put;
+      sound = put.sound;
+    }
 
 module _ (old new : State) (world : World) (s : Refines old.now world) where
   pub put_workunit : (w : Workunit) (count : ℕ) → Executes workunit_put.text (workunit_row w) old new (Ok count) → PutsOne old.now new.now s.trees.workunit (stored_workunit w)

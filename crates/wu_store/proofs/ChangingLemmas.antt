@@ -5,8 +5,9 @@ use Rattle.wu_core.specs.declared.workunit.Archived.{Archived}
 use Rattle.wu_core.specs.declared.workunit.Grant.{Grant}
 use Rattle.sqlite.specs.Effect.{Database}
 use Rattle.wu_core.specs.World.{World}
-use Rattle.wu_store.specs.Changes.{IsNextPlace, with_archived, with_grant}
-use Rattle.wu_store.specs.Changing.{archived_from, granted_from, AreRight, IsRight, made, made_all, MakesWorlds}
+use Rattle.wu_store.specs.Changes.{IsNextPlace, with_archived}
+use Rattle.wu_store.specs.Sums.{AreSums}
+use Rattle.wu_store.specs.Changing.{archived_from, AreRight, IsRight, KeepsGrants, made, made_all, MakesWorlds}
 use Rattle.wu_store.specs.declared.changes.Change.{Change}
 
 made_more : (changes : List Change) (change : Change) (world : World) → made_all (changes ++ change ∷ []) world ≡ made change (made_all changes world)
@@ -30,13 +31,13 @@ makes_more changes i change d a b c there low one two = subst (λ xs. MakesWorld
 next_place : {X : Type 0} (place : ℕ) (xs : List X) (x : X) → IsNextPlace place xs → IsNextPlace (place + 1) (xs ++ x ∷ [])
 next_place place xs x next = omega (arith, next, length-append xs (x ∷ []))
 
-pub grants_right : (place : ℕ) (grants : List Grant) (world : World) → IsNextPlace place world.grants → AreRight (granted_from place grants) world
-grants_right place [] world next = tt
-grants_right place (g ∷ grants) world next = (next, grants_right (place + 1) grants (with_grant g world) (next_place place world.grants g next))
+pub grants_right : (grants : List Grant) (changes : List Change) (world : World) → KeepsGrants world.grants grants changes → AreRight changes world
+grants_right [] changes world none = subst (λ cs. AreRight cs world) (sym none) tt
+grants_right (g ∷ grants) changes world (place, next, it) = subst (λ cs. AreRight cs world) (sym it.one) ((next, subst (AreSums it.sums.items) (sym it.are) it.summed), tt)
 
-pub grants_made : (place : ℕ) (grants : List Grant) (world : World) → made_all (granted_from place grants) world ≡ record world { grants = world.grants ++ grants }
-grants_made place [] world = λ i. record world { grants = sym (append-nil world.grants) i }
-grants_made place (g ∷ grants) world = grants_made (place + 1) grants (with_grant g world) ∙ (λ i. record world { grants = append_assoc world.grants (g ∷ []) grants i })
+pub grants_made : (before grants : List Grant) (changes : List Change) (world : World) → KeepsGrants before grants changes → made_all changes world ≡ record world { grants = world.grants ++ grants }
+grants_made before [] changes world none = ap (λ cs. made_all cs world) none ∙ (λ i. record world { grants = sym (append-nil world.grants) i })
+grants_made before (g ∷ grants) changes world (place, next, it) = ap (λ cs. made_all cs world) it.one ∙ (λ i. record world { grants = world.grants ++ it.are i })
 
 pub archived_right : (place : ℕ) (rows : List Archived) (world : World) → IsNextPlace place world.archived → AreRight (archived_from place rows) world
 archived_right place [] world next = tt

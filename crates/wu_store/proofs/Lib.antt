@@ -12,6 +12,8 @@ pub mod LastLemmas
 pub mod PlacedLemmas
 pub mod ListedLemmas
 pub mod SumLemmas
+pub mod HostNames
+pub mod GrantSums
 pub mod CreditEffect
 pub mod StandsWith
 pub mod SameWorld

@@ -1,22 +1,21 @@
 -- What the statements that change a project do to the queue.
-use Rattle.wu_schema.proofs.Words.{Enforced, Has, HasTables, IsCalm, Schema, archived_cells, import_cells, instance_cells, subst, workunit_row, Archived, Binary, Bool, Database, Equal, Executes, Greater, Grant, Import, Instance, Int, IsShaped-put_row, Less, List, ListsAll, Null, Ok, Ordering, PutsOne, Refines, Row, State, Term, Workunit, World, [], ap, cast_row, codes, column, equal, false, if◌then◌else◌, map, number, pos, put_row, refl, sym, true, value_rows, ℕ, ◌==◌, ◌∙◌, ◌∷◌, ◌≡◌}
+use Rattle.wu_schema.proofs.Words.{archived_cells, import_cells, instance_cells, workunit_row, Archived, Binary, Bool, Equal, Executes, Greater, Import, Instance, Int, IsShaped-put_row, Less, List, ListsAll, Null, Ok, Ordering, PutsOne, Refines, Row, State, Term, Workunit, World, [], ap, cast_row, codes, column, equal, false, if◌then◌else◌, map, number, pos, put_row, refl, sym, true, value_rows, ℕ, ◌==◌, ◌∙◌, ◌∷◌, ◌≡◌}
 use Rattle.std.specs.Ordering.{nat_cmp, match_ordering}
 use Rattle.wu_core.specs.declared.marks.Marks.{Marks}
 use Rattle.wu_schema.specs.Queue.{HasQueue}
 use Rattle.wu_schema.specs.Stored.{flag, marks_cells, stored_marks}
 use Rattle.wu_schema.specs.Tables.{queue_at}
 use Rattle.wu_schema.proofs.InsertEffect.{cast_null, puts_one}
-use Rattle.wu_schema.proofs.Parts.{Project, Workunits, Instances, Grants, Hosts, Archive, Imports}
-use Rattle.wu_schema.proofs.QueueLemmas.{queue_apart, queue_beside, queue_calm, queue_child, queue_has, queue_listed, queue_still, rows_beside, world_beside}
-use Rattle.wu_schema.proofs.StandsLemmas.{holds_still, is_there, lists_left, lists_still}
-use Rattle.wu_store.specs.Changes.{Credits, PutsGrant}
-use Rattle.wu_store.specs.Queues.{KeepsQueue, at_place, with_marks, without_marks}
+use Rattle.wu_schema.proofs.Parts.{Project, Workunits, Instances, Archive, Imports}
+use Rattle.wu_schema.proofs.QueueLemmas.{queue_apart, queue_beside, queue_calm, queue_child, queue_has, queue_listed, queue_still, world_beside}
+use Rattle.wu_schema.proofs.StandsLemmas.{is_there, lists_left, lists_still}
+use Rattle.wu_store.specs.Queues.{at_place, with_marks, without_marks}
 use Rattle.wu_store.proofs.ChangeLemmas.{cast_number, cast_number_or_null, put_archived, put_import, put_instance, put_workunit}
 use Rattle.wu_store.proofs.DeleteEffect.{children_go, cuts}
 use Rattle.wu_store.proofs.DeleteTexts.{delete_text}
 use Rattle.wu_store.proofs.EqualLemmas.{number_equal}
 use Rattle.wu_store.proofs.InsertTexts.{archived_put, import_put, instance_put, queue_put, queue_fits, workunit_put}
-use Rattle.wu_store.proofs.PlacedLemmas.{keeps_put, numbers_compare}
+use Rattle.wu_store.proofs.PlacedLemmas.{numbers_compare}
 use Rattle.wu_store.proofs.UpdateEffect.{updates_project}
 use Rattle.wu_store.proofs.UpdateLemmas.{SetsColumn}
 
@@ -89,14 +88,3 @@ module _ (old new : State) (world : World) (s : Refines old.now world) (marked :
       let gone = children_go old.now new.now s.trees.workunit s.tables.workunit (pos n) cut s.rows.workunits.shaped (queue_at q.tree) 0 (queue_child old.now world s marked q) q.rows.shaped in
       queue_has old.now new.now marked (without_marks n marked) q cut.schema
       (lists_still gone (lists_left stored_marks (λ r. equal Binary (column r 0) (number n)) (λ (p : ℕ × Marks). p.0 == n) (old.now.trees q.tree) marked (λ p. number_equal p.0 n) q.rows))
-
--- a grant, and then its host
-pub grant_leaves : (old mid new : Database) (place : ℕ) (g : Grant) → PutsGrant place g old mid → Credits g mid new → KeepsQueue old new
-grant_leaves old mid new place g puts credits world marked s q =
-    let t = s.trees in
-    let put = puts world.version t s.tables in
-    let first = keeps_put old mid world s Grants _ tt put in
-    let it = credits world.version t world.grants (subst (λ (x : Schema). HasTables world.version x t) (sym put.schema) s.tables) put.sound (holds_still (first Hosts tt refl) s.rows.hosts) in
-    let listed = subst (λ (x : Schema). Has x.tables (queue_at q.tree)) (sym put.schema) (queue_listed old world s marked q) in
-    let calm = subst (λ (x : Schema). IsCalm x Enforced (queue_at q.tree) t.host) (sym put.schema) (queue_calm old world s marked q Hosts tt refl) in
-    queue_still old new marked q (it.schema ∙ put.schema) (it.others (queue_at q.tree) listed (λ same. queue_apart old world s marked q Hosts tt (sym same)) calm ∙ rows_beside old world s marked q mid Grants tt _ put)

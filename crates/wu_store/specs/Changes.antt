@@ -1,11 +1,13 @@
 -- What each change makes of a world.
 use Rattle.std.specs.Prelude.{◌≡◌, ◌≢◌, ℕ, ◌+◌, ◌==◌, true, false, not, List, [], ◌∷◌, ◌++◌, length, map, filter, find, take, drop, suc, slice_get, slice_set, Option, Some, option_map, ◌<◌, ◌≤◌, if◌then◌else◌}
-use Rattle.std.specs.List.{list_any}
+use Rattle.std.specs.List.{enumerate_from, list_any}
 use Rattle.std.specs.Ordering.{nat_cmp, match_ordering}
 use Rattle.sqlite.specs.Order.{Row}
 use Rattle.sqlite.specs.Table.{Table}
 use Rattle.sqlite_schema.specs.declared.schema.Keys.TheVariants.{Enforced}
 use Rattle.sqlite_rules.specs.Lists.{Has}
+use Rattle.sqlite_trees.specs.View.{IsShaped}
+use Rattle.sqlite_trees.specs.declared.store.Shape.TheVariants as shape
 use Rattle.sqlite.specs.Effect.{Database, IsDatabase}
 use Rattle.wu_core.specs.declared.workunit.Archived.{Archived}
 use Rattle.wu_core.specs.declared.workunit.Grant.{Grant}
@@ -15,13 +17,14 @@ use Rattle.wu_core.specs.Hosts.{hosts_of}
 use Rattle.wu_core.specs.World.{World, Import}
 use Rattle.wu_schema.specs.Stored.{stored_grant}
 use Rattle.wu_schema.specs.Tables.{ProjectTrees, HasTables}
-use Rattle.wu_schema.specs.Refines.{Refines, HoldsAll, host_of}
+use Rattle.wu_schema.specs.Refines.{Refines, HoldsAll, ListsAll, host_of}
 use Rattle.wu_schema.specs.Queue.{HasQueue}
 use Rattle.wu_store.specs.Answers.{numbered}
 use Rattle.wu_store.specs.StandsFor.{KnowsClasses, StandsFor, marked as marks_in}
 use Rattle.wu_core.specs.declared.marks.Marks.{Marks}
-use Rattle.wu_schema.specs.Made.{PutsOne}
 use Rattle.wu_schema.specs.Calm.{IsCalm}
+use Rattle.wu_store.specs.Sums.{AreSums}
+use Rattle.wu_store.specs.declared.changes.HostSum.{HostSum}
 
 -- of this version of the schema
 abbrev pub with_version : ℕ → World → World
@@ -188,9 +191,9 @@ LeavesQueue w old new =
     (world : World) (marked : List (ℕ × Marks)) → LacksNumber w.number world.workunits → Refines old (with_placed (without_instances w) world)
     → HasQueue old marked → HasQueue new marked
 
--- with a grant more
-abbrev pub with_grant : Grant → World → World
-with_grant g world = record world { grants = world.grants ++ g ∷ [] }
+-- with these grants behind its own
+abbrev pub with_grants : List Grant → World → World
+with_grants grants world = record world { grants = world.grants ++ grants }
 
 -- with an archived row more
 abbrev pub with_archived : Archived → World → World
@@ -214,9 +217,10 @@ abbrev pub Upgrades : ℕ → List (ℕ × Marks) → Database → Database → 
 Upgrades from rows old new =
     (world : World) → from ≡ world.version → ¬ KnowsClasses world → StandsFor old world → rows ≡ marks_in world → StandsFor new (with_version 3 world)
 
--- the grant is added, where its place is the next one of the world's grants
-abbrev pub AddsGrant : ℕ → Grant → Database → Database → Type 0
-AddsGrant place g old new = (world : World) → Refines old world → IsNextPlace place world.grants → Refines new (with_grant g world)
+-- the grants are added, where the place is the next one of the world's grants and the sums are theirs
+abbrev pub AddsGrants : ℕ → List Grant → List HostSum → Database → Database → Type 0
+AddsGrants place grants sums old new =
+    (world : World) → Refines old world → IsNextPlace place world.grants → AreSums sums grants → Refines new (with_grants grants world)
 
 -- the archived row is added, where its place is the next one of the world's archived rows
 abbrev pub AddsArchived : ℕ → Archived → Database → Database → Type 0
@@ -230,22 +234,36 @@ with_import import world = record world { imports = world.imports ++ import ∷ 
 abbrev pub with_next : ℕ → World → World
 with_next next world = record world { next_number = next }
 
+-- a list of grants' rows has these grants, at places from 1 on
+abbrev pub ListsGrants : List Row → List Grant → Type 0
+ListsGrants rows grants = ListsAll rows (map stored_grant (enumerate_from 1 grants))
+
 -- a list of hosts' rows has what these grants give
 abbrev pub HoldsHosts : List Row → List Grant → Type 0
 HoldsHosts rows grants = HoldsAll rows (map (host_of grants) (hosts_of grants))
 
--- the row of a grant is put at its place
-abbrev pub PutsGrant : ℕ → Grant → Database → Database → Type 0
-PutsGrant place g old new = (version : ℕ) (t : ProjectTrees) → HasTables version old.schema t → PutsOne old new t.grant (stored_grant (place, g))
-
--- a grant's host has its credit and one grant more, and each table that no action leads to is as it was
-pub record IsCredited (g : Grant) (t : ProjectTrees) (grants : List Grant) (old new : Database) : Type 0 where
+-- the rows of these grants are behind those that were there, where the place is the next one, and each other table is
+-- as it was
+pub record HasListed (place : ℕ) (more : List Grant) (t : ProjectTrees) (old new : Database) : Type 0 where
   pub schema : new.schema ≡ old.schema
-  pub hosts : HoldsHosts (new.trees t.host) (grants ++ g ∷ [])
+  pub rows : (grants : List Grant) → IsNextPlace place grants → ListsGrants (old.trees t.grant) grants → ListsGrants (new.trees t.grant) (grants ++ more)
+  pub others : (u : Table) → Has old.schema.tables u → u.tree ≢ t.grant → new.trees u.tree ≡ old.trees u.tree
+  pub sound : IsDatabase new
+
+-- the rows of grants are put at places in a row, from this one on; their hosts wait
+abbrev pub PutsGrants : ℕ → List Grant → Database → Database → Type 0
+PutsGrants place more old new = (version : ℕ) (t : ProjectTrees) → HasTables version old.schema t → IsDatabase old → HasListed place more t old new
+
+-- whatever grants the rows of hosts stood for, they stand for these and any more whose sums these are, and each table
+-- that no action leads to is as it was
+pub record HasCredited (sums : List HostSum) (t : ProjectTrees) (old new : Database) : Type 0 where
+  pub schema : new.schema ≡ old.schema
+  pub hosts : (grants more : List Grant) → AreSums sums more → HoldsHosts (old.trees t.host) grants → HoldsHosts (new.trees t.host) (grants ++ more)
+  pub shaped : IsShaped shape.Table (new.trees t.host)
   pub others : (u : Table) → Has old.schema.tables u → u.tree ≢ t.host → IsCalm old.schema Enforced u t.host → new.trees u.tree ≡ old.trees u.tree
   pub sound : IsDatabase new
 
--- whatever grants the rows of hosts stood for
-abbrev pub Credits : Grant → Database → Database → Type 0
-Credits g old new =
-    (version : ℕ) (t : ProjectTrees) (grants : List Grant) → HasTables version old.schema t → IsDatabase old → HoldsHosts (old.trees t.host) grants → IsCredited g t grants old new
+-- these sums are added to those of their hosts
+abbrev pub Credits : List HostSum → Database → Database → Type 0
+Credits sums old new =
+    (version : ℕ) (t : ProjectTrees) → HasTables version old.schema t → IsDatabase old → IsShaped shape.Table (old.trees t.host) → HasCredited sums t old new

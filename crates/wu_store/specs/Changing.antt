@@ -1,17 +1,20 @@
 -- What the changes of a command make of a world, and of the tables that stand for it.
-use Rattle.std.specs.Prelude.{◌≡◌, ℕ, List, [], ◌∷◌, map, Some, ⊤}
+use Rattle.std.specs.Prelude.{◌≡◌, ℕ, List, [], ◌∷◌, map, Some, Vec, ⊤}
 use Rattle.std.specs.List.{enumerate_from}
+use Rattle.std.specs.declared.alloc.Global.{Global}
 use Rattle.sqlite.specs.Effect.{Database}
 use Rattle.wu_core.specs.declared.workunit.Archived.{Archived}
 use Rattle.wu_core.specs.declared.workunit.Grant.{Grant}
 use Rattle.wu_core.specs.World.{World, Import}
-use Rattle.wu_store.specs.Changes.{with_workunit, with_replaced, without_workunit, with_grant, with_archived, with_import, with_next, with_version, IsNextPlace}
+use Rattle.wu_store.specs.Changes.{with_workunit, with_replaced, without_workunit, with_grants, with_archived, with_import, with_next, with_version, IsNextPlace}
 use Rattle.wu_core.specs.Storable.{IsAbove}
 use Rattle.wu_store.specs.Answers.{numbered}
 use Rattle.wu_store.specs.Classes.{with_host_class}
 use Rattle.wu_store.specs.StandsFor.{KnowsClasses, StandsFor, marked}
 use Rattle.wu_store.specs.declared.changes.Change.{Change}
-use Rattle.wu_store.specs.declared.changes.Change.TheVariants.{Add, Replace, Remove, Granted, Archive, Next, Keep, Class, Upgrade}
+use Rattle.wu_store.specs.declared.changes.Change.TheVariants.{Add, Replace, Remove, Grants, Archive, Next, Keep, Class, Upgrade}
+use Rattle.wu_store.specs.Sums.{AreSums}
+use Rattle.wu_store.specs.declared.changes.HostSum.{HostSum}
 use Rattle.wu_store.specs.declared.changes.Import.{Import as Kept}
 
 -- an import as it is kept
@@ -30,7 +33,7 @@ abbrev pub made : Change → World → World
 made (Add w) world = with_workunit w world
 made (Replace was w) world = with_replaced w world
 made (Remove number) world = without_workunit number world
-made (Granted _ g) world = with_grant g world
+made (Grants _ grants _) world = with_grants grants.items world
 made (Archive _ a) world = with_archived a world
 made (Next number) world = with_next number world
 made (Keep kept) world = with_import (import_of_change kept) world
@@ -43,13 +46,14 @@ made_all [] world = world
 made_all (change ∷ more) world = made_all more (made change world)
 
 -- a workunit that is added has a number above all, one that takes a place has that of the present one that it is said to
--- take it from, each in a world with classes, and so a class is set; a grant and an archived row have the next place of
--- their list; an upgrade is of a world of that version without classes, and has the marks of all workunits
+-- take it from, each in a world with classes, and so a class is set; grants and an archived row have the next place of
+-- their list, and grants their sums; an upgrade is of a world of that version without classes, and has the marks of all
+-- workunits
 abbrev pub IsRight : Change → World → Type 0
 IsRight (Add w) world = KnowsClasses world × IsAbove w.number world.workunits
 IsRight (Replace was w) world = KnowsClasses world × (numbered w.number world ≡ Some was)
 IsRight (Remove number) world = ⊤
-IsRight (Granted place g) world = IsNextPlace place world.grants
+IsRight (Grants place grants sums) world = IsNextPlace place world.grants × AreSums sums.items grants.items
 IsRight (Archive place a) world = IsNextPlace place world.archived
 IsRight (Next number) world = ⊤
 IsRight (Keep kept) world = ⊤
@@ -60,9 +64,18 @@ abbrev pub AreRight : List Change → World → Type 0
 AreRight [] world = ⊤
 AreRight (change ∷ more) world = IsRight change world × AreRight more (made change world)
 
--- these grants at places in a row, from this one on
-abbrev pub granted_from : ℕ → List Grant → List Change
-granted_from place grants = map (λ (p : ℕ × Grant). Granted p.0 p.1) (enumerate_from place grants)
+-- one change, which keeps these grants at places in a row from this one on, with their sums
+pub record KeepsFrom (place : ℕ) (grants : List Grant) (changes : List Change) : Type 0 where
+  pub kept : Vec Grant Global
+  pub sums : Vec HostSum Global
+  pub are : kept.items ≡ grants
+  pub summed : AreSums sums.items grants
+  pub one : changes ≡ Grants place kept sums ∷ []
+
+-- no change where there are no grants, else that one, from the place behind these on
+abbrev pub KeepsGrants : List Grant → List Grant → List Change → Type 0
+KeepsGrants before [] changes = changes ≡ []
+KeepsGrants before (g ∷ grants) changes = (place : ℕ) × IsNextPlace place before × KeepsFrom place (g ∷ grants) changes
 
 -- these archived rows at places in a row
 abbrev pub archived_from : ℕ → List Archived → List Change

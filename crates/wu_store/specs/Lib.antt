@@ -1,6 +1,7 @@
 pub mod Verdicts
 pub mod Reading
 pub mod Answers
+pub mod Sums
 pub mod Changes
 pub mod Worlds
 pub mod Loading

@@ -4,15 +4,16 @@ ghost use Rattle.std.specs.Prelude.{◌≡◌, [], ◌∷◌, option_map, Some};
 ghost use Rattle.wu_core.specs.Storable.{bare};
 ghost use Rattle.wu_rules.specs.Marks.{marks};
 ghost use Rattle.wu_schema.specs.Calls.{StatementFrame, TransactionFrame, Does};
-ghost use Rattle.wu_store.specs.Changes.{AddsInstances, FillsQueue, LeavesQueue, Places, PutsClassOf, PutsInstance, PutsInstances, PutsMarks, PutsRow, Replaces, ReplacesAny, Upgrades, UpgradesQueue};
+ghost use Rattle.wu_store.specs.Changes.{AddsGrants, AddsInstances, Credits, FillsQueue, LeavesQueue, Places, PutsClassOf, PutsGrants, PutsInstance, PutsInstances, PutsMarks, PutsRow, Replaces, ReplacesAny, Upgrades, UpgradesQueue};
 ghost use Rattle.wu_store.specs.Changing.{MakesWorlds};
+ghost use Rattle.wu_store.specs.Queues.{KeepsQueue};
 
 use crate::classes::{put_host_class, set_class, upgrade_classes};
 use crate::differences::{is_same_instance, is_same_marks, is_same_row};
 use crate::sets::{set_instance, set_marks, set_workunit};
 use crate::statements::{
-    delete_workunit, insert_archived, insert_grant, insert_import, insert_instance, insert_marks,
-    insert_workunit, set_next_number,
+    add_sum, delete_workunit, insert_archived, insert_grant, insert_import, insert_instance,
+    insert_marks, insert_workunit, set_next_number,
 };
 use crate::verdicts::Verdicts;
 use sqlite::{Alter, Error, Transaction};
@@ -33,6 +34,16 @@ pub struct Import<'a> {
     pub verdicts: Verdicts,
 }
 
+/// What some grants to one host come to.
+#[derive(Drop)]
+pub struct HostSum {
+    pub name: Name,
+    /// Their credit.
+    pub total: u64,
+    /// How many they are.
+    pub grants: u64,
+}
+
 /// One change of a project's tables.
 pub enum Change<'a> {
     /// A workunit of a new number is added, with its instances.
@@ -41,8 +52,8 @@ pub enum Change<'a> {
     Replace(Workunit, Workunit),
     /// The workunit of this number goes, with its instances.
     Remove(u64),
-    /// A grant is kept at this place of the grants, and added to its host's sums.
-    Granted(u64, Grant),
+    /// Grants are kept at places in a row from this one on, and these sums, which are theirs, are added to their hosts'.
+    Grants(u64, Vec<Grant>, Vec<HostSum>),
     /// What is kept for good of a workunit is kept at this place of the archived rows.
     Archive(u64, Archived),
     /// The number of the next workunit is set.
@@ -65,7 +76,7 @@ impl Drop for Change<'_> {
         match self {
             Change::Add(_workunit) => {}
             Change::Replace(_was, _now) => {}
-            Change::Granted(_seq, _grant) => {}
+            Change::Grants(_place, _grants, _sums) => {}
             Change::Archive(_seq, _archived) => {}
             Change::Remove(_number) | Change::Next(_number) => {}
             Change::Keep(_import) => {}
@@ -262,6 +273,50 @@ fn upgrade<S: Alter>(
     upgrade_classes(tx, rows)
 }
 
+/// Puts the rows of grants at places in a row, from this one on.
+fn insert_grants<S: Alter>(
+    tx: &mut Transaction<'_, S>,
+    place: u64,
+    grants: &[Grant],
+) -> Result<(), Error>
+    ensures works { TransactionFrame S.Store tx.old tx.new result }
+    ensures puts { Does S.Store tx.old tx.new result (PutsGrants place grants.now) }
+{
+    let mut seq = place;
+    for grant in grants {
+        insert_grant(tx, seq, grant)?;
+        seq += 1;
+    }
+    Ok(())
+}
+
+/// Adds each of these sums to those of its host.
+fn add_sums<S: Alter>(tx: &mut Transaction<'_, S>, sums: &[HostSum]) -> Result<(), Error>
+    ensures works { TransactionFrame S.Store tx.old tx.new result }
+    ensures credits { Does S.Store tx.old tx.new result (Credits sums.now) }
+{
+    for sum in sums {
+        add_sum(tx, sum)?;
+    }
+    Ok(())
+}
+
+/// Adds grants at places in a row, from this one on, and these sums to their hosts'. In between the tables stand for no
+/// world.
+fn add_grants<S: Alter>(
+    tx: &mut Transaction<'_, S>,
+    place: u64,
+    grants: &[Grant],
+    sums: &[HostSum],
+) -> Result<(), Error>
+    ensures works { TransactionFrame S.Store tx.old tx.new result }
+    ensures adds { Does S.Store tx.old tx.new result (AddsGrants place grants.now sums.now) }
+    ensures queue { Does S.Store tx.old tx.new result KeepsQueue }
+{
+    insert_grants(tx, place, grants)?;
+    add_sums(tx, sums)
+}
+
 fn make<S: Alter>(tx: &mut Transaction<'_, S>, change: &Change<'_>) -> Result<(), Error>
     ensures works { TransactionFrame S.Store tx.old tx.new result }
     ensures makes { Does S.Store tx.old tx.new result (MakesWorlds (change.now ∷ [])) }
@@ -270,7 +325,12 @@ fn make<S: Alter>(tx: &mut Transaction<'_, S>, change: &Change<'_>) -> Result<()
         Change::Add(workunit) => add(tx, workunit),
         Change::Replace(was, now) => replace(tx, was, now),
         Change::Remove(number) => delete_workunit(tx, *number),
-        Change::Granted(seq, grant) => insert_grant(tx, *seq, grant),
+        Change::Grants(place, grants, sums) => add_grants(
+            tx,
+            *place,
+            grants.as_slice(),
+            sums.as_slice(),
+        ),
         Change::Archive(seq, archived) => insert_archived(tx, *seq, archived),
         Change::Next(number) => set_next_number(tx, *number),
         Change::Keep(import) => insert_import(tx, import),

@@ -10,7 +10,8 @@ ghost use Rattle.wu_core.specs.World.{World, IsInOrder};
 ghost use Rattle.wu_schema.specs.Refines.{Refines};
 ghost use Rattle.wu_store.specs.Answers.{all_above, first_above, numbered};
 ghost use Rattle.wu_store.specs.Changes.{HasNumber, IsNextPlace, LacksNumber, and_instance, with_instance, with_placed, with_replaced, without_workunit};
-ghost use Rattle.wu_store.specs.Changing.{archived_from, granted_from, made_all, AreRight};
+ghost use Rattle.wu_store.specs.Changing.{archived_from, made_all, AreRight, KeepsGrants};
+ghost use Rattle.wu_store.specs.declared.changes.Change.{Change};
 ghost use Rattle.wu_store.specs.Worlds.{SameWorld};
 
 /// One database stands for one world, but for the order of its imports.
@@ -57,14 +58,14 @@ pub fn a_removed_workunit_is_not_found()
         → numbered other (without_workunit number world) ≡ numbered other world }
 {}
 
-/// Grants at places in a row from the next one on are right, and come behind those that are there.
+/// Changes that keep grants at places in a row from the next one on are right, and the grants come behind those that are
+/// there.
 pub fn grants_in_a_row_are_right()
-    ensures right { (place : ℕ) (grants : List Grant) (world : World)
-        → IsNextPlace place world.grants
-        → AreRight (granted_from place grants) world }
-    ensures made { (place : ℕ) (grants : List Grant) (world : World)
-        → made_all (granted_from place grants) world
-        ≡ record world { grants = world.grants ++ grants } }
+    ensures right { (grants : List Grant) (changes : List Change) (world : World)
+        → KeepsGrants world.grants grants changes → AreRight changes world }
+    ensures made { (before grants : List Grant) (changes : List Change) (world : World)
+        → KeepsGrants before grants changes
+        → made_all changes world ≡ record world { grants = world.grants ++ grants } }
 {}
 
 /// So do archived rows.

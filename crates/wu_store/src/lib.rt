@@ -15,7 +15,7 @@ mod sets;
 mod statements;
 mod verdicts;
 
-pub use changes::{Change, Import, apply};
+pub use changes::{Change, HostSum, Import, apply};
 pub use classes::{class_of, class_of_workunit};
 pub use counts::summary;
 pub use due::{due_numbers, load_due, load_marks};

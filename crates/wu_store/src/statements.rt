@@ -4,7 +4,7 @@ ghost use Rattle.std.specs.Prelude.{ℕ, ◌≡◌, ◌<◌, ◌≤◌, ◌^◌,
 ghost use Rattle.sqlite.specs.Values.{bound};
 ghost use Rattle.wu_store.specs.Changing.{import_of_change};
 ghost use Rattle.wu_store.specs.Classes.{ChangesClasses, SetsVersion};
-ghost use Rattle.wu_store.specs.Changes.{with_placed, without_instances, without_workunit, with_import, with_next, AddsArchived, AddsGrant, AddsInstance, WasFree};
+ghost use Rattle.wu_store.specs.Changes.{with_placed, without_instances, without_workunit, with_import, with_next, AddsArchived, AddsInstance, Credits, PutsGrants, WasFree};
 ghost use Rattle.wu_core.specs.declared.fault.Fault.TheVariants.{NotAProject};
 ghost use Rattle.wu_schema.specs.Asking.{Asks, FailsAll, IsSelect};
 ghost use Rattle.wu_schema.specs.Calls.{Answers, AnswersRows, StatementFrame, Does, Changes, RunsText};
@@ -13,7 +13,7 @@ ghost use Rattle.wu_store.specs.Loading.{IsStoreFault, NotRefusedIn, ServesUnles
 ghost use Rattle.wu_store.specs.Queues.{AnswersQueue, ChangesQueue, first_marked, is_marked, KeepsQueue, KeepsWorld, marked_text, NotRefusedQueue, wanted_mark, with_marks, without_marks};
 ghost use Rattle.wu_store.specs.Answers.{credit_page, FailsCount, has_name, ShowsCount, ShowsLast, was_archived};
 
-use crate::changes::Import;
+use crate::changes::{HostSum, Import};
 use crate::classes::insert_class;
 use crate::rows::count_at;
 use sqlite::types::ValueRef;
@@ -349,15 +349,15 @@ pub fn delete_workunit<S: Alter>(tx: &mut Transaction<'_, S>, number: u64) -> Re
     )
 }
 
-/// Adds a grant at the next place of those that are there, and its credit to its host. A total past 64 bits is refused.
+/// Adds the row of a grant at the next place of those that are there. Its host's sums are as they were.
 pub fn insert_grant<S: Alter>(
     tx: &mut Transaction<'_, S>,
     seq: u64,
     grant: &Grant,
 ) -> Result<(), Error>
     ensures writes { StatementFrame S.Store tx.old tx.new result }
-    ensures grants { Does S.Store tx.old tx.new result (AddsGrant seq grant.now) }
-    ensures queue { Does S.Store tx.old tx.new result KeepsQueue }
+    ensures within { OnOk result (seq < 2 ^ 63) }
+    ensures puts { Does S.Store tx.old tx.new result (PutsGrants seq (grant.now ∷ [])) }
 {
     let seq = signed(seq)?;
     let workunit = signed(grant.workunit)?;
@@ -366,11 +366,20 @@ pub fn insert_grant<S: Alter>(
         tx,
         "INSERT INTO credit_grant (seq, workunit, n, host, credit) VALUES (?1, ?2, ?3, ?4, ?5)",
         params![seq, workunit, grant.n, grant.host.as_str(), credit],
-    )?;
+    )
+}
+
+/// Adds a sum to those of its host, which it has from then on where it had none. A total past 64 bits is refused.
+pub fn add_sum<S: Alter>(tx: &mut Transaction<'_, S>, sum: &HostSum) -> Result<(), Error>
+    ensures writes { StatementFrame S.Store tx.old tx.new result }
+    ensures credits { Does S.Store tx.old tx.new result (Credits (sum.now ∷ [])) }
+{
+    let total = signed(sum.total)?;
+    let grants = signed(sum.grants)?;
     execute(
         tx,
-        "INSERT INTO host (name, total, grants) VALUES (?1, ?2, 1) ON CONFLICT (name) DO UPDATE SET total = total + excluded.total, grants = grants + 1",
-        params![grant.host.as_str(), credit],
+        "INSERT INTO host (name, total, grants) VALUES (?1, ?2, ?3) ON CONFLICT (name) DO UPDATE SET total = total + excluded.total, grants = grants + excluded.grants",
+        params![sum.name.as_str(), total, grants],
     )
 }
 

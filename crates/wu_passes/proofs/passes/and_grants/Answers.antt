@@ -1,5 +1,8 @@
 use Rattle.wu_passes.proofs.AskLemmas.{asks_handed, asks_made, handed_on}
 use Rattle.wu_passes.proofs.ExitLemmas.{handed_told, memory_told, memory_unbroken, memory_unrefused}
+use Rattle.std.proofs.Common.{length, rules, ◌<◌}
+use Rattle.wu_schema.proofs.CallLemmas.{ok_on}
+use Rattle.wu_passes.proofs.PassPlanLemmas.{has_grants}
 use Rattle.wu_passes.proofs.passes.and_grants.Goals as goal
 
 pub returns-in_err-place-clause-unrefused : goal.returns-in_err-place-clause-unrefused
@@ -19,3 +22,9 @@ returns-clause-fault g c = memory_told c.with_grants.result c.with_grants.ensure
 
 pub returns-clause-unrefused : goal.returns-clause-unrefused
 returns-clause-unrefused g c clean world stands limit = memory_unrefused c.with_grants.result c.with_grants.ensures.fault
+
+pub returns-clause-added : goal.returns-clause-added
+returns-clause-added g c clean world stands =
+    let grants = c.args.grants.items in
+    let some : 0 < length grants = search rules in
+    ok_on c.with_grants.result _ _ (has_grants world c.in_ok-place.place grants c.args.changes.now.items c.with_grants.new.changes.items (c.in_ok-place.ensures.place clean world stands) some) c.with_grants.ensures.added

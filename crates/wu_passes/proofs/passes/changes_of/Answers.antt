@@ -14,9 +14,9 @@ returns-clause-added g c clean world stands =
     let grants = c.in_ok-and_grants.ensures.added before world stands in
     let rows = c.in_ok-and_archived.ensures.added clean world still in
     record {
-      place = grants.place;
+      given = grants.given;
       row_place = rows.place;
-      next = grants.next;
+      keeps = grants.keeps;
       row_next = rows.next;
       changes_are = rows.changes ∙ ap (λ cs. cs ++ archived_from rows.place c.args.handled.archived.items) grants.changes;
     }

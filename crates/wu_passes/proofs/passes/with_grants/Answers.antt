@@ -1,12 +1,15 @@
-use Rattle.std.proofs.Common.{rules, ◌≡◌, ◌++◌, [], ◌∷◌, length-append, arith}
-use Rattle.wu_store.specs.declared.changes.Change.TheVariants.{Granted}
-use Rattle.wu_passes.proofs.PassPlanLemmas.{grant_placed}
+use Rattle.std.proofs.Common.{rules, ◌++◌, [], ◌∷◌, ◌≡◌, refl, subst}
+use Rattle.wu_store.specs.Sums.{AreSums}
+use Rattle.wu_store.specs.declared.changes.Change.TheVariants.{Grants}
 use Rattle.wu_passes.proofs.passes.with_grants.Goals as goal
 
-pub loop-grant-preserved : goal.loop-grant-preserved
-loop-grant-preserved c =
-    let (at, are) = c.loop-grant.invariant in
-    let grown : c.push.new.self.items ≡ c.loop-grant.changes.items ++ Granted c.loop-grant.seq c.in-Some.grant ∷ [] = search rules in (
-      omega (arith, at, length-append c.loop-grant.yielded (c.in-Some.grant ∷ [])),
-      grant_placed c.args.place c.loop-grant.seq c.loop-grant.yielded c.in-Some.grant c.args.changes.now.items c.loop-grant.changes.items c.push.new.self.items at are grown,
-    )
+pub returns-clause-added : goal.returns-clause-added
+returns-clause-added c =
+    let sums = c.in_ok-sums.sums in
+    let one = Grants c.args.place c.args.grants sums ∷ [] in
+    let behind : c.push.new.self.items ≡ c.args.changes.now.items ++ one = search rules in
+    record {
+      given = one;
+      keeps = record { kept = c.args.grants; sums = sums; are = refl; summed = subst (AreSums sums.items) c.as_slice.ensures.value c.in_ok-sums.ensures.sums; one = refl };
+      changes = behind;
+    }

@@ -1,4 +1,3 @@
-use Rattle.std.proofs.Common.{arith}
 use Rattle.wu_sound_laws.proofs.Consequences.{placed}
 use Rattle.wu_sound_laws.proofs.TotalLemmas.{bounded_credit, bounded_total, few_grants}
 use Rattle.wu_sound_laws.proofs.laws.bounds_totals.Goals as goal

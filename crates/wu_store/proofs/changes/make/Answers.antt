@@ -3,7 +3,7 @@ use Rattle.sqlite.specs.Held.{state}
 use Rattle.wu_schema.proofs.CallLemmas.{ok_both, ok_on}
 use Rattle.wu_store.proofs.MarkedLemmas.{stands_kept, stands_without}
 use Rattle.wu_store.proofs.PlacedLemmas.{placed_above}
-use Rattle.wu_store.specs.Changes.{with_archived, with_grant, with_import, with_next}
+use Rattle.wu_store.specs.Changes.{AddsGrants, with_archived, with_grants, with_import, with_next}
 use Rattle.wu_store.specs.Changing.{MakesWorlds, import_of_change}
 use Rattle.wu_store.specs.StandsFor.{StandsFor, marked}
 use Rattle.wu_store.proofs.changes.make.Goals as goal
@@ -29,13 +29,14 @@ returns-in-Remove-clause-makes g c clean =
     subst (λ change. OnOk c.delete_workunit.result (MakesWorlds (change ∷ []) old new)) (sym c.in-Remove.is)
     (ok_both c.delete_workunit.result _ _ _ (λ deletes goes world stands right. stands_without old new world c.in-Remove.number stands deletes goes) (c.delete_workunit.ensures.deletes clean) (c.delete_workunit.ensures.queue clean))
 
-pub returns-in-Granted-clause-makes : goal.returns-in-Granted-clause-makes
-returns-in-Granted-clause-makes g c clean =
+pub returns-in-Grants-clause-makes : goal.returns-in-Grants-clause-makes
+returns-in-Grants-clause-makes g c clean =
     let old = (state g.S.Store c.args.tx.now.conn.now).now in
-    let new = (state g.S.Store c.insert_grant.new.tx.conn.now).now in
-    subst (λ change. OnOk c.insert_grant.result (MakesWorlds (change ∷ []) old new)) (sym c.in-Granted.is)
-    (ok_both c.insert_grant.result _ _ _ (λ grants keeps world stands right.
-    stands_kept old new world (with_grant c.in-Granted.grant world) stands (λ queued. queued) refl (grants world stands.refines right.0) keeps) (c.insert_grant.ensures.grants clean) (c.insert_grant.ensures.queue clean))
+    let new = (state g.S.Store c.add_grants.new.tx.conn.now).now in
+    subst (λ change. OnOk c.add_grants.result (MakesWorlds (change ∷ []) old new)) (sym c.in-Grants.is)
+    (ok_both c.add_grants.result _ _ _ (λ adds keeps world stands right.
+    let all : AddsGrants c.in-Grants.place c.in-Grants.grants.items c.in-Grants.sums.items old new = subst (λ gs. AddsGrants c.in-Grants.place gs c.in-Grants.sums.items old new) c.as_slice.ensures.value (subst (λ ss. AddsGrants c.in-Grants.place c.as_slice.result.now ss old new) c.as_slice-in-Grants.ensures.value adds) in
+    stands_kept old new world (with_grants c.in-Grants.grants.items world) stands (λ queued. queued) refl (all world stands.refines right.0.0 right.0.1) keeps) (c.add_grants.ensures.adds clean) (c.add_grants.ensures.queue clean))
 
 pub returns-in-Archive-clause-makes : goal.returns-in-Archive-clause-makes
 returns-in-Archive-clause-makes g c clean =
@@ -78,4 +79,4 @@ returns-in-Upgrade-clause-makes g c clean =
     subst (λ change. OnOk c.upgrade.result (MakesWorlds (change ∷ []) old new)) (sym c.in-Upgrade.is)
     (ok_on c.upgrade.result _ _ (λ upgrades world stands right.
     let (from, older, same) = right.0 in
-    upgrades world from older stands (c.as_slice.ensures.value ∙ same)) (c.upgrade.ensures.upgrades clean))
+    upgrades world from older stands (c.as_slice-in-Upgrade.ensures.value ∙ same)) (c.upgrade.ensures.upgrades clean))
