@@ -61,18 +61,21 @@ impl Imported {
         }
     }
 
+    /// Its kind.
     pub fn kind(&self) -> ImportKind
         ensures { result ≡ self.now.kind }
     {
         self.kind
     }
 
+    /// The name that it came under.
     pub fn name(&self) -> &Name
         ensures { result.now ≡ self.now.name }
     {
         &self.name
     }
 
+    /// A verdict for each row, as its code.
     pub fn verdicts(&self) -> &Bytes
         ensures { result.now ≡ self.now.verdicts }
     {
@@ -139,42 +142,49 @@ impl Loaded {
         }
     }
 
+    /// The workunits, in order of number.
     pub fn workunits(&self) -> &[Workunit]
         ensures { result.now ≡ self.now.workunits }
     {
         self.workunits.as_slice()
     }
 
+    /// The grants, in order of their making.
     pub fn grants(&self) -> &[Grant]
         ensures { result.now ≡ self.now.grants }
     {
         self.grants.as_slice()
     }
 
+    /// The archived rows, in order of their archiving.
     pub fn archived(&self) -> &[Archived]
         ensures { result.now ≡ self.now.archived }
     {
         self.archived.as_slice()
     }
 
+    /// The imports, in any order.
     pub fn imports(&self) -> &[Imported]
         ensures { result.now ≡ self.now.imports }
     {
         self.imports.as_slice()
     }
 
+    /// The hosts that have a class, in order of their names' bytes.
     pub fn classes(&self) -> &[HostClass]
         ensures { result.now ≡ self.now.classes }
     {
         self.classes.as_slice()
     }
 
+    /// The number that the next workunit gets.
     pub fn next_number(&self) -> u64
         ensures { result ≡ self.now.next_number }
     {
         self.next_number
     }
 
+    /// The version of the schema that the tables are of.
     pub fn version(&self) -> u64
         ensures { result ≡ self.now.version }
     {

@@ -4,7 +4,7 @@ use Rattle.sqlite.specs.State.{IsLive}
 use Rattle.std.proofs.lemmas.Result.{IfOk-weaker}
 use Rattle.wu_core.specs.declared.fault.Fault.TheVariants.{Broken, Memory}
 use Rattle.wu_loader.specs.Asked.{IsAnsweredUnlessFailed, Looks}
-use Rattle.wu_loader.specs.Finding.{FindsNone, FindsWorld}
+use Rattle.wu_loader.specs.Finding.{FindsNone, FindsRow, FindsWorld}
 use Rattle.wu_schema.specs.Faults.{IsStoreFault}
 use Rattle.wu_store.specs.StandsFor.{IsQueued}
 use Rattle.wu_loader.specs.declared.finding.Found.{Found}
@@ -21,7 +21,7 @@ use Rattle.wu_check.specs.declared.finding.Finding.{Finding}
 use Rattle.wu_check.specs.Queues.{HasMarks, LooksInQueue}
 use Rattle.wu_check.specs.Examining.{Examines, IsLegible}
 use Rattle.wu_check.specs.Findings.{LacksTables, Tells}
-use Rattle.wu_check.specs.Versions.{IsVersionOf}
+use Rattle.wu_check.specs.Versions.{IsReadVersion}
 use Rattle.wu_check.specs.declared.finding.Finding.TheVariants as finding
 
 pub never_broken : {T : Type 0} (x : T) → ◌≢◌ {A = Result T Fault} (Ok x) (Err Broken)
@@ -103,24 +103,31 @@ abbrev pub Finds : Database → Found → Type 0
 Finds db (found.World world) = Refines db world
 Finds db (found.Wrong wrong) = Tells db (finding.Row wrong)
 
--- the same, where each world has this version
+-- the same, where this is the version of the project
 abbrev pub FindsOf : ℕ → Database → Found → Type 0
-FindsOf version db found = IsVersionOf db version → Finds db found
+FindsOf version db found = IsReadVersion db version → Finds db found
 
 -- so is what is told of it
 abbrev pub TellsOfVersion : ℕ → Database → Finding → Type 0
-TellsOfVersion version db finding = IsVersionOf db version → Tells db finding
+TellsOfVersion version db finding = IsReadVersion db version → Tells db finding
 
 module _ {S : Type 0} (version : ℕ) (g : Ghosts S) (a b : Held S) (trees : ProjectTrees) (tables : HasTables version (state g a).now.schema trees) where
-  says_found : (r : Result Found Fault) → FindsWorld version g a b r → FindsNone version g a b r → HasCleanDisk (state g b) → IsLegible (state g a).now → IfOk r (FindsOf version (state g a).now)
-  says_found (Ok (found.World world)) is none clean legible = λ told. is clean trees (record { tables = tables; arranged = legible.project version told trees tables }) (legible.workunits trees.workunit tables.workunit)
-  says_found (Ok (found.Wrong wrong)) is none clean legible = λ told world readable stands. none clean world readable (told world stands) stands
-  says_found (Err fault) is none clean legible = tt
+  says_found : (r : Result Found Fault) → FindsWorld version g a b r → FindsNone version g a b r → FindsRow version g a b r → HasCleanDisk (state g b) → IsLegible (state g a).now → IfOk r (FindsOf version (state g a).now)
+  says_found (Ok (found.World world)) is none row clean legible = λ told. is clean trees (record { tables = tables; arranged = legible.project version told.stands trees tables }) (legible.workunits trees.workunit tables.workunit)
+  says_found (Ok (found.Wrong wrong)) is none row clean legible = λ told. record {
+    version = version;
+    read = told;
+    trees = trees;
+    there = tables;
+    shown = row clean trees (record { tables = tables; arranged = legible.project version told.stands trees tables });
+    none = λ world readable stands. none clean world readable (told.stands world stands) stands;
+  }
+  says_found (Err fault) is none row clean legible = tt
 
-  pub examines_world : (r : Result Found Fault) → Asks g a b r → IfErr r IsStoreFault → IsAnsweredUnlessFailed version g a b r → FindsWorld version g a b r → FindsNone version g a b r → Examines g a b r (FindsOf version)
-  examines_world r asks fault answered world none = record {
+  pub examines_world : (r : Result Found Fault) → Asks g a b r → IfErr r IsStoreFault → IsAnsweredUnlessFailed version g a b r → FindsWorld version g a b r → FindsNone version g a b r → FindsRow version g a b r → Examines g a b r (FindsOf version)
+  examines_world r asks fault answered world none row = record {
     asks = asks;
-    says = says_found r world none;
+    says = says_found r world none row;
     fault = fault;
     answered = λ clean unlimited. answered clean trees tables unlimited;
   }
@@ -128,11 +135,11 @@ module _ {S : Type 0} (version : ℕ) (g : Ghosts S) (a b : Held S) (trees : Pro
 -- ---- the version that is told
 
 module _ {S : Type 0} (g : Ghosts S) (a b : Held S) (trees : ProjectTrees) (tables : HasTables 1 (state g a).now.schema trees) where
-  says_version : (r : Result ℕ Fault) → Looks 1 g a b r (λ db trees version. IsVersionOf db version) → HasCleanDisk (state g b) → IsLegible (state g a).now → IfOk r (IsVersionOf (state g a).now)
+  says_version : (r : Result ℕ Fault) → Looks 1 g a b r (λ db trees version. IsReadVersion db version) → HasCleanDisk (state g b) → IsLegible (state g a).now → IfOk r (IsReadVersion (state g a).now)
   says_version (Ok version) it clean legible = it.says clean trees (record { tables = tables; arranged = legible.plain trees tables })
   says_version (Err fault) it clean legible = tt
 
-  pub examines_version : (r : Result ℕ Fault) → Looks 1 g a b r (λ db trees version. IsVersionOf db version) → Examines g a b r IsVersionOf
+  pub examines_version : (r : Result ℕ Fault) → Looks 1 g a b r (λ db trees version. IsReadVersion db version) → Examines g a b r IsReadVersion
   examines_version r it = record {
     asks = it.asks;
     says = says_version r it;

@@ -5,4 +5,5 @@ pub mod VerdictLemmas
 pub mod SizeLemmas
 pub mod RowLemmas
 pub mod QueueLemmas
+pub mod LaterLemmas
 mod KeyLemmas

@@ -15,7 +15,8 @@ use Rattle.wu_schema.specs.Tables.{queue_at}
 use Rattle.wu_loader.proofs.SelectLemmas.{shows_in_order}
 use Rattle.wu_loader.proofs.StandLemmas.{stored_keyed}
 use Rattle.wu_loader.specs.Shown.{behind_key, keyed}
-use Rattle.wu_check.specs.Queues.{ComparesTo, DiffersAt, HasMarks, IsQueueIn, LooksInQueue, marked_row}
+use Rattle.wu_loader.specs.Whole.{DiffersAt}
+use Rattle.wu_check.specs.Queues.{ComparesTo, HasMarks, IsQueueIn, LooksInQueue, marked_row}
 use Rattle.wu_check.proofs.ExamineLemmas.{never_broken}
 use Rattle.wu_check.proofs.RowLemmas.{shown_differs}
 
@@ -61,14 +62,19 @@ module _ {S : Type 0} (g : Ghosts S) (old new : Held S) (given : Row) (same : gi
 
 -- ---- the rows that it shows
 
+-- they tell all of its rows
+stored_as : (db : Database) (tree : ℕ) → IsQueueIn db tree → (shown : List Row) → shown ≡ map (keyed 6) (db.trees tree) → db.trees tree ≡ map behind_key shown
+stored_as db tree has shown is =
+    stored_keyed db has.sound (queue_at tree) (is_there db.schema _ _ has.table) _ _ 5 refl refl (λ row in_tree. all_has (λ r. length r ≡ 7) (db.trees tree) row has.kept.whole in_tree) shown is
+
 -- those of the marks are shown of the queue with exactly these marks, and others of one with others
 pub compared_marks : (world : World) (db : Database) (tree : ℕ) → IsQueueIn db tree → (shown : List Row) → shown ≡ map (keyed 6) (db.trees tree) → (found : Option ℕ) → ComparesTo (map marked_row world.workunits) shown found → HasMarks world (db.trees tree) found
 compared_marks world db tree has shown is None same =
-    stored_keyed db has.sound (queue_at tree) (is_there db.schema _ _ has.table) _ _ 5 refl refl (λ row in_tree. all_has (λ r. length r ≡ 7) (db.trees tree) row has.kept.whole in_tree) shown is
-    ∙ ap (map behind_key) same ∙ map-map behind_key marked_row world.workunits ∙ sym (map-map stored_marks (λ (w : Workunit). (w.number, marks w)) world.workunits)
+    stored_as db tree has shown is ∙ ap (map behind_key) same ∙ map-map behind_key marked_row world.workunits ∙ sym (map-map stored_marks (λ (w : Workunit). (w.number, marks w)) world.workunits)
 compared_marks world db tree has shown is (Some place) differs =
     subst (λ wanted. DiffersAt wanted (db.trees tree) place) (sym (map-map stored_marks (λ (w : Workunit). (w.number, marks w)) world.workunits))
-    (shown_differs (keyed 6) (λ (w : Workunit). stored_marks (w.number, marks w)) marked_row (λ w. refl) world.workunits (db.trees tree) place (subst (λ rows. DiffersAt (map marked_row world.workunits) rows place) is differs))
+    (shown_differs (keyed 6) behind_key (λ (w : Workunit). stored_marks (w.number, marks w)) marked_row (λ w. refl) (λ w. refl) world.workunits (db.trees tree) (stored_as db tree has shown is ∙ ap (map behind_key) is) place
+    (subst (λ rows. DiffersAt (map marked_row world.workunits) rows place) is differs))
 
 module _ {S A : Type 0} (g : Ghosts S) (a b : Held S) (world : World) where
   pub looks_marks : (rows : Vec Row A) (found : Option ℕ) → LooksInQueue g a b (Ok rows) (λ stored shown. shown.items ≡ map (keyed 6) stored) → ComparesTo (map marked_row world.workunits) rows.items found → LooksInQueue g a b (Ok found) (HasMarks world)

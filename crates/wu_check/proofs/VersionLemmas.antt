@@ -1,12 +1,12 @@
 -- The version of each world that the tables stand for, in the row of their project.
-use Rattle.wu_schema.proofs.Words.{Database, Ghosts, HasNamed, Held, List, Ok, ProjectTrees, Row, Some, Table, Vec, ap, map, slice_get, state, sym, ℕ, ◌∙◌, ◌≡◌, number}
+use Rattle.wu_schema.proofs.Words.{Database, Ghosts, HasNamed, Held, List, Ok, ProjectTrees, Row, Some, Table, Vec, ap, map, slice_get, state, sym, ℕ, ◌∙◌, ◌≡◌, number, subst}
 use Rattle.wu_schema.specs.Tables.{HasTables, IsClassedVersion}
 use Rattle.wu_schema.specs.Versions.{AreOfVersion}
 use Rattle.wu_loader.specs.Asked.{Looks}
 use Rattle.wu_loader.specs.Shown.{keyed}
 use Rattle.wu_loader.proofs.LookLemmas.{never_broken}
 use Rattle.wu_schema.proofs.AskingLemmas.{asks_made}
-use Rattle.wu_check.specs.Versions.{IsVersionOf}
+use Rattle.wu_check.specs.Versions.{IsReadVersion, IsVersionOf}
 
 -- a name finds one table, and so one list of rows
 pub one_table : (db : Database) (name : List ℕ) (s t : Table) → HasNamed db.schema name s → HasNamed db.schema name t → db.trees s.tree ≡ db.trees t.tree
@@ -38,12 +38,19 @@ version_of_row rows version reads db trees tables shown world stands =
     let stored = one_table db _ _ _ tables.project stands.tables.project ∙ stands.rows.project in
     sym (reads world.version (number world.next_number, shown ∙ ap (map (keyed 3)) stored))
 
+-- and of its one row
+read_of_row : (rows : List Row) (version : ℕ) → ((told : ℕ) → AreOfVersion rows told → version ≡ told) → (db : Database) (trees : ProjectTrees) → HasTables 1 db.schema trees → rows ≡ map (keyed 3) (db.trees trees.project) → IsReadVersion db version
+read_of_row rows version reads db trees tables shown = record {
+  stands = version_of_row rows version reads db trees tables shown;
+  read = λ others there told are. reads told (subst (λ rs. AreOfVersion rs told) (ap (map (keyed 3)) (one_table db _ _ _ there.project tables.project) ∙ sym shown) are);
+}
+
 module _ {S A : Type 0} (g : Ghosts S) (a b : Held S) where
-  pub looks_version : (rows : Vec Row A) (version : ℕ) → Looks 1 g a b (Ok rows) (λ db trees shown. shown.items ≡ map (keyed 3) (db.trees trees.project)) → ((told : ℕ) → AreOfVersion rows.items told → version ≡ told) → Looks 1 g a b (Ok version) (λ db trees version. IsVersionOf db version)
+  pub looks_version : (rows : Vec Row A) (version : ℕ) → Looks 1 g a b (Ok rows) (λ db trees shown. shown.items ≡ map (keyed 3) (db.trees trees.project)) → ((told : ℕ) → AreOfVersion rows.items told → version ≡ told) → Looks 1 g a b (Ok version) (λ db trees version. IsReadVersion db version)
   looks_version rows version it reads = record {
     asks = asks_made g a b rows (Ok version) (never_broken version) it.asks;
     opens = it.opens;
-    says = λ clean trees has. version_of_row rows.items version reads (state g a).now trees has.tables (it.says clean trees has);
+    says = λ clean trees has. read_of_row rows.items version reads (state g a).now trees has.tables (it.says clean trees has);
     fault = tt;
     answered = λ clean trees has unlimited. tt;
   }

@@ -32,9 +32,13 @@ pub record IsLegible (db : Database) : Type 0 where
   pub workunits : (tree : ℕ) → HasNamed db.schema (codes "workunit") (workunit_at tree) → AreWhole 15 (db.trees tree)
   pub queue : (world : World) → Refines db world → IsQueued world → (tree : ℕ) → HasNamed db.schema (codes "queue") (queue_at tree) → IsKeptQueue (db.trees tree)
 
+-- with an answer, this holds of such a database that was shown and of the answer
+abbrev pub OnLegible : {S T : Type 0} → Ghosts S → Held S → Held S → Result T Fault → (Database → T → Type 0) → Type 0
+OnLegible g old new result Is = HasCleanDisk (state g new) → IsLegible (state g old).now → IfOk result (Is (state g old).now)
+
 -- questions, and what they say of such a database
 pub record Examines {S T : Type 0} (g : Ghosts S) (old new : Held S) (result : Result T Fault) (Is : Database → T → Type 0) : Type 0 where
   pub asks : Asks g old new result
-  pub says : HasCleanDisk (state g new) → IsLegible (state g old).now → IfOk result (Is (state g old).now)
+  pub says : OnLegible g old new result Is
   pub fault : IfErr result IsStoreFault
   pub answered : AnswersUnlessFailed g old new result

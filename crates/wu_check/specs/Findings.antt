@@ -1,5 +1,5 @@
 -- What is found to keep a database from holding a sound project.
-use Rattle.std.specs.Prelude.{◌≡◌, ℕ, ◌+◌, ⊤, List, map, Option, Some, None, slice_get}
+use Rattle.std.specs.Prelude.{◌≡◌, ℕ, ◌+◌, ◌<◌, ⊤, List, map, Option, Some, None, slice_get}
 use Rattle.sqlite.specs.Effect.{Database}
 use Rattle.sqlite.specs.Schema.{Schema}
 use Rattle.wu_core.specs.World.{World, Import}
@@ -10,18 +10,22 @@ use Rattle.wu_audit.specs.Wrong as audit
 use Rattle.wu_audit.specs.declared.wrong.Table.{Table}
 use Rattle.wu_audit.specs.declared.wrong.Table.TheVariants as table
 use Rattle.wu_audit.specs.declared.wrong.Wrong.{Wrong}
+use Rattle.wu_machine.specs.Machine.{present_version}
 use Rattle.wu_machine.specs.Sound.{IsSound}
+use Rattle.wu_loader.specs.Finding.{IsShownWrong}
+use Rattle.wu_loader.specs.Whole.{DiffersAt}
 use Rattle.wu_loader.specs.Worlds.{IsReadable}
+use Rattle.wu_loader.specs.declared.finding.Wrong as row
 use Rattle.wu_schema.specs.Queue.{HasQueue}
 use Rattle.wu_schema.specs.Refines.{Refines}
 use Rattle.wu_schema.specs.Stored.{stored_marks}
 use Rattle.wu_schema.specs.Tables.{HasTables, IsClassedVersion, ProjectTrees}
+use Rattle.wu_schema.specs.Versions.{HasProject, HasVersion}
 use Rattle.wu_store.specs.StandsFor.{IsQueued, marked}
 use Rattle.wu_tables.specs.Found as tables
 use Rattle.wu_tables.specs.declared.project.Misfit.{Misfit}
 use Rattle.wu_check.specs.Checking.{IsCounted, IsKnown, IsSoundProject}
-use Rattle.wu_check.specs.Queues.{DiffersAt}
-use Rattle.wu_check.specs.Versions.{IsVersionOf}
+use Rattle.wu_check.specs.Versions.{IsReadVersion, IsVersionOf}
 use Rattle.wu_check.specs.declared.finding.Finding.{Finding}
 use Rattle.wu_check.specs.declared.finding.Finding.TheVariants as finding
 use Rattle.wu_check.specs.declared.finding.Key.{Key}
@@ -59,6 +63,16 @@ pub record LacksTables (db : Database) (misfit : Misfit) : Type 0 where
   pub none : (trees : ProjectTrees) → HasTables version db.schema trees → ⊥
   pub needed : (world : World) → Refines db world → IsClassedVersion version → IsClassedVersion world.version
 
+-- Among the rows that questions show of the tables of the project's version this one is wrong, and the tables stand for
+-- no world.
+pub record HasWrongRow (db : Database) (wrong : row.Wrong) : Type 0 where
+  pub version : ℕ
+  pub read : IsReadVersion db version
+  pub trees : ProjectTrees
+  pub there : HasTables version db.schema trees
+  pub shown : IsShownWrong version db trees wrong
+  pub none : (world : World) → IsReadable world → Refines db world → ⊥
+
 -- each world that the tables stand for has this version, which this program does not know
 pub record HasOtherVersion (db : Database) (version : ℕ) : Type 0 where
   pub stands : IsVersionOf db version
@@ -90,11 +104,20 @@ pub record HasOtherMarks (db : Database) (place : ℕ) : Type 0 where
 -- the finding is true of the database
 abbrev pub Tells : Database → Finding → Type 0
 Tells db (finding.Tables misfit) = LacksTables db misfit
-Tells db (finding.Row wrong) = (world : World) → IsReadable world → Refines db world → ⊥
+Tells db (finding.Row wrong) = HasWrongRow db wrong
 Tells db (finding.Version version) = HasOtherVersion db version
 Tells db (finding.World wrong row) = HasUnsoundWorld db wrong row
 Tells db finding.Queue = LacksQueue db
 Tells db (finding.Marks place) = HasOtherMarks db place
+
+-- A later version than this program knows, which the one row of the project has, is told before all else: such a project
+-- may have other tables and rows.
+abbrev pub PutsLaterFirst : Database → Finding → Type 0
+PutsLaterFirst db found = (has : HasProject db.schema) (version : ℕ) → HasVersion db has version → present_version < version → found ≡ finding.Version version
+
+-- so it is where steps have no limit
+abbrev pub TellsLater : Option ℕ → Database → Finding → Type 0
+TellsLater limit db found = limit ≡ None → PutsLaterFirst db found
 
 -- ---- what a verdict says
 
@@ -118,6 +141,11 @@ abbrev pub SaysWhy : Database → Verdict → Type 0
 SaysWhy db (verdict.Sound version workunits results) = ⊤
 SaysWhy db (verdict.Unsound found) = Tells db found
 
+-- and for nothing else where the project has a later version
+abbrev pub SaysLater : Option ℕ → Database → Verdict → Type 0
+SaysLater limit db (verdict.Sound version workunits results) = ⊤
+SaysLater limit db (verdict.Unsound found) = TellsLater limit db found
+
 -- all of it
 abbrev pub Says : Database → Verdict → Type 0
 Says db (verdict.Sound version workunits results) = IsSoundAs db version workunits results
@@ -130,9 +158,18 @@ abbrev pub IsBasis : Database → Basis → Type 0
 IsBasis db (basis.World world) = Refines db world
 IsBasis db (basis.Unsound found) = Tells db found
 
--- the same, where each world has this version
+-- the same, where this is the version of the project
 abbrev pub IsBasisOf : ℕ → Database → Basis → Type 0
-IsBasisOf version db found = IsVersionOf db version → IsBasis db found
+IsBasisOf version db found = IsReadVersion db version → IsBasis db found
+
+-- what is found tells of a later version before all else
+abbrev pub IsBasisLater : Option ℕ → Database → Basis → Type 0
+IsBasisLater limit db (basis.World world) = ⊤
+IsBasisLater limit db (basis.Unsound found) = TellsLater limit db found
+
+-- a version that this program does not know is what is told of a world that has it
+abbrev pub TellsUnknown : World → Option Finding → Type 0
+TellsUnknown world found = ¬ IsKnown world.version → found ≡ Some (finding.Version world.version)
 
 -- the world is sound, of a version that this program knows, and has its queue where it has one
 pub record IsRightWorld (schema : Schema) (world : World) : Type 0 where

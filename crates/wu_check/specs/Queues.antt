@@ -1,5 +1,5 @@
 -- What a look into the queue does to a connection, and what it says of the queue's rows.
-use Rattle.std.specs.Prelude.{◌≡◌, ◌≢◌, ◌-◌, ◌≤◌, ℕ, List, ◌∷◌, map, Option, None, Some, Result, IfErr, IfOk, codes, slice_get}
+use Rattle.std.specs.Prelude.{◌≡◌, ℕ, List, ◌∷◌, map, Option, None, Some, Result, IfErr, IfOk, codes}
 use Rattle.sqlite.specs.Effect.{Database, IsDatabase}
 use Rattle.sqlite.specs.Held.{Held, state}
 use Rattle.sqlite.specs.Order.{Row}
@@ -11,6 +11,7 @@ use Rattle.wu_core.specs.World.{World}
 use Rattle.wu_core.specs.declared.fault.Fault.{Fault}
 use Rattle.wu_core.specs.declared.workunit.Workunit.{Workunit}
 use Rattle.wu_loader.specs.Shown.{AreWhole}
+use Rattle.wu_loader.specs.Whole.{DiffersAt}
 use Rattle.wu_rules.specs.Marks.{marks}
 use Rattle.wu_schema.specs.Asking.{Asks, ServesUnlessFailed}
 use Rattle.wu_schema.specs.Faults.{IsFailure, IsStoreFault}
@@ -22,12 +23,7 @@ use Rattle.wu_store.specs.StandsFor.{marked}
 abbrev pub marked_row : Workunit → Row
 marked_row w = number w.number ∷ marks_cells (marks w)
 
--- at this place, from 1, the rows differ from these: one is another, is too many or lacks
-pub record DiffersAt (wanted rows : List Row) (place : ℕ) : Type 0 where
-  pub counted : 1 ≤ place
-  pub other : slice_get rows (place - 1) ≢ slice_get wanted (place - 1)
-
--- the rows are these, or differ
+-- the rows are these, or differ at this place, from 1
 abbrev pub ComparesTo : List Row → List Row → Option ℕ → Type 0
 ComparesTo wanted rows None = rows ≡ wanted
 ComparesTo wanted rows (Some place) = DiffersAt wanted rows place

@@ -1,8 +1,8 @@
 //! Whether an open database holds a sound project.
 
 ghost use Rattle.std.specs.Prelude.{IfErr};
-ghost use Rattle.wu_check.specs.Examining.{AnswersUnlessFailed, Examines, OnKept};
-ghost use Rattle.wu_check.specs.Findings.{IsBasis, IsBasisOf, Says, SaysSound, SaysUnsound, SaysWhy, Tells};
+ghost use Rattle.wu_check.specs.Examining.{AnswersUnlessFailed, Examines, OnKept, OnLegible};
+ghost use Rattle.wu_check.specs.Findings.{IsBasis, IsBasisLater, IsBasisOf, Says, SaysLater, SaysSound, SaysUnsound, SaysWhy, Tells, TellsLater};
 ghost use Rattle.wu_schema.specs.Asking.{Asks, ServesUnlessFailed};
 ghost use Rattle.wu_schema.specs.Calls.{OnAnswer};
 ghost use Rattle.wu_schema.specs.Faults.{IsStoreFault};
@@ -33,6 +33,7 @@ fn unless_later<S: Alter>(conn: &mut Connection<S>, finding: Finding) -> Result<
     ensures examines { Examines S.Store conn.old conn.new result (λ db found. Tells db finding
         → Tells db found) }
     ensures opens { ServesUnlessFailed S.Store conn.new result }
+    ensures later { OnAnswer S.Store conn.old conn.new result (TellsLater conn.old.step_limit) }
 {
     match version_of(conn) {
         Ok(Some(version)) if !is_known(version) => Ok(Finding::Version(version)),
@@ -49,6 +50,7 @@ fn find_world_of<S: Alter>(
 ) -> Result<Basis, Fault>
     ensures examines { Examines S.Store conn.old conn.new result (IsBasisOf version) }
     ensures opens { ServesUnlessFailed S.Store conn.new result }
+    ensures later { OnAnswer S.Store conn.old conn.new result (IsBasisLater conn.old.step_limit) }
 {
     if let Err(misfit) = project_trees(conn.schema(), version) {
         let finding = unless_later(conn, Finding::Tables(misfit))?;
@@ -67,6 +69,7 @@ fn find_world_of<S: Alter>(
 fn find_world<S: Alter>(conn: &mut Connection<S>, alloc: Global) -> Result<Basis, Fault>
     ensures examines { Examines S.Store conn.old conn.new result IsBasis }
     ensures opens { ServesUnlessFailed S.Store conn.new result }
+    ensures later { OnAnswer S.Store conn.old conn.new result (IsBasisLater conn.old.step_limit) }
 {
     if let Err(misfit) = project_trees(conn.schema(), FIRST_VERSION) {
         let finding = unless_later(conn, Finding::Tables(misfit))?;
@@ -80,6 +83,7 @@ fn find_world<S: Alter>(conn: &mut Connection<S>, alloc: Global) -> Result<Basis
 fn examine<S: Alter>(conn: &mut Connection<S>, alloc: Global) -> Result<Verdict, Fault>
     ensures examines { Examines S.Store conn.old conn.new result Says }
     ensures opens { ServesUnlessFailed S.Store conn.new result }
+    ensures later { OnLegible S.Store conn.old conn.new result (SaysLater conn.old.step_limit) }
 {
     let loaded = match find_world(conn, alloc)? {
         Basis::World(loaded) => loaded,
@@ -103,6 +107,7 @@ pub fn check<S: Alter>(conn: &mut Connection<S>, alloc: Global) -> Result<Verdic
     ensures sound { OnKept S.Store conn.old conn.new result SaysSound }
     ensures unsound { OnAnswer S.Store conn.old conn.new result SaysUnsound }
     ensures told { OnKept S.Store conn.old conn.new result SaysWhy }
+    ensures later { OnKept S.Store conn.old conn.new result (SaysLater conn.old.step_limit) }
     ensures fault { IfErr result IsStoreFault }
     ensures answered { AnswersUnlessFailed S.Store conn.old conn.new result }
 {

@@ -3,7 +3,7 @@
 ghost use Rattle.std.specs.Prelude.{◌≡◌, ◌≤◌, ◌↔◌, IfErr, IfOk, IfSome, IsNone, IsTrue};
 ghost use Rattle.wu_check.specs.Checking.{IsKnown};
 ghost use Rattle.wu_check.specs.Examining.{Examines};
-ghost use Rattle.wu_check.specs.Findings.{IsRightWorld, Judges, TellsOf};
+ghost use Rattle.wu_check.specs.Findings.{IsRightWorld, Judges, TellsOf, TellsUnknown};
 ghost use Rattle.wu_core.specs.declared.fault.Fault.TheVariants.{Memory};
 ghost use Rattle.wu_machine.specs.Sound.{IsSound};
 ghost use Rattle.wu_schema.specs.Refines.{Refines};
@@ -39,6 +39,7 @@ fn is_queued(loaded: &Loaded) -> bool
 fn wrong_world(schema: &Schema, alloc: Global, loaded: &Loaded) -> Result<Option<Finding>, Fault>
     ensures right { IfOk result (λ found. IsNone found → IsRightWorld schema.now loaded.now) }
     ensures told { IfOk result (λ found. IfSome found (TellsOf schema.now loaded.now)) }
+    ensures unknown { IfOk result (TellsUnknown loaded.now) }
     ensures memory { IfErr result (λ fault. fault ≡ Memory) }
 {
     if !is_known(loaded.version()) {
@@ -64,6 +65,7 @@ pub fn judge<S: Alter>(
         (λ db found. Refines db loaded.now → Judges db loaded.now found) }
     ensures stays { StaysUnlessFailed S.Store conn.old conn.new result }
     ensures sound { IfOk result (λ found. IsNone found → IsSound loaded.now) }
+    ensures unknown { IfOk result (TellsUnknown loaded.now) }
 {
     if let Some(finding) = wrong_world(conn.schema(), alloc, loaded)? {
         return Ok(Some(finding));

@@ -2,7 +2,7 @@
 
 ghost use Rattle.std.specs.Prelude.{◌≡◌, ℕ, map};
 ghost use Rattle.sqlite.specs.declared.types.Value.{Value};
-ghost use Rattle.wu_check.specs.Versions.{IsVersionOf};
+ghost use Rattle.wu_check.specs.Versions.{IsReadVersion};
 ghost use Rattle.wu_loader.specs.Asked.{Looks};
 ghost use Rattle.wu_loader.specs.Shown.{keyed};
 ghost use Rattle.wu_schema.specs.Versions.{project_row, AreOfVersion};
@@ -51,7 +51,7 @@ fn version_in(rows: &[Row]) -> u64
 /// The version of each world that the tables stand for.
 pub fn version_told<S: Alter>(conn: &mut Connection<S>) -> Result<u64, Fault>
     ensures { Looks FIRST_VERSION S.Store conn.old conn.new result
-        (λ db trees version. IsVersionOf db version) }
+        (λ db trees version. IsReadVersion db version) }
 {
     let rows = project_rows(conn)?;
     Ok(version_in(&rows))

@@ -5,7 +5,7 @@ use Rattle.sqlite.specs.Store.{Ghosts}
 use Rattle.wu_core.specs.declared.fault.Fault.{Fault}
 use Rattle.wu_core.specs.declared.fault.Fault.TheVariants.{Output}
 use Rattle.wu_check.specs.Examining.{AnswersUnlessFailed, OnKept}
-use Rattle.wu_check.specs.Findings.{SaysSound, SaysUnsound, SaysWhy}
+use Rattle.wu_check.specs.Findings.{SaysLater, SaysSound, SaysUnsound, SaysWhy}
 use Rattle.wu_check.specs.declared.finding.Verdict.{Verdict}
 use Rattle.wu_check.specs.declared.finding.Verdict.TheVariants as verdict
 use Rattle.wu_report.specs.Writing.{WritesTo}
@@ -33,5 +33,6 @@ pub record ChecksOver {S W : Type 0} (g : Ghosts S) (contents : W → Option (Li
   pub sound : OnKept g old new verdict SaysSound
   pub unsound : OnAnswer g old new verdict SaysUnsound
   pub told : OnKept g old new verdict SaysWhy
+  pub later : OnKept g old new verdict (SaysLater old.step_limit)
   pub answered : AnswersUnlessFailed g old new verdict
   pub tells : MatchResult verdict (λ it. TellsVerdict contents out_old out_new it done) (λ fault. TellsFault out_old out_new fault done)

@@ -33,12 +33,14 @@ impl Bytes {
         }
     }
 
+    /// These bytes; it takes no memory.
     pub fn from_vec(items: Vec<u8>) -> Self
         ensures { result ≡ items.items }
     {
         Bytes { items }
     }
 
+    /// The bytes as a vector; it takes no memory.
     pub fn into_vec(self) -> Vec<u8>
         ensures { result.items ≡ self }
     {
@@ -46,18 +48,21 @@ impl Bytes {
         items
     }
 
+    /// The bytes.
     pub fn as_slice(&self) -> &[u8]
         ensures { result.now ≡ self.now }
     {
         self.items.as_slice()
     }
 
+    /// How many bytes they are.
     pub fn len(&self) -> usize
         ensures { result ≡ length self.now }
     {
         self.items.len()
     }
 
+    /// Whether there is none.
     pub fn is_empty(&self) -> bool
         ensures { IsTrue result ↔ (self.now ≡ []) }
     {

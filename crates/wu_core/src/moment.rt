@@ -41,6 +41,7 @@ impl Moment {
         }
     }
 
+    /// The seconds since 1970-01-01T00:00:00Z: at most 4102444799, the last second of 2099.
     pub fn seconds(self) -> u64
         ensures value { result ≡ self }
         ensures within { self ≤ last_moment }
@@ -87,6 +88,7 @@ impl Deadline {
         }
     }
 
+    /// The seconds since 1970-01-01T00:00:00Z: at most 4133980799, a year after the last moment.
     pub fn seconds(self) -> u64
         ensures value { result ≡ self }
         ensures within { self ≤ last_deadline }

@@ -73,6 +73,7 @@ impl Name {
         })
     }
 
+    /// Its text: 1 to 64 characters, each one that may stand in a name.
     pub fn as_str(&self) -> &str
         ensures { result.now ≡ self.now }
     {

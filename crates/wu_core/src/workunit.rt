@@ -107,6 +107,7 @@ impl Instances {
         }
     }
 
+    /// These instances, at most 100, numbered from 0; it takes no memory.
     pub fn from_vec(items: Vec<Instance>) -> Self
         requires { vec_len items ≤ most_instances }
         ensures { result ≡ items.items }
@@ -114,6 +115,7 @@ impl Instances {
         Instances { items }
     }
 
+    /// The instances as a vector; it takes no memory.
     pub fn into_vec(self) -> Vec<Instance>
         ensures items { result.items ≡ self }
         ensures within { length self ≤ most_instances }
@@ -122,6 +124,7 @@ impl Instances {
         items
     }
 
+    /// How many they are: at most 100.
     pub fn len(&self) -> usize
         ensures len { result ≡ length self.now }
         ensures within { result ≤ most_instances }
@@ -129,6 +132,7 @@ impl Instances {
         self.items.len()
     }
 
+    /// Whether there is none.
     pub fn is_empty(&self) -> bool
         ensures { IsTrue result ↔ (self.now ≡ []) }
     {
@@ -144,6 +148,7 @@ impl Instances {
         self.items.as_slice().iter()
     }
 
+    /// The instances in order of their numbers: at most 100.
     pub fn as_slice(&self) -> &[Instance]
         ensures items { result.now ≡ self.now }
         ensures within { length self.now ≤ most_instances }

@@ -5,7 +5,7 @@ ghost use Rattle.wu_core.specs.declared.fault.Fault.TheVariants.{Output};
 ghost use Rattle.wu_drive.specs.Texts.{applied_count, batch_text, classes_text, import_text, number_or_dash, pass_word, reply_text, report_skip_word, send_skip_word};
 ghost use Rattle.wu_machine.specs.Requests.{Cancelled, Passed, Upgraded};
 ghost use Rattle.wu_drive.specs.Writing.{answer_text, applied_text, file_word, skip_word, skipped_line, skipped_lines};
-ghost use Rattle.wu_report.specs.Writing.{piece_text, WritesTo};
+ghost use Rattle.wu_report.specs.Writing.{CutsWhatFails, piece_text, WritesTo};
 
 use std::io::Write;
 use wu_core::{Fault, ImportKind, Name};
@@ -59,6 +59,7 @@ fn skip_word(file: AppliedFile, verdict: u8) -> Option<&'static str>
 /// Writes the line of a row, if it was skipped.
 fn write_skip<W: Write>(out: &mut W, file: AppliedFile, row: u64, verdict: u8) -> Result<(), Fault>
     ensures bytes { WritesTo W.contents out.old out.new (skipped_line file row verdict) result }
+    ensures cut { CutsWhatFails W.contents out.old out.new (skipped_line file row verdict) result }
     ensures fault { IsOkUnless result Output }
 {
     let Some(word) = skip_word(file, verdict) else {
@@ -79,6 +80,8 @@ fn write_skip<W: Write>(out: &mut W, file: AppliedFile, row: u64, verdict: u8) -
 /// Writes a line for each row that was skipped. The first row after the header is row 2.
 fn write_skips<W: Write>(out: &mut W, file: AppliedFile, verdicts: &[u8]) -> Result<(), Fault>
     ensures bytes { WritesTo W.contents out.old out.new (skipped_lines file verdicts.now) result }
+    ensures cut { CutsWhatFails W.contents out.old out.new
+        (skipped_lines file verdicts.now) result }
     ensures fault { IsOkUnless result Output }
 {
     for (place, verdict) in verdicts.iter().enumerate() {
@@ -102,6 +105,8 @@ fn write_applied<W: Write>(
     verdicts: &[u8],
 ) -> Result<(), Fault>
     ensures bytes { WritesTo W.contents out.old out.new
+        (applied_text file name.now verdicts.now) result }
+    ensures cut { CutsWhatFails W.contents out.old out.new
         (applied_text file name.now verdicts.now) result }
     ensures fault { IsOkUnless result Output }
 {
@@ -137,6 +142,8 @@ fn number_or_dash(number: u64) -> Piece<'static>
 fn write_batch<W: Write>(out: &mut W, name: &Name, first: u64, verdicts: &[u8]) -> Result<(), Fault>
     ensures bytes { WritesTo W.contents out.old out.new
         (batch_text name.now first verdicts.now) result }
+    ensures cut { CutsWhatFails W.contents out.old out.new
+        (batch_text name.now first verdicts.now) result }
     ensures fault { IsOkUnless result Output }
 {
     write_pieces(
@@ -156,6 +163,8 @@ fn write_batch<W: Write>(out: &mut W, name: &Name, first: u64, verdicts: &[u8]) 
 /// Writes how many rows of a file of classes were applied: all are.
 fn write_classes<W: Write>(out: &mut W, name: &Name, verdicts: &[u8]) -> Result<(), Fault>
     ensures bytes { WritesTo W.contents out.old out.new
+        (classes_text name.now verdicts.now) result }
+    ensures cut { CutsWhatFails W.contents out.old out.new
         (classes_text name.now verdicts.now) result }
     ensures fault { IsOkUnless result Output }
 {
@@ -180,6 +189,8 @@ fn write_import<W: Write>(
     verdicts: &[u8],
 ) -> Result<(), Fault>
     ensures bytes { WritesTo W.contents out.old out.new
+        (import_text kind name.now first verdicts.now) result }
+    ensures cut { CutsWhatFails W.contents out.old out.new
         (import_text kind name.now first verdicts.now) result }
     ensures fault { IsOkUnless result Output }
 {
@@ -207,6 +218,8 @@ fn pass_word(pass: Pass) -> &'static str
 /// Writes how many workunits a pass changed.
 fn write_passed<W: Write>(out: &mut W, pass: Pass, handled: u32) -> Result<(), Fault>
     ensures bytes { WritesTo W.contents out.old out.new (reply_text (Passed pass handled)) result }
+    ensures cut { CutsWhatFails W.contents out.old out.new
+        (reply_text (Passed pass handled)) result }
     ensures fault { IsOkUnless result Output }
 {
     write_pieces(
@@ -223,6 +236,7 @@ fn write_passed<W: Write>(out: &mut W, pass: Pass, handled: u32) -> Result<(), F
 /// Writes which version the schema had, and which it has.
 fn write_upgraded<W: Write>(out: &mut W, from: u64, to: u64) -> Result<(), Fault>
     ensures bytes { WritesTo W.contents out.old out.new (reply_text (Upgraded from to)) result }
+    ensures cut { CutsWhatFails W.contents out.old out.new (reply_text (Upgraded from to)) result }
     ensures fault { IsOkUnless result Output }
 {
     write_pieces(
@@ -241,6 +255,8 @@ fn write_upgraded<W: Write>(out: &mut W, from: u64, to: u64) -> Result<(), Fault
 fn write_cancelled<W: Write>(out: &mut W, workunit: &Name) -> Result<(), Fault>
     ensures bytes { WritesTo W.contents out.old out.new
         (reply_text (Cancelled workunit.now)) result }
+    ensures cut { CutsWhatFails W.contents out.old out.new
+        (reply_text (Cancelled workunit.now)) result }
     ensures fault { IsOkUnless result Output }
 {
     write_pieces(
@@ -254,9 +270,10 @@ fn write_cancelled<W: Write>(out: &mut W, workunit: &Name) -> Result<(), Fault>
     )
 }
 
-/// Writes the text of an answer.
+/// Writes the text of an answer. One that went out whole is never told as failed.
 fn write_text<W: Write>(out: &mut W, answer: &Answer) -> Result<(), Fault>
     ensures bytes { WritesTo W.contents out.old out.new (answer_text answer.now) result }
+    ensures cut { CutsWhatFails W.contents out.old out.new (answer_text answer.now) result }
     ensures fault { IsOkUnless result Output }
 {
     match answer {

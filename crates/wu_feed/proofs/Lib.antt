@@ -9,4 +9,5 @@ pub mod RangeLemmas
 mod RowLemmas
 mod ScriptLemmas
 mod TemplateLemmas
+mod ToldLemmas
 mod FaultLemmas

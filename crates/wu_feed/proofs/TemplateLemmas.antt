@@ -1,18 +1,22 @@
 -- The document of a template, and its keys.
-use Rattle.std.proofs.Common.{◌≡◌, ◌≤◌, ℕ, Bool, true, false, List, [], ◌∷◌, length, nat_le, Option, Some, None, ℤ, String, Global, IsUtf8, string_bytes, arith, refl}
+use Rattle.std.proofs.Common.{◌≡◌, ◌⊎◌, ◌≤◌, ℕ, Bool, true, false, inl, inr, List, [], ◌∷◌, length, nat_le, Option, Some, None, Result, Ok, Err, IfOk, IfErr, ℤ, String, Global, IsUtf8, string_bytes, arith, refl}
 use Rattle.std.proofs.lemmas.Bool.Decides.{nat_tests}
 use Rattle.std.proofs.lemmas.Str.{IsUtf8-from_is_utf8, is_utf8-from_IsUtf8}
 use Rattle.std.specs.List.{list_all}
 use Rattle.std.specs.Map.{keys_of}
 use Rattle.std.specs.Str.{is_utf8}
 use Rattle.toml.specs.Data.{Members}
+use Rattle.toml.specs.Errors.{IsMemory}
 use Rattle.toml.specs.Parse.{parse_document}
 use Rattle.toml.specs.View.{members_view}
+use Rattle.toml.specs.declared.de.error.Error.{Error}
 use Rattle.toml.specs.declared.value.Value.{Value}
 use Rattle.wu_core.specs.Templates.{template_parameters, whole_at}
+use Rattle.wu_core.specs.declared.fault.Fault.{Fault}
+use Rattle.wu_core.specs.declared.fault.Fault.TheVariants.{Memory}
 use Rattle.wu_core.specs.declared.fault.TemplateKey.TheVariants as key
 use Rattle.wu_feed.specs.Limits.{longest_template}
-use Rattle.wu_feed.specs.Templates.{document_of, has_only_keys, is_key, value_of_key}
+use Rattle.wu_feed.specs.Templates.{document_of, IsNoDocument, KeepsDocument, has_only_keys, is_key, value_of_key}
 
 short_text : (text : List ℕ) → length text ≤ 65536 → nat_le (length text) longest_template ≡ true
 short_text text short = grind (arith, nat_tests)
@@ -26,6 +30,14 @@ document_of-none text short refused = by (is_utf8 text) refl
     by : (b : Bool) → is_utf8 text ≡ b → document_of text ≡ None
     by true is = rw (short_text text short, is) (refused (IsUtf8-from_is_utf8 text is))
     by false is = rw (short_text text short, is) refl
+
+-- what is known of a document that was read, and of a text that is none
+pub document_kept : {T : Type 0} (text : List ℕ) (view : T → Members) (read : Result T Error) (result : Result T Fault) → length text ≤ 65536 → KeepsDocument read result
+    → IfOk read (λ document. IsUtf8 text × (parse_document text ≡ Some (view document))) → IfErr read (λ error. ¬ (IsMemory error) → IsUtf8 text → parse_document text ≡ None)
+    → IfOk result (λ document. document_of text ≡ Some (view document)) × IfErr result (λ fault. (fault ≡ Memory) ⊎ IsNoDocument text fault)
+document_kept text view (Ok document) result short kept known none = rw kept (document_of-some text (view document) short known.0 known.1, tt)
+document_kept text view (Err error) result short (inl wanted) known none = rw wanted.1 (tt, inl refl)
+document_kept text view (Err error) result short (inr other) known none = rw other.1 (tt, inr (refl, document_of-none text short (none other.0)))
 
 -- the keys of a table, as a map has them
 pub has_only_keys-view : (entries : List (String Global × Value)) → has_only_keys (members_view entries) ≡ list_all (λ key. is_key (string_bytes key)) (keys_of entries)

@@ -10,3 +10,4 @@ pub mod Rows
 pub mod Scripts
 pub mod Sends
 pub mod Templates
+pub mod Told

@@ -25,6 +25,15 @@ abbrev pub report_with : ℕ → SendRow → Status → Option (List ℕ) → Re
 report_with row sent status (Some output) = Ok (record { workunit = sent.workunit; n = sent.n; host = sent.host; moment = sent.moment; status = status; output = output })
 report_with row sent status None = Err (BadFile row cause.Output)
 
+-- a status and its output; the first of the two that is at fault decides
+abbrev pub ending_with : ℕ → Status → Option (List ℕ) → Result (Status × List ℕ) Fault
+ending_with row status (Some output) = Ok (status, output)
+ending_with row status None = Err (BadFile row cause.Output)
+
+abbrev pub ending_of : ℕ → Option Status → List ℕ → Result (Status × List ℕ) Fault
+ending_of row (Some status) output = ending_with row status (reported_output status output)
+ending_of row None output = Err (BadFile row cause.Status)
+
 -- the first field that is at fault decides
 abbrev pub report_of_fields : ℕ → Result SendRow Fault → Option Status → List ℕ → Result ReportRow Fault
 report_of_fields row (Err fault) status output = Err fault

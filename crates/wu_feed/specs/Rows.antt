@@ -1,5 +1,5 @@
 -- The rows of a file under its header, as `csv` reads their records. Records are numbered from 1, the header.
-use Rattle.std.specs.Prelude.{◌≡◌, ◌⊎◌, ℕ, ◌+◌, nat_lt, Bool, true, false, ◌&&◌, if◌then◌else◌, bytes_eq, List, [], ◌∷◌, length, take, Result, Ok, Err}
+use Rattle.std.specs.Prelude.{◌≡◌, ◌≢◌, ◌⊎◌, ℕ, ◌+◌, ◌<◌, nat_lt, Bool, true, false, ◌&&◌, if◌then◌else◌, bytes_eq, List, [], ◌∷◌, length, take, Result, Ok, Err}
 use Rattle.csv.specs.Reading.{default_config, records, strip_bom}
 use Rattle.wu_core.specs.declared.fault.Fault.{Fault}
 use Rattle.wu_core.specs.declared.fault.Fault.TheVariants.{BadFile, Memory}
@@ -45,6 +45,23 @@ rows_under names row_of (header ∷ more) = if is_header names header then rows_
 abbrev pub rows_of_file : {R : Type 0} → List (List ℕ) → (ℕ → List (List ℕ) → Result R Fault) → List ℕ → Result (List R) Fault
 rows_of_file names row_of file =
     if nat_lt longest_file (length file) then Err (BadFile 0 cause.TooLong) else rows_under names row_of (records_of file)
+
+-- a file that is too long is refused for that, whatever memory there is
+abbrev pub TellsTooLong : {T : Type 0} → Result T Fault → List ℕ → Type 0
+TellsTooLong result file = longest_file < length file → result ≡ Err (BadFile 0 cause.TooLong)
+
+-- the first record is the header
+abbrev pub has_header : List (List ℕ) → List (List (List ℕ)) → Bool
+has_header names [] = false
+has_header names (header ∷ more) = is_header names header
+
+-- records without the header are refused for that, whatever memory there is
+abbrev pub TellsHeader : {T : Type 0} → Result T Fault → List (List ℕ) → List (List (List ℕ)) → Type 0
+TellsHeader result names records = has_header names records ≡ false → result ≡ Err (BadFile 1 cause.Header)
+
+-- a row with another number of fields than the header is refused for that, whatever memory there is
+abbrev pub TellsFields : {T : Type 0} → Result T Fault → ℕ → List (List ℕ) → List (List ℕ) → Type 0
+TellsFields result number names fields = length fields ≢ length names → result ≡ Err (BadFile number cause.Fields)
 
 -- memory is wanted, or the file is refused at a row
 abbrev pub IsFileFault : Fault → Type 0

@@ -1,5 +1,5 @@
 -- Scripts: the lines of a text, each with its words, as `csv` reads them. Lines are numbered from 1.
-use Rattle.std.specs.Prelude.{ℕ, ◌==◌, nat_lt, Bool, if◌then◌else◌, List, [], ◌∷◌, ◌++◌, length, filter, slice_get, Option, Some, None, Result, Ok, Err}
+use Rattle.std.specs.Prelude.{◌≡◌, ◌<◌, ℕ, ◌==◌, nat_lt, Bool, if◌then◌else◌, List, [], ◌∷◌, ◌++◌, length, filter, slice_get, Option, Some, None, Result, Ok, Err}
 use Rattle.std.specs.List.{enumerate_from, filter_map, list_any, slice_split}
 use Rattle.std.specs.Str.{is_utf8}
 use Rattle.std.specs.Str.Lines.{strip_carriage_return}
@@ -66,6 +66,10 @@ line_with number (Err why) = Some (at_fault number why)
 -- what a numbered line is; one without a byte is none
 abbrev pub script_line_of : ℕ × List ℕ → Option ScriptLine
 script_line_of line = if has_bytes line.1 then line_with line.0 (words_at line.0 line.1) else None
+
+-- of a line after the last one that a script may have this is told, whatever memory there is
+abbrev pub TellsLate : {T : Type 0} → ℕ → Result T Fault → T → Type 0
+TellsLate number result line = most_lines < number → result ≡ Ok line
 
 -- the lines of a text, with their numbers
 abbrev pub numbered_lines : List ℕ → List (ℕ × List ℕ)

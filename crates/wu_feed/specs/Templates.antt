@@ -1,8 +1,10 @@
 -- Templates, as `toml` reads their documents.
-use Rattle.std.specs.Prelude.{◌≡◌, ◌⊎◌, ℕ, nat_le, Bool, true, ◌&&◌, ◌||◌, if◌then◌else◌, ℤ, pos, bytes_eq, codes, List, length, Option, Some, None, Result, Err}
+use Rattle.std.specs.Prelude.{◌≡◌, ◌⊎◌, ℕ, ◌<◌, nat_le, Bool, true, ◌&&◌, ◌||◌, if◌then◌else◌, ℤ, pos, bytes_eq, codes, List, length, Option, Some, None, Result, Ok, Err}
 use Rattle.std.specs.Str.{is_utf8}
 use Rattle.toml.specs.Data.{Data, Members, no_members, member, as_integer, get_member}
+use Rattle.toml.specs.Errors.{IsMemory}
 use Rattle.toml.specs.Parse.{parse_document}
+use Rattle.toml.specs.declared.de.error.Error.{Error}
 use Rattle.wu_core.specs.Parameters.{Parameters, default_parameters}
 use Rattle.wu_core.specs.Templates.{template_parameters}
 use Rattle.wu_core.specs.declared.fault.Fault.{Fault}
@@ -18,6 +20,15 @@ document_of text = if nat_le (length text) longest_template && is_utf8 text then
 -- the text is no document, and this is its fault
 abbrev pub IsNoDocument : List ℕ → Fault → Type 0
 IsNoDocument text fault = (fault ≡ BadTemplate key.Document) × (document_of text ≡ None)
+
+-- a document that was read is kept; of an error that is want of memory that is told, and of any other that there is none
+abbrev pub KeepsDocument : {T : Type 0} → Result T Error → Result T Fault → Type 0
+KeepsDocument (Ok document) result = result ≡ Ok document
+KeepsDocument (Err error) result = (IsMemory error × (result ≡ Err Memory)) ⊎ ((¬ (IsMemory error)) × (result ≡ Err (BadTemplate key.Document)))
+
+-- a text that is too long for a template is refused as no document, whatever memory there is
+abbrev pub TellsLongTemplate : {T : Type 0} → Result T Fault → List ℕ → Type 0
+TellsLongTemplate result text = longest_template < length text → result ≡ Err (BadTemplate key.Document)
 
 -- a key that a template may have
 abbrev pub is_key : List ℕ → Bool

@@ -1,17 +1,18 @@
 //! Files of classes: a header `host,class`, and a row for each host that gets a class.
 
-ghost use Rattle.std.specs.Prelude.{◌≡◌, ◌≤◌, All, IfErr, IfOk, length};
+ghost use Rattle.std.specs.Prelude.{◌≡◌, ◌≤◌, ◌∷◌, [], All, IfErr, IfOk, length};
 ghost use Rattle.std.specs.Char.{is_ascii_digit};
 ghost use Rattle.std.specs.List.{list_all};
 ghost use Rattle.csv.specs.Records.{fields_of};
 ghost use Rattle.wu_core.specs.Classes.{AreClassed};
-ghost use Rattle.wu_core.specs.Reads.{IsOrWantsMemory};
+ghost use Rattle.wu_core.specs.Reads.{IsOrWantsMemory, TellsRefusal};
 ghost use Rattle.wu_feed.specs.Classes.{class_written, classes_header, classes_of_file, host_class_of, is_decimal};
 ghost use Rattle.wu_feed.specs.Limits.{most_rows};
-ghost use Rattle.wu_feed.specs.Rows.{is_header, IsFileFault};
+ghost use Rattle.wu_feed.specs.Rows.{is_header, IsFileFault, TellsTooLong};
 
 use crate::records::{fault_at, two_fields};
 use crate::rows::{Row, Rows, read_file};
+use crate::told::{at_field, both};
 use csv::ByteRecord;
 use std::alloc::Global;
 use wu_core::{Fault, FileCause, HostClass, Name};
@@ -49,23 +50,20 @@ fn read_class(text: &[u8]) -> Option<u32>
     }
 }
 
-/// The host of a row and its class. The first field at fault decides.
-fn read_host_class(alloc: Global, number: u32, row: &ByteRecord) -> Result<HostClass, Fault>
-    ensures { IsOrWantsMemory result (host_class_of number (fields_of row.now)) }
+/// The host of two fields and its class. The first field at fault decides.
+fn read_host_class(
+    alloc: Global,
+    number: u32,
+    host: &[u8],
+    class: &[u8],
+) -> Result<HostClass, Fault>
+    ensures exact { IsOrWantsMemory result (host_class_of number (host.now ∷ class.now ∷ [])) }
+    ensures told { TellsRefusal result (host_class_of number (host.now ∷ class.now ∷ [])) }
 {
-    let Some((host, class)) = two_fields(row) else {
-        return Err(fault_at(number, FileCause::Fields));
-    };
-    let host = match Name::read(alloc, host) {
-        Ok(host) => host,
-        Err(Fault::Memory) => return Err(Fault::Memory),
-        // No name: told with the row.
-        Err(_) => return Err(fault_at(number, FileCause::Host)),
-    };
-    match read_class(class) {
-        Some(class) => Ok(HostClass { host, class }),
-        None => Err(fault_at(number, FileCause::Class)),
-    }
+    let host = at_field(number, FileCause::Host, Name::read(alloc, host));
+    let class = read_class(class).ok_or(fault_at(number, FileCause::Class));
+    let (host, class) = both(host, class)?;
+    Ok(HostClass { host, class })
 }
 
 /// Whether the row is the header of a file of classes.
@@ -90,7 +88,10 @@ impl Row for HostClass {
     }
 
     fn read(alloc: Global, number: u32, row: &ByteRecord) -> Result<Self, Fault> {
-        read_host_class(alloc, number, row)
+        match two_fields(row) {
+            Some((host, class)) => read_host_class(alloc, number, host, class),
+            None => Err(fault_at(number, FileCause::Fields)),
+        }
     }
 }
 
@@ -100,6 +101,7 @@ impl Row for HostClass {
 /// right.
 pub fn read_classes(alloc: Global, file: &[u8]) -> Result<Classes, Fault>
     ensures exact { IsOrWantsMemory result (classes_of_file file.now) }
+    ensures long { TellsTooLong result file.now }
     ensures told { IfErr result IsFileFault }
     ensures few { IfOk result (λ classes. length classes ≤ most_rows) }
     ensures ranged { IfOk result AreClassed }

@@ -1,16 +1,22 @@
 //! Files of jobs: a header `name,input`, and a row for each job.
 
-ghost use Rattle.std.specs.Prelude.{◌≡◌, ◌≤◌, All, IfErr, IfOk, length};
+ghost use Rattle.std.specs.Prelude.{◌≡◌, ◌≤◌, ◌∷◌, [], All, IfErr, IfOk, length};
+ghost use Rattle.std.specs.Option.{ok_or};
 ghost use Rattle.csv.specs.Records.{fields_of};
 ghost use Rattle.wu_core.specs.Reads.{IsOrWantsMemory};
+ghost use Rattle.wu_core.specs.declared.fault.Fault.TheVariants.{BadFile};
+ghost use Rattle.wu_core.specs.declared.fault.FileCause.TheVariants.{Input};
+ghost use Rattle.wu_feed.specs.Inputs.{input_of};
 ghost use Rattle.wu_feed.specs.Limits.{most_rows};
 ghost use Rattle.wu_feed.specs.Ranges.{IsJob};
-ghost use Rattle.wu_feed.specs.Rows.{IsFileFault};
+ghost use Rattle.wu_feed.specs.Rows.{IsFileFault, TellsTooLong};
 ghost use Rattle.wu_feed.specs.Jobs.{is_jobs_header, job_of, jobs_of_file};
+ghost use Rattle.wu_feed.specs.Told.{TellsFound};
 
 use crate::inputs::read_hex;
 use crate::records;
 use crate::rows::{Row, Rows, read_file};
+use crate::told::{at_field, both};
 use csv::ByteRecord;
 use std::alloc::Global;
 use wu_core::{Bytes, Fault, FileCause, LONGEST_INPUT, Name};
@@ -25,23 +31,25 @@ pub struct Job {
 /// Jobs in the order of their rows.
 pub type Jobs = Rows<Job>;
 
-/// The job of a row: its name, and then its input. The first cause for which there is none is that of `BadFile`.
-fn read_job(alloc: Global, number: u32, row: &ByteRecord) -> Result<Job, Fault>
-    ensures { IsOrWantsMemory result (job_of number (fields_of row.now)) }
+/// The input of a field, which is hex digits. They are decoded before it is known that they are.
+fn read_input(alloc: Global, number: u32, text: &[u8]) -> Result<Bytes, Fault>
+    ensures { IsOrWantsMemory result (ok_or (input_of text.now) (BadFile number Input)) }
 {
-    let Some((name, input)) = records::two_fields(row) else {
-        return Err(records::fault_at(number, FileCause::Fields));
-    };
-    let name = match Name::read(alloc, name) {
-        Ok(name) => name,
-        Err(Fault::Memory) => return Err(Fault::Memory),
-        // No name: told with the row.
-        Err(_) => return Err(records::fault_at(number, FileCause::Name)),
-    };
-    match read_hex(alloc, input, LONGEST_INPUT)? {
-        Some(input) => Ok(Job { name, input }),
+    match read_hex(alloc, text, LONGEST_INPUT)? {
+        Some(input) => Ok(input),
         None => Err(records::fault_at(number, FileCause::Input)),
     }
+}
+
+/// The job of two fields: its name, and then its input. The first field at fault decides.
+fn read_job(alloc: Global, number: u32, name: &[u8], input: &[u8]) -> Result<Job, Fault>
+    ensures exact { IsOrWantsMemory result (job_of number (name.now ∷ input.now ∷ [])) }
+    ensures told { TellsFound result (job_of number (name.now ∷ input.now ∷ [])) }
+{
+    let name = at_field(number, FileCause::Name, Name::read(alloc, name));
+    let input = read_input(alloc, number, input);
+    let (name, input) = both(name, input)?;
+    Ok(Job { name, input })
 }
 
 /// Whether the row is the header of a file of jobs.
@@ -66,7 +74,10 @@ impl Row for Job {
     }
 
     fn read(alloc: Global, number: u32, row: &ByteRecord) -> Result<Self, Fault> {
-        read_job(alloc, number, row)
+        match records::two_fields(row) {
+            Some((name, input)) => read_job(alloc, number, name, input),
+            None => Err(records::fault_at(number, FileCause::Fields)),
+        }
     }
 }
 
@@ -75,6 +86,7 @@ impl Row for Job {
 /// the header; 0 for the file's length) and the first cause there, from left to right.
 pub fn read_jobs(alloc: Global, file: &[u8]) -> Result<Jobs, Fault>
     ensures exact { IsOrWantsMemory result (jobs_of_file file.now) }
+    ensures long { TellsTooLong result file.now }
     ensures told { IfErr result IsFileFault }
     ensures few { IfOk result (λ jobs. length jobs ≤ most_rows) }
     ensures ranged { IfOk result (All IsJob) }

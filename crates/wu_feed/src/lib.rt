@@ -14,6 +14,7 @@ mod rows;
 mod script;
 mod sends;
 mod template;
+mod told;
 mod words;
 
 pub use classes::{Classes, read_classes};
@@ -26,4 +27,5 @@ pub use rows::Rows;
 pub use script::{LineCause, ScriptLine, read_script};
 pub use sends::{SendRow, Sends, read_sends};
 pub use template::read_template;
+pub use told::both;
 pub use words::Words;

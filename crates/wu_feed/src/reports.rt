@@ -5,13 +5,16 @@ ghost use Rattle.csv.specs.Records.{fields_of};
 ghost use Rattle.wu_core.specs.Reads.{IsOrWantsMemory};
 ghost use Rattle.wu_feed.specs.Limits.{most_rows};
 ghost use Rattle.wu_feed.specs.Ranges.{IsReportRow};
-ghost use Rattle.wu_feed.specs.Reports.{report_of, reported_output, reports_header, reports_of_file};
-ghost use Rattle.wu_feed.specs.Rows.{is_header, IsFileFault};
+ghost use Rattle.wu_feed.specs.Reports.{ending_of, report_of, reported_output, reports_header, reports_of_file};
+ghost use Rattle.wu_feed.specs.Rows.{is_header, IsFileFault, TellsFields, TellsTooLong};
+ghost use Rattle.wu_core.specs.Statuses.{status_of};
+ghost use Rattle.wu_feed.specs.Told.{TellsFound};
 
 use crate::inputs::read_hex;
 use crate::records::{fault_at, five_fields};
 use crate::rows::{Row, Rows, read_file};
 use crate::sends::read_send;
+use crate::told::both;
 use csv::ByteRecord;
 use std::alloc::Global;
 use wu_core::{Bytes, Fault, FileCause, LONGEST_OUTPUT, Moment, Name, Status};
@@ -45,21 +48,38 @@ fn read_output(alloc: Global, status: Status, text: &[u8]) -> Result<Option<Byte
     }
 }
 
+/// The status of a report, and its output. The first of the two at fault decides.
+fn read_ending(
+    alloc: Global,
+    number: u32,
+    status: &[u8],
+    output: &[u8],
+) -> Result<(Status, Bytes), Fault>
+    ensures exact { IsOrWantsMemory result (ending_of number (status_of status.now) output.now) }
+    ensures told { TellsFound result (ending_of number (status_of status.now) output.now) }
+{
+    let Some(status) = Status::from_word(status) else {
+        return Err(fault_at(number, FileCause::Status));
+    };
+    match read_output(alloc, status, output)? {
+        Some(output) => Ok((status, output)),
+        None => Err(fault_at(number, FileCause::Output)),
+    }
+}
+
 /// The report of a row: the instance, the host, the moment, the status and the output. The first field at fault
 /// decides.
 fn read_report(alloc: Global, number: u32, row: &ByteRecord) -> Result<ReportRow, Fault>
-    ensures { IsOrWantsMemory result (report_of number (fields_of row.now)) }
+    ensures exact { IsOrWantsMemory result (report_of number (fields_of row.now)) }
+    ensures fields { TellsFields result number reports_header (fields_of row.now) }
+    ensures told { TellsFound result (report_of number (fields_of row.now)) }
 {
     let Some((name, host, moment, status, output)) = five_fields(row) else {
         return Err(fault_at(number, FileCause::Fields));
     };
-    let sent = read_send(alloc, number, name, host, moment)?;
-    let Some(status) = Status::from_word(status) else {
-        return Err(fault_at(number, FileCause::Status));
-    };
-    let Some(output) = read_output(alloc, status, output)? else {
-        return Err(fault_at(number, FileCause::Output));
-    };
+    let sent = read_send(alloc, number, name, host, moment);
+    let ending = read_ending(alloc, number, status, output);
+    let (sent, (status, output)) = both(sent, ending)?;
     Ok(ReportRow {
         workunit: sent.workunit,
         n: sent.n,
@@ -96,11 +116,12 @@ impl Row for ReportRow {
 }
 
 /// The reports of a file of at most 1,048,576 bytes: a header `result,host,moment,status,output` and at most 1,000
-/// rows, each the name of an instance, a host, a moment, a status and an output of at most 4,096 bytes in hex, which is
-/// empty unless the status is `success`. Any other file is `BadFile` with its first faulty row (records numbered from
-/// 1, the header; 0 for the file's length) and the first cause there, from left to right.
+/// rows, each the name of an instance, a host, a moment, a status and an output of at most 65,536 bytes in hex, which
+/// is empty unless the status is `success`. Any other file is `BadFile` with its first faulty row (records numbered
+/// from 1, the header; 0 for the file's length) and the first cause there, from left to right.
 pub fn read_reports(alloc: Global, file: &[u8]) -> Result<Reports, Fault>
     ensures exact { IsOrWantsMemory result (reports_of_file file.now) }
+    ensures long { TellsTooLong result file.now }
     ensures told { IfErr result IsFileFault }
     ensures few { IfOk result (λ reports. length reports ≤ most_rows) }
     ensures ranged { IfOk result (All IsReportRow) }

@@ -6,7 +6,8 @@ ghost use Rattle.std.specs.Slice.Iter.{iter_rest};
 ghost use Rattle.csv.specs.Records.{fields_of};
 ghost use Rattle.wu_core.specs.Reads.{IsOrWantsMemory};
 ghost use Rattle.wu_feed.specs.Limits.{most_rows};
-ghost use Rattle.wu_feed.specs.Rows.{is_header, row_at, rows_from, rows_under, rows_of_file};
+ghost use Rattle.wu_feed.specs.Rows.{is_header, row_at, rows_from, rows_under, rows_of_file, TellsFields, TellsHeader, TellsTooLong};
+ghost use Rattle.wu_feed.specs.Told.{TellsFound};
 
 use crate::limits::{LAST_ROW, LONGEST_FILE};
 use crate::records::{fault_at, first_records};
@@ -31,30 +32,35 @@ impl<R> Model for Rows<R> {
 }
 
 impl<R> Rows<R> {
+    /// These rows; it takes no memory.
     pub fn from_vec(items: Vec<R>) -> Self
         ensures { result ≡ items.items }
     {
         Rows { items }
     }
 
+    /// The rows as a vector; it takes no memory.
     pub fn into_vec(self) -> Vec<R>
         ensures { result.items ≡ self }
     {
         self.items
     }
 
+    /// The rows in the order of the file.
     pub fn as_slice(&self) -> &[R]
         ensures { result.now ≡ self.now }
     {
         self.items.as_slice()
     }
 
+    /// How many they are.
     pub fn len(&self) -> usize
         ensures { result ≡ length self.now }
     {
         self.items.len()
     }
 
+    /// Whether there is none.
     pub fn is_empty(&self) -> bool
         ensures { IsTrue result ↔ (self.now ≡ []) }
     {
@@ -88,12 +94,15 @@ pub trait Row: Drop {
 
     /// The row of this number, or the first cause for which there is none.
     fn read(alloc: Global, number: u32, row: &ByteRecord) -> Result<Self, Fault>
-        ensures { IsOrWantsMemory result (row_of number (fields_of row.now)) };
+        ensures exact { IsOrWantsMemory result (row_of number (fields_of row.now)) }
+        ensures fields { TellsFields result number names (fields_of row.now) }
+        ensures told { TellsFound result (row_of number (fields_of row.now)) };
 }
 
 /// The row of this number, where a file may have one.
 fn read_row<R: Row>(alloc: Global, number: u32, row: &ByteRecord) -> Result<R, Fault>
-    ensures { IsOrWantsMemory result (row_at R.row_of number (fields_of row.now)) }
+    ensures exact { IsOrWantsMemory result (row_at R.row_of number (fields_of row.now)) }
+    ensures told { TellsFound result (row_at R.row_of number (fields_of row.now)) }
 {
     if number > LAST_ROW {
         return Err(fault_at(number, FileCause::TooManyRows));
@@ -117,7 +126,9 @@ fn read_rows<R: Row>(alloc: Global, rows: &[ByteRecord]) -> Result<Rows<R>, Faul
 
 /// The rows of a file's records, of which the first is the header.
 fn read_records<R: Row>(alloc: Global, records: &[ByteRecord]) -> Result<Rows<R>, Fault>
-    ensures { IsOrWantsMemory result (rows_under R.names R.row_of (map fields_of records.now)) }
+    ensures exact { IsOrWantsMemory result
+        (rows_under R.names R.row_of (map fields_of records.now)) }
+    ensures header { TellsHeader result R.names (map fields_of records.now) }
 {
     match records {
         [header, rows @ ..] if R::is_header(header) => read_rows(alloc, rows),
@@ -129,6 +140,7 @@ fn read_records<R: Row>(alloc: Global, records: &[ByteRecord]) -> Result<Rows<R>
 /// its first faulty row (records numbered from 1, the header; 0 for the file's length) and the first cause there.
 pub fn read_file<R: Row>(alloc: Global, file: &[u8]) -> Result<Rows<R>, Fault>
     ensures exact { IsOrWantsMemory result (rows_of_file R.names R.row_of file.now) }
+    ensures long { TellsTooLong result file.now }
     ensures few { IfOk result (λ rows. length rows ≤ most_rows) }
 {
     if file.len() > LONGEST_FILE {

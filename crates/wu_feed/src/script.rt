@@ -6,8 +6,8 @@ ghost use Rattle.std.specs.Str.Lines.{strip_carriage_return};
 ghost use Rattle.csv.specs.Machine.{line_feed};
 ghost use Rattle.csv.specs.Records.{fields_of};
 ghost use Rattle.wu_core.specs.Reads.{FailsForMemory, IsOrWantsMemory};
-ghost use Rattle.wu_feed.specs.Rows.{IsFileFault};
-ghost use Rattle.wu_feed.specs.Scripts.{field_cause, fields_in, script_line_of, script_of, words_among, words_at};
+ghost use Rattle.wu_feed.specs.Rows.{IsFileFault, TellsTooLong};
+ghost use Rattle.wu_feed.specs.Scripts.{field_cause, fields_in, script_line_of, script_of, words_among, words_at, TellsLate};
 
 use crate::limits::{LONGEST_FILE, MOST_LINES};
 use crate::records::{fault_at, fault_of};
@@ -103,7 +103,8 @@ fn words_among(alloc: Global, row: &ByteRecord) -> Result<Result<Words, LineCaus
 
 /// The words of the line of this number, or the cause for which it has none.
 fn read_words(alloc: Global, number: u64, line: &[u8]) -> Result<Result<Words, LineCause>, Fault>
-    ensures { IsOrWantsMemory result (Ok (words_at number line.now)) }
+    ensures exact { IsOrWantsMemory result (Ok (words_at number line.now)) }
+    ensures late { TellsLate number result (words_at number line.now) }
 {
     if number > MOST_LINES as u64 {
         return Ok(Err(LineCause::TooManyLines));
@@ -114,7 +115,8 @@ fn read_words(alloc: Global, number: u64, line: &[u8]) -> Result<Result<Words, L
 
 /// What the line of this number is: none without words.
 fn read_line(alloc: Global, number: u64, line: &[u8]) -> Result<Option<ScriptLine>, Fault>
-    ensures { IsOrWantsMemory result (Ok (script_line_of (number, line.now))) }
+    ensures exact { IsOrWantsMemory result (Ok (script_line_of (number, line.now))) }
+    ensures late { TellsLate number result (script_line_of (number, line.now)) }
 {
     if line.is_empty() {
         return Ok(None);
@@ -156,6 +158,7 @@ fn split_lines(alloc: Global, text: &[u8]) -> Result<Vec<&[u8]>, AllocError>
 /// with row 0 and `TooLong`.
 pub fn read_script(alloc: Global, text: &[u8]) -> Result<Rows<ScriptLine>, Fault>
     ensures exact { IsOrWantsMemory result (script_of text.now) }
+    ensures long { TellsTooLong result text.now }
     ensures told { IfErr result IsFileFault }
 {
     if text.len() > LONGEST_FILE {

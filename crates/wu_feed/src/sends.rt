@@ -2,15 +2,16 @@
 
 ghost use Rattle.std.specs.Prelude.{◌≡◌, ◌≤◌, ◌∷◌, [], All, IfErr, IfOk, length};
 ghost use Rattle.csv.specs.Records.{fields_of};
-ghost use Rattle.wu_core.specs.Reads.{IsOrWantsMemory};
+ghost use Rattle.wu_core.specs.Reads.{IsOrWantsMemory, TellsRefusal};
 ghost use Rattle.wu_feed.specs.Limits.{most_rows};
 ghost use Rattle.wu_feed.specs.Ranges.{IsSendRow};
-ghost use Rattle.wu_feed.specs.Rows.{is_header, IsFileFault};
+ghost use Rattle.wu_feed.specs.Rows.{is_header, IsFileFault, TellsTooLong};
 ghost use Rattle.wu_feed.specs.Sends.{send_of, sends_header, sends_of_file};
 
 use crate::moment::read_moment;
 use crate::records::{fault_at, three_fields};
 use crate::rows::{Row, Rows, read_file};
+use crate::told::{at_field, both};
 use csv::ByteRecord;
 use std::alloc::Global;
 use wu_core::{Fault, FileCause, Moment, Name, ResultName};
@@ -36,27 +37,20 @@ pub fn read_send(
     host: &[u8],
     moment: &[u8],
 ) -> Result<SendRow, Fault>
-    ensures { IsOrWantsMemory result (send_of number (name.now ∷ host.now ∷ moment.now ∷ [])) }
+    ensures exact { IsOrWantsMemory result
+        (send_of number (name.now ∷ host.now ∷ moment.now ∷ [])) }
+    ensures told { TellsRefusal result (send_of number (name.now ∷ host.now ∷ moment.now ∷ [])) }
 {
-    let ResultName { workunit, n } = match ResultName::read(alloc, name) {
-        Ok(name) => name,
-        Err(Fault::Memory) => return Err(Fault::Memory),
-        Err(_) => return Err(fault_at(number, FileCause::Result)),
-    };
-    let host = match Name::read(alloc, host) {
-        Ok(host) => host,
-        Err(Fault::Memory) => return Err(Fault::Memory),
-        Err(_) => return Err(fault_at(number, FileCause::Host)),
-    };
-    match read_moment(moment) {
-        Ok(moment) => Ok(SendRow {
-            workunit,
-            n,
-            host,
-            moment,
-        }),
-        Err(_) => Err(fault_at(number, FileCause::Moment)),
-    }
+    let name = at_field(number, FileCause::Result, ResultName::read(alloc, name));
+    let host = at_field(number, FileCause::Host, Name::read(alloc, host));
+    let moment = at_field(number, FileCause::Moment, read_moment(moment));
+    let (name, (host, moment)) = both(name, both(host, moment))?;
+    Ok(SendRow {
+        workunit: name.workunit,
+        n: name.n,
+        host,
+        moment,
+    })
 }
 
 impl Row for SendRow {
@@ -90,6 +84,7 @@ impl Row for SendRow {
 /// the header; 0 for the file's length) and the first cause there, from left to right.
 pub fn read_sends(alloc: Global, file: &[u8]) -> Result<Sends, Fault>
     ensures exact { IsOrWantsMemory result (sends_of_file file.now) }
+    ensures long { TellsTooLong result file.now }
     ensures told { IfErr result IsFileFault }
     ensures few { IfOk result (λ sends. length sends ≤ most_rows) }
     ensures ranged { IfOk result (All IsSendRow) }

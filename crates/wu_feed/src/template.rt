@@ -7,27 +7,34 @@ ghost use Rattle.toml.specs.Data.{get_member};
 ghost use Rattle.toml.specs.View.{table_view};
 ghost use Rattle.wu_core.specs.Reads.{IsOrWantsMemory};
 ghost use Rattle.wu_core.specs.declared.fault.Fault.TheVariants.{Memory};
-ghost use Rattle.wu_feed.specs.Templates.{IsNoDocument, IsTemplateFault, document_of, document_parameters, is_key, template_of, value_or};
+ghost use Rattle.wu_feed.specs.Templates.{IsNoDocument, IsTemplateFault, KeepsDocument, TellsLongTemplate, document_of, document_parameters, is_key, template_of, value_or};
 
 use crate::limits::LONGEST_TEMPLATE;
 use std::alloc::Global;
 use toml::Table;
 use wu_core::{Fault, Params, TemplateKey};
 
-/// The document that the text is. Any other text is `BadTemplate`.
-fn read_document(alloc: Global, text: &[u8]) -> Result<Table, Fault>
-    ensures read { IfOk result (λ table. document_of text.now ≡ Some (table_view table)) }
-    ensures refused { IfErr result (λ fault. (fault ≡ Memory) ⊎ IsNoDocument text.now fault) }
+/// The document that was read. The reader has one error for want of memory and for a text that is none; it tells which.
+fn document_read(read: Result<Table, toml::de::Error>) -> Result<Table, Fault>
+    ensures { KeepsDocument read result }
 {
-    if text.len() > LONGEST_TEMPLATE {
-        return Err(Fault::BadTemplate(TemplateKey::Document));
-    }
-    // The reader has one error for both; it tells which.
-    match toml::table_from_slice(alloc, text) {
+    match read {
         Ok(table) => Ok(table),
         Err(error) if error.is_memory() => Err(Fault::Memory),
         Err(_) => Err(Fault::BadTemplate(TemplateKey::Document)),
     }
+}
+
+/// The document that the text is. Any other text is `BadTemplate`.
+fn read_document(alloc: Global, text: &[u8]) -> Result<Table, Fault>
+    ensures read { IfOk result (λ table. document_of text.now ≡ Some (table_view table)) }
+    ensures refused { IfErr result (λ fault. (fault ≡ Memory) ⊎ IsNoDocument text.now fault) }
+    ensures long { TellsLongTemplate result text.now }
+{
+    if text.len() > LONGEST_TEMPLATE {
+        return Err(Fault::BadTemplate(TemplateKey::Document));
+    }
+    document_read(toml::table_from_slice(alloc, text))
 }
 
 /// Whether a template may have the key.
@@ -84,6 +91,7 @@ fn read_table(table: &Table) -> Result<Params, Fault>
 pub fn read_template(alloc: Global, text: &[u8]) -> Result<Params, Fault>
     ensures exact { IsOrWantsMemory result (template_of text.now) }
     ensures told { IfErr result IsTemplateFault }
+    ensures long { TellsLongTemplate result text.now }
 {
     let table = read_document(alloc, text)?;
     read_table(&table)

@@ -19,18 +19,21 @@ impl Model for Words {
 }
 
 impl Words {
+    /// These words; it takes no memory.
     pub fn from_vec(items: Vec<String>) -> Self
         ensures { result ≡ map string_bytes items.items }
     {
         Words { items }
     }
 
+    /// The words as a vector; it takes no memory.
     pub fn into_vec(self) -> Vec<String>
         ensures { map string_bytes result.items ≡ self }
     {
         self.items
     }
 
+    /// The words in the order of the line.
     pub fn as_slice(&self) -> &[String]
         ensures { map string_bytes result.now ≡ self.now }
     {

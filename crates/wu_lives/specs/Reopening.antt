@@ -12,7 +12,7 @@ use Rattle.wu_stops.specs.Stopping.{FindsAgain}
 use Rattle.wu_drive.specs.Driving.{AnswerAll, EndsBy, EndsEarly, LengthensLife, world_after}
 use Rattle.wu_machine.specs.Sound.{IsProject}
 use Rattle.wu_passes.specs.Adopting.{Adopts}
-use Rattle.wu_passes.specs.Projects.{connection_of, IsKnownTo, IsSessionOpen, IsSessionEnded, state_of}
+use Rattle.wu_passes.specs.Projects.{connection_of, IsKnownTo, IsSessionOpen, IsSessionEnded, KnowsTables, state_of}
 use Rattle.wu_passes.specs.Standing.{GoesOn, MayEnd}
 use Rattle.wu_drive.specs.Running.{RunsList}
 use Rattle.wu_drive.specs.Writing.{WritesAnswers}
@@ -25,6 +25,10 @@ use Rattle.wu_drive.specs.declared.runs.Run.{Run}
 -- by the new state.
 abbrev pub OfEachWorld : {S : Type 0} {g : Store.Ghosts S} → Project S g → State → (World → Type 0) → Type 0
 OfEachWorld old new holds = HasCleanDisk new → (world : World) → IsKnownTo old world → GoesOn (state_of old) world → holds world
+
+-- a session goes on, and knows the version of its tables
+abbrev pub IsBegun : {S : Type 0} {g : Store.Ghosts S} → Project S g → Type 0
+IsBegun project = IsSessionOpen project × KnowsTables project
 
 -- What a life tells: the texts of its answers, which are the machine's replies to the commands that it acknowledged.
 abbrev pub TellsReplies : {S : Type 0} {g : Store.Ghosts S} → Option (List ℕ) → Option (List ℕ) → Project S g → List Command → Run → State → Type 0

@@ -22,7 +22,7 @@ use Rattle.wu_passes.specs.Planning.{IsPresentProject}
 use Rattle.wu_machine.specs.declared.command.Answer.{Answer}
 use Rattle.wu_machine.specs.declared.command.Command.{Command}
 use Rattle.wu_passes.specs.Committing.{FoundAs}
-use Rattle.wu_passes.specs.Projects.{connection_of, IsKnownTo, IsSessionOpen, KnowsTables, state_of}
+use Rattle.wu_passes.specs.Projects.{connection_of, IsKnownTo, IsSessionOpen, state_of}
 use Rattle.wu_passes.specs.Standing.{GoesOn}
 use Rattle.wu_passes.specs.declared.project.Project.{Project}
 use Rattle.wu_stops.specs.Closing.{IsNumbered}
@@ -43,10 +43,6 @@ pub record HoldsBeginningIn (world : World) (commands : List Command) (run : Run
   pub held : HoldsWorld image (world_after world commands count)
   -- so that further commands go on from there
   pub project : IsProject (world_after world commands count)
-
--- a session goes on, and knows the version of its tables
-abbrev pub IsBegun : {S : Type 0} {g : Store.Ghosts S} → Project S g → Type 0
-IsBegun project = IsSessionOpen project × KnowsTables project
 
 -- over files with no byte in the database a session begins from the empty world
 abbrev pub BeginsBlank : Image → State → Type 0

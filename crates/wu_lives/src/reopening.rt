@@ -4,9 +4,9 @@
 
 ghost use Rattle.std.specs.Prelude.{IfSome};
 ghost use Rattle.sqlite.specs.Files.{file_state};
-ghost use Rattle.wu_passes.specs.Projects.{IsSessionOpen, KnowsTables, state_of};
+ghost use Rattle.wu_passes.specs.Projects.{state_of};
 ghost use Rattle.wu_lives.specs.Lives.{GoesOnAfter, RunsEach, TellsLives};
-ghost use Rattle.wu_lives.specs.Reopening.{AdoptsLeft, DoesAll, TellsEnded, FindsBeginning, FindsLeft, TellsEnd, TellsReplies};
+ghost use Rattle.wu_lives.specs.Reopening.{AdoptsLeft, DoesAll, TellsEnded, FindsBeginning, FindsLeft, IsBegun, TellsEnd, TellsReplies};
 ghost use Rattle.wu_stops.specs.Stopping.{WasClean};
 
 use crate::driving::drive_and_release;
@@ -62,8 +62,7 @@ pub fn live<D: Crash + Drop, W: Write>(
 ) -> Option<(Run, Project<FileStore<D>>)>
     ensures clean { IfSome result (λ r.
         WasClean (state_of project) (state_of r.1)) }
-    ensures begins { IfSome result (λ r. IsSessionOpen r.1) }
-    ensures knows { IfSome result (λ r. KnowsTables r.1) }
+    ensures begins { IfSome result (λ r. IsBegun r.1) }
     ensures answers { IfSome result (λ r.
         TellsReplies (W.contents out.old) (W.contents out.new) project
         commands.now r.0 (state_of r.1)) }

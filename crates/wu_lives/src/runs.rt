@@ -6,8 +6,8 @@
 ghost use Rattle.std.specs.Prelude.{IfErr, IfOk, IfSome};
 ghost use Rattle.sqlite_wal.specs.Files.{image_at};
 ghost use Rattle.wu_passes.specs.Projects.{state_of};
-ghost use Rattle.wu_lives.specs.Reopening.{DoesAll, TellsEnded};
-ghost use Rattle.wu_lives.specs.Runs.{AnswersFirst, AreLeft, BeginsBlank, BeginsOver, EndsFirst, IsBegun, LeavesFirst, LeavesBeginnings, LeavesUnclosed, LivesOver, TellsAnswers, WhyEnded};
+ghost use Rattle.wu_lives.specs.Reopening.{DoesAll, IsBegun, TellsEnded};
+ghost use Rattle.wu_lives.specs.Runs.{AnswersFirst, AreLeft, BeginsBlank, BeginsOver, EndsFirst, LeavesFirst, LeavesBeginnings, LeavesUnclosed, LivesOver, TellsAnswers, WhyEnded};
 
 use crate::driving::drive_and_release;
 use sqlite::{Connection, FileFrom, FileStore, Files, Start};

@@ -1,11 +1,11 @@
 -- The classes of hosts in order of their names, and those of workunits.
-use Rattle.wu_schema.proofs.Words.{AllByRecursion, None, World, flat_map, instances_of, IsAscending, IsPermutation, IsSorted, Less, List, Ordering, Row, Some, Workunit, [], ap, arith, class_cells, column, get_or, length, length-map, map, map-map, on_total, refl, slice_get, subst, suc, sym, workunit_row, ℕ, ◌++◌, ◌+◌, ◌∙◌, ◌∷◌, ◌≡◌, ◌≢◌}
+use Rattle.wu_schema.proofs.Words.{AllByRecursion, None, World, flat_map, instances_of, IsAscending, IsPermutation, IsSorted, Less, List, Ordering, Row, Some, Workunit, [], ap, arith, class_cells, column, get_or, length, length-map, map, map-append, map-map, number, on_total, refl, slice_get, subst, suc, sym, take, workunit_row, zero, ℕ, ◌++◌, ◌+◌, ◌-◌, ◌<◌, ◌∙◌, ◌∷◌, ◌≡◌, ◌≢◌}
 use Rattle.std.specs.Cmp.{IsTotalOrder}
 use Rattle.std.specs.Cmp.Lexicographic.{slice_cmp}
 use Rattle.std.specs.Ordering.{is_lt, nat_cmp, on}
 use Rattle.std.specs.Prelude.{All}
 use Rattle.std.proofs.lemmas.Cmp.{nat_list_cmp_total}
-use Rattle.std.proofs.lemmas.List.{get_or-map}
+use Rattle.std.proofs.lemmas.List.{get_or-map, take-map, take_at}
 use Rattle.std.proofs.lemmas.List.Elements.{All-from_recursion, recursion_from_All}
 use Rattle.wu_core.specs.Classes.{AreInOrder}
 use Rattle.wu_core.specs.Storable.{IsStorable}
@@ -13,16 +13,16 @@ use Rattle.wu_core.specs.declared.workunit.HostClass.{HostClass}
 use Rattle.wu_core.proofs.HostLemmas.{Ascends, ascend_pairs, each_so, pairs_ascend}
 use Rattle.wu_store.proofs.OneOrder.{one_order}
 use Rattle.wu_store.proofs.SameWorld.{read_number, read_text}
-use Rattle.wu_loader.specs.Classing.{by_host, unclassed, AreClassedBy, AreOfOthers, AreRising}
+use Rattle.wu_loader.specs.Classing.{by_host, numbers, numbers_classed, unclassed, AreClassedBy, AreOfOthers, AreRising}
 use Rattle.wu_loader.specs.Rows.{classed_of, classed_row, IsStoredClass}
-use Rattle.wu_loader.specs.Whole.{IsNoRow}
+use Rattle.wu_loader.specs.Whole.{DiffersAt, IsNoRow}
+use Rattle.wu_loader.specs.Wrongs.{keys}
 use Rattle.wu_loader.specs.Worlds.{ArePlainRowsOf, AreRowsOf, HasClassesOf}
-use Rattle.wu_loader.specs.declared.finding.Wrong.{Wrong}
 use Rattle.wu_loader.specs.declared.rows.Classed.{Classed}
 use Rattle.wu_loader.specs.declared.tables.ClassRows.{ClassRows}
 use Rattle.wu_loader.specs.declared.tables.TableRows.{TableRows}
 use Rattle.wu_loader.specs.declared.world.WithClasses.{WithClasses}
-use Rattle.wu_loader.proofs.WholeLemmas.{no_rows, rows_plain}
+use Rattle.wu_loader.proofs.WholeLemmas.{differs_mapped, got_behind, no_rows, rows_plain}
 use Rattle.wu_loader.proofs.WorkLemmas.{one_list}
 
 pub by_host_total : IsTotalOrder by_host
@@ -106,6 +106,43 @@ others_from (y ∷ ys) rest w (x ∷ xs) (c ∷ cs) so_far other same =
     let more : map (λ (u : Workunit). u.number) (ys ++ w ∷ rest) ≡ map (λ (it : Classed). it.workunit) cs = cc in
     others_from ys rest w xs cs tail other more
 
+pub not_classed : (classes : List Classed) (n m : ℕ) → ((one : Classed) → slice_get classes n ≡ Some one → one.workunit ≢ m) → slice_get (numbers_classed classes) n ≢ Some m
+not_classed [] n m other is = absurd cc
+not_classed (c ∷ cs) zero m other is = let same : c.workunit ≡ m = cc in other c refl same
+not_classed (c ∷ cs) (suc n) m other is = not_classed cs n m other is
+
+pub never_past : {X : Type 0} (xs : List X) (n : ℕ) → n < length xs → slice_get xs n ≢ None
+never_past [] n low is = absurd (omega (arith, low))
+never_past (x ∷ xs) zero low is = absurd cc
+never_past (x ∷ xs) (suc n) low is = never_past xs n (omega (arith, low)) is
+
+-- up to the first workunit without a class they are those of the workunits, and there they differ
+pub differs_from : (done rest classed : List Workunit) (classes : List Classed) → map unclassed classed ≡ map unclassed done → map classed_of classed ≡ take (length classed) classes → slice_get (numbers_classed classes) (length classed) ≢ slice_get (numbers rest) 0
+    → DiffersAt (numbers (done ++ rest)) (numbers_classed classes) (length classed + 1)
+differs_from done rest classed classes so_far taken other =
+    let n = length classed in
+    let same : numbers classed ≡ numbers done = sym (map-map (λ (w : Workunit). w.number) unclassed classed) ∙ ap (λ (ws : List Workunit). numbers ws) so_far ∙ map-map (λ (w : Workunit). w.number) unclassed done in
+    let a = length-map classed (λ (w : Workunit). w.number) in
+    let b : length (numbers classed) ≡ length (numbers done) = ap (λ (ns : List ℕ). length ns) same in
+    let long : length (numbers done) ≡ n = omega (arith, a, b) in
+    let split : numbers (done ++ rest) ≡ numbers done ++ numbers rest = map-append (λ (w : Workunit). w.number) done rest in
+    let front : take n (numbers_classed classes) ≡ numbers done = take-map (λ (c : Classed). c.workunit) n classes ∙ ap (λ (cs : List Classed). numbers_classed cs) (sym taken) ∙ map-map (λ (c : Classed). c.workunit) classed_of classed ∙ same in
+    let wanted : take n (numbers (done ++ rest)) ≡ numbers done = ap (take n) split ∙ take_at (numbers done) (numbers rest) n long in
+    let next : slice_get (numbers (done ++ rest)) n ≡ slice_get (numbers rest) 0 = ap (λ (ns : List ℕ). slice_get ns n) split ∙ ap (slice_get (numbers done ++ numbers rest)) (sym long) ∙ got_behind (numbers done) (numbers rest) in
+    let e : n ≡ n + 1 - 1 = omega arith in
+    record {
+      counted = omega arith;
+      before = subst (λ k. take k (numbers_classed classes) ≡ take k (numbers (done ++ rest))) e (front ∙ sym wanted);
+      other = λ is. other (subst (λ k. slice_get (numbers_classed classes) k ≡ slice_get (numbers (done ++ rest)) k) (sym e) is ∙ next);
+    }
+
+-- so do the keys of their rows
+pub differs_keys : (ws : List Workunit) (classes : List Classed) (rows : List Row) (place : ℕ) → rows ≡ map classed_row classes → DiffersAt (numbers ws) (numbers_classed classes) place → DiffersAt (keys (map workunit_row ws)) (keys rows) place
+differs_keys ws classes rows place read it =
+    let wanted : map number (numbers ws) ≡ keys (map workunit_row ws) = map-map number (λ (w : Workunit). w.number) ws ∙ sym (map-map (λ (row : Row). column row 0) workunit_row ws) in
+    let found : map number (numbers_classed classes) ≡ keys rows = map-map number (λ (c : Classed). c.workunit) classes ∙ sym (map-map (λ (row : Row). column row 0) classed_row classes) ∙ ap keys (sym read) in
+    subst (λ ks. DiffersAt ks (keys rows) place) wanted (subst (λ ks. DiffersAt (map number (numbers ws)) ks place) found (differs_mapped number (λ a b same. ap read_number same) (numbers ws) (numbers_classed classes) place it))
+
 -- ---- without classes
 
 pub rows_unclassed : (ws : List Workunit) → map workunit_row (map unclassed ws) ≡ map workunit_row ws
@@ -161,9 +198,9 @@ classes_stored : (ws : List Workunit) → AllByRecursion IsStorable ws → AllBy
 classes_stored [] each = tt
 classes_stored (w ∷ ws) each = (each.0.class, classes_stored ws each.1)
 
-pub never_classed : (rows : List Row) (wrong : Wrong) → IsNoRow (λ _. classed_row) IsStoredClass rows wrong → (ws : List Workunit) → All IsStorable ws → rows ≢ map classed_row (map classed_of ws)
-never_classed rows wrong none ws storable are =
-    no_rows (λ _. classed_row) IsStoredClass rows wrong none (map classed_of ws) (All-from_recursion IsStoredClass (map classed_of ws) (classes_stored ws (recursion_from_All IsStorable ws storable))) (are ∙ sym (rows_plain classed_row (map classed_of ws)))
+pub never_classed : (rows : List Row) (place : ℕ) → IsNoRow (λ _. classed_row) IsStoredClass rows place → (ws : List Workunit) → All IsStorable ws → rows ≢ map classed_row (map classed_of ws)
+never_classed rows place none ws storable are =
+    no_rows (λ _. classed_row) IsStoredClass rows place none (map classed_of ws) (All-from_recursion IsStoredClass (map classed_of ws) (classes_stored ws (recursion_from_All IsStorable ws storable))) (are ∙ sym (rows_plain classed_row (map classed_of ws)))
 
 pub never_others : (ws vs : List Workunit) (classes : List Classed) → AreOfOthers ws classes → map workunit_row ws ≡ map workunit_row vs → map classed_row classes ≢ map classed_row (map classed_of vs)
 never_others ws vs classes others rows same =

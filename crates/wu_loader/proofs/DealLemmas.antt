@@ -1,13 +1,14 @@
 -- The order of instances, and which of them are a workunit's.
-use Rattle.wu_schema.proofs.Words.{AllByRecursion, Err, Ok, OnOk, Result, Instance, List, Workunit, all_has, drop, flat_map, has_right, inl, length-map, map-append, ◌≢◌, ◌≤◌, [], ap, arith, enumerate_from, length, map, on_total, refl, sym, subst, suc, ℕ, ◌++◌, ◌+◌, ◌<◌, ◌∙◌, ◌∷◌, ◌≡◌, append-nil}
+use Rattle.wu_schema.proofs.Words.{AllByRecursion, Err, Ok, OnOk, Result, Instance, List, Workunit, all_has, drop, flat_map, has_right, inl, length-map, map-append, ◌≢◌, ◌≤◌, [], ap, arith, enumerate_from, length, map, on_total, refl, sym, subst, suc, take, ℕ, ◌++◌, ◌-◌, ◌+◌, ◌<◌, ◌∙◌, ◌∷◌, ◌≡◌, append-nil}
 use Rattle.std.specs.Prelude.{All}
-use Rattle.std.proofs.lemmas.List.{append_assoc, length-append}
+use Rattle.std.proofs.lemmas.List.{append_assoc, length-append, take_at}
 use Rattle.std.proofs.lemmas.List.Elements.{All-nil, All-push, recursion_from_All}
 use Rattle.wu_core.specs.Limits.{most_instances}
 use Rattle.std.proofs.lemmas.Cmp.{nat_cmp_total, then_total}
 use Rattle.std.specs.Cmp.{IsTotalOrder}
 use Rattle.wu_loader.specs.Dealing.{lone, by_place, placed_from, placed_of, AreDealt, IsNext}
 use Rattle.wu_loader.specs.Worlds.{IsOrdered}
+use Rattle.wu_loader.specs.Wrongs.{IsUndealtAt}
 use Rattle.wu_loader.specs.declared.rows.Placed.{Placed}
 
 pub by_place_total : IsTotalOrder by_place
@@ -39,16 +40,17 @@ on_ok_then (Err e) P Q f h = tt
 
 -- ---- workunits are dealt their instances
 
--- a run from the front is as long as it goes, and so it is one
-same_run : (workunit n : ℕ) (is js : List Instance) (left tail : List Placed) → placed_at workunit n is ++ left ≡ placed_at workunit n js ++ tail → ¬ IsNext workunit (n + length is) left → ¬ IsNext workunit (n + length js) tail → (is ≡ js) × (left ≡ tail)
-same_run workunit n [] [] left tail same end other = (refl, same)
-same_run workunit n [] (j ∷ js) left tail same end other = let e : n ≡ n + 0 = omega arith in absurd (end (subst (IsNext workunit (n + 0)) (sym same) (refl, e)))
-same_run workunit n (i ∷ is) [] left tail same end other = let e : n ≡ n + 0 = omega arith in absurd (other (subst (IsNext workunit (n + 0)) same (refl, e)))
-same_run workunit n (i ∷ is) (j ∷ js) left tail same end other =
+-- a run from the front is as long as it goes, as far as a workunit may have instances, and so it is one
+same_run : (workunit n : ℕ) (is js : List Instance) (left tail : List Placed) → placed_at workunit n is ++ left ≡ placed_at workunit n js ++ tail → n + length js ≤ most_instances → (n + length is < most_instances → ¬ IsNext workunit (n + length is) left) → ¬ IsNext workunit (n + length js) tail
+    → (is ≡ js) × (left ≡ tail)
+same_run workunit n [] [] left tail same few end other = (refl, same)
+same_run workunit n [] (j ∷ js) left tail same few end other = let e : n ≡ n + 0 = omega arith in absurd (end (omega (arith, few)) (subst (IsNext workunit (n + 0)) (sym same) (refl, e)))
+same_run workunit n (i ∷ is) [] left tail same few end other = let e : n ≡ n + 0 = omega arith in absurd (other (subst (IsNext workunit (n + 0)) same (refl, e)))
+same_run workunit n (i ∷ is) (j ∷ js) left tail same few end other =
     let first : i ≡ j = ap (head_of i) same in
     let a : n + 1 + length is ≡ n + suc (length is) = omega arith in
     let b : n + 1 + length js ≡ n + suc (length js) = omega arith in
-    let rest = same_run workunit (n + 1) is js left tail (ap (drop 1) same) (λ next. end (subst (λ k. IsNext workunit k left) a next)) (λ next. other (subst (λ k. IsNext workunit k tail) b next)) in
+    let rest = same_run workunit (n + 1) is js left tail (ap (drop 1) same) (omega (arith, few)) (λ low next. end (omega (arith, low)) (subst (λ k. IsNext workunit k left) a next)) (λ next. other (subst (λ k. IsNext workunit k tail) b next)) in
     ((λ k. first k ∷ rest.0 k), rest.1)
   where
     head_of : Instance → List Placed → Instance
@@ -76,84 +78,107 @@ cancelled : {X : Type 0} (xs ys zs : List X) → xs ++ ys ≡ xs ++ zs → ys �
 cancelled [] ys zs same = same
 cancelled (x ∷ xs) ys zs same = cancelled xs ys zs (ap (drop 1) same)
 
+-- what is next is so in front of others
+next_front : (workunit n : ℕ) (front back : List Placed) → IsNext workunit n front → IsNext workunit n (front ++ back)
+next_front workunit n [] back next = absurd next
+next_front workunit n (p ∷ front) back next = next
+
+no_right : {X : Type 0} (xs ys : List X) → xs ++ ys ≡ [] → ys ≡ []
+no_right [] ys none = none
+no_right (x ∷ xs) ys none = absurd cc
+
+one_of : (P : Workunit → Type 0) (before : List Workunit) (u : Workunit) (more : List Workunit) → All P (before ++ u ∷ more) → P u
+one_of P before u more all = all_has P (before ++ u ∷ more) u (recursion_from_All P (before ++ u ∷ more) all) (has_right before (u ∷ more) u (inl refl))
+
+abbrev HasFew : Workunit → Type 0
+HasFew w = length w.instances ≤ most_instances
+
 -- so far: what was yielded is dealt, and these are left
 pub record IsDealing (workunits : List Workunit) (placed : List Placed) (yielded rest dealt : List Workunit) (left : List Placed) : Type 0 where
   pub whole : yielded ++ rest ≡ workunits
   pub bare : map lone dealt ≡ map lone yielded
   pub all : flat_map placed_of dealt ++ left ≡ placed
   pub few : All (λ (w : Workunit). length w.instances ≤ most_instances) dealt
-  -- it could not be otherwise
-  pub only : (ws : List Workunit) → IsOrdered ws → AreDealt workunits placed ws → (more : List Workunit) × (ws ≡ dealt ++ more)
+  -- where any from the front of those that are left are dealt too, it could not be otherwise
+  pub only : (front back : List Placed) → front ++ back ≡ left → front ≢ [] → (ws : List Workunit) → IsOrdered ws → AreDealt workunits (flat_map placed_of dealt ++ front) ws → (more : List Workunit) × (ws ≡ dealt ++ more)
 
 pub deals_none : (workunits : List Workunit) (placed : List Placed) → IsDealing workunits placed [] workunits [] placed
-deals_none workunits placed = record { whole = refl; bare = refl; all = refl; few = All-nil _; only = λ ws up are. (ws, refl) }
+deals_none workunits placed = record { whole = refl; bare = refl; all = refl; few = All-nil _; only = λ front back is some ws up are. (ws, refl) }
 
 module _ (workunits : List Workunit) (placed : List Placed) (yielded rest dealt : List Workunit) (w : Workunit) (left next : List Placed) (is : List Instance) (so_far : IsDealing workunits placed yielded (w ∷ rest) dealt left)
-    (taken : left ≡ placed_from w.number is ++ next) (end : ¬ IsNext w.number (length is) next) where
+    (taken : left ≡ placed_from w.number is ++ next) (few : length is ≤ most_instances) (end : length is < most_instances → ¬ IsNext w.number (length is) next) where
+  abbrev with_its : Workunit
+  with_its = record w { instances = is }
+
   -- what the next of such workunits has to be
   record IsFollowed (ws : List Workunit) : Type 0 where
     more : List Workunit
-    split : ws ≡ dealt ++ (record w { instances = is } ∷ more)
+    split : ws ≡ dealt ++ (with_its ∷ more)
 
-  followed : (ws : List Workunit) → IsOrdered ws → AreDealt workunits placed ws → IsFollowed ws
-  followed ws up are = go (so_far.only ws up are).0 (so_far.only ws up are).1
-    where
-      go : (more : List Workunit) → ws ≡ dealt ++ more → IsFollowed ws
-      go more split = from more split bares
-        where
-          bares : map lone more ≡ lone w ∷ map lone rest
-          bares = cancelled (map lone dealt) (map lone more) (lone w ∷ map lone rest)
-              (sym (map-append lone dealt more) ∙ ap (map lone) (sym split) ∙ are.bare ∙ ap (map lone) (sym so_far.whole) ∙ map-append lone yielded (w ∷ rest) ∙ ap (λ bs. bs ++ (lone w ∷ map lone rest)) (sym so_far.bare))
+  flat_more : (front : List Placed) → flat_map placed_of (dealt ++ with_its ∷ []) ++ front ≡ flat_map placed_of dealt ++ (placed_from w.number is ++ front)
+  flat_more front =
+      ap (λ ps. ps ++ front) (flat_append dealt (with_its ∷ []) ∙ ap (λ ps. flat_map placed_of dealt ++ ps) (append-nil (placed_from w.number is)))
+      ∙ append_assoc (flat_map placed_of dealt) (placed_from w.number is) front
 
-          from : (more : List Workunit) → ws ≡ dealt ++ more → map lone more ≡ lone w ∷ map lone rest → IsFollowed ws
-          from [] split bares = absurd cc
-          from (v ∷ more) split bares =
-              let one : lone v ≡ lone w = cc in
-              let number : w.number ≡ v.number = ap (λ (u : Workunit). u.number) (sym one) in
-              let lists : left ≡ placed_of v ++ flat_map placed_of more =
-              cancelled (flat_map placed_of dealt) left (placed_of v ++ flat_map placed_of more) (so_far.all ∙ sym are.all ∙ ap (flat_map placed_of) split ∙ flat_append dealt (v ∷ more)) in
-              let above = ordered_from dealt v more (subst IsOrdered split up) in
-              let runs : placed_from w.number is ++ next ≡ placed_from w.number v.instances ++ flat_map placed_of more = sym taken ∙ lists ∙ ap (λ k. placed_from k v.instances ++ flat_map placed_of more) (sym number) in
-              let e : length is ≡ 0 + length is = omega arith in
-              let same = same_run w.number 0 is v.instances next (flat_map placed_of more) runs (λ n. end (subst (λ k. IsNext w.number k next) (sym e) n))
-              (never_next w.number (0 + length v.instances) more (subst (λ k. AllByRecursion (λ (u : Workunit). k < u.number) more) (sym number) above)) in
-              let it : v ≡ record w { instances = is } = λ i. record (one i) { instances = sym same.0 i } in
-              record { more = more; split = split ∙ ap (λ u. dealt ++ u ∷ more) it }
+  module _ (front back : List Placed) (covers : front ++ back ≡ next) (some : front ≢ []) (ws : List Workunit) (up : IsOrdered ws) (dealt_so : AreDealt workunits (flat_map placed_of (dealt ++ with_its ∷ []) ++ front) ws) where
+    are : AreDealt workunits (flat_map placed_of dealt ++ (placed_from w.number is ++ front)) ws
+    are = subst (λ ps. AreDealt workunits ps ws) (flat_more front) dealt_so
 
-  pub deals_more : length is ≤ most_instances → IsDealing workunits placed (yielded ++ w ∷ []) rest (dealt ++ record w { instances = is } ∷ []) next
-  deals_more few = record {
+    followed : IsFollowed ws
+    followed =
+        let before = so_far.only (placed_from w.number is ++ front) back (append_assoc (placed_from w.number is) front back ∙ ap (λ ps. placed_from w.number is ++ ps) covers ∙ sym taken) (λ none. some (no_right (placed_from w.number is) front none)) ws up are in
+        go before.0 before.1
+      where
+        go : (more : List Workunit) → ws ≡ dealt ++ more → IsFollowed ws
+        go more split = from more split bares
+          where
+            bares : map lone more ≡ lone w ∷ map lone rest
+            bares = cancelled (map lone dealt) (map lone more) (lone w ∷ map lone rest)
+                (sym (map-append lone dealt more) ∙ ap (map lone) (sym split) ∙ are.bare ∙ ap (map lone) (sym so_far.whole) ∙ map-append lone yielded (w ∷ rest) ∙ ap (λ bs. bs ++ (lone w ∷ map lone rest)) (sym so_far.bare))
+
+            from : (more : List Workunit) → ws ≡ dealt ++ more → map lone more ≡ lone w ∷ map lone rest → IsFollowed ws
+            from [] split bares = absurd cc
+            from (v ∷ more) split bares =
+                let one : lone v ≡ lone w = cc in
+                let number : w.number ≡ v.number = ap (λ (u : Workunit). u.number) (sym one) in
+                let lists : placed_from w.number is ++ front ≡ placed_of v ++ flat_map placed_of more =
+                cancelled (flat_map placed_of dealt) (placed_from w.number is ++ front) (placed_of v ++ flat_map placed_of more) (sym are.all ∙ ap (flat_map placed_of) split ∙ flat_append dealt (v ∷ more)) in
+                let above = ordered_from dealt v more (subst IsOrdered split up) in
+                let few_v : HasFew v = one_of HasFew dealt v more (subst (All HasFew) split are.few) in
+                let runs : placed_from w.number is ++ front ≡ placed_from w.number v.instances ++ flat_map placed_of more = lists ∙ ap (λ k. placed_from k v.instances ++ flat_map placed_of more) (sym number) in
+                let e : length is ≡ 0 + length is = omega arith in
+                let same = same_run w.number 0 is v.instances front (flat_map placed_of more) runs (omega (arith, few_v))
+                (λ low n. end (omega (arith, low)) (subst (IsNext w.number (length is)) covers (next_front w.number (length is) front back (subst (λ k. IsNext w.number k front) (sym e) n))))
+                (never_next w.number (0 + length v.instances) more (subst (λ k. AllByRecursion (λ (u : Workunit). k < u.number) more) (sym number) above)) in
+                let it : v ≡ with_its = λ i. record (one i) { instances = sym same.0 i } in
+                record { more = more; split = split ∙ ap (λ u. dealt ++ u ∷ more) it }
+
+  pub deals_more : IsDealing workunits placed (yielded ++ w ∷ []) rest (dealt ++ with_its ∷ []) next
+  deals_more = record {
     whole = append_assoc yielded (w ∷ []) rest ∙ so_far.whole;
-    bare = map-append lone dealt (record w { instances = is } ∷ []) ∙ ap (λ bs. bs ++ lone w ∷ []) so_far.bare ∙ sym (map-append lone yielded (w ∷ []));
-    all =
-        ap (λ ps. ps ++ next) (flat_append dealt (record w { instances = is } ∷ []) ∙ ap (λ ps. flat_map placed_of dealt ++ ps) (append-nil (placed_from w.number is)))
-        ∙ append_assoc (flat_map placed_of dealt) (placed_from w.number is) next ∙ ap (λ ps. flat_map placed_of dealt ++ ps) (sym taken) ∙ so_far.all;
-    few = All-push (λ (u : Workunit). length u.instances ≤ most_instances) dealt (record w { instances = is }) so_far.few few;
-    only = λ ws up are. let it = followed ws up are in (it.more, it.split ∙ sym (append_assoc dealt (record w { instances = is } ∷ []) it.more));
+    bare = map-append lone dealt (with_its ∷ []) ∙ ap (λ bs. bs ++ lone w ∷ []) so_far.bare ∙ sym (map-append lone yielded (w ∷ []));
+    all = flat_more next ∙ ap (λ ps. flat_map placed_of dealt ++ ps) (sym taken) ∙ so_far.all;
+    few = All-push HasFew dealt with_its so_far.few few;
+    only = λ front back covers some ws up are. let it = followed front back covers some ws up are in (it.more, it.split ∙ sym (append_assoc dealt (with_its ∷ []) it.more));
   }
 
-  -- a workunit with too many is none
-  pub deals_too_many : most_instances < length is → (ws : List Workunit) → IsOrdered ws → ¬ AreDealt workunits placed ws
-  deals_too_many many ws up are =
-      let it = followed ws up are in
-      let few : length is ≤ most_instances = last dealt (record w { instances = is }) it.more (subst (All (λ (u : Workunit). length u.instances ≤ most_instances)) it.split are.few) in
-      omega (arith, many, few)
-    where
-      last : (before : List Workunit) (u : Workunit) (more : List Workunit) → All (λ (v : Workunit). length v.instances ≤ most_instances) (before ++ u ∷ more) → length u.instances ≤ most_instances
-      last before u more all = all_has (λ (v : Workunit). length v.instances ≤ most_instances) (before ++ u ∷ more) u (recursion_from_All _ (before ++ u ∷ more) all) (has_right before (u ∷ more) u (inl refl))
-
 module _ (workunits : List Workunit) (placed : List Placed) (yielded dealt : List Workunit) (left : List Placed) (so_far : IsDealing workunits placed yielded [] dealt left) where
+  bares_are : map lone dealt ≡ map lone workunits
+  bares_are = so_far.bare ∙ ap (map lone) (sym (append-nil yielded) ∙ so_far.whole)
+
   pub deals_all : left ≡ [] → AreDealt workunits placed dealt
   deals_all none = record {
-    bare = so_far.bare ∙ ap (map lone) (sym (append-nil yielded) ∙ so_far.whole);
+    bare = bares_are;
     all = sym (append-nil (flat_map placed_of dealt)) ∙ ap (λ ps. flat_map placed_of dealt ++ ps) (sym none) ∙ so_far.all;
     few = so_far.few;
   }
 
-  pub deals_left : left ≢ [] → (ws : List Workunit) → IsOrdered ws → ¬ AreDealt workunits placed ws
-  deals_left some ws up are = go (so_far.only ws up are).0 (so_far.only ws up are).1
+  -- none of those that are left are dealt
+  front_undealt : (front back : List Placed) → front ++ back ≡ left → front ≢ [] → (ws : List Workunit) → IsOrdered ws → ¬ AreDealt workunits (flat_map placed_of dealt ++ front) ws
+  front_undealt front back covers some ws up are = let it = so_far.only front back covers some ws up are in go it.0 it.1
     where
       go : (more : List Workunit) → ws ≡ dealt ++ more → ⊥
-      go [] split = some (cancelled (flat_map placed_of dealt) left [] (so_far.all ∙ sym are.all ∙ ap (flat_map placed_of) split ∙ flat_append dealt []))
+      go [] split = some (cancelled (flat_map placed_of dealt) front [] (sym are.all ∙ ap (flat_map placed_of) split ∙ flat_append dealt []))
       go (v ∷ more) split =
           let counts : length (map lone dealt) ≡ length (map lone yielded) = ap (λ bs. length bs) so_far.bare in
           let all : length (map lone ws) ≡ length (map lone workunits) = ap (λ bs. length bs) are.bare in
@@ -166,6 +191,34 @@ module _ (workunits : List Workunit) (placed : List Placed) (yielded dealt : Lis
           let h : length (yielded ++ []) ≡ length workunits = ap (λ bs. length bs) so_far.whole in
           let k = length-append yielded [] in
           omega (arith, counts, all, a, b, d, e, f, g, h, k)
+
+  pub deals_left : left ≢ [] → (ws : List Workunit) → IsOrdered ws → ¬ AreDealt workunits placed ws
+  deals_left some ws up are = front_undealt left [] (append-nil left) some ws up (subst (λ ps. AreDealt workunits ps ws) (sym so_far.all) are)
+
+  -- the first of those that are left is none of theirs
+  pub first_undealt : left ≢ [] → (place : ℕ) → place + length left ≡ length placed + 1 → IsUndealtAt workunits placed place
+  first_undealt some place is = from left refl
+    where
+      from : (ps : List Placed) → left ≡ ps → IsUndealtAt workunits placed place
+      from [] none = absurd (some none)
+      from (p ∷ back) split =
+          let flat = flat_map placed_of dealt in
+          let all : flat ++ (p ∷ back) ≡ placed = ap (λ ps. flat ++ ps) (sym split) ∙ so_far.all in
+          let a : length (flat ++ (p ∷ back)) ≡ length placed = ap (λ ps. length ps) all in
+          let b = length-append flat (p ∷ back) in
+          let l : length left ≡ length (p ∷ back) = ap (λ ps. length ps) split in
+          let n : length flat ≡ place - 1 = omega (arith, is, a, b, l) in
+          let d = length-append flat (p ∷ []) in
+          let m : length (flat ++ p ∷ []) ≡ place = omega (arith, is, a, b, l, d) in
+          let without : take (place - 1) placed ≡ flat = ap (take (place - 1)) (sym all) ∙ take_at flat (p ∷ back) (place - 1) n in
+          let with : take place placed ≡ flat ++ p ∷ [] = ap (take place) (sym (append_assoc flat (p ∷ []) back ∙ all)) ∙ take_at (flat ++ p ∷ []) back place m in
+          record {
+            counted = omega (arith, is, a, b, l);
+            there = omega (arith, is, a, b, l);
+            before = dealt;
+            dealt = record { bare = bares_are; all = sym without; few = so_far.few };
+            none = λ ws up are. front_undealt (p ∷ []) back (sym split) (λ none. absurd cc) ws up (subst (λ ps. AreDealt workunits ps ws) with are);
+          }
 
 pub no_items : {X : Type 0} (xs : List X) → length xs ≡ 0 → xs ≡ []
 no_items [] none = refl

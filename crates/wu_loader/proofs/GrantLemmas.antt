@@ -12,7 +12,6 @@ use Rattle.wu_store.proofs.OneOrder.{one_order}
 use Rattle.wu_store.proofs.SameWorld.{read_number, read_text}
 use Rattle.wu_store.proofs.HostNames.{Below, each_host, granted_there, host_there, same_names, some_grant}
 use Rattle.wu_loader.specs.Whole.{IsNoRow}
-use Rattle.wu_loader.specs.declared.finding.Wrong.{Wrong}
 use Rattle.wu_loader.proofs.WholeLemmas.{none_permuted}
 use Rattle.wu_loader.proofs.WorkLemmas.{one_list}
 use Rattle.std.proofs.lemmas.List.Elements.{All-from_recursion, recursion_from_All}
@@ -152,6 +151,6 @@ stored_hosts grants stored =
     named (n ∷ names) all = (all.0, named names all.1)
 
 -- a row that is that of no host is in the way
-pub never_hosts : (rows : List Row) (grants : List Grant) (wrong : Wrong) → IsNoRow (λ _. host_row) IsStoredHost rows wrong → All IsStoredGrant grants → ¬ IsPermutation (map (host_of grants) (hosts_of grants)) rows
-never_hosts rows grants wrong none stored same =
-    none_permuted host_row IsStoredHost rows wrong none (all_with grants (hosts_of grants)) (stored_hosts grants stored) (subst (λ rs. IsPermutation rs rows) (sym (map-map host_row (host_with grants) (hosts_of grants))) same)
+pub never_hosts : (rows : List Row) (grants : List Grant) (place : ℕ) → IsNoRow (λ _. host_row) IsStoredHost rows place → All IsStoredGrant grants → ¬ IsPermutation (map (host_of grants) (hosts_of grants)) rows
+never_hosts rows grants place none stored same =
+    none_permuted host_row IsStoredHost rows place none (all_with grants (hosts_of grants)) (stored_hosts grants stored) (subst (λ rs. IsPermutation rs rows) (sym (map-map host_row (host_with grants) (hosts_of grants))) same)

@@ -11,7 +11,7 @@ use Rattle.std.proofs.lemmas.List.Sums.{length-filter, sum_by-cons}
 use Rattle.wu_core.specs.Hosts.{credit_of, grants_of, is_to}
 use Rattle.wu_core.specs.declared.workunit.Grant.{Grant}
 use Rattle.wu_store.proofs.GrantSums.{same_count, same_credit}
-use Rattle.wu_loader.specs.Granting.{by_host, referred, AreHosts, IsGranted, IsListed}
+use Rattle.wu_loader.specs.Granting.{by_host, referred, AreHosts, IsGranted, IsListed, IsWrongHost}
 use Rattle.wu_loader.specs.declared.rows.Host.{Host}
 
 -- ---- references to grants
@@ -154,3 +154,13 @@ module _ (xs ys : List Grant) (moved : IsPermutation xs ys) where
     each = λ k d low. let is = are.each k d low in record { total = is.total ∙ same_credit xs ys moved (get_or hosts k d).name; count = is.count ∙ same_count xs ys moved (get_or hosts k d).name; some = is.some };
     listed = All-permutation (λ (g : Grant). IsListed hosts g.host) ys xs (IsPermutation-sym xs ys moved) are.listed;
   }
+
+  granted_moved : (host : Host) → IsGranted ys host → IsGranted xs host
+  granted_moved host is = record { total = is.total ∙ same_credit xs ys moved host.name; count = is.count ∙ same_count xs ys moved host.name; some = is.some }
+
+  -- so is the host that is none of theirs
+  pub wrong_moved : (hosts : List Host) (place : ℕ) → IsWrongHost xs hosts place → IsWrongHost ys hosts place
+  wrong_moved hosts place (inl low) = inl low
+  wrong_moved hosts place (inr (inl un)) = inr (inl (record { there = un.there; other = λ d granted. un.other d (granted_moved (get_or hosts place d) granted) }))
+  wrong_moved hosts place (inr (inr lacks)) =
+      inr (inr (record { behind = lacks.behind; unlisted = λ all. lacks.unlisted (All-permutation (λ (g : Grant). IsListed hosts g.host) ys xs (IsPermutation-sym xs ys moved) all) }))

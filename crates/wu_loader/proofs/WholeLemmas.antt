@@ -1,10 +1,15 @@
 -- All rows of a table as values.
-use Rattle.wu_schema.proofs.Words.{IfErr, IsErrAnd, Result, Contains-permutation, Err, Has, IsPermutation, IsPermutation-sym, Option, all_has, contains_had, has_contained, has_mapped, List, NotAProject, Ok, Row, Some, [], ap, arith, enumerate_from, inl, inr, length, map, refl, slice_get, subst, suc, sym, take, ℕ, zero, ◌++◌, ◌+◌, ◌-◌, ◌<◌, ◌∙◌, ◌∷◌, ◌≡◌, ◌≢◌}
+use Rattle.wu_schema.proofs.Words.{IfErr, IsErrAnd, Result, Contains-permutation, Err, Has, IsPermutation, IsPermutation-map, IsPermutation-sym, IsSorted, None, Option, all_has, contains_had, has_contained, has_mapped, List, NotAProject, Ok, Row, Some, [], ap, arith, enumerate_from, inl, inr, length, map, refl, slice_get, subst, suc, sym, take, ℕ, zero, ◌++◌, ◌+◌, ◌-◌, ◌<◌, ◌∙◌, ◌∷◌, ◌≡◌, ◌≢◌, ◌≤◌}
 use Rattle.std.specs.Prelude.{All, get_or}
-use Rattle.std.proofs.lemmas.List.{take_more}
+use Rattle.std.specs.Option.{option_map}
+use Rattle.std.specs.declared.cmp.Ordering.{Ordering}
+use Rattle.std.proofs.lemmas.List.{take-map, take_more}
 use Rattle.std.proofs.lemmas.List.Elements.{recursion_from_All}
 use Rattle.wu_schema.specs.Restoring.{Restores}
-use Rattle.wu_loader.specs.Whole.{rows_of, IsNoRow, UnlessMemory}
+use Rattle.wu_loader.specs.Rows.{project_row, IsStoredProject}
+use Rattle.wu_loader.specs.Wrongs.{IsWrongProject}
+use Rattle.wu_loader.specs.declared.rows.ProjectRow.{ProjectRow}
+use Rattle.wu_loader.specs.Whole.{rows_of, AreSorted, DiffersAt, IsIn, IsNoRow, UnlessMemory}
 use Rattle.wu_loader.specs.declared.finding.NoWorld.{NoWorld}
 use Rattle.wu_loader.specs.declared.finding.NoWorld.TheVariants.{Memory, Wrong as told}
 use Rattle.wu_loader.specs.declared.finding.Table.{Table}
@@ -37,9 +42,8 @@ get_there (r ∷ rows) zero row low at = ap Some at
 get_there (r ∷ rows) (suc i) row low at = get_there rows i row (omega (arith, low)) at
 
 -- what is no project's is the row of no value
-pub no_row : {T : Type 0} (cells : ℕ → T → Row) (IsValue : T → Type 0) (rows : List Row) (table : Table) (i : ℕ) (row : Row) → i < length rows → get_or rows i row ≡ row → Restores (cells (i + 1)) IsValue row (Err NotAProject)
-    → IsNoRow cells IsValue rows (record { table = table; place = i + 1 })
-no_row cells IsValue rows table i row low stands read = record {
+pub no_row : {T : Type 0} (cells : ℕ → T → Row) (IsValue : T → Type 0) (rows : List Row) (i : ℕ) (row : Row) → i < length rows → get_or rows i row ≡ row → Restores (cells (i + 1)) IsValue row (Err NotAProject) → IsNoRow cells IsValue rows (i + 1)
+no_row cells IsValue rows i row low stands read = record {
   row = row;
   counted = omega arith;
   there = let e : i + 1 - 1 ≡ i = omega arith in subst (λ k. slice_get rows k ≡ Some row) (sym e) (get_there rows i row low stands);
@@ -66,17 +70,17 @@ row_at cells n (x ∷ xs) zero row there = let e : n ≡ n + 0 = omega arith in 
 row_at cells n (x ∷ xs) (suc i) row there = let it = row_at cells (n + 1) xs i row there in let e : n + 1 + i ≡ n + suc i = omega arith in (it.0, inr it.1, it.2 ∙ ap (λ k. cells k it.0) e)
 
 -- a row that is that of no value stands in no such rows
-pub no_rows : {T : Type 0} (cells : ℕ → T → Row) (IsValue : T → Type 0) (rows : List Row) (wrong : Wrong) → IsNoRow cells IsValue rows wrong → (xs : List T) → All IsValue xs → rows ≢ rows_of cells xs
-no_rows cells IsValue rows wrong none xs each are =
-    let it = row_at cells 1 xs (wrong.place - 1) none.row (sym (ap (λ rs. slice_get rs (wrong.place - 1)) are) ∙ none.there) in
+pub no_rows : {T : Type 0} (cells : ℕ → T → Row) (IsValue : T → Type 0) (rows : List Row) (place : ℕ) → IsNoRow cells IsValue rows place → (xs : List T) → All IsValue xs → rows ≢ rows_of cells xs
+no_rows cells IsValue rows place none xs each are =
+    let it = row_at cells 1 xs (place - 1) none.row (sym (ap (λ rs. slice_get rs (place - 1)) are) ∙ none.there) in
     let low = none.counted in
-    let e : 1 + (wrong.place - 1) ≡ wrong.place = omega (arith, low) in
+    let e : 1 + (place - 1) ≡ place = omega (arith, low) in
     none.none it.0 (all_has IsValue xs it.0 (recursion_from_All IsValue xs each) it.1) (it.2 ∙ ap (λ k. cells k it.0) e)
 
 -- nor in such rows in any order
-pub none_permuted : {T : Type 0} (f : T → Row) (IsValue : T → Type 0) (rows : List Row) (wrong : Wrong) → IsNoRow (λ _. f) IsValue rows wrong → (xs : List T) → All IsValue xs → ¬ IsPermutation (map f xs) rows
-none_permuted f IsValue rows wrong none xs each are =
-    let here = has_contained (map f xs) none.row (Contains-permutation rows (map f xs) none.row (IsPermutation-sym _ _ are) (contains_had rows none.row (got_has rows (wrong.place - 1) none.row none.there))) in
+pub none_permuted : {T : Type 0} (f : T → Row) (IsValue : T → Type 0) (rows : List Row) (place : ℕ) → IsNoRow (λ _. f) IsValue rows place → (xs : List T) → All IsValue xs → ¬ IsPermutation (map f xs) rows
+none_permuted f IsValue rows place none xs each are =
+    let here = has_contained (map f xs) none.row (Contains-permutation rows (map f xs) none.row (IsPermutation-sym _ _ are) (contains_had rows none.row (got_has rows (place - 1) none.row none.there))) in
     let it = has_mapped f xs none.row here in
     none.none it.0 (all_has IsValue xs it.0 (recursion_from_All IsValue xs each) it.1) it.2
   where
@@ -85,7 +89,43 @@ none_permuted f IsValue rows wrong none xs each are =
     got_has (r ∷ rows) zero row there = inl (let same = there in cc)
     got_has (r ∷ rows) (suc i) row there = inr (got_has rows i row there)
 
+-- sorted values have these rows
+pub sorted_rows : {T : Type 0} (cells : T → Row) (order : T → T → Ordering) (rows : List Row) (values sorted : List T) → rows ≡ rows_of (λ _. cells) values → IsPermutation values sorted → IsSorted order sorted → AreSorted cells order rows sorted
+sorted_rows cells order rows values sorted read moved up = record {
+  same = subst (IsPermutation (map cells sorted)) (sym (read ∙ rows_plain cells values)) (IsPermutation-map cells sorted values (IsPermutation-sym values sorted moved));
+  sorted = up;
+}
+
+-- ---- places
+
+pub got_mapped : {X Y : Type 0} (f : X → Y) (xs : List X) (k : ℕ) → slice_get (map f xs) k ≡ option_map f (slice_get xs k)
+got_mapped f [] k = refl
+got_mapped f (x ∷ xs) zero = refl
+got_mapped f (x ∷ xs) (suc k) = got_mapped f xs k
+
+pub got_behind : {X : Type 0} (xs ys : List X) → slice_get (xs ++ ys) (length xs) ≡ slice_get ys 0
+got_behind [] ys = refl
+got_behind (x ∷ xs) ys = got_behind xs ys
+
+-- what differs does so after a map that keeps what differs apart
+pub differs_mapped : {X Y : Type 0} (f : X → Y) → ((a b : X) → f a ≡ f b → a ≡ b) → (wanted found : List X) (place : ℕ) → DiffersAt wanted found place → DiffersAt (map f wanted) (map f found) place
+differs_mapped {X} f inj wanted found place it = record {
+  counted = it.counted;
+  before = take-map f (place - 1) found ∙ ap (map f) it.before ∙ sym (take-map f (place - 1) wanted);
+  other = λ same. it.other (apart (slice_get found (place - 1)) (slice_get wanted (place - 1)) (sym (got_mapped f found (place - 1)) ∙ same ∙ got_mapped f wanted (place - 1)));
+}
+  where
+    apart : (a b : Option X) → option_map f a ≡ option_map f b → a ≡ b
+    apart None None same = refl
+    apart None (Some b) same = absurd cc
+    apart (Some a) None same = absurd cc
+    apart (Some a) (Some b) same = let one : f a ≡ f b = cc in ap Some (inj a b one)
+
 -- ---- through a refusal
+
+-- what holds at a place of the table that is told holds of what is told
+pub at_table : (At : Table → ℕ → Type 0) (table : Table) (wrong : Wrong) → IsIn table (At table) wrong → At wrong.table wrong.place
+at_table At table wrong it = subst (λ (t : Table). At t wrong.place) (sym it.0) it.1
 
 pub unless_then : (reason : NoWorld) (P Q : Wrong → Type 0) → ((wrong : Wrong) → P wrong → Q wrong) → UnlessMemory reason P → UnlessMemory reason Q
 unless_then Memory P Q f h = tt
@@ -112,3 +152,33 @@ one_rows {T} cells inj xs ys same = go 1 xs ys same
         let first : cells n x ≡ cells n y = cc in
         let rest : map (λ (p : ℕ × T). cells p.0 p.1) (enumerate_from (n + 1) xs) ≡ map (λ (p : ℕ × T). cells p.0 p.1) (enumerate_from (n + 1) ys) = cc in
         (λ i. inj n x y first i ∷ go (n + 1) xs ys rest i)
+
+-- ---- the project
+
+-- a row that is that of no project is not that of its one row
+pub no_project : (version : ℕ) (rows : List Row) (place : ℕ) → IsNoRow (λ _. project_row) IsStoredProject rows place → IsWrongProject version rows place
+no_project version rows place none = record { counted = none.counted; other = λ project stored is same. none.none project stored (alone (place - 1) (project_row project) none.row (sym same ∙ none.there)) }
+  where
+    alone : (k : ℕ) (a b : Row) → slice_get (a ∷ []) k ≡ Some b → b ≡ a
+    alone zero a b is = cc
+    alone (suc k) a b is = absurd cc
+
+-- where there is none, one lacks, and the second of more is too many
+pub no_one : (version : ℕ) (rows : List Row) (projects : List ProjectRow) → rows ≡ rows_of (λ _. project_row) projects → length projects ≡ 0 → IsWrongProject version rows 1
+no_one version rows [] read none = record { counted = omega arith; other = λ project stored is same. absurd (let no = sym (ap (λ rs. slice_get rs 0) read) ∙ same in cc) }
+no_one version rows (p ∷ more) read none = absurd (omega (arith, none))
+
+pub one_more : (version : ℕ) (rows : List Row) (projects : List ProjectRow) → rows ≡ rows_of (λ _. project_row) projects → 2 ≤ length projects → IsWrongProject version rows 2
+one_more version rows [] read many = absurd (omega (arith, many))
+one_more version rows (p ∷ []) read many = absurd (omega (arith, many))
+one_more version rows (p ∷ q ∷ more) read many = record { counted = omega arith; other = λ project stored is same. absurd (let no = sym (ap (λ rs. slice_get rs 1) read) ∙ same in cc) }
+
+-- so is the row of another version
+pub other_version : (version : ℕ) (rows : List Row) (found : ProjectRow) → rows ≡ project_row found ∷ [] → found.version ≢ version → IsWrongProject version rows 1
+other_version version rows found read other = record {
+  counted = omega arith;
+  other = λ project stored is same. other (let row : ◌≡◌ {A = Option Row} (Some (project_row found)) (Some (project_row project)) = sym (ap (λ rs. slice_get rs 0) read) ∙ same in version_of row ∙ is);
+}
+  where
+    version_of : {p q : ProjectRow} → ◌≡◌ {A = Option Row} (Some (project_row p)) (Some (project_row q)) → p.version ≡ q.version
+    version_of is = cc

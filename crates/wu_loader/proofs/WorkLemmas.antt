@@ -16,7 +16,6 @@ use Rattle.wu_loader.specs.Classing.{unclassed}
 use Rattle.wu_loader.specs.Rows.{placed_row, IsStoredPlaced}
 use Rattle.wu_loader.specs.Whole.{rows_of, IsNoRow}
 use Rattle.wu_loader.specs.Worlds.{AreRowsOfWorks, IsOrdered}
-use Rattle.wu_loader.specs.declared.finding.Wrong.{Wrong}
 use Rattle.wu_loader.specs.declared.rows.Placed.{Placed}
 use Rattle.wu_loader.proofs.RowLemmas.{one_placed}
 use Rattle.wu_loader.proofs.WholeLemmas.{no_rows, none_permuted, rows_plain}
@@ -175,17 +174,17 @@ module _ (rows instances : List Row) (bares : List Workunit) (workunits_are : ro
 
 -- ---- where a row is that of none
 
-pub never_works : (rows instances : List Row) (wrong : Wrong) → IsNoRow (λ _. workunit_row) IsStoredWorkunit rows wrong → (ws : List Workunit) → IsOrdered ws → All IsStorable ws → ¬ AreRowsOfWorks rows instances ws
-never_works rows instances wrong none ws ordered storable are =
-    no_rows (λ _. workunit_row) IsStoredWorkunit rows wrong none (map bare ws) (All-from_recursion IsStoredWorkunit (map bare ws) (bares ws (recursion_from_All IsStorable ws storable))) (are.workunits_are ∙ sym (bare_rows ws) ∙ sym (rows_plain workunit_row (map bare ws)))
+pub never_works : (rows instances : List Row) (place : ℕ) → IsNoRow (λ _. workunit_row) IsStoredWorkunit rows place → (ws : List Workunit) → IsOrdered ws → All IsStorable ws → ¬ AreRowsOfWorks rows instances ws
+never_works rows instances place none ws ordered storable are =
+    no_rows (λ _. workunit_row) IsStoredWorkunit rows place none (map bare ws) (All-from_recursion IsStoredWorkunit (map bare ws) (bares ws (recursion_from_All IsStorable ws storable))) (are.workunits_are ∙ sym (bare_rows ws) ∙ sym (rows_plain workunit_row (map bare ws)))
   where
     bares : (ws : List Workunit) → AllByRecursion IsStorable ws → AllByRecursion IsStoredWorkunit (map bare ws)
     bares [] each = tt
     bares (w ∷ ws) each = (each.0.row, bares ws each.1)
 
-pub never_placed : (rows instances : List Row) (wrong : Wrong) → IsNoRow (λ _. placed_row) IsStoredPlaced instances wrong → (ws : List Workunit) → IsOrdered ws → All IsStorable ws → ¬ AreRowsOfWorks rows instances ws
-never_placed rows instances wrong none ws ordered storable are =
-    none_permuted placed_row IsStoredPlaced instances wrong none (flat_map placed_of ws) (All-from_recursion IsStoredPlaced (flat_map placed_of ws) (each_placed ws (recursion_from_All IsStorable ws storable))) (subst (λ rs. IsPermutation rs instances) (flat_rows ws) are.instances_are)
+pub never_placed : (rows instances : List Row) (place : ℕ) → IsNoRow (λ _. placed_row) IsStoredPlaced instances place → (ws : List Workunit) → IsOrdered ws → All IsStorable ws → ¬ AreRowsOfWorks rows instances ws
+never_placed rows instances place none ws ordered storable are =
+    none_permuted placed_row IsStoredPlaced instances place none (flat_map placed_of ws) (All-from_recursion IsStoredPlaced (flat_map placed_of ws) (each_placed ws (recursion_from_All IsStorable ws storable))) (subst (λ rs. IsPermutation rs instances) (flat_rows ws) are.instances_are)
   where
     within : (w n : ℕ) (is : List Instance) → AllByRecursion IsStoredInstance is → AllByRecursion IsStoredPlaced (map (λ (p : ℕ × Instance). record { workunit = w; n = p.0; instance = p.1 }) (enumerate_from n is))
     within w n [] each = tt

@@ -18,9 +18,17 @@ pub record AreClassedBy (workunits : List Workunit) (given : List Classed) (clas
   pub same : map unclassed classed ≡ map unclassed workunits
   pub classes : map classed_of classed ≡ given
 
+-- the numbers of the workunits
+abbrev pub numbers : List Workunit → List ℕ
+numbers workunits = map (λ (w : Workunit). w.number) workunits
+
+-- those of the workunits that have these classes
+abbrev pub numbers_classed : List Classed → List ℕ
+numbers_classed classes = map (λ (c : Classed). c.workunit) classes
+
 -- these are the classes of other workunits
 abbrev pub AreOfOthers : List Workunit → List Classed → Type 0
-AreOfOthers workunits classes = map (λ (w : Workunit). w.number) workunits ≢ map (λ (c : Classed). c.workunit) classes
+AreOfOthers workunits classes = numbers workunits ≢ numbers_classed classes
 
 -- by the bytes of their names
 abbrev pub by_host : HostClass → HostClass → Ordering

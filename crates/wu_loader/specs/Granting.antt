@@ -1,5 +1,5 @@
 -- What hosts were granted, as the grants say.
-use Rattle.std.specs.Prelude.{◌≡◌, ℕ, ◌+◌, ◌<◌, All, List, length, map, slice_index_or}
+use Rattle.std.specs.Prelude.{◌≡◌, ◌⊎◌, ℕ, ◌+◌, ◌<◌, All, List, length, map, slice_index_or}
 use Rattle.std.specs.Borrow.{Bor}
 use Rattle.std.specs.Cmp.Lexicographic.{slice_cmp}
 use Rattle.std.specs.Ordering.{nat_cmp}
@@ -7,6 +7,7 @@ use Rattle.std.specs.declared.cmp.Ordering.{Ordering}
 use Rattle.std.specs.declared.cmp.Ordering.TheVariants.{Less}
 use Rattle.wu_core.specs.Hosts.{credit_of, grants_of}
 use Rattle.wu_core.specs.declared.workunit.Grant.{Grant}
+use Rattle.wu_loader.specs.Whole.{IsNotAbove}
 use Rattle.wu_loader.specs.declared.rows.Host.{Host}
 
 -- by the bytes of their names
@@ -40,3 +41,17 @@ pub record AreHosts (grants : List Grant) (hosts : List Host) : Type 0 where
   pub rise : Rise hosts
   pub each : All (IsGranted grants) hosts
   pub listed : All (λ (grant : Grant). IsListed hosts grant.host) grants
+
+-- the host at this place, from 0, has not what it was granted
+pub record IsUngranted (grants : List Grant) (hosts : List Host) (place : ℕ) : Type 0 where
+  pub there : place < length hosts
+  pub other : (d : Host) → ¬ IsGranted grants (slice_index_or hosts place d)
+
+-- at this place, behind the last host, one lacks
+pub record LacksHost (grants : List Grant) (hosts : List Host) (place : ℕ) : Type 0 where
+  pub behind : place ≡ length hosts
+  pub unlisted : ¬ All (λ (grant : Grant). IsListed hosts grant.host) grants
+
+-- the host at this place keeps hosts in order of their names from being those of the grants
+abbrev pub IsWrongHost : List Grant → List Host → ℕ → Type 0
+IsWrongHost grants hosts place = IsNotAbove by_name hosts place ⊎ (IsUngranted grants hosts place ⊎ LacksHost grants hosts place)

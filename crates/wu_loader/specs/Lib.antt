@@ -8,4 +8,5 @@ pub mod Worlds
 pub mod Dealing
 pub mod Granting
 pub mod Classing
+pub mod Wrongs
 pub mod Finding

@@ -6,9 +6,10 @@ ghost use Rattle.std.specs.declared.cmp.Ordering.TheVariants.{Less};
 ghost use Rattle.wu_core.specs.Classes.{AreInOrder};
 ghost use Rattle.wu_core.specs.declared.workunit.HostClass.{HostClass};
 ghost use Rattle.wu_schema.specs.Stored.{class_cells};
-ghost use Rattle.wu_loader.specs.Classing.{by_host, unclassed, AreClassedBy, AreOfOthers, AreRising};
+ghost use Rattle.wu_loader.specs.Classing.{by_host, numbers, numbers_classed, unclassed, AreClassedBy, AreOfOthers, AreRising};
 ghost use Rattle.wu_loader.specs.Rows.{IsStoredHostClass};
-ghost use Rattle.wu_loader.specs.Whole.{UnlessMemory};
+ghost use Rattle.wu_loader.specs.Whole.{DiffersAt, IsIn, IsNotAbove, UnlessMemory};
+ghost use Rattle.wu_loader.specs.Wrongs.{IsWrongHostClass};
 
 use crate::finding::{NoWorld, Table, Wrong};
 use crate::rows::Classed;
@@ -43,6 +44,8 @@ pub(crate) fn with_classes(
         classed.items) }
     ensures none { IfErr result (λ reason. UnlessMemory reason
         (λ _. AreOfOthers workunits.items classes.now)) }
+    ensures told { IfErr result (λ reason. UnlessMemory reason (IsIn Table.WorkunitClass
+        (DiffersAt (numbers workunits.items) (numbers_classed classes.now)))) }
 {
     let mut classed = Vec::new(alloc);
     for mut workunit in workunits {
@@ -87,6 +90,7 @@ fn is_below(one: &HostClass, other: &HostClass) -> bool
 fn first_out_of_order(classes: &[HostClass]) -> Option<usize>
     ensures order { MatchOption result (AreRising classes.now) (λ _. ¬ AreRising classes.now) }
     ensures within { IfSome result (λ place. place < length classes.now) }
+    ensures told { IfSome result (IsNotAbove by_host classes.now) }
 {
     for place in 1..classes.len() {
         if !is_below(&classes[place - 1], &classes[place]) {
@@ -103,6 +107,8 @@ pub(crate) fn host_classes(alloc: Global, rows: &[Row]) -> Result<Vec<HostClass>
     ensures none { IfErr result (λ reason. UnlessMemory reason (λ _. (classes : List HostClass)
         → All IsStoredHostClass classes → AreInOrder classes
         → ¬ IsPermutation (map class_cells classes) rows.now)) }
+    ensures told { IfErr result (λ reason. UnlessMemory reason (IsIn Table.HostClass
+        (IsWrongHostClass rows.now))) }
 {
     let mut classes = all_from::<HostClass>(alloc, Table::HostClass, rows)?;
     sort(&mut classes)?;

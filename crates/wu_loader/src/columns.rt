@@ -9,6 +9,7 @@ use sqlite::Row;
 use wu_core::{Fault, ImportKind};
 use wu_schema::read_column;
 
+/// The kind of an import in a column.
 pub(crate) fn kind_at(row: &Row, at: usize) -> Result<ImportKind, Fault>
     ensures { Restores kind_cell (λ _. ⊤) (column row.now at) result }
 {

@@ -1,11 +1,13 @@
 //! Each workunit with its instances.
 
-ghost use Rattle.std.specs.Prelude.{◌≡◌, ◌↔◌, ◌++◌, length, IfErr, IfOk, IsTrue, List, OnOk};
+ghost use Rattle.std.specs.Prelude.{◌≡◌, ◌↔◌, ◌++◌, ◌<◌, ◌≤◌, length, IfErr, IfOk, IsTrue, List, OnOk};
 ghost use Rattle.std.specs.List.Sorted.{IsPermutation, IsSorted};
+ghost use Rattle.wu_core.specs.Limits.{most_instances};
 ghost use Rattle.wu_core.specs.declared.workunit.Workunit.{Workunit};
 ghost use Rattle.wu_loader.specs.Dealing.{by_place, placed_from, AreDealt, IsNext};
-ghost use Rattle.wu_loader.specs.Whole.{UnlessMemory};
+ghost use Rattle.wu_loader.specs.Whole.{IsIn, UnlessMemory};
 ghost use Rattle.wu_loader.specs.Worlds.{IsOrdered};
+ghost use Rattle.wu_loader.specs.Wrongs.{IsUndealtAt};
 
 use crate::finding::{NoWorld, Table, Wrong};
 use crate::rows::Placed;
@@ -42,7 +44,8 @@ fn is_next(left: &VecDeque<Placed>, workunit: u64, n: usize) -> bool
     }
 }
 
-/// Takes the instances of this workunit from the front: those that are numbered from 0, as far as they go.
+/// Takes the instances of this workunit from the front: those that are numbered from 0, as far as they go, but no more
+/// than a workunit may have.
 fn take_instances(
     alloc: Global,
     workunit: u64,
@@ -50,11 +53,14 @@ fn take_instances(
 ) -> Result<Vec<Instance>, AllocError>
     ensures taken { IfOk result
         (λ instances. left.old.items ≡ placed_from workunit instances.items ++ left.new.items) }
-    ensures all { IfOk result (λ instances. ¬ IsNext workunit
-        (length instances.items) left.new.items) }
+    ensures few { IfOk result (λ instances. length instances.items ≤ most_instances) }
+    ensures all { IfOk result (λ instances. length instances.items < most_instances
+        → ¬ IsNext workunit (length instances.items) left.new.items) }
 {
     let mut instances = Vec::new(alloc);
-    'each: while is_next(left, workunit, instances.len()) {
+    'each: while instances.len() < MOST_INSTANCES as usize
+        && is_next(left, workunit, instances.len())
+    {
         if let Some(placed) = left.pop_front() {
             instances.push(placed.instance)?;
         }
@@ -62,8 +68,8 @@ fn take_instances(
     Ok(instances)
 }
 
-/// The workunits with these instances, which are in order. A result that is none of theirs is told, or the last one of
-/// too many of a workunit.
+/// The workunits with these instances, which are in order. The first result that is none of theirs is told, or one too
+/// many of a workunit.
 pub(crate) fn deal(
     alloc: Global,
     workunits: Vec<Workunit>,
@@ -72,19 +78,14 @@ pub(crate) fn deal(
     ensures dealt { IfOk result (λ dealt. AreDealt workunits.items placed.items dealt.items) }
     ensures none { IfErr result (λ reason. UnlessMemory reason (λ _. (dealt : List Workunit)
         → IsOrdered dealt → ¬ AreDealt workunits.items placed.items dealt)) }
+    ensures told { IfErr result (λ reason. UnlessMemory reason (IsIn Table.Result
+        (IsUndealtAt workunits.items placed.items))) }
 {
     let total = placed.len();
     let mut left = placed;
     let mut dealt = Vec::new(alloc);
     for mut workunit in workunits {
         let instances = take_instances(alloc, workunit.number, &mut left)?;
-        if instances.len() > MOST_INSTANCES as usize {
-            let place = (total - left.len()) as u64;
-            return Err(NoWorld::Wrong(Wrong {
-                table: Table::Result,
-                place,
-            }));
-        }
         workunit.instances = Instances::from_vec(instances);
         dealt.push(workunit)?;
     }

@@ -21,9 +21,9 @@ pub enum Table {
 }
 
 /// A row that keeps the tables from being those of a world: its table and its place there, counted from 1. A table is
-/// counted in order of its key, the results in order of workunit and number, hosts and imports in any order, the classes
-/// of hosts in order of their hosts or, where a row cannot be read, in any order. A place behind the last row tells of a
-/// row that lacks.
+/// counted in order of its key; results are in order of workunit and number, hosts and their classes in order of the
+/// hosts' names, and these in any order where a row cannot be read, as imports are. A place behind the last row tells of
+/// a row that lacks.
 #[derive(Clone, Copy)]
 pub struct Wrong {
     pub table: Table,

@@ -5,9 +5,10 @@ ghost use Rattle.std.specs.List.Sorted.{IsPermutation, IsSorted};
 ghost use Rattle.std.specs.declared.cmp.Ordering.TheVariants.{Less};
 ghost use Rattle.wu_core.specs.Hosts.{hosts_of, is_to};
 ghost use Rattle.wu_schema.specs.Refines.{host_of};
-ghost use Rattle.wu_loader.specs.Granting.{by_host, by_name, referred, AreHosts, IsGranted, IsListed, Rise};
+ghost use Rattle.wu_loader.specs.Granting.{by_host, by_name, referred, AreHosts, IsGranted, IsListed, IsUngranted, IsWrongHost, Rise};
 ghost use Rattle.wu_loader.specs.Rows.{IsStoredGrant};
-ghost use Rattle.wu_loader.specs.Whole.{UnlessMemory};
+ghost use Rattle.wu_loader.specs.Whole.{IsIn, IsNotAbove, UnlessMemory};
+ghost use Rattle.wu_loader.specs.Wrongs.{IsWrongHostRow};
 
 use crate::finding::{NoWorld, Table, Wrong};
 use crate::rows::Host;
@@ -92,6 +93,7 @@ fn is_granted(host: &Host, grants: &[&Grant]) -> bool
 fn first_out_of_order(hosts: &[Host]) -> Option<usize>
     ensures order { MatchOption result (Rise hosts.now) (λ _. ¬ Rise hosts.now) }
     ensures within { IfSome result (λ place. place < length hosts.now) }
+    ensures told { IfSome result (IsNotAbove by_name hosts.now) }
 {
     for place in 1..hosts.len() {
         if !is_below(&hosts[place - 1], &hosts[place]) {
@@ -107,6 +109,7 @@ fn first_ungranted(hosts: &[Host], grants: &[&Grant]) -> Option<usize>
     ensures granted { MatchOption result (All (IsGranted (referred grants.now)) hosts.now)
         (λ _. ¬ All (IsGranted (referred grants.now)) hosts.now) }
     ensures within { IfSome result (λ place. place < length hosts.now) }
+    ensures told { IfSome result (IsUngranted (referred grants.now) hosts.now) }
 {
     for (place, host) in hosts.iter().enumerate() {
         if !is_granted(host, grants) {
@@ -145,6 +148,7 @@ fn first_wrong(hosts: &[Host], grants: &[&Grant]) -> Option<usize>
     ensures hosts { MatchOption result (AreHosts (referred grants.now) hosts.now)
         (λ _. ¬ AreHosts (referred grants.now) hosts.now) }
     ensures within { IfSome result (λ place. place ≤ length hosts.now) }
+    ensures told { IfSome result (IsWrongHost (referred grants.now) hosts.now) }
 {
     if let Some(place) = first_out_of_order(hosts) {
         return Some(place);
@@ -165,6 +169,8 @@ pub(crate) fn know_hosts(alloc: Global, rows: &[Row], grants: &[Grant]) -> Resul
         (hosts_of grants.now)) rows.now) }
     ensures none { IfErr result (λ reason. UnlessMemory reason (λ _. All IsStoredGrant grants.now
         → ¬ IsPermutation (map (host_of grants.now) (hosts_of grants.now)) rows.now)) }
+    ensures told { IfErr result (λ reason. UnlessMemory reason (IsIn Table.Host
+        (IsWrongHostRow grants.now rows.now))) }
 {
     let mut hosts = all_from::<Host>(alloc, Table::Host, rows)?;
     sort(&mut hosts)?;

@@ -4,7 +4,7 @@ ghost use Rattle.std.specs.Prelude.{IfErr};
 ghost use Rattle.wu_schema.specs.Asking.{Asks, ServesUnlessFailed};
 ghost use Rattle.wu_schema.specs.Faults.{IsStoreFault};
 ghost use Rattle.wu_loader.specs.Asked.{IsAnsweredUnlessFailed};
-ghost use Rattle.wu_loader.specs.Finding.{FindsNone, FindsWorld};
+ghost use Rattle.wu_loader.specs.Finding.{FindsNone, FindsRow, FindsWorld};
 
 use crate::finding::{Found, NoWorld};
 use crate::tables::table_rows;
@@ -28,6 +28,7 @@ pub fn load_world<S: Alter>(
     ensures answered { IsAnsweredUnlessFailed version S.Store conn.old conn.new result }
     ensures world { FindsWorld version S.Store conn.old conn.new result }
     ensures none { FindsNone version S.Store conn.old conn.new result }
+    ensures told { FindsRow version S.Store conn.old conn.new result }
 {
     // A schema tells that the tables obey it.
     conn.schema();

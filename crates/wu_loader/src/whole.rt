@@ -1,7 +1,7 @@
 //! All rows of a table as values.
 
 ghost use Rattle.std.specs.Prelude.{◌≡◌, All, IfErr, IfOk};
-ghost use Rattle.wu_loader.specs.Whole.{rows_of, IsNoRow, UnlessMemory};
+ghost use Rattle.wu_loader.specs.Whole.{rows_of, IsIn, IsNoRow, UnlessMemory};
 
 use crate::finding::{NoWorld, Table, Wrong};
 use crate::rows::FromRow;
@@ -18,7 +18,7 @@ pub(crate) fn all_from<T: FromRow + Drop>(
     ensures same { IfOk result (λ values. rows.now ≡ rows_of T.cells values.items) }
     ensures each { IfOk result (λ values. All T.is_value values.items) }
     ensures none { IfErr result (λ reason. UnlessMemory reason
-        (IsNoRow T.cells T.is_value rows.now)) }
+        (IsIn table (IsNoRow T.cells T.is_value rows.now))) }
 {
     let mut values = Vec::new(alloc);
     for (before, row) in rows.iter().enumerate() {

@@ -5,6 +5,7 @@ ghost use Rattle.wu_core.specs.Storable.{IsStorable};
 ghost use Rattle.wu_core.specs.declared.workunit.Workunit.{Workunit};
 ghost use Rattle.wu_loader.specs.Whole.{UnlessMemory};
 ghost use Rattle.wu_loader.specs.Worlds.{AreRowsOfWorks, IsOrdered};
+ghost use Rattle.wu_loader.specs.Wrongs.{IsWrongWork};
 
 use crate::dealing::{deal, queue_of, sort};
 use crate::finding::{NoWorld, Table};
@@ -23,6 +24,8 @@ pub(crate) fn works_from(
     ensures works { IfOk result (λ works. AreRowsOfWorks rows.now instances.now works.items) }
     ensures none { IfErr result (λ reason. UnlessMemory reason (λ _. (works : List Workunit)
         → IsOrdered works → All IsStorable works → ¬ AreRowsOfWorks rows.now instances.now works)) }
+    ensures told { IfErr result (λ reason. UnlessMemory reason
+        (IsWrongWork rows.now instances.now)) }
 {
     let workunits = all_from::<Workunit>(alloc, Table::Workunit, rows)?;
     let mut placed = all_from::<Placed>(alloc, Table::Result, instances)?;

@@ -1,12 +1,13 @@
 //! The world that the rows of a project's tables are those of.
 
-ghost use Rattle.std.specs.Prelude.{◌≡◌, ◌≢◌, [], ◌∷◌, IfErr, IfOk, map};
+ghost use Rattle.std.specs.Prelude.{◌≡◌, ◌≢◌, ℕ, [], ◌∷◌, IfErr, IfOk, map};
 ghost use Rattle.wu_core.specs.Classes.{AreInOrder};
 ghost use Rattle.wu_core.specs.World.{World};
 ghost use Rattle.wu_schema.specs.Stored.{workunit_row};
 ghost use Rattle.wu_loader.specs.Rows.{project_row, IsStoredProject};
-ghost use Rattle.wu_loader.specs.Whole.{UnlessMemory};
+ghost use Rattle.wu_loader.specs.Whole.{IsIn, UnlessMemory};
 ghost use Rattle.wu_loader.specs.Worlds.{plain_world, AreAnyClassRowsOf, ArePlainRowsOf, AreRowsOf, HasClassesOf, IsOrdered, IsReadable};
+ghost use Rattle.wu_loader.specs.Wrongs.{IsWrongClass, IsWrongPlain, IsWrongProject, IsWrongRow};
 ghost use Rattle.wu_loader.specs.declared.rows.ProjectRow.{ProjectRow};
 
 use crate::classes::{host_classes, with_classes, without_classes};
@@ -26,6 +27,8 @@ fn project_from(alloc: Global, rows: &[Row]) -> Result<ProjectRow, NoWorld>
     ensures project { IfOk result (λ project. rows.now ≡ project_row project ∷ []) }
     ensures none { IfErr result (λ reason. UnlessMemory reason (λ _. (project : ProjectRow)
         → IsStoredProject project → rows.now ≢ project_row project ∷ [])) }
+    ensures told { IfErr result (λ reason. UnlessMemory reason (IsIn Table.Project (λ place.
+        (version : ℕ) → IsWrongProject version rows.now place))) }
 {
     let projects = all_from::<ProjectRow>(alloc, Table::Project, rows)?;
     if projects.len() == 1 {
@@ -53,6 +56,8 @@ fn plain_from(alloc: Global, rows: &PlainRows) -> Result<Plain, NoWorld>
     ensures plain { IfOk result (λ plain. ArePlainRowsOf rows.now (plain_world plain)) }
     ensures none { IfErr result (λ reason. UnlessMemory reason (λ _. (world : World)
         → IsReadable world → IsOrdered world.workunits → ¬ ArePlainRowsOf rows.now world)) }
+    ensures told { IfErr result (λ reason. UnlessMemory reason (λ wrong. (version : ℕ)
+        → IsWrongPlain version rows.now wrong)) }
 {
     let project = project_from(alloc, &rows.project)?;
     let workunits = works_from(alloc, &rows.workunits, &rows.instances)?;
@@ -87,6 +92,8 @@ fn classes_from(
         → IsReadable world → AreInOrder world.classes
         → map workunit_row workunits.items ≡ map workunit_row world.workunits
         → ¬ AreAnyClassRowsOf rows.now world)) }
+    ensures told { IfErr result (λ reason. UnlessMemory reason
+        (IsWrongClass (map workunit_row workunits.items) rows.now)) }
 {
     let Some(rows) = rows else {
         return Ok(WithClasses {
@@ -105,6 +112,7 @@ pub fn world_from(alloc: Global, version: u64, rows: &TableRows) -> Result<Loade
     ensures world { IfOk result (AreRowsOf version rows.now) }
     ensures none { IfErr result (λ reason. UnlessMemory reason (λ _. (world : World)
         → IsReadable world → IsOrdered world.workunits → ¬ AreRowsOf version rows.now world)) }
+    ensures told { IfErr result (λ reason. UnlessMemory reason (IsWrongRow version rows.now)) }
 {
     let Plain {
         project,

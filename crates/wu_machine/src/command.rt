@@ -31,7 +31,8 @@ pub enum Command {
     Reported(RowsFile),
     /// Sets the classes of hosts by the rows of a file, a later row over an earlier one.
     Classes(RowsFile),
-    /// Times out what is overdue by this moment, makes the instances that are wanted, and closes what is given up.
+    /// Times out what is overdue by this moment, makes the instances that are wanted, closes what is given up, names the
+    /// files that nobody needs any more for deletion, and frees what is not active from its class.
     Transition {
         now: Moment,
         limit: u64,

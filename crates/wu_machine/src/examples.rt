@@ -34,7 +34,8 @@ pub fn sends_within_a_class()
 /// Of two rows of classes for one host the later one counts, and hosts stand in order of the bytes of their names.
 pub fn sets_classes()
     ensures { (after_classes empty_world
-        (classed h2 1 ∷ classed h1 2 ∷ classed h2 3 ∷ [])).classes ≡ classed h1 2 ∷ classed h2 3 ∷ [] }
+        (classed h2 1 ∷ classed h1 2 ∷ classed h2 3 ∷ [])).classes
+        ≡ classed h1 2 ∷ classed h2 3 ∷ [] }
 {}
 
 /// Why rows of reports are skipped: no such instance, never sent, another host, before it was sent, and over already.

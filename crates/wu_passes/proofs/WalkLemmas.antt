@@ -10,9 +10,9 @@ use Rattle.sqlite.specs.Store.{Ghosts}
 use Rattle.wu_core.specs.declared.fault.Fault.{Fault}
 use Rattle.wu_core.specs.World.{World}
 use Rattle.wu_schema.specs.Faults.{IsFailure}
-use Rattle.wu_store.specs.declared.pages.Pages.{Ghosts as PageGhosts}
+use Rattle.wu_pages.specs.declared.pages.Pages.{Ghosts as PageGhosts}
 use Rattle.wu_store.specs.Loading.{IsReadOnly}
-use Rattle.wu_store.specs.Pages.{TurnsTo}
+use Rattle.wu_pages.specs.Pages.{TurnsTo}
 use Rattle.wu_store.specs.StandsFor.{KnowsClasses}
 use Rattle.wu_passes.specs.declared.project.Project.{Project}
 use Rattle.wu_passes.specs.declared.project.walk.LineWalk.{LineWalk}

@@ -22,6 +22,7 @@ use Rattle.wu_passes.specs.declared.passes.Image.{Image}
 use Rattle.wu_machine.specs.Machine.{is_limit_right, IsUpToDate}
 use Rattle.wu_machine.specs.Passes.{archives, granted}
 use Rattle.wu_passes.specs.Planning.{IsPlan}
+use Rattle.wu_passes.specs.Summing.{AreFew}
 use Rattle.wu_machine.specs.Sound.{IsProject}
 use Rattle.wu_machine.specs.Requests.{Request, AskPass}
 
@@ -55,10 +56,12 @@ pub record HandlesAll (pass : Pass) (now : ℕ) (taken : List Workunit) (handled
   pub grants : handled.grants.items ≡ flat_map (granted pass) taken
   pub archived : handled.archived.items ≡ flat_map (archives pass now) taken
 
--- changes, and then the one that keeps these grants from this place on
+-- changes, and then the one that keeps these grants from this place on, with one sum a host, but where two would pass
+-- 64 bits together
 pub record AddsFrom (place : ℕ) (grants : List Grant) (old new : List Change) : Type 0 where
   pub given : List Change
   pub keeps : KeepsFrom place grants given
+  pub few : AreFew keeps.sums.items
   pub changes : new ≡ old ++ given
 
 -- changes, and then what keeps these grants at the next places of the world's

@@ -20,10 +20,10 @@ use Rattle.wu_machine.specs.Commands.{request_of}
 use Rattle.wu_machine.specs.Sound.{IsProject}
 use Rattle.wu_store.specs.Loading.{Asks, ServesUnlessFailed}
 use Rattle.wu_store.specs.Classes.{ForEachClassed, NotRefusedClass}
-use Rattle.wu_store.specs.Lines.{summary_of}
+use Rattle.wu_pages.specs.Lines.{summary_of}
 use Rattle.wu_store.specs.StandsFor.{StandsFor}
-use Rattle.wu_store.specs.Summaries.{FindsAt, IsCountable}
-use Rattle.wu_store.specs.declared.lines.Summary.{Summary}
+use Rattle.wu_pages.specs.Summaries.{FindsAt, IsCountable}
+use Rattle.wu_pages.specs.declared.lines.Summary.{Summary}
 use Rattle.wu_machine.specs.Requests.{Request}
 use Rattle.wu_passes.specs.Adopting.{KeepsAll}
 use Rattle.wu_passes.specs.Leaving.{RunsFrom}

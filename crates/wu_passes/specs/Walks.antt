@@ -1,5 +1,5 @@
 -- A walk over lines of a project: what it borrows, and what it has left to hand out.
-use Rattle.std.specs.Prelude.{◌≡◌, ◌≢◌, ◌⊎◌, ℕ, ◌+◌, ◌*◌, ◌^◌, ◌<◌, List, [], ◌∷◌, ◌++◌, None, Option, Result, Err, IfErr, IfOk, IfSome, IsTrue, MatchOption}
+use Rattle.std.specs.Prelude.{◌≡◌, ◌≢◌, ◌⊎◌, ℕ, ◌+◌, ◌-◌, ◌*◌, ◌^◌, ◌<◌, List, [], ◌∷◌, ◌++◌, None, Option, Result, Err, IfErr, IfOk, IfSome, IsTrue, MatchOption}
 use Rattle.std.specs.Borrow.{Fml, MutBor, RattleType, RestsIfErr}
 use Rattle.std.specs.List.{AllZip}
 use Rattle.std.specs.Vec.Iter.{into_iter_items, into_iter_len}
@@ -11,7 +11,7 @@ use Rattle.wu_core.specs.declared.fault.Fault.{Fault}
 use Rattle.wu_core.specs.declared.fault.Fault.TheVariants.{Ended, NotAProject, OldSchema}
 use Rattle.wu_core.specs.World.{World}
 use Rattle.wu_schema.specs.Refines.{Refines}
-use Rattle.wu_store.specs.declared.pages.Pages.{Ghosts as PageGhosts}
+use Rattle.wu_pages.specs.declared.pages.Pages.{Ghosts as PageGhosts}
 use Rattle.wu_store.specs.Loading.{IsReadOnly, ServesUnlessFailed}
 use Rattle.wu_store.specs.StandsFor.{KnowsClasses}
 use Rattle.wu_passes.specs.contracts.project.Project as project
@@ -29,6 +29,10 @@ walked walk = walk.project.now
 -- the rows of the present page that are not handed out
 abbrev pub page_of : {P : Type 0} → LinesLeft P → List Row
 page_of left = into_iter_items left.rows
+
+-- how many pages a walk may turn: no memory holds the rows of so many
+abbrev pub most_turns : ℕ
+most_turns = 2 ^ 64 - 1
 
 -- a number that falls with each line that is handed out: no page has so many rows
 abbrev pub left_of : {P : Type 0} → LinesLeft P → ℕ
@@ -102,6 +106,7 @@ pub record Begins {S P : Type 0} {g : Ghosts S} (old : Project S g) (walk : Line
   pub same : walked walk ≡ old
   pub present : IsPresentSession old
   pub none : page_of walk.lines ≡ []
+  pub turns : walk.lines.turns_left ≡ most_turns
 
 -- where no walk begins, the project is as it was
 module _ (S : RattleType) (g : Ghosts S.Denot) {L : Type 0} where

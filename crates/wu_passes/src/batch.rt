@@ -37,6 +37,7 @@ fn is_taken<S: Alter>(conn: &mut Connection<S>, name: &Name) -> Result<bool, Fau
     has_archived(conn, name)
 }
 
+/// Whether one of these jobs has the name.
 fn has_job(jobs: &[Job], name: &Name) -> bool
     ensures { result ≡ list_any (λ job. bytes_eq job.name name.now) jobs.now }
 {

@@ -6,6 +6,7 @@ ghost use Rattle.wu_core.specs.declared.fault.Fault.TheVariants.{Memory};
 use std::alloc::Global;
 use wu_core::{Bytes, Fault, Instance, Instances, Name, Workunit};
 
+/// The same bytes. `Memory` is its one fault.
 fn copy_of_bytes(alloc: Global, bytes: &Bytes) -> Result<Bytes, Fault>
     ensures copy { IfOk result (λ copy. copy ≡ bytes.now) }
     ensures fault { IfErr result (λ fault. fault ≡ Memory) }
@@ -13,6 +14,7 @@ fn copy_of_bytes(alloc: Global, bytes: &Bytes) -> Result<Bytes, Fault>
     Ok(Bytes::from_vec(Vec::from_slice(alloc, bytes.as_slice())?))
 }
 
+/// The same host's name, if there is one. `Memory` is its one fault.
 fn copy_of_host(host: &Option<Name>) -> Result<Option<Name>, Fault>
     ensures copy { IfOk result (λ copy. copy ≡ host.now) }
     ensures fault { IfErr result (λ fault. fault ≡ Memory) }
@@ -23,6 +25,7 @@ fn copy_of_host(host: &Option<Name>) -> Result<Option<Name>, Fault>
     }
 }
 
+/// The same instance. `Memory` is its one fault.
 fn copy_of_instance(alloc: Global, instance: &Instance) -> Result<Instance, Fault>
     ensures copy { IfOk result (λ copy. copy ≡ instance.now) }
     ensures fault { IfErr result (λ fault. fault ≡ Memory) }

@@ -1,9 +1,9 @@
 //! A file as it is imported: what is kept of it, and what it answers, now or when it comes again.
 
-ghost use Rattle.std.specs.Prelude.{◌≡◌, ◌≤◌, All, Ok, IfOk, IfErr, replicate};
-ghost use Rattle.wu_core.specs.declared.fault.Fault.TheVariants.{Memory};
+ghost use Rattle.std.specs.Prelude.{◌≡◌, ◌≤◌, All, Err, Ok, IfOk, IfErr, false, replicate};
+ghost use Rattle.wu_core.specs.declared.fault.Fault.TheVariants.{Memory, NameUsed};
 ghost use Rattle.wu_core.specs.Reads.{IsOrWantsMemory};
-ghost use Rattle.wu_passes.specs.Planning.{given_of, IsRepeated, KeepsImport, RefusesRepeat};
+ghost use Rattle.wu_passes.specs.Planning.{given_of, has_same_content, IsRepeated, KeepsImport, RefusesRepeat};
 ghost use Rattle.wu_machine.specs.Commands.{batch_of, file_of};
 
 use crate::plan::Plan;
@@ -66,6 +66,8 @@ pub fn repeated<'a>(
 ) -> Result<Plan<'a>, Fault>
     ensures plan { IfOk result (IsRepeated (given_of source.now) earlier) }
     ensures fault { IfErr result (RefusesRepeat (given_of source.now) earlier) }
+    ensures used { has_same_content (given_of source.now) earlier ≡ false
+        → result ≡ Err NameUsed }
 {
     let is_same = earlier.template.as_slice() == source.template
         && earlier.content.as_slice() == source.content;

@@ -20,5 +20,5 @@ pub use project::{
     ArchiveWalk, ClassWalk, HostWalk, LineWalk, LinesLeft, Project, ResultWalk, Walk, WorkunitWalk,
 };
 pub use wu_machine::{Answer, Batch, Command, RowsFile};
+pub use wu_pages::{HostLine, ResultLine, Summary, WorkunitLine};
 pub use wu_rules::Pass;
-pub use wu_store::{HostLine, ResultLine, Summary, WorkunitLine};

@@ -1,12 +1,11 @@
 //! The course of a script over two files that do not stop.
 
-use crate::disks::{MOST_CALLS, Saved, Side};
-use crate::files::Pages;
 use crate::runs::{Left, Reach, run_over, views_of};
 use crate::scripts::steps;
 use anyhow::{Context, Result, bail, ensure};
 use std::alloc::{AllocError, Global};
 use wu_cli::Action;
+use wu_play_files::{MOST_CALLS, Pages, Saved, Side};
 
 /// What was found after a stop.
 #[derive(Clone, Copy, PartialEq, Eq)]

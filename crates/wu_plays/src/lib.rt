@@ -3,11 +3,8 @@
 #![tactic(auto)]
 
 mod course;
-mod disks;
-mod files;
 mod lives;
 mod memory;
-mod narrow;
 mod outputs;
 mod runs;
 mod scripts;

@@ -2,13 +2,12 @@
 //! after it, and done again before the rest.
 
 use crate::course::{Act, Between, Found, course};
-use crate::disks::{MOST_CALLS, Saved, Side};
-use crate::files::Pages;
 use crate::runs::{Reach, run_over, views_of};
 use anyhow::{Result, bail, ensure};
 use std::alloc::Global;
 use std::io::Write;
 use wu_core::Fault;
+use wu_play_files::{MOST_CALLS, Pages, Saved, Side};
 
 /// How an act ends that a stop cuts.
 const CUT: Reach = Reach::Cut(Fault::Broken);

@@ -1,7 +1,6 @@
 //! A play into writers that take so many bytes, for each number up to the length of all that the script prints, and
 //! into those that take so many flushes. None is called again once it failed.
 
-use crate::narrow::{Full, Narrow};
 use crate::scripts::steps;
 use crate::sessions::adopt;
 use anyhow::{Context, Result, ensure};
@@ -10,6 +9,7 @@ use std::alloc::Global;
 use std::io::Write;
 use wu_cli::{Step, fault_status, perform_script};
 use wu_core::Fault;
+use wu_play_files::{Full, Narrow};
 
 /// Runs the script over the project in a database into a writer, and answers its status and the fault that ended it.
 fn run_over<S: Alter + Drop>(

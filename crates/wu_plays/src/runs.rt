@@ -1,7 +1,5 @@
 //! Runs of one act over two files: the adoption, or a line of a script.
 
-use crate::disks::{PlayFiles, Saved};
-use crate::files::{Pages, Visit, options, visit_play};
 use crate::sessions::{adopt, do_action, views};
 use anyhow::{Result, bail};
 use sqlite::{Alter, Connection};
@@ -10,6 +8,7 @@ use std::io;
 use wu_cli::Action;
 use wu_core::Fault;
 use wu_drive::Project;
+use wu_play_files::{Pages, PlayFiles, Saved, Visit, options, visit_play};
 
 /// How far a run came.
 #[derive(Clone, Copy, PartialEq, Eq)]

@@ -2,8 +2,6 @@
 //! opened again, looked at in every view, and the rest of the script is played on.
 
 use crate::course::{Act, Between, Found, course};
-use crate::disks::{MOST_CALLS, Saved, Side};
-use crate::files::{Pages, Visit};
 use crate::runs::{Left, Reach, run_over, told_over};
 use crate::sessions::{adopt, do_action, is_blank, views};
 use crate::tally::{Find, Finds, Tally};
@@ -14,6 +12,7 @@ use std::fs;
 use std::io::Write;
 use wu_core::Fault;
 use wu_drive::Project;
+use wu_play_files::{MOST_CALLS, Pages, Saved, Side, Visit};
 
 /// Sees that a fault is no more than the refusal of an act that was done before.
 fn is_refused(act: &Act, fault: Fault, was_done: bool) -> Result<()> {

@@ -1,9 +1,9 @@
 //! What is counted over the stops of an act.
 
 use crate::course::{Act, Found};
-use crate::disks::{Saved, Side};
 use crate::runs::{End, Reach};
 use std::io::{self, Write};
+use wu_play_files::{Saved, Side};
 
 /// What is left of a cut act, and what was found there.
 #[derive(Drop)]

@@ -1,10 +1,10 @@
 //! How a script is played.
 
 use crate::course::Between;
-use crate::files::Pages;
 use crate::{lives, memory, outputs, stops};
 use anyhow::{Result, bail};
 use std::alloc::Global;
+use wu_play_files::Pages;
 
 /// How a script is played.
 #[derive(Drop)]

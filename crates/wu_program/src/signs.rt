@@ -18,6 +18,7 @@ struct FirstLine {
 }
 
 impl FirstLine {
+    /// No byte yet.
     fn new() -> Self {
         FirstLine {
             bytes: [0; MOST_SHOWN],
@@ -59,6 +60,7 @@ pub struct Signs<T: Drop> {
 }
 
 impl<T: Write + Drop> Signs<T> {
+    /// Signs on this terminal, or none.
     pub fn new(terminal: Option<T>) -> Self {
         Signs {
             terminal,
@@ -123,6 +125,7 @@ pub struct Watched<O: Drop, T: Drop> {
 }
 
 impl<O: Write + Drop, T: Write + Drop> Watched<O, T> {
+    /// This output, with these signs.
     pub fn new(out: O, signs: Signs<T>) -> Self {
         Watched { out, signs }
     }
@@ -166,6 +169,7 @@ pub struct Cleared<E: Drop> {
 }
 
 impl<E: Write + Drop> Cleared<E> {
+    /// This writer, and whether a line of a terminal is to be wiped before its first bytes.
     pub fn new(out: E, is_terminal: bool) -> Self {
         Cleared {
             out,

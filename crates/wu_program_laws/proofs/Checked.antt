@@ -1,5 +1,5 @@
 -- From what a check did to what it told of the files.
-use Rattle.std.proofs.Common.{◌≡◌, ℕ, ◌==◌, true, false, Bool, List, filter, if◌then◌else◌, Option, Result, Ok, Err, inl, inr, refl, sym, ap, subst, ◌∙◌}
+use Rattle.std.proofs.Common.{◌≡◌, ℕ, ◌==◌, true, false, Bool, List, filter, if◌then◌else◌, None, Option, Result, Ok, Err, inl, inr, refl, sym, ap, subst, ◌∙◌}
 use Rattle.std.proofs.Math.Logic.{∥∥₁_elim}
 use Rattle.std.specs.Prelude.{IfErr, IfOk, MatchResult, IsOkUnless}
 use Rattle.sqlite_disk.specs.declared.Files.{Files}
@@ -32,13 +32,12 @@ use Rattle.sqlite.specs.declared.file.Leftover.{Leftover}
 use Rattle.sqlite.specs.declared.file.Leftover.TheVariants as left
 use Rattle.wu_schema.proofs.Words.{Has, all_has}
 use Rattle.wu_check.specs.Checking.{HasWholeRows, IsInOrder, IsKept, IsSoundProject}
-use Rattle.wu_check.specs.Findings.{SaysSound, SaysUnsound, SaysWhy, Tells}
+use Rattle.wu_check.specs.Findings.{PutsLaterFirst, SaysLater, SaysSound, SaysUnsound, SaysWhy, Tells}
 use Rattle.wu_check.specs.declared.finding.Finding.{Finding}
 use Rattle.wu_check.specs.declared.finding.Verdict.{Verdict}
 use Rattle.wu_check.specs.declared.finding.Verdict.TheVariants as verdict
 use Rattle.wu_core.specs.declared.fault.Fault.{Fault}
 use Rattle.wu_core.specs.declared.fault.Fault.TheVariants.{Output}
-use Rattle.wu_machine.specs.Sound.{IsSound as IsSoundWorld}
 use Rattle.wu_passes.specs.Committing.{FoundAs}
 use Rattle.wu_report.specs.Writing.{WritesBytes}
 use Rattle.wu_schema.specs.Faults.{IsFailure}
@@ -50,7 +49,7 @@ use Rattle.wu_cli.specs.declared.trouble.Trouble.{Trouble}
 use Rattle.wu_cli.specs.declared.trouble.Trouble.TheVariants as trouble
 use Rattle.wu_program.specs.Checks.{ChecksOpened, ChecksUnopened}
 use Rattle.wu_program.specs.Copies.{memory_disk}
-use Rattle.wu_program_laws.specs.Checked.{EachCheckIsTrue, FindsSound, FindsWith, image_of_bytes, IsWant, TellsOfFiles}
+use Rattle.wu_program_laws.specs.Checked.{EachCheckIsTrue, FindsSound, FindsWith, image_of_bytes, IsToldTruly, IsWant, TellsOfFiles}
 use Rattle.wu_program_laws.proofs.Leaving.{none_beside}
 
 -- ---- order
@@ -104,13 +103,13 @@ module _ {W : Type 0} (contents : W → Option (List ℕ)) (old new : W) (done :
     sound_from (Ok (verdict.Unsound f)) says tells is = absurd (let e = tells.0 in cc)
     sound_from (Err f) says tells is = absurd (let e = tells.0 in cc)
 
-    why_from : (v : Result Verdict Fault) → (IsKept db → IfOk v (SaysWhy db)) → Told v → (finding : Finding) → done ≡ Err (trouble.Unsound finding) → FindsWith image (λ d. Tells d finding)
-    why_from (Ok (verdict.Sound version workunits results)) says tells finding is =
+    why_from : (v : Result Verdict Fault) (limit : Option ℕ) → limit ≡ None → (IsKept db → IfOk v (SaysWhy db)) → (IsKept db → IfOk v (SaysLater limit db)) → Told v → (finding : Finding) → done ≡ Err (trouble.Unsound finding) → FindsWith image (λ d. IsToldTruly d finding)
+    why_from (Ok (verdict.Sound version workunits results)) limit unlimited says later tells finding is =
         absurd (let e : trouble.Unsound finding ≡ trouble.Fault Output = subst (λ (r : Result (Unit {0}) Trouble). IsOkUnless r (trouble.Fault Output)) is tells.1 in cc)
-    why_from (Ok (verdict.Unsound f)) says tells finding is =
+    why_from (Ok (verdict.Unsound f)) limit unlimited says later tells finding is =
         let same : f ≡ finding = let e = tells.0 in cc in
-        finds (λ d. Tells d finding) (λ k. subst (Tells db) same (says k))
-    why_from (Err f) says tells finding is = absurd (let e = tells.0 in cc)
+        finds (λ d. IsToldTruly d finding) (λ k. record { tells = subst (Tells db) same (says k); later = subst (PutsLaterFirst db) same (later k unlimited) })
+    why_from (Err f) limit unlimited says later tells finding is = absurd (let e = tells.0 in cc)
 
     want_from : (v : Result Verdict Fault) → IfOk v (SaysUnsound db) → IfErr v IsFailure → Told v → IsSoundProject db → IfErr done IsWant
     want_from (Ok (verdict.Sound version workunits results)) says fails tells p = wanted done tells.1
@@ -141,7 +140,7 @@ module _ {W : Type 0} (contents : W → Option (List ℕ)) (old new : W) (done :
               let at : FoundAs (file_state it.conn).committed.trees world = subst (λ (ts : Trees). FoundAs ts world) (sym (finds.holds held.trees held.holds)) held.found in
               let stands : StandsFor db world = stands_still at.database db world at.stands sound (ap (λ (d : Database). d.trees) same ∙ sym at.same) in
               want_from image db found sound over.verdict (over.unsound clean) (over.answered clean it.opened.fresh.unlimited) over.tells (record { world = world; stands = stands; sound = right; known = known });
-          why = λ finding is. why_from image db found sound over.verdict (over.told clean) over.tells finding is;
+          why = λ finding is. why_from image db found sound over.verdict it.conn.step_limit it.opened.fresh.unlimited (over.told clean) (over.later clean) over.tells finding is;
         }
 
     -- ---- one that could not be opened

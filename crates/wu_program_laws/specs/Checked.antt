@@ -5,7 +5,7 @@ use Rattle.sqlite.specs.Effect.{Database, IsDatabase}
 use Rattle.sqlite.specs.Files.{AreFoundIn}
 use Rattle.sqlite_wal.specs.Recovery.{Image}
 use Rattle.wu_check.specs.Checking.{HasWholeRows, IsKnown}
-use Rattle.wu_check.specs.Findings.{IsSoundAs, Tells}
+use Rattle.wu_check.specs.Findings.{IsSoundAs, PutsLaterFirst, Tells}
 use Rattle.wu_check.specs.declared.finding.Finding.{Finding}
 use Rattle.wu_core.specs.World.{World}
 use Rattle.wu_core.specs.declared.fault.Fault.TheVariants.{Output}
@@ -38,6 +38,11 @@ pub record FindsSound (image : Image) (before after : Option (List ℕ)) : Type 
   pub told : Appends before after (sound_line version workunits results)
   pub found : FindsWith image (λ db. IsSoundAs db version workunits results)
 
+-- what is told is true, and a later version is told before all else
+pub record IsToldTruly (db : Database) (finding : Finding) : Type 0 where
+  pub tells : Tells db finding
+  pub later : PutsLaterFirst db finding
+
 -- want of memory, or of the disk or the output
 abbrev pub IsWant : Trouble → Type 0
 IsWant (trouble.Fault fault) = IsFailure fault ⊎ (fault ≡ Output)
@@ -50,7 +55,7 @@ pub record TellsOfFiles (image : Image) (before after : Option (List ℕ)) (done
   -- of one that they hold nothing else is told, but want of memory or of the disk
   pub unsound : (world : World) → HoldsWorld image world → IsSound world → IsKnown world.version → IfErr done IsWant
   -- and what is told to be wrong is
-  pub why : (finding : Finding) → done ≡ Err (trouble.Unsound finding) → FindsWith image (λ db. Tells db finding)
+  pub why : (finding : Finding) → done ≡ Err (trouble.Unsound finding) → FindsWith image (λ db. IsToldTruly db finding)
 
 -- so it is of each check
 abbrev pub EachCheckIsTrue : {W : Type 0} → (W → Option (List ℕ)) → Type 0

@@ -3,14 +3,15 @@ use Rattle.std.proofs.Common.{◌≡◌, ℕ, ◌≤◌, Bool, false, List, [], 
 use Rattle.std.proofs.KnownBytes.{Appends-trans}
 use Rattle.std.proofs.lemmas.Bool.{cases_Bool, true≢false}
 use Rattle.std.proofs.lemmas.List.Concat.{flat_map-append}
-use Rattle.std.specs.Prelude.{◌⊎◌, IsErrAnd, IsTrue}
+use Rattle.std.specs.Prelude.{◌⊎◌, ◌≢◌, IfErr, IsErr, IsErrAnd, IsTrue}
 use Rattle.std.specs.Io.KnownBytes.{Appends}
 use Rattle.sqlite.specs.State.{HasCleanDisk}
 use Rattle.sqlite_trees.specs.declared.store.Store.{Ghosts}
 use Rattle.wu_core.specs.World.{World}
 use Rattle.wu_core.specs.declared.fault.Fault.{Fault}
-use Rattle.wu_core.specs.declared.fault.Fault.TheVariants.{Broken}
-use Rattle.wu_store.specs.declared.pages.Pages.{Ghosts as PageGhosts}
+use Rattle.wu_core.specs.declared.fault.Fault.TheVariants.{Broken, Output}
+use Rattle.wu_schema.specs.Faults.{IsStoreFault}
+use Rattle.wu_pages.specs.declared.pages.Pages.{Ghosts as PageGhosts}
 use Rattle.wu_passes.proofs.WalkLemmas.{reads_then}
 use Rattle.wu_passes.specs.declared.project.Project.{Project}
 use Rattle.wu_passes.specs.declared.project.walk.LineWalk.{LineWalk}
@@ -18,8 +19,9 @@ use Rattle.wu_passes.specs.declared.project.walk.LinesLeft.{LinesLeft}
 use Rattle.wu_passes.specs.Projects.{Broke, IsPresentSession, state_of}
 use Rattle.wu_passes.specs.Walks.{HandsFirst, HasLeft, OnlyReads, page_of, walked}
 use Rattle.wu_report.specs.Projects.{ReadsSession}
-use Rattle.wu_report.proofs.WritingLemmas.{AppendsFront-after, AppendsFront-longer, AppendsFront-part}
-use Rattle.wu_report.specs.Writing.{AppendsFront}
+use Rattle.wu_report.proofs.WritingLemmas.{AppendsFront-after, AppendsFront-longer, AppendsFront-part, IsCut-after, IsCut-longer}
+use Rattle.wu_report.specs.Views.{CutsOutput}
+use Rattle.wu_report.specs.Writing.{AppendsFront, IsCut}
 
 -- the lines that were there are those that were written, and then those that the walk has left
 abbrev pub HasShown : {S P T : Type 0} {g : Ghosts S} → PageGhosts P T → (T → List ℕ) → World → LineWalk S (LinesLeft P) g → Option (List ℕ) → Option (List ℕ) → List T → Type 0
@@ -79,6 +81,16 @@ module _ {S P T : Type 0} {g : Ghosts S} (p : PageGhosts P T) (text : T → List
       let part = AppendsFront-after a b c (flat_map text done) (text line) shown cut in
       subst (AppendsFront a c) (sym whole) (AppendsFront-longer a c (flat_map text done ++ text line) (flat_map text first.0) part)
 
+  -- all the lines are cut where the next one is
+  pub all_cut : (a b c : Option (List ℕ)) (lines : List T) (line : T) → HasShown p text world walk a b lines
+      → Hands p world walk new (Some line) → IsCut b c (text line) → IsCut a c (flat_map text lines)
+  all_cut a b c lines line (done, rest, is, has, shown) hands cut =
+      let first = hands rest has in
+      let whole = text_of lines done rest is ∙ ap (λ l. flat_map text done ++ flat_map text l) first.1
+      ∙ sym (append_assoc (flat_map text done) (text line) (flat_map text first.0)) in
+      let part = IsCut-after a b c (flat_map text done) (text line) shown cut in
+      subst (IsCut a c) (sym whole) (IsCut-longer a c (flat_map text done ++ text line) (flat_map text first.0) part)
+
   -- one line more
   pub shown_next : (a b c : Option (List ℕ)) (lines : List T) (line : T) → HasShown p text world walk a b lines
       → Hands p world walk new (Some line) → Appends b c (text line) → HasShown p text world new a c lines
@@ -122,3 +134,26 @@ handed_broken (Err other) fault same is = let broke : other ≡ Broken = cc in s
 -- what only reads ends no session
 pub reads_session : {S T : Type 0} {g : Ghosts S} (old new : Project S g) (r : Result T Fault) → OnlyReads old new → ReadsSession old new r
 reads_session old new r it = record { read = it.read; limit = it.limit; ends = λ going ended. absurd (true≢false (sym ended ∙ it.session ∙ going)) }
+
+-- ---- what is cut
+
+-- a text that failed is cut
+pub output_cut : {T : Type 0} (a b : Option (List ℕ)) (bytes : List ℕ) (r : Result T Fault) → IsErr r → IsCut a b bytes → CutsOutput a b bytes r
+output_cut a b bytes (Ok x) failed cut = tt
+output_cut a b bytes (Err fault) failed cut = λ _. cut
+
+-- and so is one that a call wrote which cuts what fails
+pub outputs_cut : {T : Type 0} (a b : Option (List ℕ)) (bytes : List ℕ) (r : Result T Fault) → IfErr r (λ _. IsCut a b bytes) → CutsOutput a b bytes r
+outputs_cut a b bytes (Ok x) cut = tt
+outputs_cut a b bytes (Err fault) cut = λ _. cut
+
+-- what `?` hands on is nothing of the output where the fault is none
+pub other_fault : {U : Type 0} (a b : Option (List ℕ)) (bytes : List ℕ) (r : Result U Fault) (fault : Fault) → IsErrAnd r (λ other. other ≡ fault) → fault ≢ Output → CutsOutput a b bytes r
+other_fault a b bytes (Ok y) fault same never = tt
+other_fault a b bytes (Err other) fault same never = λ is. absurd (never (sym same ∙ is))
+
+-- a fault of the store is none
+pub never_output : (fault : Fault) → IsStoreFault fault → fault ≢ Output
+never_output fault (inl memory) is = absurd (let no = sym memory ∙ is in cc)
+never_output fault (inr (inl broken)) is = absurd (let no = sym broken ∙ is in cc)
+never_output fault (inr (inr none)) is = absurd (let no = sym none ∙ is in cc)

@@ -5,7 +5,7 @@ use Rattle.std.specs.Prelude.{◌≢◌, ◌⊎◌, IsErrAnd, IsOk}
 use Rattle.std.specs.Result.{OnErr}
 use Rattle.sqlite_trees.specs.declared.store.Store.{Ghosts}
 use Rattle.wu_core.specs.declared.fault.Fault.{Fault}
-use Rattle.wu_core.specs.declared.fault.Fault.TheVariants.{Broken, Ended, NotAProject, OldSchema}
+use Rattle.wu_core.specs.declared.fault.Fault.TheVariants.{Broken, Ended, NotAProject, OldSchema, Output}
 use Rattle.wu_core.specs.World.{World}
 use Rattle.wu_passes.specs.declared.project.Project.{Project}
 use Rattle.wu_passes.specs.Projects.{AnswersFirst, has_ended, IsPresentSession, IsSessionOpen, older_version, ServesOn, state_of}
@@ -33,6 +33,15 @@ module _ {S : Type 0} {g : Ghosts S} (old new : Project S g) (fault : Fault) whe
 
   pub present_answer : {T : Type 0} → IsSessionOpen old → AnswersFirst {T = T} old new (Err fault) → fault ≡ NotAProject → IsPresentSession old
   present_answer {T} going early is = present_at (older_version old) refl (of_both T (older_version old) (early.older going)) is
+
+module _ {S : Type 0} {g : Ghosts S} (old new : Project S g) (fault : Fault) where
+  present_then : (older : Option ℕ) → older_version old ≡ older → IfSome older (λ version. fault ≡ OldSchema version) → fault ≡ Output → IsPresentSession old
+  present_then None told older is = told
+  present_then (Some version) told older is = absurd (let no = sym older ∙ is in cc)
+
+  -- what is told of an output is told over the present version
+  pub present_output : {T : Type 0} → IsSessionOpen old → AnswersFirst {T = T} old new (Err fault) → fault ≡ Output → IsPresentSession old
+  present_output {T} going early is = present_then (older_version old) refl (of_both old new fault T (older_version old) (early.older going)) is
 
 -- the session had ended, or it is over an older version
 abbrev pub IsRefusal : Fault → Type 0
@@ -65,6 +74,10 @@ module _ {S T : Type 0} {g : Ghosts S} (old : Project S g) (fault : Fault) (earl
 pub never_refused_so : (fault : Fault) → IsRefusal fault → fault ≢ NotAProject
 never_refused_so fault (inl ended) is = absurd (let no = sym ended ∙ is in cc)
 never_refused_so fault (inr (version, older)) is = absurd (let no = sym older ∙ is in cc)
+
+pub never_output_so : (fault : Fault) → IsRefusal fault → fault ≢ Output
+never_output_so fault (inl ended) is = absurd (let no = sym ended ∙ is in cc)
+never_output_so fault (inr (version, older)) is = absurd (let no = sym older ∙ is in cc)
 
 pub never_broken_so : (fault : Fault) → IsRefusal fault → fault ≢ Broken
 never_broken_so fault (inl ended) is = absurd (let no = sym ended ∙ is in cc)

@@ -94,6 +94,11 @@ pub cut_failed : {T E : Type 0} (a b : Option (List ℕ)) (bytes : List ℕ) (r 
 cut_failed a b bytes (Ok x) failed h = tt
 cut_failed a b bytes (Err fault) failed h = h
 
+-- all of a text was written, and a call that failed cut what comes behind it
+pub cuts_after : {T E : Type 0} (a b c : Option (List ℕ)) (xs ys : List ℕ) (r : Result T E) → Appends a b xs → IfErr r (λ _. IsCut b c ys) → IfErr r (λ _. IsCut a c (xs ++ ys))
+cuts_after a b c xs ys (Ok x) whole cut = tt
+cuts_after a b c xs ys (Err fault) whole cut = IsCut-after a b c xs ys whole cut
+
 -- a part is gone from the front of the rest
 pub moves_front : (all done rest : List ℕ) (n : ℕ) → all ≡ done ++ rest → all ≡ (done ++ take n rest) ++ take (length rest - n) (drop n rest)
 moves_front all done rest n e =

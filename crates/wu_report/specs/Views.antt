@@ -6,12 +6,12 @@ use Rattle.wu_core.specs.declared.fault.Fault.{Fault}
 use Rattle.wu_core.specs.declared.fault.Fault.TheVariants.{Ended, NotAProject, OldSchema, Output}
 use Rattle.wu_core.specs.Classes.{AreClassed}
 use Rattle.wu_core.specs.World.{World}
-use Rattle.wu_store.specs.declared.pages.Pages.{Ghosts as PageGhosts}
-use Rattle.wu_store.specs.Lines.{AreHostsNamed}
+use Rattle.wu_pages.specs.declared.pages.Pages.{Ghosts as PageGhosts}
+use Rattle.wu_pages.specs.Lines.{AreHostsNamed}
 use Rattle.wu_store.specs.Loading.{IsStoreFault}
 use Rattle.wu_core.specs.Storable.{AreStorable, IsArchiveStorable}
 use Rattle.wu_store.specs.StandsFor.{KnowsClasses}
-use Rattle.wu_store.specs.Summaries.{IsCountable}
+use Rattle.wu_pages.specs.Summaries.{IsCountable}
 use Rattle.wu_passes.specs.Standing.{GoesOn}
 use Rattle.wu_passes.specs.declared.project.Project.{Project}
 use Rattle.wu_passes.specs.declared.project.walk.LineWalk.{LineWalk}
@@ -21,7 +21,7 @@ use Rattle.wu_passes.specs.Walks.{HasLeft, walked}
 use Rattle.wu_machine.specs.declared.view.View.{View}
 use Rattle.wu_machine.specs.declared.view.View.TheVariants as view
 use Rattle.wu_report.specs.Texts.{view_text}
-use Rattle.wu_report.specs.Writing.{WritesTo}
+use Rattle.wu_report.specs.Writing.{IsCut, WritesTo}
 
 -- the text can't be written, or the store can't be read
 abbrev pub IsViewFault : Fault → Type 0
@@ -35,6 +35,16 @@ WritesLeft {S} {P} {T} p text contents old new out_old out_new result =
     HasCleanDisk (state_of (walked new)) → (world : World) (lines : List T) → HasLeft p world old lines
     → WritesTo contents out_old out_new (flat_map text lines) result
 
+-- where the output took no more, the text is cut: one that went out whole is never told as failed
+abbrev pub CutsOutput : {T : Type 0} → Option (List ℕ) → Option (List ℕ) → List ℕ → Result T Fault → Type 0
+CutsOutput before after text result = IfErr result (λ fault. fault ≡ Output → IsCut before after text)
+
+-- so it is with the lines that a walk had left
+abbrev pub CutsLeft : {S P T W R : Type 0} {store : Ghosts S} → PageGhosts P T → (T → List ℕ) → (W → Option (List ℕ)) → LineWalk S (LinesLeft P) store → LineWalk S (LinesLeft P) store → W → W → Result R Fault → Type 0
+CutsLeft {S} {P} {T} p text contents old new out_old out_new result =
+    HasCleanDisk (state_of (walked new)) → (world : World) (lines : List T) → HasLeft p world old lines
+    → CutsOutput (contents out_old) (contents out_new) (flat_map text lines) result
+
 -- ---- a view
 
 -- where a session goes on over a world with classes and the disk does not fail, this text of that world is written
@@ -42,6 +52,12 @@ abbrev pub ShowsText : {S W T : Type 0} {store : Ghosts S} → (W → Option (Li
 ShowsText contents old new out_old out_new text_of result =
     IsSessionOpen old → HasCleanDisk (state_of new) → (world : World) → KnowsClasses world → GoesOn (state_of old) world
     → WritesTo contents out_old out_new (text_of world) result
+
+-- and it is cut where the output took no more
+abbrev pub CutsShown : {S W T : Type 0} {store : Ghosts S} → (W → Option (List ℕ)) → Project S store → Project S store → W → W → (World → List ℕ) → Result T Fault → Type 0
+CutsShown contents old new out_old out_new text_of result =
+    IsSessionOpen old → HasCleanDisk (state_of new) → (world : World) → KnowsClasses world → GoesOn (state_of old) world
+    → CutsOutput (contents out_old) (contents out_new) (text_of world) result
 
 -- a view's text is
 abbrev pub Shows : {S W T : Type 0} {store : Ghosts S} → (W → Option (List ℕ)) → Project S store → Project S store → W → W → View → Result T Fault → Type 0

@@ -22,7 +22,8 @@ pub fn prints_moments()
 pub fn prints_a_workunit()
     ensures { view_text (holding first_job) Workunits
         ≡ codes "1 job_1 input=2 quorum=2 target=2 max_error=3 max_total=10 max_success=6"
-        ++ codes " delay=604800 credit=1 mask=0 canonical=- assimilate=INIT delete=INIT done=- class=0\n" }
+        ++ codes " delay=604800 credit=1 mask=0 canonical=- assimilate=INIT delete=INIT"
+        ++ codes " done=- class=0\n" }
 {}
 
 /// The lines of two instances, before they are sent; of one that is out; and of one that was found invalid.

@@ -3,7 +3,8 @@
 ghost use Rattle.std.specs.Prelude.{◌≡◌, IfErr, flat_map};
 ghost use Rattle.wu_report.specs.Projects.{ReadsSession};
 ghost use Rattle.wu_report.specs.Seeing.{Sees};
-ghost use Rattle.wu_report.specs.Views.{IsViewFault, RefusesView, Shows, ShowsOrFails, ShowsText, ShowsUnrefused, UnrefusedWhere, WritesLeft};
+ghost use Rattle.wu_report.specs.Texts.{view_text};
+ghost use Rattle.wu_report.specs.Views.{CutsLeft, CutsShown, IsViewFault, RefusesView, Shows, ShowsOrFails, ShowsText, ShowsUnrefused, UnrefusedWhere, WritesLeft};
 ghost use Rattle.wu_passes.specs.Projects.{BreaksOn, IsPresentSession, IsSessionOpen, ServesOn};
 ghost use Rattle.wu_passes.specs.Walks.{HandsUnrefused, OnlyReads, ReadsOn, StaysServing, walked};
 
@@ -14,8 +15,8 @@ use std::alloc::Global;
 use std::io::Write;
 use wu_core::Fault;
 use wu_machine::View;
+use wu_pages::{ArchivePages, ClassPages, HostPages, Pages, ResultPages, WorkunitPages};
 use wu_passes::{Project, Walk};
-use wu_store::{ArchivePages, ClassPages, HostPages, Pages, ResultPages, WorkunitPages};
 
 /// Writes the lines that a walk has left. A fault of the walk comes after the lines before it.
 fn write_lines<S: Alter, P: Pages, W: Write>(
@@ -29,6 +30,8 @@ where
     ensures reads { ReadsOn (walked walk.old) (walked walk.new) result }
     ensures opens { StaysServing walk.old walk.new result }
     ensures text { WritesLeft P.Pages P.Line.text W.contents walk.old walk.new out.old out.new
+        result }
+    ensures cut { CutsLeft P.Pages P.Line.text W.contents walk.old walk.new out.old out.new
         result }
     ensures fault { IfErr result IsViewFault }
     ensures unrefused { HandsUnrefused walk.old walk.new P.Pages result }
@@ -53,6 +56,8 @@ where
     ensures opens { IsSessionOpen project.old → ServesOn project.new result }
     ensures text { ShowsText W.contents project.old project.new out.old out.new
         (λ world. flat_map P.Line.text (P.Pages.rest pages world)) result }
+    ensures cut { CutsShown W.contents project.old project.new out.old out.new
+        (λ world. flat_map P.Line.text (P.Pages.rest pages world)) result }
     ensures fault { ShowsOrFails project.old result }
     ensures unrefused { UnrefusedWhere P.Pages.is_readable project.old project.new result }
     ensures broke { BreaksOn project.old project.new result }
@@ -67,6 +72,8 @@ fn write_counts<S: Alter, W: Write>(project: &mut Project<S>, out: &mut W) -> Re
     ensures reads { ReadsSession project.old project.new result }
     ensures opens { IsSessionOpen project.old → ServesOn project.new result }
     ensures text { Shows W.contents project.old project.new out.old out.new View.Summary result }
+    ensures cut { CutsShown W.contents project.old project.new out.old out.new
+        (λ world. view_text world View.Summary) result }
     ensures fault { ShowsOrFails project.old result }
     ensures unrefused { ShowsUnrefused project.old project.new View.Summary result }
     ensures broke { BreaksOn project.old project.new result }
@@ -86,6 +93,8 @@ fn write_view<S: Alter, W: Write>(
     ensures reads { ReadsSession project.old project.new result }
     ensures opens { IsSessionOpen project.old → ServesOn project.new result }
     ensures text { Shows W.contents project.old project.new out.old out.new view result }
+    ensures cut { CutsShown W.contents project.old project.new out.old out.new
+        (λ world. view_text world view) result }
     ensures fault { ShowsOrFails project.old result }
     ensures unrefused { ShowsUnrefused project.old project.new view result }
     ensures broke { BreaksOn project.old project.new result }

@@ -16,6 +16,7 @@ pub fn close(instance: &mut Instance)
     }
 }
 
+/// Closes each instance that waits to be sent.
 pub fn close_all(instances: &mut Instances)
     ensures { instances.new ≡ map closed instances.old }
 {
@@ -34,6 +35,7 @@ pub fn time_out(instance: &mut Instance, now: Moment)
     }
 }
 
+/// Ends each instance whose deadline is before the moment.
 pub fn time_out_all(instances: &mut Instances, now: Moment)
     ensures { instances.new ≡ map (timed_out now) instances.old }
 {
@@ -53,6 +55,7 @@ pub fn give_up(instance: &mut Instance)
     }
 }
 
+/// Ends what a workunit that is given up still waits for, of each instance.
 pub fn give_up_all(instances: &mut Instances)
     ensures { instances.new ≡ map given_up instances.old }
 {

@@ -26,6 +26,7 @@ pub fn is_undecided(workunit: &Workunit) -> bool
     workunit.canonical.is_none() && is_clear(workunit.error_mask)
 }
 
+/// How many instances wait to be sent: at most 100.
 pub fn unsent_count(workunit: &Workunit) -> usize
     ensures value { result ≡ unsent workunit.now }
     ensures within { result ≤ most_instances }
@@ -112,6 +113,7 @@ pub fn in_progress_count(workunit: &Workunit, now: Moment) -> usize
     count_in_progress(workunit.instances.as_slice(), now)
 }
 
+/// Whether a success is new: without a verdict.
 pub fn has_new_success(workunit: &Workunit) -> bool
     ensures { result ≡ has_new_success workunit.now }
 {

@@ -17,6 +17,7 @@ fn delete_output(instance: &mut Instance)
     }
 }
 
+/// Empties each output that is ready for deletion.
 fn delete_outputs(instances: &mut Instances)
     ensures { instances.new ≡ map without_output instances.old }
 {
@@ -37,6 +38,7 @@ pub fn delete_files(workunit: &mut Workunit)
     delete_outputs(&mut workunit.instances);
 }
 
+/// Whether an output is ready for deletion.
 fn has_output_to_delete(instances: &Instances) -> bool
     ensures { result ≡ list_any (λ i. is_ready_file i.file_delete) instances.now }
 {

@@ -30,7 +30,7 @@ fn is_awake(workunit: &Workunit, now: Moment) -> bool
     }
 }
 
-/// Whether the pass changes the workunit. The least age, in seconds, is for the purge alone.
+/// Whether the pass changes the workunit. The least age, 0 to a year of 365 days in seconds, is for the purge alone.
 pub fn changes(pass: Pass, now: Moment, min_age: u64, workunit: &Workunit) -> bool
     requires { min_age ≤ longest_age }
     ensures { result ≡ changes pass now min_age workunit.now }

@@ -12,12 +12,14 @@ pub fn is_unsent(instance: &Instance) -> bool
     instance.server_state == ServerState::Unsent
 }
 
+/// Whether the instance is out at a host.
 pub fn is_in_progress(instance: &Instance) -> bool
     ensures { result ≡ is_in_progress instance.now }
 {
     instance.server_state == ServerState::InProgress
 }
 
+/// Whether the instance has ended, in whatever way.
 pub fn is_over(instance: &Instance) -> bool
     ensures { result ≡ is_over instance.now }
 {

@@ -16,6 +16,7 @@ fn is_spent(instance: &Instance) -> bool
     is_over(instance) && instance.file_delete == FileDelete::Done
 }
 
+/// Whether each instance is over and its output deleted.
 pub fn is_all_spent(instances: &Instances) -> bool
     ensures { result ≡ list_all is_spent instances.now }
 {

@@ -57,6 +57,7 @@ fn refuse(instance: &mut Instance, is_undecided: bool)
     }
 }
 
+/// Refuses each instance whose output is empty, of those that are judged now.
 fn refuse_all(instances: &mut Instances, is_undecided: bool)
     ensures { instances.new ≡ map (refused_where is_undecided) instances.old }
 {
@@ -309,6 +310,7 @@ fn doubt(instance: &mut Instance)
     }
 }
 
+/// Finds each viable success inconclusive.
 fn doubt_all(instances: &mut Instances)
     ensures { instances.new ≡ map doubted instances.old }
 {
@@ -328,6 +330,7 @@ fn doubt_or_close(waiting: &mut Instance)
     }
 }
 
+/// Finds each viable success inconclusive, and closes what waits to be sent.
 fn doubt_or_close_all(instances: &mut Instances)
     ensures { instances.new ≡ map doubted_or_closed instances.old }
 {

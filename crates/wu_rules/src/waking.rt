@@ -10,12 +10,14 @@ use crate::instance::{is_in_progress, is_unsent, is_viable};
 use crate::transitioner::{is_all_finished, is_all_over, may_output_go, plan_at_once};
 use wu_core::{Assimilate, FileDelete, Instance, Instances, Workunit};
 
+/// Whether an instance waits to be sent.
 fn has_unsent(instances: &Instances) -> bool
     ensures { result ≡ list_any is_unsent instances.now }
 {
     instances.iter().any(is_unsent)
 }
 
+/// Whether an instance is a viable success.
 fn has_viable(instances: &Instances) -> bool
     ensures { result ≡ list_any is_viable instances.now }
 {

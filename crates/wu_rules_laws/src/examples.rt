@@ -50,10 +50,14 @@ pub fn knows_the_classes_of_hosts()
 /// A workunit is bound to the class of the host that it is sent to: no other instance of it goes to a host of another
 /// class or of none, and one goes to a host of its class.
 pub fn sends_to_one_class()
-    ensures sent { sent_in two_unsent 0 h1 (class_of three_classed h1) sending ≡ in_class 1 one_out }
-    ensures other_class { send_verdict_in (in_class 1 one_out) 1 h2 (class_of three_classed h2) ≡ send.Class }
-    ensures no_class { send_verdict_in (in_class 1 one_out) 1 h4 (class_of three_classed h4) ≡ send.Class }
-    ensures its_class { send_verdict_in (in_class 1 one_out) 1 h3 (class_of three_classed h3) ≡ send.Applied }
+    ensures sent { sent_in two_unsent 0 h1 (class_of three_classed h1) sending
+        ≡ in_class 1 one_out }
+    ensures other_class { send_verdict_in (in_class 1 one_out) 1 h2 (class_of three_classed h2)
+        ≡ send.Class }
+    ensures no_class { send_verdict_in (in_class 1 one_out) 1 h4 (class_of three_classed h4)
+        ≡ send.Class }
+    ensures its_class { send_verdict_in (in_class 1 one_out) 1 h3 (class_of three_classed h3)
+        ≡ send.Applied }
 {}
 
 /// Where the one instance that was sent is lost, the workunit is free of its class.
@@ -68,8 +72,10 @@ pub fn frees_what_is_lost()
 /// whatever class: so two may be active that are not of one.
 pub fn takes_a_late_report_of_another_class()
     ensures applied { send_verdict_in one_lost 1 h2 (class_of three_classed h2) ≡ send.Applied }
-    ensures sent { sent_in one_lost 1 h2 (class_of three_classed h2) an_hour_late ≡ second_out_and (lost h1) }
-    ensures taken { report_verdict_in (second_out_and (lost h1)) 0 h1 an_hour_late ≡ report.Applied }
+    ensures sent { sent_in one_lost 1 h2 (class_of three_classed h2) an_hour_late
+        ≡ second_out_and (lost h1) }
+    ensures taken { report_verdict_in (second_out_and (lost h1)) 0 h1 an_hour_late
+        ≡ report.Applied }
     ensures reported { reported_in (second_out_and (lost h1)) 0 an_hour_late status.Success aa
         ≡ second_out_and late_success }
     ensures mixed { ¬ IsOneClass three_classed (second_out_and late_success) }

@@ -17,6 +17,7 @@ use crate::version::PRESENT_VERSION;
 use sqlite::{Alter, Connection, Error, Transaction, params};
 use wu_core::Fault;
 
+/// Adds the one row of the project: this version, and 1 as the number of the next workunit.
 fn insert_project<S: Alter>(tx: &mut Transaction<'_, S>, version: i64) -> Result<(), Error>
     ensures writes { StatementFrame S.Store tx.old tx.new result }
     ensures puts { Does S.Store tx.old tx.new result (PutsProject version) }

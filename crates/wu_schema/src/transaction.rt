@@ -29,6 +29,7 @@ pub trait Work {
     /// What it makes of a database.
     ghost makes: { Self → Database → Database → Type 0 };
 
+    /// Makes the changes; it begins and ends no transaction.
     fn run<S: Alter>(&self, tx: &mut Transaction<'_, S>) -> Result<(), Error>
         ensures works { TransactionFrame S.Store tx.old tx.new result }
         ensures makes { Does S.Store tx.old tx.new result (makes self.now) };
@@ -40,6 +41,7 @@ enum Stopped {
     Commit(Error),
 }
 
+/// Does the work in one transaction and commits it; where a statement fails, it is rolled back.
 fn run_and_commit<S: Alter, W: Work>(conn: &mut Connection<S>, work: &W) -> Result<(), Stopped>
     requires { conn.old.in_transaction ≡ false }
     ensures mode { conn.new.in_transaction ≡ false }

@@ -1,20 +1,18 @@
 -- What the questions for classes answer.
-use Rattle.wu_schema.proofs.Words.{Binary, Bool, Error, FailsToQuery, Fault, Ghosts, HasCleanDisk, Held, IfErr, Int, IsFailure, IsPermutation, IsPermutation-filter, IsPermutation-map, IsPermutation-trans, Less, List, None, NotAProject, Option, Refines, Result, Row, Shown, Some, State, Text, Vec, Workunit, World, [], ap, arith, bytes_eq, class_cells, codes, column, drop, equal, everything, fault_of, filter, inl, inr, filter-map, find, holds, host_class_at, length, list_all, lit, map, map-map, negsuc, number, option_map, option_to_list, refl, state, stored_class, subst, sym, true, workunit_class_at, ℕ, ◌==◌, ◌∙◌, ◌∷◌, ◌≡◌, ◌≢◌, ◌≤◌, ◌⊎◌, IsAscending}
+use Rattle.wu_schema.proofs.Words.{Binary, Bool, Error, FailsToQuery, Fault, Ghosts, HasCleanDisk, Held, IfErr, Int, IsFailure, IsPermutation, IsPermutation-filter, IsPermutation-map, IsPermutation-trans, Less, List, None, NotAProject, Option, Refines, Result, Row, Shown, Some, State, Text, Workunit, World, [], ap, arith, bytes_eq, class_cells, codes, column, drop, equal, everything, fault_of, filter, filter-map, find, holds, host_class_at, length, list_all, lit, map, map-map, negsuc, number, option_map, option_to_list, refl, state, stored_class, subst, sym, true, workunit_class_at, ℕ, ◌==◌, ◌∙◌, ◌∷◌, ◌≡◌, ◌≢◌, ◌≤◌, IsAscending}
 use Rattle.std.specs.Prelude.{IfOk}
 use Rattle.std.specs.Option.{option_map_or}
 use Rattle.sqlite_sql.specs.declared.ops.CompareOp.TheVariants as compare
 use Rattle.wu_core.specs.declared.workunit.HostClass.{HostClass}
 use Rattle.wu_core.proofs.HostLemmas.{Ascends, below, matches, pairs_ascend}
-use Rattle.wu_schema.specs.Asking.{Asks, FailsAll, IsSelect, ServesUnlessFailed, ShowsAll, TellsQuery}
+use Rattle.wu_schema.specs.Asking.{Asks, FailsAll, IsSelect, ServesUnlessFailed, TellsQuery}
 use Rattle.wu_schema.specs.Tables.{IsClassedVersion}
 use Rattle.wu_schema.proofs.Parts.{HostClasses, IsIn, Part, WorkClasses, name_of, parts_there, table_in}
 use Rattle.wu_schema.proofs.ReadLemmas.{if_ok, if_err}
 use Rattle.wu_schema.proofs.RowLemmas.{one_test}
 use Rattle.wu_schema.proofs.SelectLemmas.{Asked, Fits, IsTyped, parsed_of, select_of}
-use Rattle.wu_core.specs.declared.fault.Fault.TheVariants.{Memory}
-use Rattle.wu_schema.proofs.CountTexts.{CountFits, Counted, IsCountTyped, parsed_by, select_by}
-use Rattle.wu_schema.proofs.ToldLemmas.{asked_told, counted_told}
-use Rattle.wu_store.specs.Answers.{FailsCount, IsCount, ShowsCount, ShowsLast, numbered}
+use Rattle.wu_schema.proofs.ToldLemmas.{asked_told}
+use Rattle.wu_store.specs.Answers.{ShowsLast, numbered}
 use Rattle.wu_store.specs.StandsFor.{KnowsClasses}
 use Rattle.wu_store.specs.Loading.{IsStoreFault}
 use Rattle.wu_store.proofs.AskLemmas.{never_refused, only_taken}
@@ -64,47 +62,6 @@ module _ (p : Part) (in_p : (version : ℕ) → IsClassedVersion version → IsI
       answers = λ clean. if_ok r _ _ (λ taken h world known s. only_taken h.0 h.2.rest (row world) taken (found h.0 (subst (λ ps. Shown q.text ps (state g old) (state g new) h.0) same h.1) world known s) h.2.parts h.2.some) (shows clean);
       fault = told;
       unrefused = λ clean world known s limit. if_err r _ _ (λ fault h. never_told fault h world known s limit) (fails clean);
-    }
-
--- one that counts rows of its table
-pub class_count_question : (p : Part) → ((version : ℕ) → IsClassedVersion version → IsIn p version) → (q : Counted) (by : Option ℕ) → ((tree : ℕ) → CountFits (name_of p) (table_in p tree) q by) → (params : Row) → length params ≡ length q.parameters
-    → ((tree : ℕ) → IsCountTyped (name_of p) (table_in p tree) q by params) → IsClassQuestion q.text params
-class_count_question p in_p q by fits params few typed = record {
-  select = record { parsed = parsed_by (name_of p) (table_in p 0) q by; select = select_by (name_of p) (table_in p 0) q by; read = (fits 0).read; is = refl };
-  told = λ old new e h world known s unlimited. let has = parts_there old.now world s p (in_p world.version known) in counted_told (name_of p) has.0 _ q by (fits _) old new has.1 params e few (typed _) unlimited h;
-}
-
-module _ {S : Type 0} {text : List ℕ} {params : Row} (g : Ghosts S) (it : IsClassQuestion text params) (old new : Held S) (given : Row) (same : given ≡ params) where
-  not_told : (fault : Fault) → TellsQuery text given (state g old) (state g new) fault → (world : World) → KnowsClasses world → Refines (state g old).now world → (state g old).step_limit ≡ None → fault ≢ NotAProject
-  not_told fault h world known s limit is =
-      never_refused (fault_of h.0) (it.told (state g old) (state g new) h.0 (subst (λ ps. FailsToQuery text ps (state g old) (state g new) h.0) same h.2) world known s limit) (sym h.1 ∙ is)
-
-  -- all its rows
-  pub asked_classes : {A : Type 0} (Is : List Row → World → Type 0) → ((rows : List Row) → Shown text params (state g old) (state g new) rows → (world : World) → KnowsClasses world → Refines (state g old).now world → Is rows world) → (r : Result (Vec Row A) Fault)
-      → (IsSelect text → Asks g old new r) → (IsSelect text → ServesUnlessFailed g new r) → ShowsAll g old new r text given → FailsAll g old new r text given → IfErr r IsStoreFault → HasAskedOver g old new r (λ rows. Is rows.items)
-  asked_classes Is found r asks opens shows fails told = record {
-    asks = asks it.select;
-    opens = opens it.select;
-    answers = λ clean. if_ok r _ _ (λ rows h. found rows.items (subst (λ ps. Shown text ps (state g old) (state g new) rows.items) same h)) (shows clean);
-    fault = told;
-    unrefused = λ clean world known s limit. if_err r _ _ (λ fault h. not_told fault h world known s limit) (fails clean);
-  }
-
-  -- the number that its one row counts
-  module _ (of : World → ℕ) (counts : (rows : List Row) → Shown text params (state g old) (state g new) rows → (world : World) → KnowsClasses world → Refines (state g old).now world → IsCount rows (of world)) where
-    not_failed : (fault : Fault) → (world : World) → KnowsClasses world → Refines (state g old).now world → (state g old).step_limit ≡ None
-        → (fault ≡ Memory) ⊎ (TellsQuery text given (state g old) (state g new) fault ⊎ ((rows : List Row) × Shown text given (state g old) (state g new) rows × ((n : ℕ) → ¬ IsCount rows n))) → fault ≢ NotAProject
-    not_failed fault world known s limit (inl memory) = never_refused fault (inl memory)
-    not_failed fault world known s limit (inr (inl told)) = not_told fault told world known s limit
-    not_failed fault world known s limit (inr (inr other)) = λ is. other.2 (of world) (counts other.0 (subst (λ ps. Shown text ps (state g old) (state g new) other.0) same other.1) world known s)
-
-    pub asked_class_count : (r : Result ℕ Fault) → (IsSelect text → Asks g old new r) → (IsSelect text → ServesUnlessFailed g new r) → ShowsCount g old new r text given → FailsCount g old new r text given → IfErr r IsStoreFault → HasAskedOver g old new r (λ found world. found ≡ of world)
-    asked_class_count r asks opens shows fails told = record {
-      asks = asks it.select;
-      opens = opens it.select;
-      answers = λ clean. if_ok r _ _ (λ found h world known s. h.2 (of world) (counts h.0 (subst (λ ps. Shown text ps (state g old) (state g new) h.0) same h.1) world known s)) (shows clean);
-      fault = told;
-      unrefused = λ clean world known s limit. if_err r _ _ (λ fault h. not_failed fault world known s limit h) (fails clean);
     }
 
 -- ---- the class of a workunit

@@ -1,7 +1,6 @@
 pub mod InsertTexts
 pub mod OneOrder
 pub mod SelectTexts
-pub mod SpanTexts
 pub mod EqualLemmas
 pub mod OnceLemmas
 pub mod WorldOnce
@@ -49,18 +48,4 @@ pub mod QueuedLemmas
 pub mod ChangingLemmas
 pub mod DueLemmas
 mod VerdictLemmas
-mod LineLemmas
 mod ListingLemmas
-mod ViewAnswers
-mod PageLemmas
-mod PageAnswers
-mod SpanAnswers
-mod KeyedLemmas
-mod PageLines
-mod HostPageAnswers
-mod ClassPageAnswers
-mod PageWorkunits
-mod PageHosts
-mod PageResults
-mod CountLemmas
-mod CountedAnswers

@@ -1,25 +1,16 @@
--- Rows are read as the values that are stored so, and lines are listed one workunit after another.
+-- Lines are listed one workunit after another.
 use Rattle.std.proofs.Common.{◌≡◌, ◌∙◌, List, [], ◌∷◌, ◌++◌, Option, Some, None, ap, append-nil, append_assoc, refl, subst, sym, flat_map}
 use Rattle.std.proofs.lemmas.List.Concat.{flat_map-append}
 use Rattle.std.proofs.lemmas.List.Elements.{All-head, All-tail}
 use Rattle.std.specs.Prelude.{All, slice_get}
 use Rattle.sqlite.specs.Effect.{Database}
-use Rattle.sqlite.specs.Order.{Row, column}
-use Rattle.wu_core.specs.declared.workunit.Archived.{Archived}
 use Rattle.wu_core.specs.declared.workunit.Workunit.{Workunit}
-use Rattle.wu_core.proofs.MaskLemmas.{flags_of}
 use Rattle.wu_core.specs.World.{World}
 use Rattle.wu_schema.specs.Refines.{Refines}
-use Rattle.wu_schema.specs.Stored.{archived_cells}
 use Rattle.wu_store.specs.Answers.{first_above}
-use Rattle.wu_store.specs.Reading.{host_row}
 use Rattle.wu_core.specs.Storable.{AreStorable, IsStorable}
-use Rattle.wu_store.specs.declared.lines.HostLine.{HostLine}
 use Rattle.wu_store.proofs.AboveLemmas.{above_next}
 use Rattle.wu_store.proofs.DueLemmas.{empty, headed}
-use Rattle.wu_store.proofs.SameWorld.{mask_again, maybe_again, read_blob, read_maybe, read_number, read_text}
-
--- ---- workunit after workunit
 
 -- what is listed is that of the workunits that were seen, and the next one is the first of the rest
 pub record AreListed {X : Type 0} (lines_of : Workunit → List X) (world : World) (lines : List X) (next : Option Workunit) : Type 0 where
@@ -60,25 +51,3 @@ module _ {X : Type 0} (lines_of : Workunit → List X) (world : World) (lines : 
 -- where no more are there, all are listed
 pub all_listed : {X : Type 0} (lines_of : Workunit → List X) (world : World) (lines : List X) → AreListed lines_of world lines None → lines ≡ flat_map lines_of world.workunits
 all_listed lines_of world lines so_far = so_far.lines_are ∙ ap (flat_map lines_of) (sym (so_far.all ∙ ap (λ ws. so_far.seen ++ ws) (empty so_far.rest so_far.next_is) ∙ append-nil so_far.seen))
-
--- ---- what rows tell
-
--- the host of a row, and the archived workunit
-abbrev pub host_of_row : Row → HostLine
-host_of_row r = record { name = read_text (column r 0); total = read_number (column r 1); grants = read_number (column r 2) }
-
-pub host_again : (h : HostLine) → host_of_row (host_row h) ≡ h
-host_again h = refl
-
-abbrev pub archived_of : Row → Archived
-archived_of r = record {
-  number = read_number (column r 0);
-  name = read_text (column r 1);
-  error_mask = flags_of (read_number (column r 2));
-  canonical = read_maybe (column r 3);
-  output = read_blob (column r 4);
-  done_at = read_number (column r 5);
-}
-
-pub archived_again : (a : Archived) → archived_of (archived_cells a) ≡ a
-archived_again a = λ i. record a { error_mask = mask_again a.error_mask i; canonical = maybe_again a.canonical i }

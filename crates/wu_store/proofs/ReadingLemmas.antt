@@ -4,7 +4,6 @@ use Rattle.wu_core.specs.Formed.{IsInstance}
 use Rattle.wu_core.specs.Storable.{IsStoredInstance, AreVerdicts, IsHost, IsInput, IsName, IsPlace, IsStoredWorkunit, IsOutput, IsStoredArchived}
 use Rattle.wu_core.specs.declared.mask.ErrorMask.{ErrorMask}
 use Rattle.wu_core.specs.declared.workunit.Archived.{Archived}
-use Rattle.wu_store.specs.declared.lines.HostLine.{HostLine}
 use Rattle.wu_schema.specs.Stored.{archived_cells}
 use Rattle.std.specs.Option.{ok_or}
 use Rattle.std.specs.Prelude.{MatchOption}
@@ -24,7 +23,7 @@ use Rattle.wu_core.specs.declared.states.ServerState.{ServerState}
 use Rattle.wu_core.specs.declared.states.ValidateState.{ValidateState}
 use Rattle.wu_schema.specs.Stored.{parameter_cells}
 use Rattle.wu_schema.specs.Restoring.{Restores}
-use Rattle.wu_store.specs.Reading.{bare_instance_row, IsBareInstance, IsStoredImport, file_delete_cell, outcome_cell, server_state_cell, stored_import_row, validate_state_cell, verdicts_cell, moment_cells, state_cells, columns, progress_cells, IsProgress, host_row, IsStoredHost, mask_cell, HasMoments}
+use Rattle.wu_store.specs.Reading.{bare_instance_row, IsBareInstance, IsStoredImport, file_delete_cell, outcome_cell, server_state_cell, stored_import_row, validate_state_cell, verdicts_cell, moment_cells, state_cells, columns, progress_cells, IsProgress, mask_cell, HasMoments}
 
 -- a value that can't be read is none that is stored so
 pub unread : {T C : Type 0} (stored_as : T → C) (IsValue : T → Type 0) (stored : C) (fault : Fault)
@@ -89,7 +88,7 @@ pub not_ok : {T U : Type 0} (f : Fault) (t : T) (u : U) → IsOrWantsMemory (Err
 not_ok f t u (inl ok) = absurd cc
 not_ok f t u (inr memory) = let is : f ≡ Memory = cc in inr (ap (λ g. Err g) is)
 
-ok_is : {T : Type 0} (a b : T) → IsOrWantsMemory (Ok a) (Ok b) → a ≡ b
+pub ok_is : {T : Type 0} (a b : T) → IsOrWantsMemory (Ok a) (Ok b) → a ≡ b
 ok_is a b (inl is) = cc
 ok_is a b (inr memory) = absurd cc
 
@@ -298,32 +297,7 @@ module _ (row : Row) where
           let b = ok_is output j.output (output_is.found j.output is.values.output (ap (λ r. column r 8) same)) in
           (λ k. with_output (a k) (b k))
 
--- ---- a host, and an archived workunit
-
-module _ (row : Row) (name : List ℕ) (total grants : ℕ) where
-  abbrev read_host : HostLine
-  read_host = record { name = name; total = total; grants = grants }
-
-  -- a row whose columns read as these is that of this host alone
-  pub host_read : length row ≡ 3 → Restores Text IsName (column row 0) (Ok name) → Restores number (λ _. ⊤) (column row 1) (Ok total) → Restores number (λ _. ⊤) (column row 2) (Ok grants) → Restores host_row IsStoredHost row (Ok read_host)
-  host_read long name_is total_is grants_are = record {
-    value = (stored, name_is.value.1);
-    found = λ h is same. inl (ap (λ h. Ok h) (only h is same));
-    refused = tt;
-  }
-    where
-      whole : column row 0 ∷ column row 1 ∷ column row 2 ∷ [] ≡ row
-      whole = subst (λ k. map (column row) (range_with_len 0 k) ≡ row) long (as_columns row)
-
-      stored : row ≡ host_row read_host
-      stored = sym whole ∙ (λ i. name_is.value.0 i ∷ total_is.value.0 i ∷ grants_are.value.0 i ∷ [])
-
-      only : (h : HostLine) → IsStoredHost h → row ≡ host_row h → read_host ≡ h
-      only h is same =
-          let a = ok_is name h.name (name_is.found h.name is (ap (λ r. column r 0) same)) in
-          let b = ok_is total h.total (total_is.found h.total tt (ap (λ r. column r 1) same)) in
-          let d = ok_is grants h.grants (grants_are.found h.grants tt (ap (λ r. column r 2) same)) in
-          rw (a, b, d) refl
+-- ---- an archived workunit
 
 module _ (n : ℕ) (name : List ℕ) (mask : ErrorMask) (canonical : Option ℕ) (output : List ℕ) (done_at : ℕ) where
   abbrev read_archived : Archived

@@ -1,5 +1,5 @@
 -- What each change makes of a world.
-use Rattle.std.specs.Prelude.{◌≡◌, ◌≢◌, ℕ, ◌+◌, ◌==◌, true, false, not, List, [], ◌∷◌, ◌++◌, length, map, filter, find, take, drop, suc, slice_get, slice_set, Option, Some, option_map, ◌<◌, ◌≤◌, if◌then◌else◌}
+use Rattle.std.specs.Prelude.{◌≡◌, ◌≢◌, ℕ, ◌+◌, ◌==◌, true, false, not, List, [], ◌∷◌, ◌++◌, length, map, filter, find, take, drop, suc, slice_get, slice_set, Option, Some, option_map, Result, IsOk, ◌<◌, ◌≤◌, if◌then◌else◌}
 use Rattle.std.specs.List.{enumerate_from, list_any}
 use Rattle.std.specs.Ordering.{nat_cmp, match_ordering}
 use Rattle.sqlite.specs.Order.{Row}
@@ -25,6 +25,10 @@ use Rattle.wu_core.specs.declared.marks.Marks.{Marks}
 use Rattle.wu_schema.specs.Calm.{IsCalm}
 use Rattle.wu_store.specs.Sums.{AreSums}
 use Rattle.wu_store.specs.declared.changes.HostSum.{HostSum}
+
+-- nothing is written, and that is not refused
+abbrev pub DoesNothing : {X T E : Type 0} → X → X → Result T E → Type 0
+DoesNothing old new result = (new ≡ old) × IsOk result
 
 -- of this version of the schema
 abbrev pub with_version : ℕ → World → World

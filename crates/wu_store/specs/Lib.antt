@@ -8,9 +8,6 @@ pub mod Loading
 pub mod StandsFor
 pub mod Changing
 pub mod Due
-pub mod Lines
-pub mod Pages
-pub mod Summaries
 pub mod Queues
 pub mod Classes
 pub mod Differences

@@ -14,16 +14,15 @@ use Rattle.wu_core.specs.declared.states.ValidateState.{ValidateState}
 use Rattle.wu_core.specs.declared.workunit.Instance.{Instance}
 use Rattle.wu_core.specs.Codes.{assimilate_code, file_delete_code, outcome_code, server_state_code, validate_state_code}
 use Rattle.wu_core.specs.Mask.{error_mask_code}
-use Rattle.wu_schema.specs.Stored.{host_cells, instance_row, number, number_or_null, verdict_digits}
+use Rattle.wu_schema.specs.Stored.{instance_row, number, number_or_null, verdict_digits}
 use Rattle.wu_store.specs.Answers.{last_of}
-use Rattle.wu_store.specs.declared.lines.HostLine.{HostLine}
 use Rattle.wu_store.specs.declared.rows.Progress.{Progress}
 use Rattle.wu_store.specs.declared.rows.Moments.{Moments}
 use Rattle.wu_store.specs.declared.rows.States.{States}
 use Rattle.wu_store.specs.declared.rows.StoredImport.{StoredImport}
 use Rattle.sqlite.specs.declared.types.Value.{Value}
 use Rattle.sqlite.specs.declared.types.Value.TheVariants.{Text, Blob}
-use Rattle.wu_core.specs.Storable.{IsName, IsPlace, IsStoredInstance, IsStamped, AreMoments, AreVerdicts}
+use Rattle.wu_core.specs.Storable.{IsPlace, IsStoredInstance, IsStamped, AreMoments, AreVerdicts}
 
 -- so many columns from this one on
 abbrev pub columns : Row → ℕ → ℕ → Row
@@ -101,10 +100,3 @@ row_before place = last_of (place - 1)
 -- a row that is no value of its type, or want of memory
 abbrev pub IsReadFault : Fault → Type 0
 IsReadFault fault = (fault ≡ Memory) ⊎ (fault ≡ NotAProject)
-
--- a row of the table of hosts
-abbrev pub host_row : HostLine → Row
-host_row host = host_cells host.name host.total host.grants
-
-abbrev pub IsStoredHost : HostLine → Type 0
-IsStoredHost host = IsName host.name

@@ -1,4 +1,4 @@
--- When a project's tables stand for a world: those that every version has, and from version 2 on the queue.
+-- When a project's tables stand for a world: those of what it holds, and from version 2 on the queue.
 use Rattle.std.specs.Prelude.{◌≡◌, ◌≢◌, ◌≤◌, ℕ, List, map, None, Result, IfErr}
 use Rattle.sqlite.specs.Effect.{Database}
 use Rattle.sqlite.specs.Held.{Held, state}

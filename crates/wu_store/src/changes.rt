@@ -1,10 +1,10 @@
 //! Changes of a project's tables, and lists of them inside a transaction.
 
-ghost use Rattle.std.specs.Prelude.{◌≡◌, [], ◌∷◌, option_map, Some};
+ghost use Rattle.std.specs.Prelude.{◌≡◌, ◌≤◌, [], ◌∷◌, option_map, Some};
 ghost use Rattle.wu_core.specs.Storable.{bare};
 ghost use Rattle.wu_rules.specs.Marks.{marks};
 ghost use Rattle.wu_schema.specs.Calls.{StatementFrame, TransactionFrame, Does};
-ghost use Rattle.wu_store.specs.Changes.{AddsGrants, AddsInstances, Credits, FillsQueue, LeavesQueue, Places, PutsClassOf, PutsGrants, PutsInstance, PutsInstances, PutsMarks, PutsRow, Replaces, ReplacesAny, Upgrades, UpgradesQueue};
+ghost use Rattle.wu_store.specs.Changes.{AddsGrants, AddsInstances, Credits, DoesNothing, FillsQueue, LeavesQueue, Places, PutsClassOf, PutsGrants, PutsInstance, PutsInstances, PutsMarks, PutsRow, Replaces, ReplacesAny, Upgrades, UpgradesQueue};
 ghost use Rattle.wu_store.specs.Changing.{MakesWorlds};
 ghost use Rattle.wu_store.specs.Queues.{KeepsQueue};
 
@@ -128,7 +128,7 @@ fn put_row<S: Alter>(
 ) -> Result<(), Error>
     ensures works { TransactionFrame S.Store tx.old tx.new result }
     ensures puts { Does S.Store tx.old tx.new result (PutsRow was.now workunit.now) }
-    ensures idle { bare was.now ≡ bare workunit.now → tx.new ≡ tx.old }
+    ensures idle { bare was.now ≡ bare workunit.now → DoesNothing tx.old tx.new result }
 {
     if is_same_row(was, workunit) {
         return Ok(());
@@ -144,7 +144,7 @@ fn put_class<S: Alter>(
 ) -> Result<(), Error>
     ensures works { TransactionFrame S.Store tx.old tx.new result }
     ensures puts { Does S.Store tx.old tx.new result (PutsClassOf was.now workunit.now) }
-    ensures idle { was.now.class ≡ workunit.now.class → tx.new ≡ tx.old }
+    ensures idle { was.now.class ≡ workunit.now.class → DoesNothing tx.old tx.new result }
 {
     if was.class == workunit.class {
         return Ok(());
@@ -163,7 +163,8 @@ fn put_instance<S: Alter>(
     ensures works { TransactionFrame S.Store tx.old tx.new result }
     ensures puts { Does S.Store tx.old tx.new result
         (PutsInstance workunit n (option_map (λ i. i.now) was.entry) instance.now) }
-    ensures idle { option_map (λ i. i.now) was.entry ≡ Some instance.now → tx.new ≡ tx.old }
+    ensures idle { option_map (λ i. i.now) was.entry ≡ Some instance.now
+        → DoesNothing tx.old tx.new result }
 {
     match was {
         None => insert_instance(tx, workunit, n, instance),
@@ -185,7 +186,7 @@ fn put_instances<S: Alter>(
 ) -> Result<(), Error>
     ensures works { TransactionFrame S.Store tx.old tx.new result }
     ensures puts { Does S.Store tx.old tx.new result (PutsInstances workunit.now was.now) }
-    ensures idle { was.now ≡ workunit.now.instances → tx.new ≡ tx.old }
+    ensures idle { was.now ≡ workunit.now.instances → DoesNothing tx.old tx.new result }
 {
     let instances = workunit.instances.as_slice();
     let mut n = 0;
@@ -204,7 +205,7 @@ fn put_marks<S: Alter>(
 ) -> Result<(), Error>
     ensures works { TransactionFrame S.Store tx.old tx.new result }
     ensures puts { Does S.Store tx.old tx.new result (PutsMarks was.now workunit.now) }
-    ensures idle { marks was.now ≡ marks workunit.now → tx.new ≡ tx.old }
+    ensures idle { marks was.now ≡ marks workunit.now → DoesNothing tx.old tx.new result }
 {
     let marks = marks_of(workunit);
     if is_same_marks(&marks_of(was), &marks) {
@@ -222,7 +223,7 @@ fn replace<S: Alter>(
 ) -> Result<(), Error>
     ensures works { TransactionFrame S.Store tx.old tx.new result }
     ensures replaces { Does S.Store tx.old tx.new result (Replaces was.now workunit.now) }
-    ensures idle { was.now ≡ workunit.now → tx.new ≡ tx.old }
+    ensures idle { was.now ≡ workunit.now → DoesNothing tx.old tx.new result }
 {
     if workunit.instances.len() < was.instances.len() {
         return replace_whole(tx, workunit);
@@ -252,6 +253,7 @@ fn upgrade_queue<S: Alter>(
 ) -> Result<(), Error>
     ensures works { TransactionFrame S.Store tx.old tx.new result }
     ensures upgrades { Does S.Store tx.old tx.new result (UpgradesQueue from rows.now) }
+    ensures idle { 2 ≤ from → DoesNothing tx.old tx.new result }
 {
     if from >= QUEUE_VERSION {
         return Ok(());
@@ -317,6 +319,7 @@ fn add_grants<S: Alter>(
     add_sums(tx, sums)
 }
 
+/// Makes one change.
 fn make<S: Alter>(tx: &mut Transaction<'_, S>, change: &Change<'_>) -> Result<(), Error>
     ensures works { TransactionFrame S.Store tx.old tx.new result }
     ensures makes { Does S.Store tx.old tx.new result (MakesWorlds (change.now ∷ [])) }

@@ -102,7 +102,7 @@ pub fn put_host_class<S: Alter>(
 }
 
 /// The class in a column.
-pub(crate) fn class_at(row: &Row, at: usize) -> Result<u32, Fault>
+pub fn class_at(row: &Row, at: usize) -> Result<u32, Fault>
     ensures { Restores number IsClass (column row.now at) result }
 {
     let class: u32 = read_column(row, at)?;

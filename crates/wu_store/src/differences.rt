@@ -19,18 +19,21 @@ fn is_same_params(a: &Params, b: &Params) -> bool
         && a.credit() == b.credit()
 }
 
+/// Whether both are the same bytes.
 fn is_same_bytes(a: &Bytes, b: &Bytes) -> bool
     ensures { IsTrue result ↔ (a.now ≡ b.now) }
 {
     a.as_slice() == b.as_slice()
 }
 
+/// Whether both are the same name.
 fn is_same_name(a: &Name, b: &Name) -> bool
     ensures { IsTrue result ↔ (a.now ≡ b.now) }
 {
     a.as_str() == b.as_str()
 }
 
+/// Whether both are the same host, or none.
 fn is_same_host(a: &Option<Name>, b: &Option<Name>) -> bool
     ensures { IsTrue result ↔ (a.now ≡ b.now) }
 {
@@ -41,6 +44,7 @@ fn is_same_host(a: &Option<Name>, b: &Option<Name>) -> bool
     }
 }
 
+/// Whether what a batch gave is the same of both.
 fn is_same_job(a: &Workunit, b: &Workunit) -> bool
     ensures { IsTrue result ↔ HasSameJob a.now b.now }
 {
@@ -50,6 +54,7 @@ fn is_same_job(a: &Workunit, b: &Workunit) -> bool
         && is_same_bytes(&a.input, &b.input)
 }
 
+/// Whether both are the same mask.
 fn is_same_mask(a: ErrorMask, b: ErrorMask) -> bool
     ensures { IsTrue result ↔ (a ≡ b) }
 {
@@ -61,12 +66,14 @@ fn is_same_mask(a: ErrorMask, b: ErrorMask) -> bool
         && a.no_canonical_result == b.no_canonical_result
 }
 
+/// Whether both are the same number of a canonical result, or none.
 fn is_same_canonical(a: Option<u32>, b: Option<u32>) -> bool
     ensures { IsTrue result ↔ (a ≡ b) }
 {
     a == b
 }
 
+/// Whether what was decided is the same of both.
 fn is_same_decision(a: &Workunit, b: &Workunit) -> bool
     ensures { IsTrue result ↔ HasSameDecision a.now b.now }
 {
@@ -75,6 +82,7 @@ fn is_same_decision(a: &Workunit, b: &Workunit) -> bool
         && a.assimilate == b.assimilate
 }
 
+/// Whether both are as far.
 fn is_same_progress(a: &Workunit, b: &Workunit) -> bool
     ensures { IsTrue result ↔ HasSameProgress a.now b.now }
 {
@@ -88,6 +96,7 @@ pub fn is_same_row(a: &Workunit, b: &Workunit) -> bool
     is_same_job(a, b) && is_same_decision(a, b) && is_same_progress(a, b)
 }
 
+/// Whether both stand the same.
 fn is_same_states(a: &Instance, b: &Instance) -> bool
     ensures { IsTrue result ↔ HasSameStates a.now b.now }
 {
@@ -97,6 +106,7 @@ fn is_same_states(a: &Instance, b: &Instance) -> bool
         && a.file_delete == b.file_delete
 }
 
+/// Whether the same was reported of both.
 fn is_same_report(a: &Instance, b: &Instance) -> bool
     ensures { IsTrue result ↔ HasSameReport a.now b.now }
 {

@@ -3,27 +3,21 @@
 
 mod changes;
 mod classes;
-mod counts;
 mod differences;
 mod due;
 pub mod laws;
-mod lines;
 mod loading;
-mod pages;
 pub mod rows;
 mod sets;
 mod statements;
 mod verdicts;
 
 pub use changes::{Change, HostSum, Import, apply};
-pub use classes::{class_of, class_of_workunit};
-pub use counts::summary;
+pub use classes::{class_at, class_of, class_of_workunit};
 pub use due::{due_numbers, load_due, load_marks};
-pub use lines::{HostLine, ResultLine, Summary, WorkunitLine};
 pub use loading::{
     import_of, load, load_named, next_archived_place, next_grant_place, next_number,
 };
-pub use pages::{ArchivePages, ClassPages, HostPages, Pages, ResultPages, WorkunitPages};
 pub use rows::StoredImport;
-pub use statements::{has_archived, has_workunit};
+pub use statements::{ask_row, has_archived, has_workunit};
 pub use verdicts::Verdicts;

@@ -11,7 +11,6 @@ ghost use Rattle.wu_core.specs.Parameters.{IsParameters};
 ghost use Rattle.wu_core.specs.World.{last_skip};
 ghost use Rattle.wu_schema.specs.Stored.{archived_cells, instance_row, number, number_or_null, text_or_null, parameter_cells, verdict_digits, workunit_row};
 ghost use Rattle.wu_schema.specs.Restoring.{Restores};
-ghost use Rattle.wu_store.specs.Answers.{ReadsCount};
 ghost use Rattle.wu_store.specs.Reading.{assimilate_cell, bare_instance_row, IsBareInstance, file_delete_cell, mask_cell, outcome_cell, server_state_cell, validate_state_cell, verdicts_cell, columns, progress_cells, IsProgress, IsStoredImport, stored_import_row, IsPlaceToGive, moment_cells, row_before, state_cells, HasMoments};
 ghost use Rattle.wu_core.specs.Storable.{IsOutput, IsInput, IsMoment, IsName, IsPlace, IsStoredWorkunit, AreVerdicts, IsNextNumber, AreStoredInstances, IsDeadline, IsHost, IsStoredArchived, IsStoredInstance};
 
@@ -25,6 +24,7 @@ use wu_core::{
 };
 use wu_schema::{number_at, read_column};
 
+/// The name in a column.
 pub fn name_at(alloc: Global, row: &Row, at: usize) -> Result<Name, Fault>
     ensures { Restores Text IsName (column row.now at) result }
 {
@@ -38,6 +38,7 @@ pub fn name_at(alloc: Global, row: &Row, at: usize) -> Result<Name, Fault>
     }
 }
 
+/// The input in a column: at most 4,096 bytes.
 fn input_at(row: &Row, at: usize) -> Result<Bytes, Fault>
     ensures { Restores Blob IsInput (column row.now at) result }
 {
@@ -48,6 +49,7 @@ fn input_at(row: &Row, at: usize) -> Result<Bytes, Fault>
     Ok(Bytes::from_vec(input))
 }
 
+/// The mask of errors in a column.
 pub fn mask_at(row: &Row, at: usize) -> Result<ErrorMask, Fault>
     ensures { Restores mask_cell (λ _. ⊤) (column row.now at) result }
 {
@@ -55,6 +57,7 @@ pub fn mask_at(row: &Row, at: usize) -> Result<ErrorMask, Fault>
     ErrorMask::from_code(code).ok_or(Fault::NotAProject)
 }
 
+/// Whether a workunit waits for the assimilator, in a column.
 fn assimilate_at(row: &Row, at: usize) -> Result<Assimilate, Fault>
     ensures { Restores assimilate_cell (λ _. ⊤) (column row.now at) result }
 {
@@ -62,6 +65,7 @@ fn assimilate_at(row: &Row, at: usize) -> Result<Assimilate, Fault>
     Assimilate::from_code(code).ok_or(Fault::NotAProject)
 }
 
+/// Whether a file waits to be deleted, in a column.
 pub fn file_delete_at(row: &Row, at: usize) -> Result<FileDelete, Fault>
     ensures { Restores file_delete_cell (λ _. ⊤) (column row.now at) result }
 {
@@ -69,6 +73,7 @@ pub fn file_delete_at(row: &Row, at: usize) -> Result<FileDelete, Fault>
     FileDelete::from_code(code).ok_or(Fault::NotAProject)
 }
 
+/// The number of an instance in a column, or none where it is empty.
 pub fn place_at(row: &Row, at: usize) -> Result<Option<u32>, Fault>
     requires { at < length row.now }
     ensures { Restores number_or_null IsPlace (column row.now at) result }
@@ -76,6 +81,7 @@ pub fn place_at(row: &Row, at: usize) -> Result<Option<u32>, Fault>
     read_column(row, at)
 }
 
+/// The moment in a column, or none where it is empty.
 pub fn moment_at(row: &Row, at: usize) -> Result<Option<Moment>, Fault>
     requires { at < length row.now }
     ensures { Restores number_or_null IsMoment (column row.now at) result }
@@ -119,7 +125,8 @@ fn progress_from(row: &Row) -> Result<Progress, Fault>
     Ok(progress)
 }
 
-pub(crate) fn value_at(row: &Row, at: usize) -> Result<i64, Fault>
+/// The whole number in a column.
+pub fn value_at(row: &Row, at: usize) -> Result<i64, Fault>
     ensures { Restores Int (λ _. ⊤) (column row.now at) result }
 {
     read_column(row, at)
@@ -185,18 +192,7 @@ struct Moments {
     received_at: Option<Moment>,
 }
 
-/// A count of rows. `Memory` where it is 2^63 - 1, which stands for each greater number too.
-pub fn count_at(row: &Row, at: usize) -> Result<u64, Fault>
-    ensures { ReadsCount (column row.now at) result }
-{
-    let count = number_at(row, at)?;
-    if count < i64::MAX as u64 {
-        Ok(count)
-    } else {
-        Err(Fault::Memory)
-    }
-}
-
+/// Where an instance is, in a column.
 pub fn server_state_at(row: &Row, at: usize) -> Result<ServerState, Fault>
     ensures { Restores server_state_cell (λ _. ⊤) (column row.now at) result }
 {
@@ -204,6 +200,7 @@ pub fn server_state_at(row: &Row, at: usize) -> Result<ServerState, Fault>
     ServerState::from_code(code).ok_or(Fault::NotAProject)
 }
 
+/// How an instance ended, in a column.
 pub fn outcome_at(row: &Row, at: usize) -> Result<Outcome, Fault>
     ensures { Restores outcome_cell (λ _. ⊤) (column row.now at) result }
 {
@@ -211,6 +208,7 @@ pub fn outcome_at(row: &Row, at: usize) -> Result<Outcome, Fault>
     Outcome::from_code(code).ok_or(Fault::NotAProject)
 }
 
+/// The verdict of an instance in a column.
 pub fn validate_state_at(row: &Row, at: usize) -> Result<ValidateState, Fault>
     ensures { Restores validate_state_cell (λ _. ⊤) (column row.now at) result }
 {
@@ -230,6 +228,7 @@ fn states_from(row: &Row) -> Result<States, Fault>
     })
 }
 
+/// The deadline in a column, or none where it is empty.
 pub fn deadline_at(row: &Row, at: usize) -> Result<Option<Deadline>, Fault>
     requires { at < length row.now }
     ensures { Restores number_or_null IsDeadline (column row.now at) result }
@@ -256,6 +255,7 @@ fn moments_from(row: &Row) -> Result<Moments, Fault>
     })
 }
 
+/// The host in a column, or none where it is empty.
 pub fn host_at(alloc: Global, row: &Row, at: usize) -> Result<Option<Name>, Fault>
     requires { at < length row.now }
     ensures { Restores text_or_null IsHost (column row.now at) result }
@@ -266,6 +266,7 @@ pub fn host_at(alloc: Global, row: &Row, at: usize) -> Result<Option<Name>, Faul
     }
 }
 
+/// The output in a column: at most 65,536 bytes.
 pub fn output_at(row: &Row, at: usize) -> Result<Bytes, Fault>
     ensures { Restores Blob IsOutput (column row.now at) result }
 {
@@ -293,7 +294,7 @@ pub fn is_formed(instance: &Instance) -> bool
 }
 
 /// The instance in the first eight columns, those of the table `result` from the third on, without its output.
-pub(crate) fn bare_instance_from(alloc: Global, row: &Row) -> Result<Instance, Fault>
+pub fn bare_instance_from(alloc: Global, row: &Row) -> Result<Instance, Fault>
     requires { 8 ≤ length row.now }
     ensures { Restores bare_instance_row IsBareInstance (columns row.now 0 8) result }
 {
@@ -352,6 +353,7 @@ pub(crate) fn instances_from(alloc: Global, rows: &[Row]) -> Result<Instances, F
     Ok(Instances::from_vec(instances))
 }
 
+/// The moment in a column, which is not empty.
 pub fn stamp_at(row: &Row, at: usize) -> Result<Moment, Fault>
     ensures { Restores number (λ seconds. seconds ≤ last_moment) (column row.now at) result }
 {
@@ -360,7 +362,7 @@ pub fn stamp_at(row: &Row, at: usize) -> Result<Moment, Fault>
 }
 
 /// The archived workunit in the six columns from the second on, behind its place.
-pub(crate) fn placed_archived_from(alloc: Global, row: &Row) -> Result<Archived, Fault>
+pub fn placed_archived_from(alloc: Global, row: &Row) -> Result<Archived, Fault>
     requires { length row.now ≡ 7 }
     ensures { Restores archived_cells IsStoredArchived (columns row.now 1 6) result }
 {
@@ -380,6 +382,7 @@ pub(crate) fn placed_archived_from(alloc: Global, row: &Row) -> Result<Archived,
     })
 }
 
+/// The bytes in a column.
 pub fn bytes_at(row: &Row, at: usize) -> Result<Bytes, Fault>
     ensures { Restores Blob (λ _. ⊤) (column row.now at) result }
 {
@@ -422,6 +425,7 @@ fn verdicts_from(alloc: Global, kind: ImportKind, digits: &[u8]) -> Result<Bytes
     Ok(Bytes::from_vec(verdicts))
 }
 
+/// The verdicts of an import's rows in a column, each one of its kind.
 pub fn verdicts_at(alloc: Global, kind: ImportKind, row: &Row, at: usize) -> Result<Bytes, Fault>
     ensures { Restores verdicts_cell (AreVerdicts kind) (column row.now at) result }
 {

@@ -1,4 +1,4 @@
-//! The statements that change a project, and the questions of the passes and of the summary, each text in one function.
+//! The statements that change a project, and the questions of the passes, each text in one function.
 
 ghost use Rattle.std.specs.Prelude.{ℕ, ◌≡◌, ◌<◌, ◌≤◌, ◌^◌, ⊤, [], ◌∷◌, None, Some, pos, option_map, IfOk, IfErr, OnOk};
 ghost use Rattle.sqlite.specs.Values.{bound};
@@ -7,15 +7,14 @@ ghost use Rattle.wu_store.specs.Classes.{ChangesClasses, SetsVersion};
 ghost use Rattle.wu_store.specs.Changes.{with_placed, without_instances, without_workunit, with_import, with_next, AddsArchived, AddsInstance, Credits, PutsGrants, WasFree};
 ghost use Rattle.wu_core.specs.declared.fault.Fault.TheVariants.{NotAProject};
 ghost use Rattle.wu_schema.specs.Asking.{Asks, FailsAll, IsSelect};
-ghost use Rattle.wu_schema.specs.Calls.{Answers, AnswersRows, StatementFrame, Does, Changes, RunsText};
+ghost use Rattle.wu_schema.specs.Calls.{Answers, StatementFrame, Does, Changes, RunsText};
 ghost use Rattle.wu_schema.specs.Stored.{instance_cells, marks_cells, number, workunit_row};
 ghost use Rattle.wu_store.specs.Loading.{IsStoreFault, NotRefusedIn, ServesUnlessFailed};
 ghost use Rattle.wu_store.specs.Queues.{AnswersQueue, ChangesQueue, first_marked, is_marked, KeepsQueue, KeepsWorld, marked_text, NotRefusedQueue, wanted_mark, with_marks, without_marks};
-ghost use Rattle.wu_store.specs.Answers.{credit_page, FailsCount, has_name, ShowsCount, ShowsLast, was_archived};
+ghost use Rattle.wu_store.specs.Answers.{has_name, ShowsLast, was_archived};
 
 use crate::changes::{HostSum, Import};
 use crate::classes::insert_class;
-use crate::rows::count_at;
 use sqlite::types::ValueRef;
 use sqlite::{Alter, Connection, Error, Row, Transaction, params};
 use wu_core::{Archived, Deadline, Fault, Grant, Instance, Marks, Moment, Name, Workunit};
@@ -105,25 +104,6 @@ pub fn ask_row<S: Alter>(
     Ok(rows.pop())
 }
 
-/// What a question counts whose answer is one count. `NotAProject` where it is anything else.
-pub fn ask_count<S: Alter>(
-    conn: &mut Connection<S>,
-    sql: &str,
-    params: &[ValueRef<'_>],
-) -> Result<u64, Fault>
-    ensures asks { IsSelect sql.now → Asks S.Store conn.old conn.new result }
-    ensures opens { IsSelect sql.now → ServesUnlessFailed S.Store conn.new result }
-    ensures shows { ShowsCount S.Store conn.old conn.new result sql.now (bound params.now) }
-    ensures fails { FailsCount S.Store conn.old conn.new result sql.now (bound params.now) }
-    ensures told { IfErr result IsStoreFault }
-{
-    let row = ask_row(conn, sql, params)?;
-    match row {
-        Some(row) => count_at(&row, 0),
-        None => Err(Fault::NotAProject),
-    }
-}
-
 /// Whether a workunit of this name is present.
 pub fn has_workunit<S: Alter>(conn: &mut Connection<S>, name: &Name) -> Result<bool, Fault>
     ensures asks { Asks S.Store conn.old conn.new result }
@@ -154,21 +134,6 @@ pub fn has_archived<S: Alter>(conn: &mut Connection<S>, name: &Name) -> Result<b
         params![name.as_str()],
     )?;
     Ok(!rows.is_empty())
-}
-
-/// The places and the credit of the next grants behind a place, in order of their making.
-pub fn credit_rows<S: Alter>(conn: &mut Connection<S>, after: i64) -> Result<Vec<Row>, Fault>
-    ensures asks { Asks S.Store conn.old conn.new result }
-    ensures opens { ServesUnlessFailed S.Store conn.new result }
-    ensures answers { AnswersRows S.Store conn.old conn.new result (credit_page after) }
-    ensures fault { IfErr result IsStoreFault }
-    ensures unrefused { NotRefusedIn S.Store conn.old conn.new result (λ _. ⊤) }
-{
-    query(
-        conn,
-        "SELECT seq, credit FROM credit_grant WHERE seq > ?1 ORDER BY seq LIMIT 1000",
-        params![after],
-    )
 }
 
 /// The question by which a pass finds the numbers of workunits in the queue: those whose mark for it is set or has come,

@@ -5,7 +5,8 @@ use Rattle.wu_core.specs.Reads.{IsOrWantsMemory, TellsRefusal}
 use Rattle.wu_core.specs.declared.fault.Fault.{Fault}
 use Rattle.wu_core.specs.declared.fault.Fault.TheVariants.{BadName, Memory}
 use Rattle.std.specs.declared.vec.Vec.{Vec}
-use Rattle.wu_words.specs.Actions.{and_then, both, bytes_of, content_of, read_bytes}
+use Rattle.wu_feed.specs.Told.{both}
+use Rattle.wu_words.specs.Actions.{and_then, bytes_of, content_of, read_bytes}
 
 -- what is made of the values follows from them, or from the fault
 abbrev pub Follows : {P A : Type 0} → Result A Fault → (P → A) → Result P Fault → Type 0

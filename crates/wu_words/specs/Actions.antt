@@ -2,7 +2,7 @@
 use Rattle.std.specs.declared.vec.Vec.{Vec}
 use Rattle.std.specs.Prelude.{ℕ, zero, suc, List, [], ◌∷◌, map, option_map, Option, Some, None, Result, Ok, Err}
 use Rattle.wu_core.specs.declared.fault.Fault.{Fault}
-use Rattle.wu_core.specs.declared.fault.Fault.TheVariants.{BadFile, Memory}
+use Rattle.wu_core.specs.declared.fault.Fault.TheVariants.{BadFile}
 use Rattle.wu_core.specs.declared.fault.FileCause.TheVariants.{Unreadable}
 use Rattle.wu_core.specs.Names.{name_of}
 use Rattle.wu_feed.specs.Limits.{longest_file, longest_template}
@@ -33,13 +33,6 @@ asked_file file = (option_map (λ path. path.now) file.path, file.most)
 abbrev pub and_then : {A B : Type 0} → Result A Fault → (A → Result B Fault) → Result B Fault
 and_then (Ok value) next = next value
 and_then (Err fault) next = Err fault
-
--- both values, or the first fault: want of memory comes last
-abbrev pub both : {A B : Type 0} → Result A Fault → Result B Fault → Result (A × B) Fault
-both (Ok first) (Ok second) = Ok (first, second)
-both (Ok first) (Err fault) = Err fault
-both (Err Memory) (Err fault) = Err fault
-both (Err fault) second = Err fault
 
 -- the bytes of a file that was read
 abbrev pub read_bytes : Option (List ℕ) → Result (List ℕ) Fault

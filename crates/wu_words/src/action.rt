@@ -5,7 +5,8 @@ ghost use Rattle.std.specs.Vec.Iter.{into_iter_items};
 ghost use Rattle.wu_core.specs.Reads.{IsOrWantsMemory, TellsRefusal};
 ghost use Rattle.wu_core.specs.Names.{name_of};
 ghost use Rattle.wu_feed.specs.Moments.{moment_of};
-ghost use Rattle.wu_words.specs.Actions.{all_of_cycle, batch, both, bytes_of, content_of, one, prepared, rows_file};
+ghost use Rattle.wu_feed.specs.Told.{both};
+ghost use Rattle.wu_words.specs.Actions.{all_of_cycle, batch, bytes_of, content_of, one, prepared, rows_file};
 
 use crate::line::Line;
 use crate::word::Word;
@@ -13,7 +14,7 @@ use std::alloc::Global;
 use std::marker::Model;
 use std::vec::IntoIter;
 use wu_core::{Bytes, Fault, FileCause, Moment, Name};
-use wu_feed::read_moment;
+use wu_feed::{both, read_moment};
 use wu_machine::{Batch, Command, RowsFile, View, cycle};
 
 /// Commands in the order in which they run.
@@ -32,18 +33,21 @@ impl Model for Commands {
 }
 
 impl Commands {
+    /// These commands; it takes no memory.
     pub fn from_vec(items: Vec<Command>) -> Self
         ensures { result ≡ items.items }
     {
         Commands { items }
     }
 
+    /// The commands as a vector; it takes no memory.
     pub fn into_vec(self) -> Vec<Command>
         ensures { result.items ≡ self }
     {
         self.items
     }
 
+    /// The commands in their order.
     pub fn as_slice(&self) -> &[Command]
         ensures { result.now ≡ self.now }
     {
@@ -91,32 +95,19 @@ fn next_content(contents: &mut IntoIter<Option<Vec<u8>>>) -> Result<Bytes, Fault
     }
 }
 
+/// The moment of a text, or `BadMoment`.
 fn moment(text: &Word) -> Result<Moment, Fault>
     ensures { result ≡ moment_of text.now }
 {
     read_moment(text.as_str().as_bytes())
 }
 
+/// The name of a text, or `BadName`; want of memory is told only where it is one.
 fn name(alloc: Global, text: &Word) -> Result<Name, Fault>
     ensures name { IsOrWantsMemory result (name_of text.now) }
     ensures told { TellsRefusal result (name_of text.now) }
 {
     Name::read(alloc, text.as_str().as_bytes())
-}
-
-/// Both values, or the first fault: want of memory is told only where the second has none.
-fn both<A: Drop, B: Drop>(
-    first: Result<A, Fault>,
-    second: Result<B, Fault>,
-) -> Result<(A, B), Fault>
-    ensures { result ≡ both first second }
-{
-    match (first, second) {
-        (Ok(first), Ok(second)) => Ok((first, second)),
-        (Err(Fault::Memory), Err(fault)) => Err(fault),
-        (Err(fault), _) => Err(fault),
-        (Ok(_), Err(fault)) => Err(fault),
-    }
 }
 
 /// The files of a batch: its jobs, and its template.

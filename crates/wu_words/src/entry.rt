@@ -133,18 +133,21 @@ impl Model for Entries {
 }
 
 impl Entries {
+    /// These lines; it takes no memory.
     pub fn from_vec(items: Vec<Entry>) -> Self
         ensures { result ≡ items.items }
     {
         Entries { items }
     }
 
+    /// The lines as a vector; it takes no memory.
     pub fn into_vec(self) -> Vec<Entry>
         ensures { result.items ≡ self }
     {
         self.items
     }
 
+    /// The lines in their order.
     pub fn as_slice(&self) -> &[Entry]
         ensures { result.now ≡ self.now }
     {

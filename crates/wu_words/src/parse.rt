@@ -18,9 +18,12 @@ pub fn parse_by<'a>(
 ) -> Result<ArgMatches<'a>, Usage>
     requires { is_simple_and_free (app_of command) ≡ true }
     ensures found { IfOk result (λ found.
-        subcommand_rows_of found ≡ subcommand_of (app_of command.entry) (map string_bytes words.now)) }
-    ensures taken { OnOk result (fault_of (app_of command.entry) (map string_bytes words.now) ≡ []) }
-    ensures refused { IfErr result (IsRefusalBy (app_of command.entry) (map string_bytes words.now)) }
+        subcommand_rows_of found
+        ≡ subcommand_of (app_of command.entry) (map string_bytes words.now)) }
+    ensures taken { OnOk result (
+        fault_of (app_of command.entry) (map string_bytes words.now) ≡ []) }
+    ensures refused { IfErr result (
+        IsRefusalBy (app_of command.entry) (map string_bytes words.now)) }
 {
     match command.try_get_matches_from(words) {
         Ok(found) => Ok(found),

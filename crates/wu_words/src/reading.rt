@@ -4,7 +4,7 @@ ghost use Rattle.std.specs.Prelude.{◌≡◌, option_map, vec_items, IfErr, IfO
 ghost use Rattle.std.specs.IoError.{error_kind};
 ghost use Rattle.wu_core.specs.declared.fault.Fault.TheVariants.{Memory};
 ghost use Rattle.wu_words.specs.Actions.{content_bytes};
-ghost use Rattle.wu_words.specs.Reading.{IsTextOf, ReadsNothing, read_at_most};
+ghost use Rattle.wu_words.specs.Reading.{IsTextOf, KeepsRead, ReadsNothing, read_at_most};
 
 use std::alloc::Global;
 use std::io::{self, ErrorKind, Read};
@@ -21,6 +21,16 @@ pub fn unread(error: &io::Error) -> Result<Option<Vec<u8>>, Fault>
     }
 }
 
+/// What a reading to an end gave: the bytes, or what is told of a file that can't be read.
+fn read_whole(read: io::Result<usize>, bytes: Vec<u8>) -> Result<Option<Vec<u8>>, Fault>
+    ensures { KeepsRead read bytes result }
+{
+    match read {
+        Ok(_) => Ok(Some(bytes)),
+        Err(error) => unread(&error),
+    }
+}
+
 /// What a reader holds, at most so many bytes and one more, by which it is seen to hold too many; None where it can't
 /// be read to there. The only fault is `Memory`.
 pub fn read_up_to<R: Read + Drop>(
@@ -34,10 +44,8 @@ pub fn read_up_to<R: Read + Drop>(
 {
     let mut bytes = Vec::new(alloc);
     let most = (most as u64).saturating_add(1);
-    match reader.take(most).read_to_end(&mut bytes) {
-        Ok(_) => Ok(Some(bytes)),
-        Err(error) => unread(&error),
-    }
+    let read = reader.take(most).read_to_end(&mut bytes);
+    read_whole(read, bytes)
 }
 
 /// What a template holds that a line leaves out: no bytes.

@@ -121,18 +121,21 @@ impl Model for Steps {
 }
 
 impl Steps {
+    /// These steps; it takes no memory.
     pub fn from_vec(items: Vec<Step>) -> Self
         ensures { result ≡ items.items }
     {
         Steps { items }
     }
 
+    /// The steps as a vector; it takes no memory.
     pub fn into_vec(self) -> Vec<Step>
         ensures { result.items ≡ self }
     {
         self.items
     }
 
+    /// The steps in their order.
     pub fn as_slice(&self) -> &[Step]
         ensures { result.now ≡ self.now }
     {

@@ -43,6 +43,7 @@ pub const SUBCOMMANDS: [Subcommand; 14] = [
 ];
 
 impl Subcommand {
+    /// Its word on the command line.
     pub fn name<'a>(self) -> &'a str
         ensures { result.now ≡ subcommand_name self }
     {
@@ -131,7 +132,7 @@ impl Subcommand {
             Subcommand::Reported =>
                 "Record what hosts reported of their instances; a row that does not fit is skipped",
             Subcommand::Classes =>
-                "Set the classes of hosts; the instances of a workunit run on hosts of one class",
+                "Set the classes of hosts; while a workunit is out, it goes to hosts of one class",
             Subcommand::Transition =>
                 "Time out what is overdue, make the instances that are wanted, close what is given up",
             Subcommand::Validate => "Compare results, find canonical ones and grant credit",

@@ -35,12 +35,14 @@ impl Word {
         })
     }
 
+    /// This text; it takes no memory.
     pub fn from_string(text: String) -> Self
         ensures { result ≡ string_bytes text }
     {
         Word { text }
     }
 
+    /// Its text.
     pub fn as_str(&self) -> &str
         ensures { result.now ≡ self.now }
     {

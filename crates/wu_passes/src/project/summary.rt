@@ -6,7 +6,7 @@ ghost use Rattle.wu_store.specs.Loading.{IsStoreFault};
 use crate::project::Project;
 use sqlite::Alter;
 use wu_core::Fault;
-use wu_store::{Summary, summary};
+use wu_pages::{Summary, summary};
 
 impl<S: Alter> Project<S> {
     ghost use Rattle.wu_passes.specs.Projects.{AnswersFirst, AsksOn, IsPresentSession, IsSessionOpen, KeepsAsking, ServesOn, Summarizes, SummarizesUnrefused};

@@ -2,7 +2,7 @@
 
 ghost use Rattle.std.specs.Prelude.{◌≡◌, [], IfErr, IfOk, IsOk};
 ghost use Rattle.std.specs.Vec.Iter.{into_iter_items};
-ghost use Rattle.wu_store.specs.Lines.{archived_lines, class_lines, host_lines, result_lines, workunit_lines};
+ghost use Rattle.wu_pages.specs.Lines.{archived_lines, class_lines, host_lines, result_lines, workunit_lines};
 ghost use Rattle.wu_store.specs.Loading.{Asks, IsStoreFault};
 
 use crate::project::Project;
@@ -10,7 +10,7 @@ use sqlite::{Alter, Connection, Row};
 use std::alloc::Global;
 use std::vec::IntoIter;
 use wu_core::Fault;
-use wu_store::{ArchivePages, ClassPages, HostPages, Pages, ResultPages, WorkunitPages};
+use wu_pages::{ArchivePages, ClassPages, HostPages, Pages, ResultPages, WorkunitPages};
 
 /// What is left of a view: the rows of the present page that are not handed out, and the pages behind it.
 #[derive(Drop)]
@@ -23,12 +23,13 @@ pub struct LinesLeft<P> {
 }
 
 impl<P: Pages> LinesLeft<P> {
-    ghost use Rattle.wu_passes.specs.Walks.{HandsLine, HandsRow, NeverRefused, ServesFrom, Shrinks};
+    ghost use Rattle.wu_passes.specs.Walks.{HandsLine, HandsRow, most_turns, NeverRefused, ServesFrom, Shrinks};
 
     /// All lines of these pages.
     fn new(alloc: Global, pages: P) -> Self
         ensures same { result.pages ≡ pages }
         ensures none { into_iter_items result.rows ≡ [] }
+        ensures turns { result.turns_left ≡ most_turns }
     {
         LinesLeft {
             alloc,
@@ -107,7 +108,7 @@ pub type ClassWalk<'a, S> = Walk<'a, S, ClassPages>;
 
 impl<'a, S: Alter, P: Pages> Walk<'a, S, P> {
     ghost use Rattle.wu_passes.specs.Projects.{IsPresentSession};
-    ghost use Rattle.wu_passes.specs.Walks.{HandsOut, HandsUnrefused, page_of, ReadsOn, Shrinks, StaysServing, walked};
+    ghost use Rattle.wu_passes.specs.Walks.{HandsOut, HandsUnrefused, most_turns, page_of, ReadsOn, Shrinks, StaysServing, walked};
 
     /// A walk over all lines of these pages.
     fn new(project: &'a mut Project<S>, alloc: Global, pages: P) -> Self
@@ -115,6 +116,7 @@ impl<'a, S: Alter, P: Pages> Walk<'a, S, P> {
         ensures same { result.project.now ≡ project.old }
         ensures pages { result.lines.pages ≡ pages }
         ensures none { page_of result.lines ≡ [] }
+        ensures turns { result.lines.turns_left ≡ most_turns }
     {
         LineWalk {
             project,

@@ -11,3 +11,6 @@ returns-clause-unsound g c = λ clean. unsound_from c.sound_in_any_order.ensures
 
 pub returns-clause-told : goal.returns-clause-told
 returns-clause-told g c = λ clean kept. IfOk-weaker c.examine.result _ _ (says_why _) (c.examine.ensures.examines.says clean (legible_of _ kept))
+
+pub returns-clause-later : goal.returns-clause-later
+returns-clause-later g c = λ clean kept. c.examine.ensures.later clean (legible_of _ kept)

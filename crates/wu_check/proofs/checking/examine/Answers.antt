@@ -1,10 +1,11 @@
 use Rattle.wu_schema.proofs.Words.{Database, List, Ok, Option, Refines, Workunit, ap, arith, length, state, subst, sym, ◌<◌, ◌^◌, ◌∙◌}
 use Rattle.std.proofs.Common.{rules}
 use Rattle.std.specs.Prelude.{IsNone, sum_by}
-use Rattle.wu_check.specs.Findings.{IsBasis, Judges, Says}
+use Rattle.wu_check.specs.Findings.{IsBasis, IsBasisLater, Judges, Says}
 use Rattle.wu_check.specs.declared.finding.Finding.{Finding}
 use Rattle.wu_check.specs.declared.finding.Verdict.TheVariants as verdict
 use Rattle.wu_check.proofs.ExamineLemmas.{examines_fault, examines_made, examines_then, serves_then}
+use Rattle.wu_check.proofs.LaterLemmas.{judged_later}
 use Rattle.wu_check.proofs.SizeLemmas.{counts_fit}
 use Rattle.wu_check.proofs.VerdictLemmas.{judged_sound}
 use Rattle.wu_check.proofs.checking.examine.Goals as goal
@@ -61,3 +62,12 @@ returns-clause-examines g c =
     (c.version.ensures, ap (λ (ws : List Workunit). length ws) c.workunits.ensures, c.count_results.ensures ∙ ap (λ (ws : List Workunit). sum_by (λ (w : Workunit). length w.instances) ws) c.workunits-2.ensures))
     (examines_then g.S.Store c.args.conn.now c.find_world.new.conn c.judge.new.conn c.in_ok-loaded.field-0 IsBasis c.in_ok-loaded.ensures.examines _ _ c.in_ok-finding.ensures.examines Is
     (λ y basis then. let stands = subst (IsBasis now) c.in-World.is basis in (stands, then stands)))
+
+pub returns-in-Unsound-clause-later : goal.returns-in-Unsound-clause-later
+returns-in-Unsound-clause-later g c = λ clean legible. subst (IsBasisLater c.args.conn.now.step_limit (state g.S.Store c.args.conn.now).now) c.in-Unsound.is (c.in_ok-loaded.ensures.later clean)
+
+pub returns-in-Some-clause-later : goal.returns-in-Some-clause-later
+returns-in-Some-clause-later g c = λ clean legible.
+    let now = (state g.S.Store c.args.conn.now).now in
+    let found = c.in_ok-loaded.ensures.examines.says (omega (arith, clean, c.in_ok-finding.ensures.examines.asks.crash.clean)) legible in
+    judged_later c.args.conn.now.step_limit now c.in-World.loaded (subst (IsBasis now) c.in-World.is found) c.in_ok-finding.field-0 c.in_ok-finding.ensures.unknown c.in-Some.finding c.in-Some.is

@@ -18,6 +18,7 @@ returns-in_err-verdict g c =
       sound = it.sound;
       unsound = it.unsound;
       told = it.told;
+      later = it.later;
       answered = it.answered;
       tells = subst (λ (v : Result Verdict Fault). MatchResult v (λ verdict. TellsVerdict g.W.Write.contents c.args.out.now c.args.out.now verdict c.from_residual.result) (λ fault. TellsFault c.args.out.now c.args.out.now fault c.from_residual.result)) (sym is) (told, refl);
     }

@@ -7,6 +7,7 @@ returns c =
     let gave = c.read_file.ensures.exact in
     record {
       exact = gave;
+      long = c.read_file.ensures.long;
       told = jobs_told c.args.file.now c.read_file.result gave;
       few = c.read_file.ensures.few;
       ranged = jobs_read c.args.file.now c.read_file.result gave;

@@ -7,5 +7,5 @@ pub returns : goal.returns
 returns g c =
     let row_of = g.R.Row.row_of in
     let names = g.R.Row.names in
-    let gave = file_read row_of names c.args.file.now (map fields_of c.in_ok-records.records.items) c.read_records.result (omega arith) c.in_ok-records.ensures.found (rw c.as_slice.ensures.value at c.read_records.ensures) in
-    record { exact = gave; few = rows_of_file-few row_of names c.args.file.now c.read_records.result gave }
+    let gave = file_read row_of names c.args.file.now (map fields_of c.in_ok-records.records.items) c.read_records.result (omega arith) c.in_ok-records.ensures.found (rw c.as_slice.ensures.value at c.read_records.ensures.exact) in
+    record { exact = gave; long = λ over. absurd (omega arith); few = rows_of_file-few row_of names c.args.file.now c.read_records.result gave }

@@ -8,18 +8,18 @@ loop-row-init g c = record { numbered = omega arith; read = rw c.new-items.ensur
 
 pub loop-row-preserved : goal.loop-row-preserved
 loop-row-preserved g c =
-    let within = row_within g.R.Row.row_of c.in_ok-item.item c.loop-row.number (fields_of c.row-item.result) c.in_ok-item.ensures in
+    let within = row_within g.R.Row.row_of c.in_ok-item.item c.loop-row.number (fields_of c.row-item.result) c.in_ok-item.ensures.exact in
     record {
       numbered = omega arith;
       read = rw c.in_ok-push.ensures.items (one_more g.R.Row.row_of c.loop-row.items.items c.in_ok-item.item c.loop-row.number c.args.rows.now c.loop-row.row-index c.row-item.result _
-          c.loop-row-test.true c.row-item.is c.in_ok-item.ensures c.loop-row.invariant.read);
+          c.loop-row-test.true c.row-item.is c.in_ok-item.ensures.exact c.loop-row.invariant.read);
     }
 
 pub returns-in_err-item : goal.returns-in_err-item
 returns-in_err-item g c =
     let same : c.from_residual.result ≡ Err c.in_err-item.field-0.0 = search rules in
     rw same (refused g.R.Row.row_of c.loop-row.items.items c.in_err-item.field-0.0 c.loop-row.number c.args.rows.now c.loop-row.row-index c.row-item.result _
-    c.loop-row-test.true c.row-item.is c.in_err-item.ensures c.loop-row.invariant.read)
+    c.loop-row-test.true c.row-item.is c.in_err-item.ensures.exact c.loop-row.invariant.read)
 
 pub returns : goal.returns
 returns g c = rw c.from_vec.ensures (inl (all_rows g.R.Row.row_of c.loop-row.items.items c.loop-row.number c.args.rows.now c.loop-row.row-index _ c.loop-row-test.false c.loop-row.invariant.read))

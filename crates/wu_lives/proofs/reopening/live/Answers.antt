@@ -6,6 +6,9 @@ use Rattle.wu_lives.proofs.reopening.live.Goals as goal
 pub returns-in-Some-begin-clause-clean : goal.returns-in-Some-begin-clause-clean
 returns-in-Some-begin-clause-clean g c clean = c.in-Some.ensures.clean (omega (arith, clean, c.in-Some-begin.ensures.adopted.clean))
 
+pub returns-in-Some-begin-clause-begins : goal.returns-in-Some-begin-clause-begins
+returns-in-Some-begin-clause-begins g c = (c.in-Some-begin.ensures.begins, c.in-Some-begin.ensures.knows)
+
 pub returns-in-Some-begin-clause-found : goal.returns-in-Some-begin-clause-found
 returns-in-Some-begin-clause-found g c clean world known goes =
     ∥∥₁_map (c.in-Some.ensures.found (omega (arith, clean, c.in-Some-begin.ensures.adopted.clean)) world known goes) (λ holds.

@@ -32,10 +32,10 @@ loop-commands-preserved g c =
         λ clean world known goes.
             ∥∥₁_elim (found (c.in-Some.ensures.clean clean) world known goes) squash₁ (λ lived.
             ∥∥₁_map (c.in-Some.ensures.found clean (world_of_life world lived.life) lived.known lived.goes) (λ holds.
-            lived_more world told next _ _ lived holds (c.in-Some.ensures.knows clean _ holds.goes) (replied clean (world_of_life world lived.life) lived.known lived.goes))),
+            lived_more world told next _ _ lived holds (c.in-Some.ensures.begins.1 clean _ holds.goes) (replied clean (world_of_life world lived.life) lived.known lived.goes))),
       ),
       λ clean. was (c.in-Some.ensures.clean clean),
-      λ on. c.in-Some.ensures.begins,
+      λ on. c.in-Some.ensures.begins.0,
       one_more c.loop-commands.runs.items _ _ _ c.in-Ok.ensures.items count,
     )
 

@@ -1,32 +1,27 @@
-use Rattle.wu_schema.proofs.Words.{List, Workunit, [], arith, length, rules, subst, sym, ◌++◌, ◌<◌, ◌∙◌, ◌∷◌, ◌≡◌, ◌≢◌, ◌≤◌}
+use Rattle.wu_schema.proofs.Words.{List, Workunit, [], ap, arith, flat_map, length, refl, rules, subst, sym, ◌++◌, ◌∙◌, ◌∷◌, ◌≡◌, ◌≢◌}
 use Rattle.std.proofs.lemmas.Bool.Decides.{nat_tests}
-use Rattle.wu_core.specs.Limits.{most_instances}
-use Rattle.wu_loader.specs.Dealing.{AreDealt}
+use Rattle.std.proofs.lemmas.List.{length-append}
+use Rattle.wu_loader.specs.Dealing.{placed_of, AreDealt}
+use Rattle.wu_loader.specs.Whole.{IsIn}
 use Rattle.wu_loader.specs.Worlds.{IsOrdered}
+use Rattle.wu_loader.specs.Wrongs.{IsUndealtAt}
+use Rattle.wu_loader.specs.declared.finding.Table.TheVariants as table
 use Rattle.wu_loader.specs.declared.finding.NoWorld.TheVariants.{Memory}
 use Rattle.wu_loader.specs.declared.finding.Wrong.{Wrong}
 use Rattle.wu_loader.proofs.WholeLemmas.{handed}
-use Rattle.wu_loader.proofs.DealLemmas.{no_items, deals_all, deals_left, deals_more, deals_none, deals_too_many, IsDealing}
+use Rattle.wu_loader.proofs.DealLemmas.{no_items, deals_all, deals_left, deals_more, deals_none, first_undealt, IsDealing}
 use Rattle.wu_loader.proofs.dealing.deal.Goals as goal
 
 pub loop-workunit-init : goal.loop-workunit-init
 loop-workunit-init c = rw (c.into_iter-workunit-iterator.ensures.into_iter_gives.0, c.new-dealt.ensures.items) (deals_none c.args.workunits.items c.args.placed.items)
 
-pub returns-then-len-clause-none : goal.returns-then-len-clause-none
-returns-then-len-clause-none c =
-    let so_far = subst (λ (rest : List Workunit). IsDealing c.args.workunits.items c.args.placed.items c.loop-workunit.yielded rest c.loop-workunit.dealt.items c.loop-workunit.left.items) c.in-Some.ensures.steps.0 c.loop-workunit.invariant in
-    let told = c.in_ok-instances.ensures in
-    let many : most_instances < length c.in_ok-instances.instances.items = search rules in
-    deals_too_many _ _ _ _ _ c.in-Some.workunit _ _ _ so_far told.taken told.all many
-
 pub loop-workunit-preserved : goal.loop-workunit-preserved
 loop-workunit-preserved c =
     let so_far = subst (λ (rest : List Workunit). IsDealing c.args.workunits.items c.args.placed.items c.loop-workunit.yielded rest c.loop-workunit.dealt.items c.loop-workunit.left.items) c.in-Some.ensures.steps.0 c.loop-workunit.invariant in
     let told = c.in_ok-instances.ensures in
-    let few : length c.in_ok-instances.instances.items ≤ most_instances = search rules in
     let dealt : Workunit = record c.in-Some.workunit { instances = c.in_ok-instances.instances.items } in
     let grown : c.push.new.self.items ≡ c.loop-workunit.dealt.items ++ dealt ∷ [] = search rules in
-    rw grown (deals_more _ _ _ _ _ c.in-Some.workunit _ _ _ so_far told.taken told.all few)
+    rw grown (deals_more _ _ _ _ _ c.in-Some.workunit _ _ _ so_far told.taken told.few told.all)
 
 pub returns-in_err-instances-clause-none : goal.returns-in_err-instances-clause-none
 returns-in_err-instances-clause-none c =
@@ -53,3 +48,23 @@ returns-clause-none c =
     let so_far = subst (λ (rest : List Workunit). IsDealing c.args.workunits.items c.args.placed.items c.loop-workunit.yielded rest c.loop-workunit.dealt.items c.loop-workunit.left.items) none c.loop-workunit.invariant in
     let some : c.loop-workunit.left.items ≢ [] = search rules in
     deals_left _ _ _ _ _ so_far some
+
+pub returns-in_err-instances-clause-told : goal.returns-in_err-instances-clause-told
+returns-in_err-instances-clause-told c =
+    let told = IsIn table.Result (IsUndealtAt c.args.workunits.items c.args.placed.items) in
+    handed c.from_residual.result Memory told told (λ wrong is. is) c.from_residual.ensures.1 tt
+
+pub returns-in_err-push-clause-told : goal.returns-in_err-push-clause-told
+returns-in_err-push-clause-told c =
+    let told = IsIn table.Result (IsUndealtAt c.args.workunits.items c.args.placed.items) in
+    handed c.from_residual-in_err-push.result Memory told told (λ wrong is. is) c.from_residual-in_err-push.ensures.1 tt
+
+pub returns-clause-told : goal.returns-clause-told
+returns-clause-told c =
+    let ok = c.loop-workunit.workunit-iterator.rest.ok in let len = c.in-None.ensures.steps in
+    let none : c.loop-workunit.workunit-iterator.rest.items ≡ [] = no_items _ (sym ok.0 ∙ len.0) in
+    let so_far = subst (λ (rest : List Workunit). IsDealing c.args.workunits.items c.args.placed.items c.loop-workunit.yielded rest c.loop-workunit.dealt.items c.loop-workunit.left.items) none c.loop-workunit.invariant in
+    let some : c.loop-workunit.left.items ≢ [] = search rules in
+    let a : length (flat_map placed_of c.loop-workunit.dealt.items ++ c.loop-workunit.left.items) ≡ length c.args.placed.items = ap (λ ps. length ps) so_far.all in
+    let b = length-append (flat_map placed_of c.loop-workunit.dealt.items) c.loop-workunit.left.items in
+    (refl, first_undealt _ _ _ _ _ so_far some _ (omega (arith, a, b)))

@@ -64,3 +64,10 @@ returns-clause-asks g c = asks_made g.S.Store c.args.conn.now c.table_rows.new.c
 
 pub returns-clause-opens : goal.returns-clause-opens
 returns-clause-opens g c clean = inr (c.in_ok-rows.ensures.opens clean)
+
+pub returns-in-Err-Wrong-clause-told : goal.returns-in-Err-Wrong-clause-told
+returns-in-Err-Wrong-clause-told g c clean trees has = record {
+  rows = c.in_ok-rows.rows;
+  shown = c.in_ok-rows.ensures.says clean trees has;
+  is = rw c.in-Err-Wrong.field-0-is at c.in-Err-Wrong.ensures.told;
+}

@@ -2,7 +2,7 @@ use Rattle.wu_schema.proofs.Words.{Err, Fault, [], arith, refl, rules, subst, sy
 use Rattle.std.proofs.lemmas.List.Elements.{All-push, All-nil}
 use Rattle.std.proofs.lemmas.List.{length-append}
 use Rattle.wu_schema.specs.Restoring.{Restores}
-use Rattle.wu_loader.specs.Whole.{IsNoRow}
+use Rattle.wu_loader.specs.Whole.{IsIn, IsNoRow}
 use Rattle.wu_loader.specs.declared.finding.NoWorld.TheVariants.{Memory}
 use Rattle.wu_loader.proofs.WholeLemmas.{handed, no_row, rows_more}
 use Rattle.wu_loader.proofs.whole.all_from.Goals as goal
@@ -23,13 +23,15 @@ loop-before-init g c = rw c.new-values.ensures.items (record { same = refl; each
 
 pub returns-in_err-push-in-Ok-clause-none : goal.returns-in_err-push-in-Ok-clause-none
 returns-in_err-push-in-Ok-clause-none g c =
-    let none = IsNoRow g.T.FromRow.cells g.T.FromRow.is_value c.args.rows.now in
+    let none = IsIn c.args.table (IsNoRow g.T.FromRow.cells g.T.FromRow.is_value c.args.rows.now) in
     handed c.from_residual.result Memory none none (λ wrong is. is) c.from_residual.ensures.1 tt
 
 pub returns-in-Err-NotAProject-clause-none : goal.returns-in-Err-NotAProject-clause-none
-returns-in-Err-NotAProject-clause-none g c =
-    no_row g.T.FromRow.cells g.T.FromRow.is_value c.args.rows.now c.args.table c.loop-before.before c.index-rows-before.result c.loop-before-test.true (sym c.index-rows-before.is)
-    (subst (λ (fault : Fault). Restores (g.T.FromRow.cells (c.loop-before.before + 1)) g.T.FromRow.is_value c.index-rows-before.result (Err fault)) c.in-Err-NotAProject.field-0-is c.in-Err-NotAProject.ensures)
+returns-in-Err-NotAProject-clause-none g c = (
+  refl,
+  no_row g.T.FromRow.cells g.T.FromRow.is_value c.args.rows.now c.loop-before.before c.index-rows-before.result c.loop-before-test.true (sym c.index-rows-before.is)
+      (subst (λ (fault : Fault). Restores (g.T.FromRow.cells (c.loop-before.before + 1)) g.T.FromRow.is_value c.index-rows-before.result (Err fault)) c.in-Err-NotAProject.field-0-is c.in-Err-NotAProject.ensures),
+)
 
 pub returns-in-Err : goal.returns-in-Err
 returns-in-Err g c = record { same = tt; each = tt; none = tt }

@@ -1,17 +1,19 @@
-use Rattle.wu_schema.proofs.Words.{map}
+use Rattle.wu_schema.proofs.Words.{inl, inr, map, workunit_row, ◌∙◌}
 use Rattle.wu_schema.proofs.ReadLemmas.{if_ok}
 use Rattle.wu_loader.specs.Classing.{unclassed}
-use Rattle.wu_loader.proofs.WholeLemmas.{handed, refused}
+use Rattle.wu_loader.specs.Dealing.{by_place}
+use Rattle.wu_loader.specs.Rows.{placed_row}
+use Rattle.wu_loader.proofs.WholeLemmas.{handed, refused, rows_plain, sorted_rows}
 use Rattle.wu_loader.proofs.WorkLemmas.{never_placed, never_works, ordered_unclassed, works_are, works_dealt}
 use Rattle.wu_loader.proofs.works.works_from.Goals as goal
 
 pub returns-in_err-workunits-clause-none : goal.returns-in_err-workunits-clause-none
 returns-in_err-workunits-clause-none c =
-    handed c.from_residual.result c.in_err-workunits.field-0.0 _ _ (λ wrong none. never_works c.args.rows.now c.args.instances.now wrong none) c.from_residual.ensures.1 c.in_err-workunits.ensures.none
+    handed c.from_residual.result c.in_err-workunits.field-0.0 _ _ (λ wrong none. never_works c.args.rows.now c.args.instances.now wrong.place none.1) c.from_residual.ensures.1 c.in_err-workunits.ensures.none
 
 pub returns-in_err-placed-clause-none : goal.returns-in_err-placed-clause-none
 returns-in_err-placed-clause-none c =
-    handed c.from_residual-in_err-placed.result c.in_err-placed.field-0.0 _ _ (λ wrong none. never_placed c.args.rows.now c.args.instances.now wrong none) c.from_residual-in_err-placed.ensures.1 c.in_err-placed.ensures.none
+    handed c.from_residual-in_err-placed.result c.in_err-placed.field-0.0 _ _ (λ wrong none. never_placed c.args.rows.now c.args.instances.now wrong.place none.1) c.from_residual-in_err-placed.ensures.1 c.in_err-placed.ensures.none
 
 pub returns-clause-works : goal.returns-clause-works
 returns-clause-works c =
@@ -22,3 +24,24 @@ pub returns-clause-none : goal.returns-clause-none
 returns-clause-none c =
     refused c.deal.result _ _ (λ wrong none works ordered storable are.
     none (map unclassed works) (ordered_unclassed works ordered) (works_dealt c.args.rows.now c.args.instances.now c.in_ok-workunits.workunits.items c.in_ok-workunits.ensures.same c.in_ok-placed.placed.items c.in_ok-placed-2.placed.items c.in_ok-placed.ensures.same (rw c.in_ok-placed-2.ensures c.in_ok-sort.ensures.same) c.in_ok-workunits.ensures.each (rw c.in_ok-placed-2.ensures c.in_ok-sort.ensures.sorted) works ordered storable are)) c.deal.ensures.none
+
+pub returns-in_err-workunits-clause-told : goal.returns-in_err-workunits-clause-told
+returns-in_err-workunits-clause-told c = handed c.from_residual.result c.in_err-workunits.field-0.0 _ _ (λ wrong none. inl none) c.from_residual.ensures.1 c.in_err-workunits.ensures.none
+
+pub returns-in_err-placed-clause-told : goal.returns-in_err-placed-clause-told
+returns-in_err-placed-clause-told c =
+    handed c.from_residual-in_err-placed.result c.in_err-placed.field-0.0 _ _ (λ wrong none. inr (none.0, inl none.1)) c.from_residual-in_err-placed.ensures.1 c.in_err-placed.ensures.none
+
+pub returns-clause-told : goal.returns-clause-told
+returns-clause-told c =
+    let sorted = c.in_ok-placed-2.placed.items in
+    refused c.deal.result _ _ (λ wrong it. inr (
+      it.0,
+      inr (record {
+        workunits = c.in_ok-workunits.workunits.items;
+        rows_are = c.in_ok-workunits.ensures.same ∙ rows_plain workunit_row c.in_ok-workunits.workunits.items;
+        placed = sorted;
+        read = sorted_rows placed_row by_place c.args.instances.now c.in_ok-placed.placed.items sorted c.in_ok-placed.ensures.same (rw c.in_ok-placed-2.ensures c.in_ok-sort.ensures.same) (rw c.in_ok-placed-2.ensures c.in_ok-sort.ensures.sorted);
+        undealt = it.1;
+      }),
+    )) c.deal.ensures.told

@@ -1,11 +1,14 @@
-use Rattle.wu_schema.proofs.Words.{Grant, IsPermutation, IsPermutation-refl, List, hosts_of, import_cells, map, subst, sym, ◌∙◌, ◌≡◌}
+use Rattle.wu_schema.proofs.Words.{Grant, IsPermutation, IsPermutation-refl, List, Row, hosts_of, import_cells, inl, inr, map, subst, sym, workunit_row, ◌∙◌, ◌≡◌}
 use Rattle.std.specs.Prelude.{All}
-use Rattle.wu_core.specs.Storable.{IsStoredArchived}
+use Rattle.wu_core.specs.Storable.{IsStoredArchived, IsStoredWorkunit}
 use Rattle.wu_schema.specs.Refines.{host_of}
 use Rattle.wu_loader.specs.Rows.{archived_row, grant_row, IsStoredGrant, IsStoredImport}
+use Rattle.wu_loader.specs.Whole.{IsNoRow}
 use Rattle.wu_loader.specs.Worlds.{project_of}
+use Rattle.wu_loader.specs.Wrongs.{IsWrongHostRow, IsWrongPlainAt, IsWrongProject, IsWrongResult}
+use Rattle.wu_loader.specs.declared.finding.Table.TheVariants as table
 use Rattle.wu_loader.proofs.RowLemmas.{one_grant}
-use Rattle.wu_loader.proofs.WholeLemmas.{handed, no_rows, none_permuted, one_rows, rows_plain}
+use Rattle.wu_loader.proofs.WholeLemmas.{at_table, handed, no_rows, none_permuted, one_rows, rows_plain}
 use Rattle.wu_loader.proofs.world.plain_from.Goals as goal
 
 pub returns-in_err-project-clause-none : goal.returns-in_err-project-clause-none
@@ -14,7 +17,7 @@ returns-in_err-project-clause-none c =
 
 pub returns-in_err-grants-clause-none : goal.returns-in_err-grants-clause-none
 returns-in_err-grants-clause-none c =
-    handed c.from_residual-in_err-grants.result c.in_err-grants.field-0.0 _ _ (λ wrong none world readable ordered are. no_rows grant_row IsStoredGrant _ wrong none world.grants readable.grants (c.deref-4.ensures.value ∙ are.grants))
+    handed c.from_residual-in_err-grants.result c.in_err-grants.field-0.0 _ _ (λ wrong none world readable ordered are. no_rows grant_row IsStoredGrant _ wrong.place none.1 world.grants readable.grants (c.deref-4.ensures.value ∙ are.grants))
     c.from_residual-in_err-grants.ensures.1 c.in_err-grants.ensures.none
 
 pub returns-in_err-know_hosts-clause-none : goal.returns-in_err-know_hosts-clause-none
@@ -26,13 +29,13 @@ returns-in_err-know_hosts-clause-none c =
 
 pub returns-in_err-archived-clause-none : goal.returns-in_err-archived-clause-none
 returns-in_err-archived-clause-none c =
-    handed c.from_residual-in_err-archived.result c.in_err-archived.field-0.0 _ _ (λ wrong none world readable ordered are. no_rows archived_row IsStoredArchived _ wrong none world.archived readable.archived (c.deref-7.ensures.value ∙ are.archived))
+    handed c.from_residual-in_err-archived.result c.in_err-archived.field-0.0 _ _ (λ wrong none world readable ordered are. no_rows archived_row IsStoredArchived _ wrong.place none.1 world.archived readable.archived (c.deref-7.ensures.value ∙ are.archived))
     c.from_residual-in_err-archived.ensures.1 c.in_err-archived.ensures.none
 
 pub returns-in_err-imports-clause-none : goal.returns-in_err-imports-clause-none
 returns-in_err-imports-clause-none c =
     handed c.from_residual-in_err-imports.result c.in_err-imports.field-0.0 _ _ (λ wrong none world readable ordered are.
-    none_permuted import_cells IsStoredImport _ wrong none world.imports readable.imports (subst (IsPermutation (map import_cells world.imports)) (sym c.deref-8.ensures.value) are.imports))
+    none_permuted import_cells IsStoredImport _ wrong.place none.1 world.imports readable.imports (subst (IsPermutation (map import_cells world.imports)) (sym c.deref-8.ensures.value) are.imports))
     c.from_residual-in_err-imports.ensures.1 c.in_err-imports.ensures.none
 
 pub returns-clause-plain : goal.returns-clause-plain
@@ -48,3 +51,40 @@ returns-clause-plain c =
       archived = sym c.deref-7.ensures.value ∙ c.in_ok-archived.ensures.same;
       imports = subst (IsPermutation (map import_cells c.in_ok-imports.imports.items)) (sym imports) (IsPermutation-refl (map import_cells c.in_ok-imports.imports.items));
     }
+
+pub returns-in_err-project-clause-told : goal.returns-in_err-project-clause-told
+returns-in_err-project-clause-told c =
+    handed c.from_residual.result c.in_err-project.field-0.0 _ _ (λ wrong it version. at_table (IsWrongPlainAt version c.args.rows.now) table.Project wrong (it.0, subst (λ (rows : List Row). IsWrongProject version rows wrong.place) c.deref.ensures.value (it.1 version))) c.from_residual.ensures.1 c.in_err-project.ensures.told
+
+pub returns-in_err-workunits-clause-told : goal.returns-in_err-workunits-clause-told
+returns-in_err-workunits-clause-told c =
+    handed c.from_residual-in_err-workunits.result c.in_err-workunits.field-0.0 _ _ (λ wrong it version. elim it [
+      | inl none ↦ at_table (IsWrongPlainAt version c.args.rows.now) table.Workunit wrong (none.0, subst (λ (rows : List Row). IsNoRow (λ _. workunit_row) IsStoredWorkunit rows wrong.place) c.deref-2.ensures.value none.1)
+      | inr other ↦ at_table (IsWrongPlainAt version c.args.rows.now) table.Result wrong (
+        other.0,
+        subst (λ (rows : List Row). IsWrongResult rows c.args.rows.now.instances.items wrong.place) c.deref-2.ensures.value (subst (λ (rows : List Row). IsWrongResult c.deref-2.result.now rows wrong.place) c.deref-3.ensures.value other.1),
+      )
+    ]) c.from_residual-in_err-workunits.ensures.1 c.in_err-workunits.ensures.told
+
+pub returns-in_err-grants-clause-told : goal.returns-in_err-grants-clause-told
+returns-in_err-grants-clause-told c =
+    handed c.from_residual-in_err-grants.result c.in_err-grants.field-0.0 _ _ (λ wrong it version. at_table (IsWrongPlainAt version c.args.rows.now) table.CreditGrant wrong (it.0, subst (λ (rows : List Row). IsNoRow grant_row IsStoredGrant rows wrong.place) c.deref-4.ensures.value it.1)) c.from_residual-in_err-grants.ensures.1 c.in_err-grants.ensures.none
+
+pub returns-in_err-know_hosts-clause-told : goal.returns-in_err-know_hosts-clause-told
+returns-in_err-know_hosts-clause-told c =
+    handed c.from_residual-in_err-know_hosts.result c.in_err-know_hosts.field-0.0 _ _ (λ wrong it version. at_table (IsWrongPlainAt version c.args.rows.now) table.Host wrong (
+      it.0,
+      record {
+        grants = c.in_ok-grants.grants.items;
+        rows_are = sym c.deref-4.ensures.value ∙ c.in_ok-grants.ensures.same;
+        wrong = subst (λ (gs : List Grant). IsWrongHostRow gs c.args.rows.now.hosts.items wrong.place) c.deref-6.ensures.value (subst (λ (rows : List Row). IsWrongHostRow c.deref-6.result.now rows wrong.place) c.deref-5.ensures.value it.1);
+      },
+    )) c.from_residual-in_err-know_hosts.ensures.1 c.in_err-know_hosts.ensures.told
+
+pub returns-in_err-archived-clause-told : goal.returns-in_err-archived-clause-told
+returns-in_err-archived-clause-told c =
+    handed c.from_residual-in_err-archived.result c.in_err-archived.field-0.0 _ _ (λ wrong it version. at_table (IsWrongPlainAt version c.args.rows.now) table.Archived wrong (it.0, subst (λ (rows : List Row). IsNoRow archived_row IsStoredArchived rows wrong.place) c.deref-7.ensures.value it.1)) c.from_residual-in_err-archived.ensures.1 c.in_err-archived.ensures.none
+
+pub returns-in_err-imports-clause-told : goal.returns-in_err-imports-clause-told
+returns-in_err-imports-clause-told c =
+    handed c.from_residual-in_err-imports.result c.in_err-imports.field-0.0 _ _ (λ wrong it version. at_table (IsWrongPlainAt version c.args.rows.now) table.Import wrong (it.0, subst (λ (rows : List Row). IsNoRow (λ _. import_cells) IsStoredImport rows wrong.place) c.deref-8.ensures.value it.1)) c.from_residual-in_err-imports.ensures.1 c.in_err-imports.ensures.none

@@ -1,5 +1,7 @@
-use Rattle.wu_schema.proofs.Words.{ap, rules, subst, sym, ◌∙◌, ◌≡◌}
+use Rattle.wu_schema.proofs.Words.{List, Row, ap, inl, inr, rules, subst, sym, ◌∙◌, ◌≡◌}
 use Rattle.wu_loader.specs.Worlds.{plain_world, AreRowsOf}
+use Rattle.wu_loader.specs.Wrongs.{IsWrongClass}
+use Rattle.wu_loader.proofs.WholeLemmas.{handed}
 use Rattle.wu_loader.proofs.ClassLemmas.{found_rows}
 use Rattle.wu_loader.proofs.world.world_from.Goals as goal
 
@@ -21,3 +23,11 @@ returns-clause-world c =
       version = (made.version ∙ sym is) i;
     } in
     subst (AreRowsOf c.args.version c.args.rows.now) (sym same) (found_rows c.args.version c.args.rows.now plain with.field-0 read.ensures.plain with.ensures.found is)
+
+pub returns-in_err-project-clause-told : goal.returns-in_err-project-clause-told
+returns-in_err-project-clause-told c = handed c.from_residual.result c.in_err-project.field-0.0 _ _ (λ wrong it. inl (it c.args.version)) c.from_residual.ensures.1 c.in_err-project.ensures.told
+
+pub returns-in_err-workunits-clause-told : goal.returns-in_err-workunits-clause-told
+returns-in_err-workunits-clause-told c =
+    handed c.from_residual-in_err-workunits.result c.in_err-workunits.field-0.0 _ _
+    (λ wrong it. inr (subst (λ (works : List Row). IsWrongClass works c.args.rows.now.classes wrong) (sym c.in_ok-project.ensures.plain.workunits) it)) c.from_residual-in_err-workunits.ensures.1 c.in_err-workunits.ensures.told

@@ -11,5 +11,6 @@ returns-clause-added c =
     record {
       given = one;
       keeps = record { kept = c.args.grants; sums = sums; are = refl; summed = subst (AreSums sums.items) c.as_slice.ensures.value c.in_ok-sums.ensures.sums; one = refl };
+      few = c.in_ok-sums.ensures.few;
       changes = behind;
     }

@@ -1,6 +1,8 @@
 use Rattle.std.proofs.Common.{subst}
 use Rattle.wu_store.proofs.AskLemmas.{handed_on}
-use Rattle.wu_report.proofs.WalkedLemmas.{present_answer, present_done}
+use Rattle.wu_report.proofs.ViewLemmas.{never_output, other_fault, outputs_cut}
+use Rattle.wu_report.proofs.WalkedLemmas.{present_answer, present_done, present_output}
+use Rattle.wu_report.specs.Views.{CutsOutput}
 use Rattle.wu_report.proofs.WritingLemmas.{AppendsFront-nothing, Writes-failed}
 use Rattle.wu_report.specs.Texts.{summary_lines}
 use Rattle.wu_report.specs.Writing.{WritesTo}
@@ -23,3 +25,16 @@ returns-in_err-summary-clause-unrefused g c going clean unlimited world knows ca
 
 pub returns-in_err-summary-clause-text : goal.returns-in_err-summary-clause-text
 returns-in_err-summary-clause-text g c going clean world knows goes = Writes-failed _ _ _ c.from_residual.result c.from_residual.ensures.0 (AppendsFront-nothing _ _)
+
+pub returns-in_err-summary-clause-cut : goal.returns-in_err-summary-clause-cut
+returns-in_err-summary-clause-cut g c going clean world knows goes =
+    other_fault _ _ _ c.from_residual.result c.in_err-summary.field-0.0 c.from_residual.ensures.1 (λ is.
+    let present = present_output c.args.project.now c.summary.new.self c.in_err-summary.field-0.0 going c.in_err-summary.ensures.early is in
+    never_output c.in_err-summary.field-0.0 (c.in_err-summary.ensures.fault going present) is)
+
+pub returns-clause-cut : goal.returns-clause-cut
+returns-clause-cut g c going clean world knows goes =
+    let present = present_done c.args.project.now c.summary.new.self c.in_ok-summary.summary going c.in_ok-summary.ensures.early in
+    let is = c.in_ok-summary.ensures.summary clean world knows (goes.stands ((c.summary.ensures.asks.back clean).was_open (c.in_ok-summary.ensures.opens going present clean))).0.refines in
+    subst (λ summary. CutsOutput (g.W.Write.contents c.args.out.now) (g.W.Write.contents c.write_summary.new.out) (summary_lines summary) c.write_summary.result) is
+    (outputs_cut _ _ _ c.write_summary.result c.write_summary.ensures.cut)

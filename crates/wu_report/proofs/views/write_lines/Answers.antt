@@ -5,7 +5,7 @@ use Rattle.wu_store.proofs.AskLemmas.{handed_on}
 use Rattle.wu_passes.proofs.WalkLemmas.{reads_then, serves_handed, serves_open}
 use Rattle.wu_passes.specs.Projects.{state_of}
 use Rattle.wu_passes.specs.Walks.{HandsFirst, walked}
-use Rattle.wu_report.proofs.ViewLemmas.{broke_on, handed_broken, shown_cut, shown_front, shown_next, shown_whole, under_way}
+use Rattle.wu_report.proofs.ViewLemmas.{all_cut, broke_on, handed_broken, never_output, other_fault, output_cut, shown_cut, shown_front, shown_next, shown_whole, under_way}
 use Rattle.wu_report.proofs.WritingLemmas.{Writes-failed}
 use Rattle.wu_report.proofs.views.write_lines.Goals as goal
 
@@ -37,7 +37,18 @@ returns-in_err-line-clause-unrefused g c clean world lines has can limit =
     let shown = c.loop-line.invariant.shown before world lines has in
     handed_on c.from_residual.result c.in_err-line.field-0.0 c.from_residual.ensures.1 (c.in_err-line.ensures.unrefused clean world shown.1 shown.3 can (c.loop-line.invariant.reads.limit ∙ limit))
 
+pub returns-in_err-line-clause-cut : goal.returns-in_err-line-clause-cut
+returns-in_err-line-clause-cut g c clean world lines has =
+    other_fault _ _ _ c.from_residual.result c.in_err-line.field-0.0 c.from_residual.ensures.1 (never_output c.in_err-line.field-0.0 c.in_err-line.ensures.fault)
+
 -- ---- it can't be written
+
+pub returns-in_err-write-clause-cut : goal.returns-in_err-write-clause-cut
+returns-in_err-write-clause-cut g c clean world lines has =
+    let before : HasCleanDisk (state_of (walked c.loop-line.walk)) = omega (arith, c.next.ensures.reads.reads.read.survives.clean, clean) in
+    output_cut _ _ _ c.from_residual-in_err-write.result c.from_residual-in_err-write.ensures.0
+    (all_cut g.P.Pages g.P.Line.Line.text world c.loop-line.walk c.next.new.self _ _ _ lines c.in-Some.line (c.loop-line.invariant.shown before world lines has)
+    (λ rest left. subst (λ item. HandsFirst g.P.Pages world (state_of (walked c.next.new.self)) c.next.new.self.lines rest item) c.in-Some.is (c.in_ok-line.ensures.lines clean world rest left)) c.in_err-write.ensures.cut)
 
 pub returns-in_err-write-clause-text : goal.returns-in_err-write-clause-text
 returns-in_err-write-clause-text g c clean world lines has =

@@ -4,8 +4,8 @@ use Rattle.wu_store.proofs.AskLemmas.{handed_on}
 use Rattle.wu_passes.specs.Projects.{BreaksOn, older_version, ServesOn, state_of}
 use Rattle.wu_passes.specs.Walks.{OnlyReads, walked}
 use Rattle.wu_passes.proofs.WalkLemmas.{reads_none}
-use Rattle.wu_report.proofs.ViewLemmas.{handed_broken}
-use Rattle.wu_report.proofs.WalkedLemmas.{never_broken_so, never_refused_so, refusal_told, still_serves, tables_shown, untouched}
+use Rattle.wu_report.proofs.ViewLemmas.{handed_broken, other_fault}
+use Rattle.wu_report.proofs.WalkedLemmas.{never_broken_so, never_output_so, never_refused_so, refusal_told, still_serves, tables_shown, untouched}
 use Rattle.wu_report.proofs.WritingLemmas.{AppendsFront-nothing, Writes-failed}
 use Rattle.wu_report.proofs.views.write_pages.Goals as goal
 
@@ -34,6 +34,11 @@ returns-in_err-walk-clause-broke g c clean is =
     let fault = handed_broken c.from_residual.result c.in_err-walk.field-0.0 c.from_residual.ensures.1 is in
     absurd (never_broken_so c.in_err-walk.field-0.0 (refusal_told c.args.project.now c.in_err-walk.field-0.0 c.in_err-walk.ensures.early c.in_err-walk.ensures.fault) fault)
 
+pub returns-in_err-walk-clause-cut : goal.returns-in_err-walk-clause-cut
+returns-in_err-walk-clause-cut g c going clean world knows goes =
+    other_fault _ _ _ c.from_residual.result c.in_err-walk.field-0.0 c.from_residual.ensures.1
+    (never_output_so c.in_err-walk.field-0.0 (refusal_told c.args.project.now c.in_err-walk.field-0.0 c.in_err-walk.ensures.early c.in_err-walk.ensures.fault))
+
 -- ---- its lines
 
 pub write_lines-requires : goal.write_lines-requires
@@ -43,6 +48,11 @@ pub returns-clause-text : goal.returns-clause-text
 returns-clause-text g c going clean world knows goes =
     let after : HasCleanDisk (state_of (walked c.write_lines.new.walk)) = search rules in
     c.write_lines.ensures.text after world (g.P.Pages.rest c.args.pages world) (c.in_ok-walk.ensures.lines world knows (tables_shown c.args.project.now world goes))
+
+pub returns-clause-cut : goal.returns-clause-cut
+returns-clause-cut g c going clean world knows goes =
+    let after : HasCleanDisk (state_of (walked c.write_lines.new.walk)) = search rules in
+    c.write_lines.ensures.cut after world (g.P.Pages.rest c.args.pages world) (c.in_ok-walk.ensures.lines world knows (tables_shown c.args.project.now world goes))
 
 pub returns-clause-unrefused : goal.returns-clause-unrefused
 returns-clause-unrefused g c going clean unlimited world knows can goes =

@@ -1,7 +1,7 @@
 use Rattle.std.proofs.Common.{subst, sym}
 use Rattle.std.specs.Prelude.{flat_map}
 use Rattle.wu_report.specs.Texts.{archived_line, class_line, host_line, result_line, view_text, workunit_line}
-use Rattle.wu_report.specs.Views.{CanBeShown}
+use Rattle.wu_report.specs.Views.{CanBeShown, CutsOutput}
 use Rattle.wu_report.specs.Writing.{WritesTo}
 use Rattle.wu_report.proofs.ViewLemmas.{reads_session}
 use Rattle.wu_report.proofs.views.write_view.Goals as goal
@@ -13,6 +13,8 @@ returns-in-Workunits g c = record {
   opens = c.write_pages.ensures.opens;
   text = λ going clean world knows goes.
       rw c.in-Workunits.is (subst (λ lines. WritesTo g.W.Write.contents c.args.out.now c.write_pages.new.out (flat_map workunit_line lines) c.write_pages.result) (c.new.ensures.all world) (c.write_pages.ensures.text going clean world knows goes));
+  cut = λ going clean world knows goes.
+      rw c.in-Workunits.is (subst (λ lines. CutsOutput (g.W.Write.contents c.args.out.now) (g.W.Write.contents c.write_pages.new.out) (flat_map workunit_line lines) c.write_pages.result) (c.new.ensures.all world) (c.write_pages.ensures.cut going clean world knows goes));
   fault = c.write_pages.ensures.fault;
   unrefused = λ going clean unlimited world knows can goes. c.write_pages.ensures.unrefused going clean unlimited world knows (rw c.in-Workunits.is at can) goes;
   broke = c.write_pages.ensures.broke;
@@ -25,6 +27,8 @@ returns-in-Results g c = record {
   opens = c.write_pages-in-Results.ensures.opens;
   text = λ going clean world knows goes.
       rw c.in-Results.is (subst (λ lines. WritesTo g.W.Write.contents c.args.out.now c.write_pages-in-Results.new.out (flat_map result_line lines) c.write_pages-in-Results.result) (c.new-in-Results.ensures.all world) (c.write_pages-in-Results.ensures.text going clean world knows goes));
+  cut = λ going clean world knows goes.
+      rw c.in-Results.is (subst (λ lines. CutsOutput (g.W.Write.contents c.args.out.now) (g.W.Write.contents c.write_pages-in-Results.new.out) (flat_map result_line lines) c.write_pages-in-Results.result) (c.new-in-Results.ensures.all world) (c.write_pages-in-Results.ensures.cut going clean world knows goes));
   fault = c.write_pages-in-Results.ensures.fault;
   unrefused = λ going clean unlimited world knows can goes. c.write_pages-in-Results.ensures.unrefused going clean unlimited world knows (rw c.in-Results.is at can) goes;
   broke = c.write_pages-in-Results.ensures.broke;
@@ -37,6 +41,8 @@ returns-in-Hosts g c = record {
   opens = c.write_pages-in-Hosts.ensures.opens;
   text = λ going clean world knows goes.
       rw c.in-Hosts.is (subst (λ lines. WritesTo g.W.Write.contents c.args.out.now c.write_pages-in-Hosts.new.out (flat_map host_line lines) c.write_pages-in-Hosts.result) (c.new-in-Hosts.ensures.all world) (c.write_pages-in-Hosts.ensures.text going clean world knows goes));
+  cut = λ going clean world knows goes.
+      rw c.in-Hosts.is (subst (λ lines. CutsOutput (g.W.Write.contents c.args.out.now) (g.W.Write.contents c.write_pages-in-Hosts.new.out) (flat_map host_line lines) c.write_pages-in-Hosts.result) (c.new-in-Hosts.ensures.all world) (c.write_pages-in-Hosts.ensures.cut going clean world knows goes));
   fault = c.write_pages-in-Hosts.ensures.fault;
   unrefused = λ going clean unlimited world knows can goes. c.write_pages-in-Hosts.ensures.unrefused going clean unlimited world knows (rw c.in-Hosts.is at can) goes;
   broke = c.write_pages-in-Hosts.ensures.broke;
@@ -49,6 +55,8 @@ returns-in-Archive g c = record {
   opens = c.write_pages-in-Archive.ensures.opens;
   text = λ going clean world knows goes.
       rw c.in-Archive.is (subst (λ lines. WritesTo g.W.Write.contents c.args.out.now c.write_pages-in-Archive.new.out (flat_map archived_line lines) c.write_pages-in-Archive.result) (c.new-in-Archive.ensures.all world) (c.write_pages-in-Archive.ensures.text going clean world knows goes));
+  cut = λ going clean world knows goes.
+      rw c.in-Archive.is (subst (λ lines. CutsOutput (g.W.Write.contents c.args.out.now) (g.W.Write.contents c.write_pages-in-Archive.new.out) (flat_map archived_line lines) c.write_pages-in-Archive.result) (c.new-in-Archive.ensures.all world) (c.write_pages-in-Archive.ensures.cut going clean world knows goes));
   fault = c.write_pages-in-Archive.ensures.fault;
   unrefused = λ going clean unlimited world knows can goes. c.write_pages-in-Archive.ensures.unrefused going clean unlimited world knows (rw c.in-Archive.is at can) goes;
   broke = c.write_pages-in-Archive.ensures.broke;
@@ -57,6 +65,10 @@ returns-in-Archive g c = record {
 pub returns-in-Summary-clause-text : goal.returns-in-Summary-clause-text
 returns-in-Summary-clause-text g c going clean world knows goes =
     subst (λ view. WritesTo g.W.Write.contents c.args.out.now c.write_counts.new.out (view_text world view) c.write_counts.result) (sym c.in-Summary.is) (c.write_counts.ensures.text going clean world knows goes)
+
+pub returns-in-Summary-clause-cut : goal.returns-in-Summary-clause-cut
+returns-in-Summary-clause-cut g c going clean world knows goes =
+    subst (λ view. CutsOutput (g.W.Write.contents c.args.out.now) (g.W.Write.contents c.write_counts.new.out) (view_text world view) c.write_counts.result) (sym c.in-Summary.is) (c.write_counts.ensures.cut going clean world knows goes)
 
 pub returns-in-Summary-clause-unrefused : goal.returns-in-Summary-clause-unrefused
 returns-in-Summary-clause-unrefused g c going clean unlimited world knows can goes = c.write_counts.ensures.unrefused going clean unlimited world knows (subst (CanBeShown world) c.in-Summary.is can) goes
@@ -68,6 +80,8 @@ returns-in-Classes g c = record {
   opens = c.write_pages-in-Classes.ensures.opens;
   text = λ going clean world knows goes.
       rw c.in-Classes.is (subst (λ lines. WritesTo g.W.Write.contents c.args.out.now c.write_pages-in-Classes.new.out (flat_map class_line lines) c.write_pages-in-Classes.result) (c.new-in-Classes.ensures.all world) (c.write_pages-in-Classes.ensures.text going clean world knows goes));
+  cut = λ going clean world knows goes.
+      rw c.in-Classes.is (subst (λ lines. CutsOutput (g.W.Write.contents c.args.out.now) (g.W.Write.contents c.write_pages-in-Classes.new.out) (flat_map class_line lines) c.write_pages-in-Classes.result) (c.new-in-Classes.ensures.all world) (c.write_pages-in-Classes.ensures.cut going clean world knows goes));
   fault = c.write_pages-in-Classes.ensures.fault;
   unrefused = λ going clean unlimited world knows can goes. c.write_pages-in-Classes.ensures.unrefused going clean unlimited world knows (rw c.in-Classes.is at can) goes;
   broke = c.write_pages-in-Classes.ensures.broke;

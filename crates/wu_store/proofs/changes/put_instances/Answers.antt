@@ -25,7 +25,7 @@ loop-instance-preserved g c =
       part_then _ _ _ part wrote.part,
       λ all.
           let got = sym (lent_at was c.loop-instance.n c.get.result c.get.ensures.lookup) ∙ (λ i. slice_get (all i) (place i)) ∙ slice_get-get_or w.instances k one low ∙ ap (λ (j : Instance). Some j) at in
-          c.put_instance.ensures.idle got ∙ idle all,
+          (c.put_instance.ensures.idle got).0 ∙ idle all,
       λ clean.
           let still : HasCleanDisk (state g.S.Store c.loop-instance.tx.conn.now) = omega (arith, wrote.part.survives.clean) in
           let puts = c.in_ok-put_instance.ensures.puts clean in (
@@ -61,7 +61,7 @@ returns-clause-puts g c clean world v found few s =
 pub returns-clause-idle : goal.returns-clause-idle
 returns-clause-idle g c all =
     let (place, same, part, idle, before) = c.loop-instance.invariant in
-    idle all
+    (idle all, refl)
 
 pub returns-in_err-put_instance-clause-idle : goal.returns-in_err-put_instance-clause-idle
 returns-in_err-put_instance-clause-idle g c all =
@@ -73,4 +73,4 @@ returns-in_err-put_instance-clause-idle g c all =
     let low : k < length w.instances = omega (arith, c.loop-instance-test.true, ap (λ is. length is) items) in
     let at : get_or w.instances k one ≡ one = ap (λ is. get_or is k one) (sym items) ∙ sym c.instance-item.is in
     let got = sym (lent_at c.args.was.now c.loop-instance.n c.get.result c.get.ensures.lookup) ∙ (λ i. slice_get (all i) (place i)) ∙ slice_get-get_or w.instances k one low ∙ ap (λ (j : Instance). Some j) at in
-    c.put_instance.ensures.idle got ∙ idle all
+    absurd (let no = (c.in_err-put_instance.ensures.idle got).1 in cc)

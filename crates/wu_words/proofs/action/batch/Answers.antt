@@ -1,7 +1,8 @@
 use Rattle.std.proofs.Common.{◌≡◌, ◌∙◌, ℕ, List, [], ◌∷◌, Ok, Err, ap, rules, subst, sym}
 use Rattle.wu_core.specs.Reads.{IsOrWantsMemory, TellsRefusal}
 use Rattle.wu_machine.specs.declared.command.Command.TheVariants as command
-use Rattle.wu_words.specs.Actions.{batch, both, bytes_of}
+use Rattle.wu_feed.specs.Told.{both}
+use Rattle.wu_words.specs.Actions.{batch, bytes_of}
 use Rattle.wu_words.specs.declared.action.Action.{Action}
 use Rattle.wu_words.specs.declared.action.Action.TheVariants.{Commands}
 use Rattle.wu_words.proofs.BothLemmas.{files_follow, followed}

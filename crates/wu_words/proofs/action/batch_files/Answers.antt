@@ -1,6 +1,7 @@
 use Rattle.std.proofs.Common.{◌≡◌, ◌∙◌, ap, rules}
 use Rattle.std.specs.Vec.Iter.{into_iter_items}
-use Rattle.wu_words.specs.Actions.{both, bytes_of, content_of}
+use Rattle.wu_feed.specs.Told.{both}
+use Rattle.wu_words.specs.Actions.{bytes_of, content_of}
 use Rattle.wu_words.proofs.BothLemmas.{second_content}
 use Rattle.wu_words.proofs.action.batch_files.Goals as goal
 

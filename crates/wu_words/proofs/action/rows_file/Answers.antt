@@ -1,7 +1,8 @@
 use Rattle.std.proofs.Common.{◌≡◌, ◌∙◌, ℕ, List, Ok, Err, ap, inl, rules, subst, sym}
 use Rattle.wu_core.specs.Reads.{TellsRefusal}
 use Rattle.wu_machine.specs.declared.command.RowsFile.{RowsFile}
-use Rattle.wu_words.specs.Actions.{both, bytes_of, content_of, rows_file}
+use Rattle.wu_feed.specs.Told.{both}
+use Rattle.wu_words.specs.Actions.{bytes_of, content_of, rows_file}
 use Rattle.wu_words.proofs.BothLemmas.{file_follows, followed}
 use Rattle.wu_words.proofs.action.rows_file.Goals as goal
 

@@ -11,7 +11,7 @@ returns g c = (
     refused = tt;
     same_reference = c.new.ensures.same_reference;
     early = search rules;
-    begins = record { same = c.new.ensures.same; present = search rules; none = c.new.ensures.none };
+    begins = record { same = c.new.ensures.same; present = search rules; none = c.new.ensures.none; turns = c.new.ensures.turns };
     fault = λ still present. refl;
     lines = λ world known shows. all_left _ world _ c.args.pages _ _ _ known (subst (λ project. ShowsTables (state_of project) world) (sym c.new.ensures.same) shows) c.new.ensures.none c.new.ensures.pages refl;
   },

@@ -1,0 +1,17 @@
+mod SpanTexts
+mod CountQuestions
+mod ClassQuestions
+mod LineLemmas
+mod ViewAnswers
+mod PageLemmas
+mod PageAnswers
+mod SpanAnswers
+mod KeyedLemmas
+mod PageLines
+mod HostPageAnswers
+mod ClassPageAnswers
+mod PageWorkunits
+mod PageHosts
+mod PageResults
+mod CountLemmas
+mod CountedAnswers

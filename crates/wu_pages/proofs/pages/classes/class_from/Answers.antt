@@ -1,0 +1,13 @@
+use Rattle.wu_schema.proofs.Words.{Text, number, refl}
+use Rattle.wu_core.specs.Storable.{IsClass, IsName}
+use Rattle.wu_core.specs.declared.workunit.HostClass.{HostClass}
+use Rattle.wu_schema.specs.Stored.{class_cells}
+use Rattle.wu_pages.specs.Pages.{IsOfClass}
+use Rattle.wu_store.proofs.ReadingLemmas.{column_unread}
+use Rattle.wu_pages.proofs.pages.classes.class_from.Goals as goal
+
+pub returns-in_err-class : goal.returns-in_err-class
+returns-in_err-class c = column_unread (λ (v : HostClass). v.class) class_cells number IsOfClass IsClass c.args.row.now 1 (λ v is. is.class) (λ v. refl) c.in_err-class.field-0.0 c.in_err-class.ensures c.from_residual.result c.from_residual.ensures.1
+
+pub returns-in_err-host : goal.returns-in_err-host
+returns-in_err-host c = column_unread (λ (v : HostClass). v.host) class_cells Text IsOfClass IsName c.args.row.now 0 (λ v is. is.host) (λ v. refl) c.in_err-host.field-0.0 c.in_err-host.ensures c.from_residual-in_err-host.result c.from_residual-in_err-host.ensures.1

@@ -1,0 +1,4 @@
+pub mod Counting
+pub mod Lines
+pub mod Pages
+pub mod Summaries

@@ -1,0 +1,11 @@
+//! What plays of scripts run over: files in memory whose calls stop, databases that are opened over them and closed, and
+//! writers that take no more.
+#![tactic(auto)]
+
+mod disks;
+mod files;
+mod narrow;
+
+pub use disks::{MOST_CALLS, PlayDisk, PlayFiles, Saved, Side};
+pub use files::{Left, Pages, Visit, options, visit_play};
+pub use narrow::{Full, Narrow};
