@@ -20,7 +20,7 @@ use Rattle.wu_drive.specs.declared.runs.Run.{Run}
 use Rattle.wu_drive.specs.Driving.{AnswerAll, Drives, EndsBy, MakeNothing, NotDone, world_after}
 use Rattle.wu_machine.specs.Machine.{fold_steps, has_right_limits, is_upgrade, IsUpToDate, MakesNothing, present_version, reply, reply_of, step, world_of}
 use Rattle.wu_machine.specs.Commands.{request_of, reply_of_answer}
-use Rattle.wu_passes.specs.Planning.{IsPresentProject}
+use Rattle.wu_plans.specs.Planning.{IsPresentProject}
 use Rattle.wu_store.specs.Loading.{IsStoreFault}
 use Rattle.wu_passes.specs.Adopting.{KeepsAll}
 use Rattle.wu_passes.specs.Projects.{AnswersEnded, Broke, has_ended, IsKnownTo, IsOpen, IsPlanned, IsPresentSession, IsSessionOpen, KeepsVersion, KnowsItsVersion, older_version, RefusesEarly, ServesRight, state_of}

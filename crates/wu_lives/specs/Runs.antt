@@ -18,7 +18,7 @@ use Rattle.wu_drive.specs.Writing.{WritesAnswers}
 use Rattle.wu_drive.specs.declared.runs.Run.{Run}
 use Rattle.wu_machine.specs.Machine.{present_version}
 use Rattle.wu_machine.specs.Sound.{IsProject}
-use Rattle.wu_passes.specs.Planning.{IsPresentProject}
+use Rattle.wu_plans.specs.Planning.{IsPresentProject}
 use Rattle.wu_machine.specs.declared.command.Answer.{Answer}
 use Rattle.wu_machine.specs.declared.command.Command.{Command}
 use Rattle.wu_passes.specs.Committing.{FoundAs}

@@ -2,15 +2,14 @@
 
 ghost use Rattle.wu_lives.specs.Reopening.{DrivesAndReleases};
 
-use sqlite::{Alter, Connection};
+use sqlite::{Alter, Connection, FileStore};
+use sqlite_disk::Disk;
 use std::alloc::Global;
 use std::io::Write;
 use wu_drive::{Command, Project, Run, drive};
 
 /// Runs a list of commands, and lets the session go.
-///
-/// It is one call over any store: over two files each such call costs its caller's proof as much again.
-pub fn drive_and_release<S: Alter, W: Write>(
+fn drive_session<S: Alter, W: Write>(
     alloc: Global,
     mut project: Project<S>,
     commands: &[Command],
@@ -21,4 +20,19 @@ pub fn drive_and_release<S: Alter, W: Write>(
 {
     let run = drive(alloc, &mut project, commands, out);
     (run, project.release())
+}
+
+/// Runs a list of commands over a project in two files, and lets the session go.
+///
+/// It is one function for all: that two files serve as a store is proved again in each that calls one over any store.
+pub fn drive_and_release<D: Disk + Drop, W: Write>(
+    alloc: Global,
+    project: Project<FileStore<D>>,
+    commands: &[Command],
+    out: &mut W,
+) -> (Run, Connection<FileStore<D>>)
+    ensures { DrivesAndReleases W.contents project
+        out.old out.new commands.now result.0 result.1 }
+{
+    drive_session(alloc, project, commands, out)
 }

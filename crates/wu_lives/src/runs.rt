@@ -15,7 +15,7 @@ use sqlite_disk::Disk;
 use std::alloc::Global;
 use std::io::Write;
 use wu_drive::{Command, Project, Run};
-use wu_stops::begin;
+use wu_stops::{begin, store_of};
 
 /// Runs a list of commands over a project, and lets its two files go.
 ///
@@ -37,7 +37,7 @@ pub fn run_and_leave<D: Disk + Drop, W: Write>(
     ensures ends { WhyEnded project commands.now result.0 result.1 }
 {
     let (run, conn) = drive_and_release(alloc, project, commands, out);
-    (run, conn.into_store().close())
+    (run, store_of(conn).close())
 }
 
 /// Runs a list of commands over a project, and closes its database, as the program does.

@@ -16,14 +16,14 @@ use Rattle.wu_schema.specs.Refines.{Refines}
 use Rattle.wu_passes.specs.Older.{IsOfVersion}
 use Rattle.wu_passes.specs.Committing.{FoundAs}
 use Rattle.wu_machine.specs.Machine.{done, reply, reply_of, step, world_of}
-use Rattle.wu_passes.specs.Planning.{IsPlan, Plans}
+use Rattle.wu_plans.specs.Planning.{IsPlan, Plans}
 use Rattle.wu_machine.specs.Commands.{reply_of_answer}
 use Rattle.wu_store.specs.Loading.{IsReadOnly, IsStoreFault}
 use Rattle.wu_store.specs.StandsFor.{StandsFor}
 use Rattle.wu_machine.specs.Requests.{Request}
 use Rattle.wu_passes.specs.Leaving.{LeavesAtMost, RunsFrom}
 use Rattle.wu_passes.specs.Standing.{GoesOn, HasEnded, IsCutBy, MakesSome, ShowsWorld, RefinesAfterFault, FailureCause}
-use Rattle.wu_passes.specs.declared.plan.Plan.{Plan}
+use Rattle.wu_plans.specs.declared.plan.Plan.{Plan}
 use Rattle.wu_machine.specs.declared.command.Answer.{Answer}
 use Rattle.wu_store.specs.declared.changes.Change.{Change}
 

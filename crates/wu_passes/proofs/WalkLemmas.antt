@@ -1,7 +1,7 @@
 -- One walk after another, what is left of a view, and what goes on over a world that was only read.
-use Rattle.std.proofs.Common.{◌≡◌, ◌∙◌, ℕ, List, [], ◌∷◌, ◌++◌, length, Option, Some, None, Result, Ok, Err, ap, arith, inr, refl, subst, sym}
+use Rattle.std.proofs.Common.{◌≡◌, ◌∙◌, ℕ, List, [], ◌∷◌, ◌++◌, length, Option, Some, None, Result, Ok, Err, ap, arith, refl, subst, sym}
 use Rattle.std.specs.List.{AllZip}
-use Rattle.std.specs.Prelude.{◌<◌, ◌+◌, ◌*◌, ◌^◌, ◌⊎◌, IfOk, IfSome, IsErrAnd, MatchOption, MatchResult}
+use Rattle.std.specs.Prelude.{◌<◌, ◌+◌, ◌*◌, ◌^◌, IfOk, IfSome, MatchOption}
 use Rattle.std.specs.declared.vec.IntoIter.{IntoIter}
 use Rattle.std.specs.Vec.Iter.{into_iter_items, into_iter_len, into_iter_steps}
 use Rattle.sqlite.specs.Order.{Row}
@@ -9,7 +9,6 @@ use Rattle.sqlite.specs.State.{State, HasCleanDisk}
 use Rattle.sqlite.specs.Store.{Ghosts}
 use Rattle.wu_core.specs.declared.fault.Fault.{Fault}
 use Rattle.wu_core.specs.World.{World}
-use Rattle.wu_schema.specs.Faults.{IsFailure}
 use Rattle.wu_pages.specs.declared.pages.Pages.{Ghosts as PageGhosts}
 use Rattle.wu_store.specs.Loading.{IsReadOnly}
 use Rattle.wu_pages.specs.Pages.{TurnsTo}
@@ -97,15 +96,3 @@ pub fewer : {A : Type 0} (turns old_turns rows : ℕ) (mid new : IntoIter Row A)
     → IfSome item (λ _. turns * 2 ^ 64 + into_iter_len new < old_turns * 2 ^ 64 + rows)
 fewer turns old_turns rows mid new None falls short steps = tt
 fewer turns old_turns rows mid new (Some row) falls short steps = omega (arith, falls, short, steps.1)
-
--- ---- what serves
-
--- an open connection serves, whatever is answered
-pub serves_open : {U Q : Type 0} (r : Result U Fault) → Q → MatchResult r (λ _. Q) (λ fault. IsFailure fault ⊎ Q)
-serves_open (Ok y) still = still
-serves_open (Err fault) still = inr still
-
--- what serves after a fault does so after what `?` hands on
-pub serves_handed : {U Q : Type 0} (r : Result U Fault) (fault : Fault) → IsErrAnd r (λ other. other ≡ fault) → IsFailure fault ⊎ Q → MatchResult r (λ _. Q) (λ fault. IsFailure fault ⊎ Q)
-serves_handed (Ok y) fault same serves = absurd same
-serves_handed {U} {Q} (Err other) fault same serves = subst (λ f. IsFailure f ⊎ Q) (sym same) serves

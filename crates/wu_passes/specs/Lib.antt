@@ -1,11 +1,7 @@
-pub mod Touched
 pub mod Committing
-pub mod Planning
 pub mod Standing
 pub mod Adopting
 pub mod Leaving
 pub mod Projects
 pub mod Walks
-pub mod Summing
-pub mod PassPlans
 pub mod Older

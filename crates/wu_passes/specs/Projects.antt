@@ -14,8 +14,8 @@ use Rattle.wu_machine.specs.declared.command.Answer.{Answer}
 use Rattle.wu_machine.specs.declared.command.Command.{Command}
 use Rattle.wu_passes.specs.declared.project.Project.{Project}
 use Rattle.wu_machine.specs.Machine.{has_right_limits, is_upgrade, IsUpToDate, MakesNothing}
-use Rattle.wu_passes.specs.declared.plan.Plan.{Plan}
-use Rattle.wu_passes.specs.Planning.{ForEachProject, NeverEnded, NotRefusedOver, Plans, PlansFor}
+use Rattle.wu_plans.specs.declared.plan.Plan.{Plan}
+use Rattle.wu_plans.specs.Planning.{ForEachProject, NeverEnded, NotRefusedOver, Plans, PlansFor}
 use Rattle.wu_machine.specs.Commands.{request_of}
 use Rattle.wu_machine.specs.Sound.{IsProject}
 use Rattle.wu_store.specs.Loading.{Asks, ServesUnlessFailed}

@@ -1,19 +1,8 @@
 //! A project over a database: a session, its commands, each one transaction, and the machine that they follow.
 #![tactic(auto)]
 
-mod batch;
-mod cancel;
-mod classes;
 mod commit;
-mod copies;
-mod files;
-mod imports;
-mod passes;
-mod plan;
 mod project;
-mod sums;
-mod touched;
-mod upgrade;
 mod version;
 
 pub use project::{

@@ -1,6 +1,6 @@
 //! The version of the tables that a command finds.
 
-ghost use Rattle.wu_passes.specs.Planning.{NeverEnded, TellsVersion};
+ghost use Rattle.wu_plans.specs.Planning.{NeverEnded, TellsVersion};
 ghost use Rattle.wu_machine.specs.Sound.{IsProject};
 ghost use Rattle.wu_store.specs.Loading.{Asks, NotRefusedIn, ForEachWorld, ServesUnlessFailed};
 

@@ -9,6 +9,7 @@ use Rattle.sqlite.specs.Files.{FailsToOpenFiles, file_state, Finds, IsCleanLeft,
 use Rattle.sqlite.specs.Held.{Held, IsNew}
 use Rattle.sqlite.specs.Opening.{is_open_error}
 use Rattle.sqlite.specs.State.{HasCleanDisk}
+use Rattle.sqlite.specs.Store.{Ghosts as StoreGhosts}
 use Rattle.sqlite.specs.declared.error.Error.{Error}
 use Rattle.sqlite.specs.declared.file.Leftover.{Leftover}
 use Rattle.wu_words.specs.Refusals.{ExplainsCheck, IsCheckOf}
@@ -21,6 +22,10 @@ use Rattle.wu_cli.specs.declared.trouble.Trouble.TheVariants as trouble
 use Rattle.wu_program.specs.Copies.{AreCopiesOf, memory_disk}
 use Rattle.wu_program.specs.declared.copy.FileBytes.{FileBytes}
 
+-- an open database is checked, and what is left of it is let go
+abbrev pub DropsChecked : {S W : Type 0} → StoreGhosts S → (W → Option (List ℕ)) → Held S → W → W → Result (Unit {0}) Trouble → Type 0
+DropsChecked {S} g contents conn old new done = (again : Held S) × ChecksOver g contents conn again old new done
+
 module _ {D : Type 0} {g : Ghosts D} where
   -- a connection to the database in two files
   pub record IsOpenedIn (files : Files D) (conn : Held (FileStore D g)) : Type 0 where
@@ -28,16 +33,12 @@ module _ {D : Type 0} {g : Ghosts D} where
     pub finds : HasCleanDisk (file_state conn) → Finds files conn
     pub fresh : IsNew conn
 
-  -- an open database is checked, and what is left of it is let go
-  abbrev pub DropsChecked : {W : Type 0} → (W → Option (List ℕ)) → Held (FileStore D g) → W → W → Result (Unit {0}) Trouble → Type 0
-  DropsChecked contents conn old new done = (again : Held (FileStore D g)) × ChecksOver over_files contents conn again old new done
-
 module _ {D W : Type 0} (g : Ghosts D) (contents : W → Option (List ℕ)) where
   -- the database in the files is opened, and checked
   pub record ChecksOpened (files : Files D) (old new : W) (done : Result (Unit {0}) Trouble) : Type 0 where
     pub conn : Held (FileStore D g)
     pub opened : IsOpenedIn files conn
-    pub checks : DropsChecked contents conn old new done
+    pub checks : DropsChecked over_files contents conn old new done
 
   -- it can't be opened: the reason of that is told, and nothing goes out
   pub record ChecksUnopened (files : Files D) (old new : W) (done : Result (Unit {0}) Trouble) : Type 0 where

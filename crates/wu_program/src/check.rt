@@ -5,7 +5,7 @@ ghost use Rattle.wu_cli.specs.Checking.{ChecksOver};
 ghost use Rattle.wu_program.specs.Checks.{ChecksFiles, ChecksPath, DropsChecked, RunsCheck};
 
 use crate::copy::{copies_of, read_database};
-use sqlite::{Connection, FileStore, Files, Options};
+use sqlite::{Alter, Connection, Files, Options};
 use sqlite_disk::Disk;
 use std::alloc::Global;
 use std::hash::{BuildHasher, RandomState};
@@ -14,12 +14,14 @@ use wu_cli::{Reason, Trouble, check_over};
 use wu_words::read_check;
 
 /// Checks an open database, as `check_over`, and lets go of it. Nothing is written to its files.
-fn check_and_drop<D: Disk + Drop, O: Write>(
+///
+/// It stands over any store: what is asked of one over files is proved again at each such call and drop.
+fn check_and_drop<S: Alter + Drop, O: Write>(
     alloc: Global,
-    conn: Connection<FileStore<D>>,
+    conn: Connection<S>,
     out: &mut O,
 ) -> Result<(), Trouble>
-    ensures { DropsChecked O.contents conn out.old out.new result }
+    ensures { DropsChecked S.Store O.contents conn out.old out.new result }
 {
     let mut conn = conn;
     check_over(alloc, &mut conn, out)

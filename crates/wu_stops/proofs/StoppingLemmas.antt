@@ -22,7 +22,7 @@ use Rattle.wu_core.specs.World.{World, empty_world}
 use Rattle.wu_schema.specs.Calls.{LeavesOnly}
 use Rattle.wu_store.specs.StandsFor.{StandsFor}
 use Rattle.wu_schema.proofs.StandsLemmas.{same_database}
-use Rattle.wu_passes.specs.Planning.{IsPresentProject}
+use Rattle.wu_plans.specs.Planning.{IsPresentProject}
 use Rattle.wu_machine_laws.proofs.SoundLemmas.{empty_sound, is_project}
 use Rattle.wu_passes.specs.Committing.{FoundAs}
 use Rattle.wu_passes.specs.Standing.{GoesOn}

@@ -11,7 +11,7 @@ use Rattle.wu_core.specs.World.{World, empty_world}
 use Rattle.wu_passes.specs.Committing.{FoundAs}
 use Rattle.wu_passes.specs.declared.project.Project.{Project}
 use Rattle.wu_machine.specs.Machine.{present_version}
-use Rattle.wu_passes.specs.Planning.{IsPresentProject}
+use Rattle.wu_plans.specs.Planning.{IsPresentProject}
 use Rattle.wu_passes.specs.Projects.{state_of}
 use Rattle.wu_passes.specs.Adopting.{IsVacant, LeavesFresh}
 use Rattle.wu_passes.specs.Standing.{FaultsOnlyGrow, GoesOn}

@@ -15,9 +15,7 @@ use std::alloc::Global;
 use wu_passes::Project;
 
 /// Begins a session over the project in a database, whose version it then knows. `None` where the adoption fails.
-///
-/// It is one call over any store: over two files each such call costs its caller's proof as much again.
-pub fn begin<S: Alter + Drop>(conn: Connection<S>) -> Option<Project<S>>
+fn begin_session<S: Alter + Drop>(conn: Connection<S>) -> Option<Project<S>>
     ensures begins { IfSome result IsSessionOpen }
     ensures adopted { IfSome result (λ project. Adopts (state S.Store conn) (state_of project)) }
     ensures knows { IfSome result KnowsTables }
@@ -28,9 +26,20 @@ pub fn begin<S: Alter + Drop>(conn: Connection<S>) -> Option<Project<S>>
     }
 }
 
+/// Begins a session over the project in two files, whose version it then knows. `None` where the adoption fails.
+///
+/// It is one function for all: that two files serve as a store is proved again in each that begins one over any store.
+pub fn begin<D: Disk + Drop>(conn: Connection<FileStore<D>>) -> Option<Project<FileStore<D>>>
+    ensures begins { IfSome result IsSessionOpen }
+    ensures adopted { IfSome result (λ project. Adopts (file_state conn) (state_of project)) }
+    ensures knows { IfSome result KnowsTables }
+{
+    begin_session(conn)
+}
+
 /// Adopts the project of a database and gives the database back, whether it was adopted or not.
 ///
-/// It is one call over any store, as `begin`.
+/// It is one call over any store, as `begin_session`.
 fn adopt_and_release<S: Alter + Drop>(conn: Connection<S>) -> Connection<S>
     ensures { LeavesAdopted (state S.Store conn) (state S.Store result) }
 {

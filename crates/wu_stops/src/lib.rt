@@ -13,4 +13,4 @@ pub use closing::{
     stop_and_open_unclosed,
 };
 pub use leftovers::stop_and_open_left;
-pub use stopping::stop_and_open;
+pub use stopping::{stop_and_open, store_of};

@@ -2,13 +2,28 @@
 //!
 //! A disk may fail at any call and from then on, so a stop amid a call is one of these stops too.
 
-ghost use Rattle.std.specs.Prelude.{IfSome};
+ghost use Rattle.std.specs.Prelude.{IfSome, IsTrue};
 ghost use Rattle.sqlite.specs.Files.{file_state};
+ghost use Rattle.sqlite.specs.Held.{AreDatabases};
+ghost use Rattle.sqlite_store.specs.FileStore.{faults, is_shielded, recovers, view};
+ghost use Rattle.sqlite_trees.specs.View.{IsClean, IsQuiet, IsRolledBack};
 ghost use Rattle.wu_stops.specs.Stopping.{FindsAgain, WasClean};
 
 use sqlite::{Connection, FileStore, Files, Options};
-use sqlite_disk::Crash;
+use sqlite_disk::{Crash, Disk};
 use std::alloc::Global;
+
+/// The store of a connection over two files, in which what was not committed is undone.
+///
+/// It is one function for all, as `begin`.
+pub fn store_of<D: Disk + Drop>(conn: Connection<FileStore<D>>) -> FileStore<D>
+    ensures numbered { IsClean (view result) → IsTrue (view result).is_numbered }
+    ensures sound { IsClean (view result) → AreDatabases (recovers result) }
+    ensures undone { IsRolledBack (view conn.store) (view result) }
+    ensures quiet { IsQuiet view faults recovers is_shielded conn.store result }
+{
+    conn.into_store()
+}
 
 /// The machine stops, and the two files are opened again.
 ///
@@ -22,7 +37,7 @@ pub fn stop_and_open<D: Crash + Drop>(
     ensures reopened { IfSome result (λ again. FindsAgain (file_state conn) (file_state again)) }
     ensures clean { IfSome result (λ again. WasClean (file_state conn) (file_state again)) }
 {
-    let Files { mut log, mut db } = conn.into_store().close();
+    let Files { mut log, mut db } = store_of(conn).close();
     log.crash();
     db.crash();
     match Connection::open_files(alloc, Files { log, db }, options) {

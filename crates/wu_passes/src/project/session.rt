@@ -3,7 +3,7 @@
 ghost use Rattle.std.specs.Prelude.{◌≡◌, true, false, [], Ok, Err, IfErr, IfOk, IsTrue, OnOk};
 ghost use Rattle.sqlite.specs.Held.{state};
 ghost use Rattle.wu_machine.specs.Machine.{has_right_limits, is_upgrade};
-ghost use Rattle.wu_passes.specs.Planning.{ForEachProject, IsReadyAt, NeverEnded, NotRefusedOver, PlansAt, PlansFor};
+ghost use Rattle.wu_plans.specs.Planning.{ForEachProject, IsReadyAt, NeverEnded, NotRefusedOver, PlansAt, PlansFor};
 ghost use Rattle.wu_machine.specs.Commands.{request_of};
 ghost use Rattle.wu_machine.specs.Sound.{IsProject};
 ghost use Rattle.wu_store.specs.Loading.{Asks, ServesUnlessFailed, StaysUnlessFailed};
@@ -11,20 +11,17 @@ ghost use Rattle.wu_passes.specs.Standing.{IsCutBy};
 ghost use Rattle.wu_passes.specs.Adopting.{Adopts, KnowsVersion, older_than_present, RefusesAdoption, StartsOver};
 ghost use Rattle.wu_passes.specs.Projects.{AnswersEnded, AsksOn, CarriesOut, CarriesOutFrom, connection_of, FailsAgain, GoesOnAgain, IsSessionOpen, has_ended, IsSessionEnded, KeepsAsking, KeepsSession, KnowsTables, LeavesIdle, LeavesUntouched, PlansOn, ReadsUnrefused, RefusesEarly, RunsOver, refused_for, ServesOn, ServesRight, older_version, state_of, TellsWhy};
 
-use crate::batch::plan_batch;
-use crate::cancel::plan_cancel;
-use crate::classes::plan_classes;
 use crate::commit::change_all;
-use crate::files::{plan_reported, plan_sent};
-use crate::passes::{Ask, plan_pass};
-use crate::plan::Plan;
 use crate::project::Project;
-use crate::upgrade::plan_upgrade;
 use crate::version::known_version;
 use sqlite::{Alter, Connection};
 use std::alloc::Global;
 use wu_core::Fault;
 use wu_machine::{Answer, Command};
+use wu_plans::{
+    Ask, Plan, plan_batch, plan_cancel, plan_classes, plan_pass, plan_reported, plan_sent,
+    plan_upgrade,
+};
 use wu_schema::{PRESENT_VERSION, check_version, create, version_of};
 use wu_store::Change;
 

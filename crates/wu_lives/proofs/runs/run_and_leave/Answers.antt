@@ -14,10 +14,10 @@ returns g c =
     let list = c.args.commands.now in
     let run = c.drive_and_release-conn.result.0 in
     let files = c.close.result in
-    let store = c.into_store.result in
+    let store = c.store_of.result in
     let it = c.drive_and_release-conn.ensures.runs in
-    let quiet : IsQuiet view faults recovers is_shielded mid.conn.store store = subst (λ h. IsQuiet view faults recovers is_shielded h.store store) c.drive_and_release-conn.ensures.released c.into_store.ensures.quiet in
-    let early : AreClean g.D.Disk files.log files.db → HasCleanDisk (file_state mid.conn) = was_clean mid.conn store files c.into_store.ensures.numbered c.into_store.ensures.sound quiet c.close.ensures in
+    let quiet : IsQuiet view faults recovers is_shielded mid.conn.store store = subst (λ h. IsQuiet view faults recovers is_shielded h.store store) c.drive_and_release-conn.ensures.released c.store_of.ensures.quiet in
+    let early : AreClean g.D.Disk files.log files.db → HasCleanDisk (file_state mid.conn) = was_clean mid.conn store files c.store_of.ensures.numbered c.store_of.ensures.sound quiet c.close.ensures in
     let (answers, written, drives) = it.answers in
     record {
       files = record {
@@ -36,7 +36,7 @@ returns g c =
         ),
       );
       left = λ honest world known goes.
-          beginning_in mid.conn store files c.into_store.ensures.numbered c.into_store.ensures.sound quiet c.close.ensures honest world list run
+          beginning_in mid.conn store files c.store_of.ensures.numbered c.store_of.ensures.sound quiet c.close.ensures honest world list run
           (begins_at old mid list answers run written.counted drives it.ends (λ was. ((it.ended was).0, (it.ended was).2)) (early honest) world known goes);
       all = (it.count, it.all);
       ended = λ was. let (same, unwritten, none, why) = it.ended was in (unwritten, none, why);

@@ -1,9 +1,8 @@
 use Rattle.std.proofs.Common.{◌≡◌, ◌<◌, Some, arith, inr, sym, ◌∙◌}
 use Rattle.wu_core.specs.declared.fault.Fault.TheVariants.{Broken}
 use Rattle.wu_machine.specs.Machine.{present_version}
-use Rattle.wu_passes.proofs.AskLemmas.{asks_handed, asks_made}
-use Rattle.wu_passes.proofs.ExitLemmas.{handed_other}
-use Rattle.wu_passes.proofs.WalkLemmas.{serves_handed, serves_open}
+use Rattle.wu_plans.proofs.AskLemmas.{asks_handed, asks_made}
+use Rattle.wu_plans.proofs.ExitLemmas.{handed_other, serves_handed, serves_open}
 use Rattle.wu_passes.proofs.version.known_version.Goals as goal
 
 pub returns-in_default-clause-unrefused : goal.returns-in_default-clause-unrefused

@@ -2,7 +2,8 @@ use Rattle.std.proofs.Common.{◌∙◌, Err, ap, arith, subst, sym}
 use Rattle.std.specs.Prelude.{IsTrue}
 use Rattle.sqlite.specs.State.{HasCleanDisk}
 use Rattle.wu_store.proofs.AskLemmas.{handed_on}
-use Rattle.wu_passes.proofs.WalkLemmas.{reads_then, serves_handed, serves_open}
+use Rattle.wu_plans.proofs.ExitLemmas.{serves_handed, serves_open}
+use Rattle.wu_passes.proofs.WalkLemmas.{reads_then}
 use Rattle.wu_passes.specs.Projects.{state_of}
 use Rattle.wu_passes.specs.Walks.{HandsFirst, walked}
 use Rattle.wu_report.proofs.ViewLemmas.{all_cut, broke_on, handed_broken, never_output, other_fault, output_cut, shown_cut, shown_front, shown_next, shown_whole, under_way}

@@ -2,7 +2,7 @@ use Rattle.sqlite.specs.Held.{state}
 use Rattle.std.proofs.Common.{Err, ap, refl}
 use Rattle.wu_schema.proofs.AskingLemmas.{asks_refused, asks_unchanged}
 use Rattle.wu_schema.proofs.CallLemmas.{leaves_only}
-use Rattle.wu_passes.proofs.AskLemmas.{handed_is}
+use Rattle.wu_plans.proofs.AskLemmas.{handed_is}
 use Rattle.wu_passes.proofs.AdoptingLemmas.{bare_adopts, bare_knows, bare_limit, bare_refused, bare_settled, found_knows, fresh_adopts, fresh_knows, known_adopts, later_refuses, unasked_refuses, unmade_refuses}
 use Rattle.wu_passes.proofs.project.session.find_or_create.Goals as goal
 

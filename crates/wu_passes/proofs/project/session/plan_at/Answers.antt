@@ -1,5 +1,5 @@
 use Rattle.std.proofs.Common.{refl, subst}
-use Rattle.wu_passes.specs.Planning.{IsPlan}
+use Rattle.wu_plans.specs.Planning.{IsPlan}
 use Rattle.wu_passes.proofs.project.session.plan_at.Goals as goal
 
 pub returns-in-Batch : goal.returns-in-Batch

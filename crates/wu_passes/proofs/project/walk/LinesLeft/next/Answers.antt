@@ -4,7 +4,7 @@ use Rattle.sqlite.specs.Held.{state}
 use Rattle.sqlite.specs.Order.{Row}
 use Rattle.wu_store.proofs.AskLemmas.{asks_handed, asks_made, handed_on, handed_unbroken}
 use Rattle.wu_passes.specs.Walks.{HandsRowOf, left_of, page_of}
-use Rattle.wu_passes.proofs.WalkLemmas.{serves_handed, serves_open}
+use Rattle.wu_plans.proofs.ExitLemmas.{serves_handed, serves_open}
 use Rattle.wu_passes.proofs.project.walk.LinesLeft.next.Goals as goal
 
 -- ---- there is no next row to read

@@ -4,7 +4,8 @@ use Rattle.sqlite.specs.Held.{state}
 use Rattle.wu_store.proofs.AskLemmas.{asks_handed, asks_made, asks_none, asks_stands, handed_on}
 use Rattle.wu_passes.specs.Walks.{AreLeft}
 use Rattle.wu_passes.proofs.StandingLemmas.{refused_open}
-use Rattle.wu_passes.proofs.WalkLemmas.{fewer, handed, none_turned, page_over, row_handed, serves_handed, turned}
+use Rattle.wu_plans.proofs.ExitLemmas.{serves_handed}
+use Rattle.wu_passes.proofs.WalkLemmas.{fewer, handed, none_turned, page_over, row_handed, turned}
 use Rattle.wu_passes.proofs.project.walk.LinesLeft.next_row.Goals as goal
 
 -- ---- a row of the page

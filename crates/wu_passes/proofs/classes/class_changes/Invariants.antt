@@ -1,6 +1,0 @@
-use Rattle.std.proofs.Common.{◌≡◌, map}
-use Rattle.wu_passes.specs.Planning.{sets_class}
-use Rattle.wu_passes.proofs.classes.class_changes.Given as goal
-
-abbrev pub invariant-loop-row : goal.invariant-loop-row
-invariant-loop-row l = l.changes.items ≡ map sets_class l.yielded

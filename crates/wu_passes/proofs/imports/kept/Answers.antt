@@ -1,8 +1,0 @@
-use Rattle.std.proofs.Common.{ap}
-use Rattle.wu_passes.proofs.PlanLemmas.{gives_ok}
-use Rattle.wu_machine.specs.Imports.{kept_import}
-use Rattle.wu_passes.specs.Planning.{given_of}
-use Rattle.wu_passes.proofs.imports.kept.Goals as goal
-
-pub returns-clause-kept : goal.returns-clause-kept
-returns-clause-kept c = ap (kept_import (given_of c.args.source.now) c.args.first_number) (gives_ok _ _ c.in_ok-from_slice.ensures)

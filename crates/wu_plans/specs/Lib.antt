@@ -1,0 +1,4 @@
+pub mod Touched
+pub mod Planning
+pub mod Summing
+pub mod PassPlans

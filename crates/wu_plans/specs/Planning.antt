@@ -1,0 +1,236 @@
+-- The plan of a command: what it will answer and what it changes, before anything is changed.
+use Rattle.std.specs.Prelude.{◌≡◌, ◌≢◌, ◌⊎◌, ℕ, ◌+◌, ◌==◌, ◌&&◌, Bool, true, false, bytes_eq, if◌then◌else◌, List, [], ◌∷◌, ◌++◌, map, length, Some, None, Result, Ok, Err, find, IfErr, IfOk, MatchResult}
+use Rattle.std.specs.List.{enumerate_from}
+use Rattle.sqlite.specs.Held.{Held, state}
+use Rattle.sqlite.specs.State.{HasCleanDisk}
+use Rattle.sqlite.specs.Store.{Ghosts}
+use Rattle.wu_core.specs.declared.fault.Fault.{Fault}
+use Rattle.wu_core.specs.declared.fault.Fault.TheVariants.{Memory, Ended, NameUsed, NotAProject, NotOpenToCancel, WorkunitUsed}
+use Rattle.wu_core.specs.declared.workunit.HostClass.{HostClass}
+use Rattle.wu_core.specs.declared.workunit.Workunit.{Workunit}
+use Rattle.wu_core.specs.Classes.{AreClassed}
+use Rattle.wu_core.specs.Parameters.{Parameters}
+use Rattle.wu_rules.specs.Cancelling.{cancelled}
+use Rattle.wu_rules.specs.Counts.{is_undecided}
+use Rattle.wu_core.specs.Storable.{AreStorable}
+use Rattle.wu_core.specs.World.{World, is_import}
+use Rattle.wu_feed.specs.declared.jobs.Job.{Job}
+use Rattle.wu_core.specs.declared.import.ImportKind.TheVariants as kind
+use Rattle.wu_feed.specs.Jobs.{jobs_of_file}
+use Rattle.wu_feed.specs.Templates.{template_of}
+use Rattle.wu_store.specs.Changes.{with_import}
+use Rattle.wu_store.specs.Loading.{IsStoreFault}
+use Rattle.wu_store.specs.StandsFor.{KnowsClasses, StandsFor}
+use Rattle.wu_store.specs.declared.rows.StoredImport.{StoredImport}
+use Rattle.wu_schema.specs.Refines.{Refines}
+use Rattle.wu_plans.specs.declared.plan.Plan.{Plan}
+use Rattle.wu_plans.specs.declared.imports.Source.{Source}
+use Rattle.wu_plans.specs.declared.files.Left.{Left}
+use Rattle.wu_store.specs.declared.changes.Change.{Change}
+use Rattle.wu_store.specs.declared.changes.Change.TheVariants.{Add, Class, Replace, Next, Keep}
+use Rattle.wu_store.specs.declared.changes.Import.{Import as Kept}
+use Rattle.wu_machine.specs.declared.command.Batch.{Batch}
+use Rattle.wu_machine.specs.Batches.{all_applied, first_taken, is_one_of, job_names, new_workunit, taken_names}
+use Rattle.wu_store.specs.Changing.{AreRight, import_of_change, made_all}
+use Rattle.wu_machine.specs.Imports.{Given, first_answer, kept_import}
+use Rattle.wu_machine.specs.FileRows.{Rule, after_rows, row_verdicts}
+use Rattle.wu_machine.specs.Machine.{done, is_upgrade, IsUpToDate, MakesNothing}
+use Rattle.wu_plans.specs.Touched.{AreDistinct, IsLeft, replaces}
+use Rattle.wu_machine.specs.declared.command.Answer.{Answer}
+use Rattle.wu_machine.specs.declared.command.Answer.TheVariants as answer
+use Rattle.wu_machine.specs.Requests.{Request, AskUpgrade}
+use Rattle.wu_machine.specs.Commands.{request_of_batch, reply_of_answer}
+use Rattle.wu_machine.specs.Sound.{IsProject}
+
+-- what is imported of a source
+abbrev pub given_of : Source → Given
+given_of source = record { kind = source.kind; name = source.name.now; template = source.template.now; content = source.content.now }
+
+-- the plan that gives a workunit up: its image takes its place
+pub record IsCancelPlan (w : Workunit) (plan : Plan) : Type 0 where
+  pub undecided : is_undecided w ≡ true
+  pub answer : plan.answer ≡ answer.Cancelled w.name
+  pub changes : plan.changes.items ≡ Replace w (cancelled w) ∷ []
+
+-- it is refused where the workunit is not undecided, or for want of memory
+abbrev pub RefusesCancel : Workunit → Fault → Type 0
+RefusesCancel w fault = (fault ≡ Memory) ⊎ ((fault ≡ NotOpenToCancel) × (is_undecided w ≡ false))
+
+-- what the rows of a file left of a world, by its classes, where it has them
+abbrev pub LeavesRows : {Row : Type 0} → (List HostClass → Rule Row) → List Row → Result Left Fault → World → Type 0
+LeavesRows rule rows result world =
+    KnowsClasses world → IfOk result (λ left. IsLeft (rule world.classes) rows world left.touched left.verdicts.items)
+
+-- it never says that the session has ended
+abbrev pub NeverEnded : {T : Type 0} → Result T Fault → Type 0
+NeverEnded result = IfErr result (λ fault. fault ≢ Ended)
+
+-- a workunit's name is used, or a fault of the store
+abbrev pub RefusesName : Fault → Type 0
+RefusesName fault = ((row : ℕ) × (fault ≡ WorkunitUsed row)) ⊎ IsStoreFault fault
+
+-- no batch had this name
+abbrev pub IsNew : World → List ℕ → Type 0
+IsNew world name = find (is_import kind.Batch name) world.imports ≡ None
+
+-- the fault tells the first job whose name is taken
+abbrev pub TellsTaken : World → List Job → Fault → Type 0
+TellsTaken world jobs fault = (place : ℕ × List ℕ) × (first_taken world jobs ≡ Some place) × (fault ≡ WorkunitUsed (place.0 + 2))
+
+-- Its answer is the machine's reply, and its changes make of the world what the machine makes of it; where that is
+-- nothing there is none.
+pub record Plans (world : World) (request : Request) (answer : Answer) (changes : List Change) : Type 0 where
+  pub done : done world request ≡ Ok (reply_of_answer answer, made_all changes world)
+  pub right : AreRight changes world
+  pub idle : MakesNothing world request → changes ≡ []
+
+-- a plan, or the machine's refusal, or a fault of the store
+abbrev pub IsPlan : World → Request → Result Plan Fault → Type 0
+IsPlan world request result = MatchResult result (λ plan. Plans world request plan.answer plan.changes.items) (λ fault. (done world request ≡ Err fault) ⊎ IsStoreFault fault)
+
+-- the changes that add the jobs, with consecutive numbers from the next one
+abbrev pub additions : Parameters → ℕ → List Job → List Change
+additions params next jobs = map (λ p. Add (new_workunit params p.0 p.1)) (enumerate_from next jobs) ++ Next (next + length jobs) ∷ []
+
+-- an import is kept with the answer that it gets
+abbrev pub KeepsImport : Given → ℕ → List ℕ → Kept → Type 0
+KeepsImport given first verdicts kept = import_of_change kept ≡ kept_import given first verdicts
+
+-- the first number of so many workunits; 0 where there are none
+abbrev pub first_of : ℕ → ℕ → ℕ
+first_of next count = if count == 0 then 0 else next
+
+-- the plan of a batch that is not refused: it adds its jobs, and keeps itself
+pub record IsNewBatch (given : Given) (next : ℕ) (params : Parameters) (jobs : List Job) (plan : Plan) : Type 0 where
+  pub kept : Kept
+  pub keeps : KeepsImport given (first_of next (length jobs)) (all_applied jobs) kept
+  pub answer : reply_of_answer plan.answer ≡ first_answer (import_of_change kept)
+  pub changes : plan.changes.items ≡ additions params next jobs ++ Keep kept ∷ []
+
+-- an earlier import of this kind and name had the same content
+abbrev pub has_same_content : Given → StoredImport → Bool
+has_same_content given earlier = bytes_eq earlier.template given.template && bytes_eq earlier.content given.content
+
+-- the plan of an import that came before: its first answer, and no change
+pub record IsRepeated (given : Given) (earlier : StoredImport) (plan : Plan) : Type 0 where
+  pub same : has_same_content given earlier ≡ true
+  pub answer : plan.answer ≡ answer.Imported given.kind given.name earlier.first_number earlier.verdicts
+  pub nothing : plan.changes.items ≡ []
+
+-- it is refused for other content, or for want of memory
+abbrev pub RefusesRepeat : Given → StoredImport → Fault → Type 0
+RefusesRepeat given earlier fault = (fault ≡ Memory) ⊎ ((fault ≡ NameUsed) × (has_same_content given earlier ≡ false))
+
+-- what the rows of a file left is put in place, and the file is kept
+pub record IsNewFile (given : Given) (left : Left) (plan : Plan) : Type 0 where
+  pub kept : Kept
+  pub keeps : KeepsImport given 0 left.verdicts.items kept
+  pub reply : reply_of_answer plan.answer ≡ first_answer (import_of_change kept)
+  pub changes : plan.changes.items ≡ map replaces left.touched ++ Keep kept ∷ []
+  pub distinct : AreDistinct left.touched
+
+-- the plan of a file of these rows: they are applied or skipped, and the file is kept with their verdicts
+pub record IsFilePlan {Row : Type 0} (rule : Rule Row) (given : Given) (rows : List Row) (world : World) (plan : Plan) : Type 0 where
+  pub kept : Kept
+  pub keeps : KeepsImport given 0 (row_verdicts rule world rows) kept
+  pub reply : reply_of_answer plan.answer ≡ first_answer (import_of_change kept)
+  pub made : made_all plan.changes.items world ≡ with_import (import_of_change kept) (after_rows rule world rows)
+  pub right : AreRight plan.changes.items world
+
+-- the change that sets the class of a row's host
+abbrev pub sets_class : HostClass → Change
+sets_class row = Class row.host row.class
+
+-- the plan of a new file of classes: the class of each row's host is set, in the order of the rows, and the file is kept
+pub record IsNewClasses (given : Given) (rows : List HostClass) (plan : Plan) : Type 0 where
+  pub kept : Kept
+  pub keeps : KeepsImport given 0 (all_applied rows) kept
+  pub reply : reply_of_answer plan.answer ≡ first_answer (import_of_change kept)
+  pub changes : plan.changes.items ≡ map sets_class rows ++ Keep kept ∷ []
+
+-- ---- what a call that reads says of the tables, and of each world that they stand for
+
+-- where the tables stand for a world and steps have no limit, no read is refused
+abbrev pub NeverRefused : {S T : Type 0} → Ghosts S → Held S → Held S → Result T Fault → Type 0
+NeverRefused g old new result =
+    HasCleanDisk (state g new) → (world : World) → Refines (state g old).now world → old.step_limit ≡ None → IfErr result (λ fault. fault ≢ NotAProject)
+
+-- this holds of each world that the tables, its queue among them, stand for
+abbrev pub ForEachProject : {S : Type 0} → Ghosts S → Held S → Held S → (World → Type 0) → Type 0
+ForEachProject g old new Is = HasCleanDisk (state g new) → (world : World) → StandsFor (state g old).now world → Is world
+
+-- where they stand for such a world and steps have no limit, no read is refused
+abbrev pub NotRefusedOver : {S T : Type 0} → Ghosts S → Held S → Held S → Result T Fault → (World → Type 0) → Type 0
+NotRefusedOver g old new result Is =
+    HasCleanDisk (state g new) → (world : World) → StandsFor (state g old).now world → Is world → old.step_limit ≡ None → IfErr result (λ fault. fault ≢ NotAProject)
+
+-- whether the name is taken by a workunit or an archived row
+abbrev pub KnowsTaken : List ℕ → Result Bool Fault → World → Type 0
+KnowsTaken name result world = MatchResult result (λ taken. taken ≡ is_one_of (taken_names world) name) IsStoreFault
+
+-- or by one of these jobs
+abbrev pub KnowsUsed : List Job → List ℕ → Result Bool Fault → World → Type 0
+KnowsUsed earlier name result world = MatchResult result (λ used. used ≡ is_one_of (taken_names world ++ job_names earlier) name) IsStoreFault
+
+-- no job's name is taken, or the fault tells the first one
+abbrev pub FindsFree : {T : Type 0} → List Job → Result T Fault → World → Type 0
+FindsFree jobs result world = MatchResult result (λ _. first_taken world jobs ≡ None) (λ fault. TellsTaken world jobs fault ⊎ IsStoreFault fault)
+
+-- rows can be applied to the world: it has classes, and its workunits and the classes of its hosts can be read
+pub record TakesRows (world : World) : Type 0 where
+  pub known : KnowsClasses world
+  pub storable : AreStorable world
+  pub classed : AreClassed world.classes
+
+-- a project of the present version
+abbrev pub IsPresentProject : World → Type 0
+IsPresentProject world = IsUpToDate world × IsProject world
+
+-- over a project the version of its tables is told
+abbrev pub TellsVersion : Result ℕ Fault → World → Type 0
+TellsVersion result world = IsProject world → MatchResult result (λ version. version ≡ world.version) IsStoreFault
+
+-- over a project, the plan of a request
+abbrev pub PlansFor : Request → Result Plan Fault → World → Type 0
+PlansFor request result world = IsProject world → IsPlan world request result
+
+-- over one of the present version
+abbrev pub PlansNow : Request → Result Plan Fault → World → Type 0
+PlansNow request result world = IsUpToDate world → IsProject world → IsPlan world request result
+
+-- such a one, or one of an older version that is to be upgraded
+abbrev pub IsReadyFor : Request → World → Type 0
+IsReadyFor request world = (is_upgrade request ≡ false → IsUpToDate world) × IsProject world
+
+-- a project of this version, and one that is ready
+abbrev pub IsOfVersion : ℕ → World → Type 0
+IsOfVersion version world = (version ≡ world.version) × IsProject world
+
+abbrev pub IsReadyAt : ℕ → Request → World → Type 0
+IsReadyAt version request world = (version ≡ world.version) × IsReadyFor request world
+
+-- over one of this version that is ready, the plan of a request
+abbrev pub PlansAt : ℕ → Request → Result Plan Fault → World → Type 0
+PlansAt version request result world = version ≡ world.version → IsReadyFor request world → IsPlan world request result
+
+-- over one of this version, the plan of an upgrade
+abbrev pub PlansUpgrade : ℕ → Result Plan Fault → World → Type 0
+PlansUpgrade version result world = version ≡ world.version → IsProject world → IsPlan world AskUpgrade result
+
+-- of a file of these rows, whose name is new, over a world with classes,
+abbrev pub PlansRows : {Row : Type 0} → (List HostClass → Rule Row) → Given → List Row → Result Plan Fault → World → Type 0
+PlansRows rule given rows result world =
+    KnowsClasses world → MatchResult result (IsFilePlan (rule world.classes) given rows world) IsStoreFault
+
+-- of a batch,
+abbrev pub PlansBatch : Batch → Result Plan Fault → World → Type 0
+PlansBatch batch = PlansNow (request_of_batch batch)
+
+-- of one whose name is new,
+abbrev pub PlansNew : Batch → Result Plan Fault → World → Type 0
+PlansNew batch result world = IsUpToDate world → IsProject world → IsNew world batch.name → IsPlan world (request_of_batch batch) result
+
+-- and of these jobs
+abbrev pub PlansJobs : Batch → Parameters → List Job → Result Plan Fault → World → Type 0
+PlansJobs batch params jobs result world =
+    IsUpToDate world → IsProject world → IsNew world batch.name → template_of batch.template ≡ Ok params → jobs_of_file batch.file ≡ Ok jobs → IsPlan world (request_of_batch batch) result

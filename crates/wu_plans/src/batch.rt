@@ -1,0 +1,208 @@
+//! A batch: what it answers and what it changes, before anything is changed.
+
+ghost use Rattle.std.specs.Prelude.{◌≡◌, ◌+◌, ◌≤◌, ◌==◌, bytes_eq, length, if◌then◌else◌, IfOk, IfErr};
+ghost use Rattle.std.specs.List.{list_any};
+ghost use Rattle.wu_core.specs.declared.fault.Fault.TheVariants.{Memory};
+ghost use Rattle.wu_core.specs.Limits.{most_workunits};
+ghost use Rattle.wu_feed.specs.Limits.{most_rows};
+ghost use Rattle.wu_machine.specs.Batches.{new_workunit};
+ghost use Rattle.wu_plans.specs.Planning.{additions, FindsFree, IsNewBatch, KnowsTaken, KnowsUsed, NeverEnded, NeverRefused, PlansBatch, PlansJobs, PlansNew, RefusesName};
+ghost use Rattle.wu_machine.specs.Commands.{batch_of};
+ghost use Rattle.wu_machine.specs.Sound.{IsProject};
+ghost use Rattle.wu_store.specs.Loading.{Asks, IsStoreFault, NotRefusedIn, ForEachWorld, ServesUnlessFailed};
+
+use crate::imports::{applied, batch_source, imported, kept, repeated};
+use crate::plan::Plan;
+use sqlite::{Alter, Connection};
+use std::alloc::Global;
+use wu_core::{
+    Assimilate, ErrorMask, Fault, FileDelete, ImportKind, Instances, MOST_WORKUNITS, Name, Params,
+    Workunit,
+};
+use wu_feed::{Job, Jobs, read_jobs, read_template};
+use wu_machine::Batch;
+use wu_store::{Change, has_archived, has_workunit, import_of, next_number};
+
+/// Whether the name belongs to a workunit that is present, or that was archived.
+fn is_taken<S: Alter>(conn: &mut Connection<S>, name: &Name) -> Result<bool, Fault>
+    ensures asks { Asks S.Store conn.old conn.new result }
+    ensures opens { ServesUnlessFailed S.Store conn.new result }
+    ensures fault { IfErr result IsStoreFault }
+    ensures unrefused { NeverRefused S.Store conn.old conn.new result }
+    ensures taken { ForEachWorld S.Store conn.old conn.new (KnowsTaken name.now result) }
+{
+    if has_workunit(conn, name)? {
+        return Ok(true);
+    }
+    has_archived(conn, name)
+}
+
+/// Whether one of these jobs has the name.
+fn has_job(jobs: &[Job], name: &Name) -> bool
+    ensures { result ≡ list_any (λ job. bytes_eq job.name name.now) jobs.now }
+{
+    jobs.iter().any(|job| job.name == *name)
+}
+
+/// Whether the name belongs to a workunit, an archived row or one of these jobs.
+fn is_used<S: Alter>(conn: &mut Connection<S>, earlier: &[Job], name: &Name) -> Result<bool, Fault>
+    ensures asks { Asks S.Store conn.old conn.new result }
+    ensures fault { IfErr result IsStoreFault }
+    ensures unrefused { NeverRefused S.Store conn.old conn.new result }
+    ensures used { ForEachWorld S.Store conn.old conn.new (KnowsUsed earlier.now name.now result) }
+{
+    if has_job(earlier, name) {
+        return Ok(true);
+    }
+    is_taken(conn, name)
+}
+
+/// Refuses the first job whose name is that of a workunit, an archived row or an earlier job.
+fn check_names<S: Alter>(conn: &mut Connection<S>, jobs: &[Job]) -> Result<(), Fault>
+    requires { length jobs.now ≤ most_rows }
+    ensures asks { Asks S.Store conn.old conn.new result }
+    ensures fault { IfErr result RefusesName }
+    ensures unrefused { NeverRefused S.Store conn.old conn.new result }
+    ensures free { ForEachWorld S.Store conn.old conn.new (FindsFree jobs.now result) }
+{
+    let mut place = 0;
+    for job in jobs {
+        if is_used(conn, &jobs[..place], &job.name)? {
+            return Err(Fault::WorkunitUsed(place as u32 + 2));
+        }
+        place += 1;
+    }
+    Ok(())
+}
+
+/// A workunit as a batch adds it: without instances.
+fn new_workunit(alloc: Global, number: u64, params: Params, job: Job) -> Workunit
+    ensures { result ≡ new_workunit params number job }
+{
+    let Job { name, input } = job;
+    Workunit {
+        number,
+        name,
+        params,
+        input,
+        error_mask: ErrorMask::none(),
+        canonical: None,
+        assimilate: Assimilate::Init,
+        file_delete: FileDelete::Init,
+        done_at: None,
+        class: 0,
+        instances: Instances::new(alloc),
+    }
+}
+
+/// The changes that add the jobs, with consecutive numbers from the next one.
+fn additions<'a>(
+    alloc: Global,
+    next: u64,
+    params: Params,
+    jobs: Jobs,
+) -> Result<Vec<Change<'a>>, Fault>
+    requires { next + length jobs ≤ most_workunits + 1 }
+    ensures changes { IfOk result (λ changes. changes.items ≡ additions params next jobs) }
+    ensures fault { IfErr result (λ fault. fault ≡ Memory) }
+{
+    let mut changes = Vec::new(alloc);
+    for job in jobs.into_vec() {
+        let number = next + changes.len() as u64;
+        let change = Change::Add(new_workunit(alloc, number, params, job));
+        changes.push(change)?;
+    }
+    let number = next + changes.len() as u64;
+    changes.push(Change::Next(number))?;
+    Ok(changes)
+}
+
+/// The first number of so many workunits; 0 where there are none.
+fn first_of(next: u64, count: usize) -> u64
+    ensures { result ≡ if count == 0 then 0 else next }
+{
+    if count == 0 { 0 } else { next }
+}
+
+/// The answer and the changes of a batch of these jobs, none of which is refused.
+fn new_batch<'a>(
+    alloc: Global,
+    batch: &'a Batch,
+    next: u64,
+    params: Params,
+    jobs: Jobs,
+) -> Result<Plan<'a>, Fault>
+    requires { next + length jobs ≤ most_workunits + 1 }
+    ensures plan { IfOk result (IsNewBatch (batch_of batch.now) next params jobs) }
+    ensures fault { IfErr result (λ fault. fault ≡ Memory) }
+{
+    let count = jobs.len();
+    let first = first_of(next, count);
+    let verdicts = applied(alloc, count)?;
+    let source = batch_source(batch);
+    let import = kept(alloc, &source, first, verdicts.as_slice())?;
+    let mut changes = additions(alloc, next, params, jobs)?;
+    changes.push(Change::Keep(import))?;
+    Ok(Plan {
+        answer: imported(&source, first, verdicts)?,
+        changes,
+    })
+}
+
+/// The plan of a batch of these jobs, under a name that no batch had: a workunit's name that is taken is refused, and
+/// too many workunits.
+fn plan_jobs<'a, S: Alter>(
+    conn: &mut Connection<S>,
+    alloc: Global,
+    batch: &'a Batch,
+    params: Params,
+    jobs: Jobs,
+) -> Result<Plan<'a>, Fault>
+    requires { length jobs ≤ most_rows }
+    ensures asks { Asks S.Store conn.old conn.new result }
+    ensures never { NeverEnded result }
+    ensures unrefused { NotRefusedIn S.Store conn.old conn.new result IsProject }
+    ensures plan { ForEachWorld S.Store conn.old conn.new (PlansJobs batch.now params jobs result) }
+{
+    check_names(conn, jobs.as_slice())?;
+    let next = next_number(conn)?;
+    if jobs.len() as u64 > MOST_WORKUNITS + 1 - next {
+        return Err(Fault::TooMany);
+    }
+    new_batch(alloc, batch, next, params, jobs)
+}
+
+/// The plan of a batch under a name that no batch had: the template is read, and then the file.
+fn plan_new<'a, S: Alter>(
+    conn: &mut Connection<S>,
+    alloc: Global,
+    batch: &'a Batch,
+) -> Result<Plan<'a>, Fault>
+    ensures asks { Asks S.Store conn.old conn.new result }
+    ensures never { NeverEnded result }
+    ensures unrefused { NotRefusedIn S.Store conn.old conn.new result IsProject }
+    ensures plan { ForEachWorld S.Store conn.old conn.new (PlansNew batch.now result) }
+{
+    let params = read_template(alloc, batch.template.as_slice())?;
+    let jobs = read_jobs(alloc, batch.file.as_slice())?;
+    plan_jobs(conn, alloc, batch, params, jobs)
+}
+
+/// What a batch answers and changes, or the first refusal: the name was used with other content, the template, the
+/// file, a workunit's name that is taken, too many workunits.
+pub fn plan_batch<'a, S: Alter>(
+    conn: &mut Connection<S>,
+    alloc: Global,
+    batch: &'a Batch,
+) -> Result<Plan<'a>, Fault>
+    ensures asks { Asks S.Store conn.old conn.new result }
+    ensures opens { ServesUnlessFailed S.Store conn.new result }
+    ensures never { NeverEnded result }
+    ensures unrefused { NotRefusedIn S.Store conn.old conn.new result IsProject }
+    ensures plan { ForEachWorld S.Store conn.old conn.new (PlansBatch batch.now result) }
+{
+    match import_of(conn, alloc, ImportKind::Batch, &batch.name)? {
+        Some(earlier) => repeated(alloc, &batch_source(batch), earlier),
+        None => plan_new(conn, alloc, batch),
+    }
+}

@@ -1,0 +1,50 @@
+//! Giving a workunit up: what it answers and what it changes, before anything is changed.
+
+ghost use Rattle.std.specs.Prelude.{◌≡◌, IfErr, IfOk};
+ghost use Rattle.wu_plans.specs.Planning.{IsCancelPlan, IsPresentProject, NeverEnded, PlansNow, RefusesCancel};
+ghost use Rattle.wu_machine.specs.Requests.{AskCancel};
+ghost use Rattle.wu_store.specs.Loading.{Asks, NotRefusedIn, ForEachWorld, ServesUnlessFailed};
+
+use crate::copies::copy_of;
+use crate::plan::Plan;
+use sqlite::{Alter, Connection};
+use std::alloc::Global;
+use wu_core::{Fault, Name, Workunit};
+use wu_machine::Answer;
+use wu_rules::cancel;
+use wu_store::{Change, load_named};
+
+/// The plan that gives the workunit up, if it is undecided.
+fn give_up<'a>(alloc: Global, mut workunit: Workunit) -> Result<Plan<'a>, Fault>
+    ensures plan { IfOk result (IsCancelPlan workunit) }
+    ensures fault { IfErr result (RefusesCancel workunit) }
+{
+    let was = copy_of(alloc, &workunit)?;
+    cancel(&mut workunit)?;
+    let name = workunit.name.copy()?;
+    let mut changes = Vec::new(alloc);
+    changes.push(Change::Replace(was, workunit))?;
+    Ok(Plan {
+        answer: Answer::Cancelled { workunit: name },
+        changes,
+    })
+}
+
+/// What cancelling the workunit of this name answers and changes, or the refusal: none has the name, or it is not
+/// undecided.
+pub fn plan_cancel<'a, S: Alter>(
+    conn: &mut Connection<S>,
+    alloc: Global,
+    name: &Name,
+) -> Result<Plan<'a>, Fault>
+    ensures asks { Asks S.Store conn.old conn.new result }
+    ensures opens { ServesUnlessFailed S.Store conn.new result }
+    ensures never { NeverEnded result }
+    ensures unrefused { NotRefusedIn S.Store conn.old conn.new result IsPresentProject }
+    ensures plan { ForEachWorld S.Store conn.old conn.new (PlansNow (AskCancel name.now) result) }
+{
+    match load_named(conn, alloc, name)? {
+        Some(workunit) => give_up(alloc, workunit),
+        None => Err(Fault::UnknownWorkunit),
+    }
+}

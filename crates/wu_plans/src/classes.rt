@@ -1,0 +1,64 @@
+//! A file of classes of hosts: what it answers and what it changes, before anything is changed.
+
+ghost use Rattle.std.specs.Prelude.{◌≡◌, IfErr, IfOk, map};
+ghost use Rattle.wu_core.specs.declared.fault.Fault.TheVariants.{Memory};
+ghost use Rattle.wu_machine.specs.Requests.{AskClasses};
+ghost use Rattle.wu_plans.specs.Planning.{given_of, IsNewClasses, IsPresentProject, NeverEnded, PlansNow, sets_class};
+ghost use Rattle.wu_store.specs.Loading.{Asks, NotRefusedIn, ForEachWorld, ServesUnlessFailed};
+
+use crate::imports::{Source, applied, file_source, imported, kept, repeated};
+use crate::plan::Plan;
+use sqlite::{Alter, Connection};
+use std::alloc::Global;
+use wu_core::{Fault, HostClass, ImportKind};
+use wu_feed::{Classes, read_classes};
+use wu_machine::RowsFile;
+use wu_store::{Change, import_of};
+
+/// The changes that set the class of each row's host, in the order of the rows.
+fn class_changes<'a>(alloc: Global, classes: Classes) -> Result<Vec<Change<'a>>, Fault>
+    ensures changes { IfOk result (λ changes. changes.items ≡ map sets_class classes) }
+    ensures fault { IfErr result (λ fault. fault ≡ Memory) }
+{
+    let mut changes = Vec::new(alloc);
+    for row in classes.into_vec() {
+        let HostClass { host, class } = row;
+        changes.push(Change::Class(host, class))?;
+    }
+    Ok(changes)
+}
+
+/// The answer and the changes of a file of these classes, under a name that no file of classes had.
+fn new_classes<'a>(alloc: Global, source: &Source<'a>, classes: Classes) -> Result<Plan<'a>, Fault>
+    ensures plan { IfOk result (IsNewClasses (given_of source.now) classes) }
+    ensures fault { IfErr result (λ fault. fault ≡ Memory) }
+{
+    let verdicts = applied(alloc, classes.len())?;
+    let import = kept(alloc, source, 0, verdicts.as_slice())?;
+    let mut changes = class_changes(alloc, classes)?;
+    changes.push(Change::Keep(import))?;
+    Ok(Plan {
+        answer: imported(source, 0, verdicts)?,
+        changes,
+    })
+}
+
+/// What a file of classes answers and changes, or the first refusal: the name was used with other content, the file.
+pub fn plan_classes<'a, S: Alter>(
+    conn: &mut Connection<S>,
+    alloc: Global,
+    file: &'a RowsFile,
+) -> Result<Plan<'a>, Fault>
+    ensures asks { Asks S.Store conn.old conn.new result }
+    ensures opens { ServesUnlessFailed S.Store conn.new result }
+    ensures never { NeverEnded result }
+    ensures unrefused { NotRefusedIn S.Store conn.old conn.new result IsPresentProject }
+    ensures plan { ForEachWorld S.Store conn.old conn.new
+        (PlansNow (AskClasses file.now.name file.now.file) result) }
+{
+    let source = file_source(ImportKind::Classes, file);
+    match import_of(conn, alloc, ImportKind::Classes, &file.name)? {
+        Some(earlier) => repeated(alloc, &source, earlier),
+        None => new_classes(alloc, &source, read_classes(alloc, file.file.as_slice())?),
+    }
+}

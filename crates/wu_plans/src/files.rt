@@ -1,0 +1,172 @@
+//! A file of sends or of reports: what its rows leave, what it answers and what it changes, before anything is changed.
+
+ghost use Rattle.std.specs.Prelude.{◌≡◌, ◌≤◌, All, IfOk, IfErr};
+ghost use Rattle.wu_core.specs.declared.fault.Fault.TheVariants.{Memory};
+ghost use Rattle.wu_core.specs.declared.import.ImportKind.TheVariants as kind;
+ghost use Rattle.wu_plans.specs.Planning.{given_of, IsNewFile, IsPresentProject, LeavesRows, NeverEnded, PlansNow, PlansRows, TakesRows};
+ghost use Rattle.wu_machine.specs.Requests.{AskReported, AskSent};
+ghost use Rattle.wu_plans.specs.Touched.{LeavesRow, rule_in, TouchesNamed};
+ghost use Rattle.wu_store.specs.Loading.{Asks, IsStoreFault, LoadsNamed, NotRefusedIn, ForEachWorld, ServesUnlessFailed};
+
+use crate::imports::{Source, file_source, imported, kept, repeated};
+use crate::plan::Plan;
+use crate::touched::{FileRow, Touched};
+use sqlite::{Alter, Connection};
+use std::alloc::Global;
+use wu_core::{Bytes, Fault, ImportKind, Name};
+use wu_feed::{Rows, read_reports, read_sends};
+use wu_machine::RowsFile;
+use wu_store::{Change, import_of, load_named};
+
+/// What the rows of a file left: the workunits that they spoke of, and the number of a verdict for each row.
+#[derive(Drop)]
+pub struct Left {
+    pub touched: Touched,
+    pub verdicts: Vec<u8>,
+}
+
+/// Sees that the workunit of this name is among the touched, if it is present.
+fn touch<S: Alter>(
+    conn: &mut Connection<S>,
+    alloc: Global,
+    touched: &mut Touched,
+    name: &Name,
+) -> Result<(), Fault>
+    ensures asks { Asks S.Store conn.old conn.new result }
+    ensures fault { IfErr result IsStoreFault }
+    ensures unrefused { NotRefusedIn S.Store conn.old conn.new result (LoadsNamed name.now) }
+    ensures touches { ForEachWorld S.Store conn.old conn.new
+        (TouchesNamed name.now touched.old touched.new result) }
+{
+    if touched.has(name) {
+        return Ok(());
+    }
+    match load_named(conn, alloc, name)? {
+        Some(workunit) => touched.insert(alloc, workunit),
+        None => Ok(()),
+    }
+}
+
+/// Applies a row to its workunit as the rows before left it, or skips it: the number of the verdict. The class of its
+/// host is asked for, where it depends on that.
+fn apply_row<R: FileRow, S: Alter>(
+    conn: &mut Connection<S>,
+    alloc: Global,
+    touched: &mut Touched,
+    row: R,
+) -> Result<u8, Fault>
+    ensures asks { Asks S.Store conn.old conn.new result }
+    ensures fault { IfErr result IsStoreFault }
+    ensures unrefused { NotRefusedIn S.Store conn.old conn.new result TakesRows }
+    ensures digit { IfOk result (λ verdict. verdict ≤ 9) }
+    ensures left { ForEachWorld S.Store conn.old conn.new
+        (LeavesRow (rule_in R.rule R.class_in) row touched.old touched.new result) }
+{
+    touch(conn, alloc, touched, row.workunit())?;
+    let class = row.find_class(conn)?;
+    Ok(touched.apply(row, class))
+}
+
+/// Applies the rows of a file in order, each on what the rows before left.
+fn apply_rows<R: FileRow, S: Alter>(
+    conn: &mut Connection<S>,
+    alloc: Global,
+    rows: Rows<R>,
+) -> Result<Left, Fault>
+    ensures asks { Asks S.Store conn.old conn.new result }
+    ensures fault { IfErr result IsStoreFault }
+    ensures unrefused { NotRefusedIn S.Store conn.old conn.new result TakesRows }
+    ensures digits { IfOk result (λ left. All (λ verdict. verdict ≤ 9) left.verdicts.items) }
+    ensures left { ForEachWorld S.Store conn.old conn.new
+        (LeavesRows (rule_in R.rule R.class_in) rows result) }
+{
+    let mut touched = Touched::new(alloc);
+    let mut verdicts = Vec::new(alloc);
+    for row in rows.into_vec() {
+        verdicts.push(apply_row(conn, alloc, &mut touched, row)?)?;
+    }
+    Ok(Left { touched, verdicts })
+}
+
+/// The answer and the changes of a file whose rows left this.
+fn new_file<'a>(alloc: Global, source: &Source<'a>, left: Left) -> Result<Plan<'a>, Fault>
+    requires { All (λ verdict. verdict ≤ 9) left.verdicts.items }
+    ensures plan { IfOk result (IsNewFile (given_of source.now) left) }
+    ensures fault { IfErr result (λ fault. fault ≡ Memory) }
+{
+    let Left { touched, verdicts } = left;
+    let import = kept(alloc, source, 0, verdicts.as_slice())?;
+    let mut changes = touched.into_changes(alloc)?;
+    changes.push(Change::Keep(import))?;
+    Ok(Plan {
+        answer: imported(source, 0, Bytes::from_vec(verdicts))?,
+        changes,
+    })
+}
+
+/// The plan of a file of these rows, under a name that no file of its kind had.
+fn plan_rows<'a, R: FileRow, S: Alter>(
+    conn: &mut Connection<S>,
+    alloc: Global,
+    source: &Source<'a>,
+    rows: Rows<R>,
+) -> Result<Plan<'a>, Fault>
+    ensures asks { Asks S.Store conn.old conn.new result }
+    ensures fault { IfErr result IsStoreFault }
+    ensures unrefused { NotRefusedIn S.Store conn.old conn.new result TakesRows }
+    ensures plan { ForEachWorld S.Store conn.old conn.new
+        (PlansRows (rule_in R.rule R.class_in) (given_of source.now) rows result) }
+{
+    let left = apply_rows(conn, alloc, rows)?;
+    new_file(alloc, source, left)
+}
+
+/// What a file of sends answers and changes, or the first refusal: the name was used with other content, the file.
+pub fn plan_sent<'a, S: Alter>(
+    conn: &mut Connection<S>,
+    alloc: Global,
+    file: &'a RowsFile,
+) -> Result<Plan<'a>, Fault>
+    ensures asks { Asks S.Store conn.old conn.new result }
+    ensures opens { ServesUnlessFailed S.Store conn.new result }
+    ensures never { NeverEnded result }
+    ensures unrefused { NotRefusedIn S.Store conn.old conn.new result IsPresentProject }
+    ensures plan { ForEachWorld S.Store conn.old conn.new
+        (PlansNow (AskSent file.now.name file.now.file) result) }
+{
+    let source = file_source(ImportKind::Sent, file);
+    match import_of(conn, alloc, ImportKind::Sent, &file.name)? {
+        Some(earlier) => repeated(alloc, &source, earlier),
+        None => plan_rows(
+            conn,
+            alloc,
+            &source,
+            read_sends(alloc, file.file.as_slice())?,
+        ),
+    }
+}
+
+/// What a file of reports answers and changes, or the first refusal: the name was used with other content, the file.
+pub fn plan_reported<'a, S: Alter>(
+    conn: &mut Connection<S>,
+    alloc: Global,
+    file: &'a RowsFile,
+) -> Result<Plan<'a>, Fault>
+    ensures asks { Asks S.Store conn.old conn.new result }
+    ensures opens { ServesUnlessFailed S.Store conn.new result }
+    ensures never { NeverEnded result }
+    ensures unrefused { NotRefusedIn S.Store conn.old conn.new result IsPresentProject }
+    ensures plan { ForEachWorld S.Store conn.old conn.new
+        (PlansNow (AskReported file.now.name file.now.file) result) }
+{
+    let source = file_source(ImportKind::Reported, file);
+    match import_of(conn, alloc, ImportKind::Reported, &file.name)? {
+        Some(earlier) => repeated(alloc, &source, earlier),
+        None => plan_rows(
+            conn,
+            alloc,
+            &source,
+            read_reports(alloc, file.file.as_slice())?,
+        ),
+    }
+}

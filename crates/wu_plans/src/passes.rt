@@ -1,0 +1,420 @@
+//! A pass: what it makes of the workunits that it takes, what it answers and what it changes, before anything is
+//! changed.
+
+ghost use Rattle.std.specs.Prelude.{◌≡◌, ◌+◌, ◌≤◌, ◌^◌, ◌++◌, [], true, length, map, None, IfErr, IfOk};
+ghost use Rattle.wu_core.specs.declared.fault.Fault.TheVariants.{Memory};
+ghost use Rattle.wu_machine.specs.Machine.{is_limit_right};
+ghost use Rattle.wu_plans.specs.PassPlans.{asked, AddsArchivedRows, AddsFrom, AddsGrants, AddsGiven, HandlesAll, HandlesAlso, IsImageOf, PlansTaken};
+ghost use Rattle.wu_plans.specs.Planning.{ForEachProject, IsPresentProject, NeverEnded, NeverRefused, NotRefusedOver, PlansNow};
+ghost use Rattle.wu_machine.specs.Requests.{AskPass};
+ghost use Rattle.wu_store.specs.Changing.{archived_from};
+ghost use Rattle.wu_store.specs.Loading.{Asks, IsStoreFault, ForEachWorld, ServesUnlessFailed};
+ghost use Rattle.wu_rules.specs.declared.due.Pass.TheVariants as pass;
+ghost use Rattle.wu_store.specs.declared.changes.Change.TheVariants.{Remove};
+
+use crate::copies::copy_of;
+use crate::plan::Plan;
+use crate::sums::sums_of;
+use sqlite::{Alter, Connection};
+use std::alloc::Global;
+use wu_core::{Archived, Fault, Grant, LONGEST_AGE, Moment, Workunit};
+use wu_machine::Answer;
+use wu_rules::{Pass, assimilate, delete_files, transition, validate};
+use wu_store::{Change, due_numbers, load_due, next_archived_place, next_grant_place};
+
+/// The most workunits that one pass may be asked to change.
+const HIGHEST_LIMIT: u64 = 1000;
+
+/// What a pass is asked: the moment that it runs at, up to how many workunits, and the least age of what a purge takes.
+#[derive(Clone, Copy)]
+pub struct Ask {
+    pub pass: Pass,
+    pub moment: Moment,
+    pub limit: u64,
+    /// In seconds since the assimilation; for the purge alone.
+    pub min_age: u64,
+}
+
+impl Ask {
+    /// Of a transition at this moment.
+    pub fn transition(now: Moment, limit: u64) -> Self
+        ensures { asked result ≡ AskPass pass.Transition now limit 0 }
+    {
+        Ask {
+            pass: Pass::Transition,
+            moment: now,
+            limit,
+            min_age: 0,
+        }
+    }
+
+    /// Of a validation, which needs no moment.
+    pub fn validate(limit: u64) -> Self
+        ensures { asked result ≡ AskPass pass.Validate 0 limit 0 }
+    {
+        Ask {
+            pass: Pass::Validate,
+            moment: Moment::first(),
+            limit,
+            min_age: 0,
+        }
+    }
+
+    /// Of an assimilation at this moment.
+    pub fn assimilate(now: Moment, limit: u64) -> Self
+        ensures { asked result ≡ AskPass pass.Assimilate now limit 0 }
+    {
+        Ask {
+            pass: Pass::Assimilate,
+            moment: now,
+            limit,
+            min_age: 0,
+        }
+    }
+
+    /// Of a deletion of files, which needs no moment.
+    pub fn delete(limit: u64) -> Self
+        ensures { asked result ≡ AskPass pass.Delete 0 limit 0 }
+    {
+        Ask {
+            pass: Pass::Delete,
+            moment: Moment::first(),
+            limit,
+            min_age: 0,
+        }
+    }
+
+    /// Of a purge at this moment, of what was assimilated at least so many seconds before.
+    pub fn purge(now: Moment, limit: u64, min_age: u64) -> Self
+        ensures { asked result ≡ AskPass pass.Purge now limit min_age }
+    {
+        Ask {
+            pass: Pass::Purge,
+            moment: now,
+            limit,
+            min_age,
+        }
+    }
+
+    /// Whether the limit is 1 to 1000, and the least age of a purge at most a year of 365 days.
+    pub fn is_right(&self) -> bool
+        ensures { result ≡ is_limit_right self.now.pass self.now.limit self.now.min_age }
+    {
+        let is_age_right = self.pass != Pass::Purge || self.min_age <= LONGEST_AGE;
+        1 <= self.limit && self.limit <= HIGHEST_LIMIT && is_age_right
+    }
+}
+
+/// What a pass makes of one workunit.
+#[derive(Drop)]
+struct Image<'a> {
+    change: Change<'a>,
+    /// One for each result that is newly found valid and has a host.
+    grants: Vec<Grant>,
+    /// What is kept for good of a workunit that is assimilated.
+    archived: Option<Archived>,
+}
+
+/// An image that grants nothing and archives nothing.
+fn plain<'a>(alloc: Global, change: Change<'a>) -> Image<'a>
+    ensures same { result.change ≡ change.entry }
+    ensures grants { result.grants.items ≡ [] }
+    ensures archived { result.archived ≡ None }
+{
+    Image {
+        change,
+        grants: Vec::new(alloc),
+        archived: None,
+    }
+}
+
+/// What the pass makes of the workunit. A fault is of memory alone.
+fn image_of<'a>(
+    alloc: Global,
+    pass: Pass,
+    now: Moment,
+    mut workunit: Workunit,
+) -> Result<Image<'a>, Fault>
+    ensures image { IfOk result (IsImageOf pass now workunit) }
+    ensures fault { IfErr result (λ fault. fault ≡ Memory) }
+{
+    match pass {
+        Pass::Transition => {
+            let was = copy_of(alloc, &workunit)?;
+            transition(alloc, &mut workunit, now)?;
+            Ok(plain(alloc, Change::Replace(was, workunit)))
+        }
+        Pass::Validate => {
+            let was = copy_of(alloc, &workunit)?;
+            let grants = validate(alloc, &mut workunit)?;
+            Ok(Image {
+                change: Change::Replace(was, workunit),
+                grants,
+                archived: None,
+            })
+        }
+        Pass::Assimilate => {
+            let was = copy_of(alloc, &workunit)?;
+            let archived = assimilate(alloc, &mut workunit, now)?;
+            Ok(Image {
+                change: Change::Replace(was, workunit),
+                grants: Vec::new(alloc),
+                archived,
+            })
+        }
+        Pass::Delete => {
+            let was = copy_of(alloc, &workunit)?;
+            delete_files(&mut workunit);
+            Ok(plain(alloc, Change::Replace(was, workunit)))
+        }
+        Pass::Purge => Ok(plain(alloc, Change::Remove(workunit.number))),
+    }
+}
+
+/// What a pass makes of the workunits that it takes, in their order.
+#[derive(Drop)]
+struct Handled<'a> {
+    changes: Vec<Change<'a>>,
+    grants: Vec<Grant>,
+    archived: Vec<Archived>,
+}
+
+impl<'a> Handled<'a> {
+    /// Adds what it makes of one more.
+    fn push(&mut self, image: Image<'a>) -> Result<(), Fault>
+        ensures added { IfOk result (λ _. HandlesAlso image.entry self.old self.new) }
+        ensures fault { IfErr result (λ fault. fault ≡ Memory) }
+    {
+        let Image {
+            change,
+            mut grants,
+            archived,
+        } = image;
+        self.changes.push(change)?;
+        self.grants.append(&mut grants)?;
+        if let Some(row) = archived {
+            self.archived.push(row)?;
+        }
+        Ok(())
+    }
+}
+
+/// What the pass makes of these workunits, one after another.
+fn handle<'a>(
+    alloc: Global,
+    pass: Pass,
+    now: Moment,
+    taken: Vec<Workunit>,
+) -> Result<Handled<'a>, Fault>
+    ensures all { IfOk result (HandlesAll pass now taken.items) }
+    ensures fault { IfErr result (λ fault. fault ≡ Memory) }
+{
+    let mut handled = Handled {
+        changes: Vec::new(alloc),
+        grants: Vec::new(alloc),
+        archived: Vec::new(alloc),
+    };
+    for workunit in taken {
+        let image = image_of(alloc, pass, now, workunit)?;
+        handled.push(image)?;
+    }
+    Ok(handled)
+}
+
+/// Adds one change that keeps the grants at places in a row, from this one on, with their sums.
+fn with_grants(
+    alloc: Global,
+    changes: &mut Vec<Change<'_>>,
+    place: u64,
+    grants: Vec<Grant>,
+) -> Result<(), Fault>
+    ensures added { IfOk result (λ _.
+        AddsFrom place grants.items changes.old.items changes.new.items) }
+    ensures fault { IfErr result (λ fault. fault ≡ Memory) }
+{
+    let sums = sums_of(alloc, grants.as_slice())?;
+    changes.push(Change::Grants(place, grants, sums))?;
+    Ok(())
+}
+
+/// Adds the archived rows at places in a row, from this one on.
+fn with_archived(
+    changes: &mut Vec<Change<'_>>,
+    place: u64,
+    archived: Vec<Archived>,
+) -> Result<(), Fault>
+    requires { place ≤ 2 ^ 63 }
+    ensures added { IfOk result (λ _.
+        changes.new.items ≡ changes.old.items ++ archived_from place archived.items) }
+    ensures fault { IfErr result (λ fault. fault ≡ Memory) }
+{
+    let mut seq = place;
+    for row in archived {
+        changes.push(Change::Archive(seq, row))?;
+        seq += 1;
+    }
+    Ok(())
+}
+
+/// Adds the grants at the next places, if there are any.
+fn and_grants<S: Alter>(
+    conn: &mut Connection<S>,
+    alloc: Global,
+    changes: &mut Vec<Change<'_>>,
+    grants: Vec<Grant>,
+) -> Result<(), Fault>
+    ensures asks { Asks S.Store conn.old conn.new result }
+    ensures fault { IfErr result IsStoreFault }
+    ensures unrefused { NeverRefused S.Store conn.old conn.new result }
+    ensures added { ForEachWorld S.Store conn.old conn.new
+        (AddsGrants grants.items changes.old.items changes.new.items result) }
+{
+    if grants.is_empty() {
+        return Ok(());
+    }
+    let place = next_grant_place(conn)?;
+    with_grants(alloc, changes, place, grants)
+}
+
+/// Adds the archived rows at the next places, if there are any.
+fn and_archived<S: Alter>(
+    conn: &mut Connection<S>,
+    changes: &mut Vec<Change<'_>>,
+    archived: Vec<Archived>,
+) -> Result<(), Fault>
+    ensures asks { Asks S.Store conn.old conn.new result }
+    ensures fault { IfErr result IsStoreFault }
+    ensures unrefused { NeverRefused S.Store conn.old conn.new result }
+    ensures added { ForEachWorld S.Store conn.old conn.new
+        (AddsArchivedRows archived.items changes.old.items changes.new.items result) }
+{
+    if archived.is_empty() {
+        return Ok(());
+    }
+    let place = next_archived_place(conn)?;
+    with_archived(changes, place, archived)
+}
+
+/// The changes of what was handled: of the workunits, then the grants, then the archived rows.
+fn changes_of<'a, S: Alter>(
+    conn: &mut Connection<S>,
+    alloc: Global,
+    handled: Handled<'a>,
+) -> Result<Vec<Change<'a>>, Fault>
+    ensures asks { Asks S.Store conn.old conn.new result }
+    ensures fault { IfErr result IsStoreFault }
+    ensures unrefused { NeverRefused S.Store conn.old conn.new result }
+    ensures added { ForEachWorld S.Store conn.old conn.new (AddsGiven handled.entry result) }
+{
+    let Handled {
+        mut changes,
+        grants,
+        archived,
+    } = handled;
+    and_grants(conn, alloc, &mut changes, grants)?;
+    and_archived(conn, &mut changes, archived)?;
+    Ok(changes)
+}
+
+/// The plan of a pass that takes these workunits.
+fn plan_taken<'a, S: Alter>(
+    conn: &mut Connection<S>,
+    alloc: Global,
+    ask: &Ask,
+    taken: Vec<Workunit>,
+) -> Result<Plan<'a>, Fault>
+    requires { length taken.items ≤ 1000 }
+    ensures asks { Asks S.Store conn.old conn.new result }
+    ensures fault { IfErr result IsStoreFault }
+    ensures unrefused { NeverRefused S.Store conn.old conn.new result }
+    ensures plan { ForEachWorld S.Store conn.old conn.new (PlansTaken ask.now taken.items result) }
+{
+    let pass = ask.pass;
+    let count = taken.len() as u32;
+    let handled = handle(alloc, pass, ask.moment, taken)?;
+    let changes = changes_of(conn, alloc, handled)?;
+    Ok(Plan {
+        answer: Answer::Passed {
+            pass,
+            handled: count,
+        },
+        changes,
+    })
+}
+
+/// A change for each number, which takes its workunit out.
+fn removals<'a>(alloc: Global, numbers: Vec<u64>) -> Result<Vec<Change<'a>>, Fault>
+    ensures all { IfOk result (λ changes. changes.items ≡ map Remove numbers.items) }
+    ensures fault { IfErr result (λ fault. fault ≡ Memory) }
+{
+    let mut changes = Vec::new(alloc);
+    for number in numbers {
+        changes.push(Change::Remove(number))?;
+    }
+    Ok(changes)
+}
+
+/// The plan of a purge. It grants and archives nothing, so it needs no more of a workunit than its number.
+fn plan_purge<'a, S: Alter>(
+    conn: &mut Connection<S>,
+    alloc: Global,
+    ask: &Ask,
+) -> Result<Plan<'a>, Fault>
+    requires right { is_limit_right ask.now.pass ask.now.limit ask.now.min_age ≡ true }
+    requires purge { ask.now.pass ≡ pass.Purge }
+    ensures asks { Asks S.Store conn.old conn.new result }
+    ensures opens { ServesUnlessFailed S.Store conn.new result }
+    ensures never { NeverEnded result }
+    ensures unrefused { NotRefusedOver S.Store conn.old conn.new result IsPresentProject }
+    ensures plan { ForEachProject S.Store conn.old conn.new (PlansNow (asked ask.now) result) }
+{
+    let numbers = due_numbers(conn, alloc, ask.pass, ask.moment, ask.min_age, ask.limit)?;
+    let count = numbers.len() as u32;
+    let changes = removals(alloc, numbers)?;
+    Ok(Plan {
+        answer: Answer::Passed {
+            pass: ask.pass,
+            handled: count,
+        },
+        changes,
+    })
+}
+
+/// The plan of a pass that puts the images of workunits in their places.
+fn plan_images<'a, S: Alter>(
+    conn: &mut Connection<S>,
+    alloc: Global,
+    ask: &Ask,
+) -> Result<Plan<'a>, Fault>
+    requires { is_limit_right ask.now.pass ask.now.limit ask.now.min_age ≡ true }
+    ensures asks { Asks S.Store conn.old conn.new result }
+    ensures opens { ServesUnlessFailed S.Store conn.new result }
+    ensures never { NeverEnded result }
+    ensures unrefused { NotRefusedOver S.Store conn.old conn.new result IsPresentProject }
+    ensures plan { ForEachProject S.Store conn.old conn.new (PlansNow (asked ask.now) result) }
+{
+    let taken = load_due(conn, alloc, ask.pass, ask.moment, ask.min_age, ask.limit)?;
+    plan_taken(conn, alloc, ask, taken)
+}
+
+/// What a pass answers and changes, over tables of the present version. It takes the first workunits that it changes,
+/// up to its limit: the first by number, where the tables stand for a world whose list is in that order.
+pub fn plan_pass<'a, S: Alter>(
+    conn: &mut Connection<S>,
+    alloc: Global,
+    ask: &Ask,
+) -> Result<Plan<'a>, Fault>
+    requires { is_limit_right ask.now.pass ask.now.limit ask.now.min_age ≡ true }
+    ensures asks { Asks S.Store conn.old conn.new result }
+    ensures opens { ServesUnlessFailed S.Store conn.new result }
+    ensures never { NeverEnded result }
+    ensures unrefused { NotRefusedOver S.Store conn.old conn.new result IsPresentProject }
+    ensures plan { ForEachProject S.Store conn.old conn.new (PlansNow (asked ask.now) result) }
+{
+    match ask.pass {
+        Pass::Purge => plan_purge(conn, alloc, ask),
+        Pass::Transition | Pass::Validate | Pass::Assimilate | Pass::Delete => {
+            plan_images(conn, alloc, ask)
+        }
+    }
+}

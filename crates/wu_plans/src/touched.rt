@@ -1,0 +1,201 @@
+//! The workunits that the rows of a file speak of, each as it was found and as the rows so far left it.
+
+ghost use Rattle.std.specs.Prelude.{◌≡◌, ◌≢◌, ◌≤◌, [], IfErr, IfOk, IfSome, OnOk, is_some, map};
+ghost use Rattle.std.specs.Option.{option_map_or};
+ghost use Rattle.wu_core.specs.declared.fault.Fault.TheVariants.{Memory};
+ghost use Rattle.wu_machine.specs.FileRows.{KeepsIdentity, left_by, unknown};
+ghost use Rattle.wu_plans.specs.Touched.{AreDistinct, HasAlso, LeavesBy, replaces, touched_named};
+
+use crate::copies::copy_of;
+use sqlite::{Alter, Connection};
+use std::alloc::Global;
+use std::collections::BTreeMap;
+use std::marker::Model;
+use wu_core::{Fault, Name, Workunit};
+use wu_feed::{ReportRow, SendRow};
+use wu_rules::{ReportVerdict, SendVerdict, report, send};
+use wu_store::{Change, class_of};
+
+/// A row of a file that speaks of an instance of one workunit.
+pub trait FileRow: Drop {
+    ghost use Rattle.std.specs.Prelude.{◌≡◌, ◌≢◌, ◌≤◌, ℕ, List, IfErr};
+    ghost use Rattle.wu_core.specs.Classes.{AreClassed};
+    ghost use Rattle.wu_core.specs.declared.workunit.HostClass.{HostClass};
+    ghost use Rattle.wu_machine.specs.FileRows.{KeepsIdentity, Rule, unknown};
+    ghost use Rattle.wu_store.specs.Classes.{AnswersClass, NotRefusedClass};
+    ghost use Rattle.wu_store.specs.Loading.{Asks, IsStoreFault};
+
+    /// The class on which the verdict on such a row depends, where hosts have these classes.
+    ghost class_in: { List HostClass → Self → ℕ };
+
+    /// The verdict on such a row, and what it makes of its workunit, where this is that class.
+    ghost rule: { ℕ → Rule Self };
+
+    /// The name of its workunit.
+    fn workunit(&self) -> &Name
+        ensures { (class : ℕ) → result.now ≡ (rule class).workunit self.now };
+
+    /// The class on which the verdict on the row depends: it is asked of the tables.
+    fn find_class<S: Alter>(&self, conn: &mut Connection<S>) -> Result<u32, Fault>
+        ensures asks { Asks S.Store conn.old conn.new result }
+        ensures fault { IfErr result IsStoreFault }
+        ensures found { AnswersClass S.Store conn.old conn.new result
+            (λ world. class_in world.classes self.now) }
+        ensures unrefused { NotRefusedClass S.Store conn.old conn.new result
+            (λ world. AreClassed world.classes) };
+
+    /// The number of the verdict on such a row whose workunit is not present.
+    fn unknown() -> u8
+        ensures { result ≡ unknown };
+
+    /// Applies the row to its workunit, or skips it: the number of the verdict, 0 where it was applied.
+    fn apply(self, class: u32, workunit: &mut Workunit) -> u8
+        ensures verdict { result ≡ (rule class).verdict self workunit.old }
+        ensures digit { result ≤ 9 }
+        ensures applied { result ≡ 0 → workunit.new ≡ (rule class).image self workunit.old }
+        ensures skipped { result ≢ 0 → workunit.new ≡ workunit.old }
+        ensures keeps { KeepsIdentity workunit.old workunit.new };
+}
+
+impl FileRow for SendRow {
+    ghost use Rattle.wu_plans.specs.Touched.{send_class, send_rule_at};
+
+    ghost class_in = { send_class };
+
+    ghost rule = { send_rule_at };
+
+    fn workunit(&self) -> &Name {
+        &self.workunit
+    }
+
+    fn find_class<S: Alter>(&self, conn: &mut Connection<S>) -> Result<u32, Fault> {
+        class_of(conn, &self.host)
+    }
+
+    fn unknown() -> u8 {
+        SendVerdict::Unknown.code()
+    }
+
+    fn apply(self, class: u32, workunit: &mut Workunit) -> u8 {
+        send(workunit, self.n, self.host, class, self.moment).code()
+    }
+}
+
+impl FileRow for ReportRow {
+    ghost use Rattle.wu_plans.specs.Touched.{no_class, report_rule_at};
+
+    ghost class_in = { no_class };
+
+    ghost rule = { report_rule_at };
+
+    fn workunit(&self) -> &Name {
+        &self.workunit
+    }
+
+    fn find_class<S: Alter>(&self, _conn: &mut Connection<S>) -> Result<u32, Fault> {
+        Ok(0)
+    }
+
+    fn unknown() -> u8 {
+        ReportVerdict::Unknown.code()
+    }
+
+    fn apply(self, _class: u32, workunit: &mut Workunit) -> u8 {
+        let ReportRow {
+            workunit: _,
+            n,
+            host,
+            moment,
+            status,
+            output,
+        } = self;
+        report(workunit, n, &host, moment, status, output).code()
+    }
+}
+
+/// A workunit that rows spoke of: as it was found, and as they left it.
+#[derive(Drop)]
+pub struct Touch {
+    pub was: Workunit,
+    pub now: Workunit,
+}
+
+/// The workunits that the rows so far spoke of. One is found by its name.
+#[derive(Drop)]
+pub struct Touched {
+    by_name: BTreeMap<String, Touch>,
+}
+
+impl Model for Touched {
+    ghost use Rattle.std.specs.Prelude.{List};
+    ghost use Rattle.std.specs.List.{AllByRecursion};
+    ghost use Rattle.std.specs.BTreeMap.{values};
+    ghost use Rattle.wu_plans.specs.declared.touched.Touch.{Touch};
+    ghost use Rattle.wu_plans.specs.Touched.{IsUnderItsName};
+
+    ghost Value = { List Touch };
+
+    ghost view = { λ touched. values touched.by_name };
+
+    ghost invariant = { λ touched. AllByRecursion IsUnderItsName touched.by_name.entries };
+}
+
+impl Touched {
+    /// None so far.
+    pub fn new(alloc: Global) -> Self
+        ensures { result ≡ [] }
+    {
+        Touched {
+            by_name: BTreeMap::new(alloc),
+        }
+    }
+
+    /// Whether the workunit of this name is among them.
+    pub fn has(&self, name: &Name) -> bool
+        ensures { result ≡ is_some (touched_named self.now name.now) }
+    {
+        self.by_name.contains_key(name.as_str())
+    }
+
+    /// Takes a workunit in, as it was found.
+    pub fn insert(&mut self, alloc: Global, workunit: Workunit) -> Result<(), Fault>
+        ensures also { OnOk result (HasAlso workunit self.old self.new) }
+        ensures fault { IfErr result (λ fault. fault ≡ Memory) }
+    {
+        let name = String::from_str(alloc, workunit.name.as_str())?;
+        let was = copy_of(alloc, &workunit)?;
+        let touch = Touch { was, now: workunit };
+        self.by_name.insert(name, touch)?;
+        Ok(())
+    }
+
+    /// Applies a row to its workunit, or skips it, where this is the class on which its verdict depends: the number of
+    /// the verdict. Where its workunit is not among these, it is `unknown`.
+    pub fn apply<R: FileRow>(&mut self, row: R, class: u32) -> u8
+        ensures verdict { result ≡ option_map_or (λ touch. (R.rule class).verdict row touch.now)
+            (touched_named self.old ((R.rule class).workunit row)) unknown }
+        ensures digit { result ≤ 9 }
+        ensures left { LeavesBy (R.rule class) row result self.old self.new }
+        ensures keeps { IfSome (touched_named self.old ((R.rule class).workunit row))
+            (λ touch. KeepsIdentity touch.now (left_by (R.rule class) row result touch.now)) }
+    {
+        let Some(touch) = self.by_name.get_mut(row.workunit().as_str()) else {
+            return R::unknown();
+        };
+        row.apply(class, &mut touch.now)
+    }
+
+    /// The changes that put each in the place of the present workunit of its number.
+    pub fn into_changes<'a>(self, alloc: Global) -> Result<Vec<Change<'a>>, Fault>
+        ensures distinct { AreDistinct self }
+        ensures changes { IfOk result (λ changes. changes.items ≡ map replaces self) }
+        ensures fault { IfErr result (λ fault. fault ≡ Memory) }
+    {
+        let mut changes = Vec::new(alloc);
+        for (_, touch) in self.by_name {
+            let Touch { was, now } = touch;
+            changes.push(Change::Replace(was, now))?;
+        }
+        Ok(changes)
+    }
+}

@@ -1,0 +1,39 @@
+//! What bringing a project's schema to the present version answers and changes, before anything is changed.
+
+ghost use Rattle.wu_plans.specs.Planning.{IsOfVersion, NeverEnded, PlansUpgrade};
+ghost use Rattle.wu_store.specs.Loading.{Asks, NotRefusedIn, ForEachWorld, StaysUnlessFailed};
+
+use crate::plan::Plan;
+use sqlite::{Alter, Connection};
+use std::alloc::Global;
+use wu_core::Fault;
+use wu_machine::Answer;
+use wu_schema::PRESENT_VERSION;
+use wu_store::{Change, load_marks};
+
+/// What an upgrade of tables of this version answers and changes. It answers that version and the present one.
+///
+/// At the present version no change is planned. An older one, of whichever version, gets what it lacks, with the marks
+/// of all workunits, which are read here.
+pub fn plan_upgrade<'a, S: Alter>(
+    conn: &mut Connection<S>,
+    alloc: Global,
+    version: u64,
+) -> Result<Plan<'a>, Fault>
+    ensures asks { Asks S.Store conn.old conn.new result }
+    ensures opens { StaysUnlessFailed S.Store conn.old conn.new result }
+    ensures never { NeverEnded result }
+    ensures unrefused { NotRefusedIn S.Store conn.old conn.new result (IsOfVersion version) }
+    ensures plan { ForEachWorld S.Store conn.old conn.new (PlansUpgrade version result) }
+{
+    let answer = Answer::Upgraded {
+        from: version,
+        to: PRESENT_VERSION,
+    };
+    let mut changes = Vec::new(alloc);
+    if version < PRESENT_VERSION {
+        let rows = load_marks(conn, alloc)?;
+        changes.push(Change::Upgrade(version, rows))?;
+    }
+    Ok(Plan { answer, changes })
+}
