@@ -1,9 +1,9 @@
 mod ClassLemmas
 mod FieldLemmas
 mod InputLemmas
-mod JobLemmas
 mod MomentLemmas
 mod OnLiterals
+mod ReadLemmas
 mod RecordLemmas
 pub mod RangeLemmas
 mod RowLemmas

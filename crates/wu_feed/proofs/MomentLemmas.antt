@@ -1,5 +1,5 @@
 -- The shape of a moment's text.
-use Rattle.std.proofs.Common.{◌≡◌, ◌≤◌, ◌<◌, ◌+◌, ℕ, Bool, true, false, ◌&&◌, List, [], ◌∷◌, length, get_or, drop, zero, suc, ◌==◌, arith, refl, sym, ◌∙◌}
+use Rattle.std.proofs.Common.{◌≡◌, ◌≤◌, ◌<◌, ◌+◌, ℕ, Bool, true, false, ◌&&◌, List, [], ◌∷◌, length, get_or, drop, zero, suc, ◌==◌, nat_lt, arith, refl, sym, ◌∙◌}
 use Rattle.std.proofs.lemmas.Bool.{and_parts}
 use Rattle.std.proofs.lemmas.Bool.Decides.{nat_tests}
 use Rattle.std.proofs.lemmas.List.{drop_more, drop_all}
@@ -21,11 +21,20 @@ fits_at (s ∷ shape) [] i a b h = absurd (omega arith)
 fits_at (s ∷ shape) (t ∷ text) zero a b h = (and_parts (fits s t) (fit_all shape text) h).0
 fits_at (s ∷ shape) (t ∷ text) (suc i) a b h = fits_at shape text i (omega arith) (omega arith) (and_parts (fits s t) (fit_all shape text) h).1
 
+long_of : (text : List ℕ) → has_shape text ≡ true → length text ≡ 20
+long_of text h = grind (arith, nat_tests, and_parts (length text == 20) (fit_all shape_of_moment text) h)
+
+-- a place of the shape is one of the text
+pub within_text : (text : List ℕ) (i : ℕ) → nat_lt i 20 ≡ true → has_shape text ≡ true → i < length text
+within_text text i within h =
+    let long = long_of text h in
+    grind (arith, nat_tests)
+
 -- what the shape says of a byte
-pub shaped_at : (text : List ℕ) (i : ℕ) → i < 20 → has_shape text ≡ true → fits (get_or shape_of_moment i 0) (get_or text i 0) ≡ true
+pub shaped_at : (text : List ℕ) (i : ℕ) → nat_lt i 20 ≡ true → has_shape text ≡ true → fits (get_or shape_of_moment i 0) (get_or text i 0) ≡ true
 shaped_at text i within h =
-    let long : length text ≡ 20 = grind (arith, nat_tests, and_parts (length text == 20) (fit_all shape_of_moment text) h) in
-    fits_at shape_of_moment text i within (omega arith) (and_parts (length text == 20) (fit_all shape_of_moment text) h).1
+    let small : i < 20 = grind (arith, nat_tests) in
+    fits_at shape_of_moment text i small (within_text text i within h) (and_parts (length text == 20) (fit_all shape_of_moment text) h).1
 
 pub has_shape-of : (text : List ℕ) → length text ≡ 20 → has_shape text ≡ fit_all shape_of_moment text
 has_shape-of text long = rw long refl

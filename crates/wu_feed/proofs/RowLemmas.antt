@@ -1,15 +1,29 @@
 -- The rows of a file, one after the other.
-use Rattle.std.proofs.Common.{◌≡◌, ◌≤◌, ◌<◌, ◌+◌, ℕ, Bool, true, false, inl, inr, List, [], ◌∷◌, ◌++◌, length, get_or, map, drop, take, zero, suc, nat_lt, Result, Ok, Err, IfOk, All, append_assoc, if◌then◌else◌, arith, refl, sym, ap, ◌∙◌}
+use Rattle.std.proofs.Common.{◌≡◌, ◌≤◌, ◌<◌, ◌+◌, ◌-◌, ℕ, Bool, true, false, inl, inr, List, [], ◌∷◌, ◌++◌, length, get_or, map, drop, take, zero, suc, nat_lt, Result, Ok, Err, IfOk, All, append_assoc, if◌then◌else◌, arith, refl, sym, ap, ◌∙◌}
 use Rattle.std.proofs.lemmas.Bool.Decides.{nat_tests}
-use Rattle.std.proofs.lemmas.List.{append-nil, drop_all, drop_more}
+use Rattle.std.proofs.lemmas.List.{append-nil, drop_all, drop_more, take_all}
 use Rattle.std.proofs.lemmas.List.Elements.{All-cons, All-nil}
 use Rattle.csv.specs.Records.{Row, fields_of}
 use Rattle.wu_core.specs.Reads.{IsOrWantsMemory}
 use Rattle.wu_core.specs.declared.fault.Fault.{Fault}
 use Rattle.wu_core.specs.declared.fault.Fault.TheVariants.{BadFile}
 use Rattle.wu_core.specs.declared.fault.FileCause.TheVariants as cause
+use Rattle.wu_feed.proofs.ReadLemmas.{is_read}
 use Rattle.wu_feed.specs.Limits.{last_row, longest_file, most_rows}
-use Rattle.wu_feed.specs.Rows.{first_records_of, is_header, records_of, row_at, rows_from, rows_of_file, rows_under, with_first}
+use Rattle.wu_feed.specs.Rows.{first_records_of, has_header, is_header, records_of, row_at, rows_from, rows_of_file, rows_under, with_first}
+
+-- the numbers of rows
+pub above_2 : 2 ≤ 1002
+above_2 = omega arith
+
+pub next_within : {number : ℕ} → number ≤ last_row → number + 1 ≤ 1002
+next_within within = omega arith
+
+-- records of which the first is the header have it
+pub header_there : (names : List (List ℕ)) (records : List Row) (header : Row) → 1 ≤ length records → header ≡ get_or records 0 header → is_header names (fields_of header) ≡ true
+    → has_header names (map fields_of records) ≡ true
+header_there names [] header some is true-header = absurd (omega arith)
+header_there names (r ∷ rows) header some is true-header = rw (← is) true-header
 
 -- rows before others
 abbrev pub with_all : {R : Type 0} → List R → Result (List R) Fault → Result (List R) Fault
@@ -24,10 +38,6 @@ none_before (Err fault) = refl
 push : {R : Type 0} (front : List R) (row : R) (rest : Result (List R) Fault) → with_all (front ++ row ∷ []) rest ≡ with_all front (with_first (Ok row) rest)
 push front row (Ok rows) = ap Ok (append_assoc front (row ∷ []) rows)
 push front row (Err fault) = refl
-
-is_read : {R : Type 0} (row : R) (read : Result R Fault) → IsOrWantsMemory (Ok row) read → read ≡ Ok row
-is_read row read (inl e) = sym e
-is_read row read (inr e) = cc e
 
 refusal : {R : Type 0} (front : List R) (fault : Fault) (read : Result R Fault) (rest whole : Result (List R) Fault) → IsOrWantsMemory (Err fault) read
     → with_all front (with_first read rest) ≡ whole → IsOrWantsMemory (Err fault) whole
@@ -77,6 +87,15 @@ module _ {R : Type 0} (row_of : ℕ → List (List ℕ) → Result R Fault) wher
       by : (b : Bool) → nat_lt last_row number ≡ b → row_at row_of number fields ≡ Ok row → number ≤ last_row
       by true past e = cc (rw past at e)
       by false within e = grind (arith, nat_tests)
+
+  -- records of which the first is the header
+  pub rows_below : (names : List (List ℕ)) (records : List Row) (header : Row) (result : Result (List R) Fault) → 1 ≤ length records → header ≡ get_or records 0 header
+      → is_header names (fields_of header) ≡ true → IsOrWantsMemory result (rows_from row_of 2 (map fields_of (take (length records - 1) (drop 1 records))))
+      → IsOrWantsMemory result (rows_under names row_of (map fields_of records))
+  rows_below names [] header result some is true-header gave = absurd (omega arith)
+  rows_below names (r ∷ rows) header result some is true-header gave =
+      let all = take_all (length (r ∷ rows) - 1) rows (omega arith) in
+      rw (← is, true-header) (rw all at gave)
 
   -- a thousand and one rows decide
   cut : (n number : ℕ) (rows : List (List (List ℕ))) → number + n ≡ 1002 → rows_from row_of number (take (suc n) rows) ≡ rows_from row_of number rows

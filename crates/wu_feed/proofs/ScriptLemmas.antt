@@ -1,13 +1,17 @@
 -- The words of a line and the lines of a script, one after the other.
-use Rattle.std.proofs.Common.{◌≡◌, ◌≤◌, ◌<◌, ◌+◌, ◌==◌, ℕ, zero, suc, Bool, true, false, List, [], ◌∷◌, ◌++◌, Bor, length, map, drop, filter, slice_get, Option, Some, None, Result, Ok, Err, append_assoc, if◌then◌else◌, add-one, arith, refl, sym, ap, ◌∙◌}
-use Rattle.std.specs.List.{enumerate_from, filter_map, list_any}
+use Rattle.std.proofs.Common.{◌≡◌, ◌≤◌, ◌<◌, ◌+◌, ◌==◌, ℕ, zero, suc, Bool, true, false, List, [], ◌∷◌, ◌++◌, Bor, length, get_or, map, drop, filter, slice_get, Option, Some, None, Result, Ok, Err, append_assoc, if◌then◌else◌, arith, refl, sym, ap, ◌∙◌}
+use Rattle.std.specs.List.{cons_option, enumerate_from, filter_map, list_any}
 use Rattle.std.specs.Str.{IsUtf8, is_utf8}
 use Rattle.std.proofs.lemmas.Bool.Decides.{nat_tests}
-use Rattle.std.proofs.lemmas.List.{append-nil, drop_all}
+use Rattle.std.proofs.lemmas.List.{append-nil, drop_all, drop_more}
 use Rattle.std.proofs.lemmas.Str.{IsUtf8-from_is_utf8, is_utf8-from_IsUtf8}
 use Rattle.csv.specs.Machine.{line_feed}
 use Rattle.csv.specs.Records.{field_at}
-use Rattle.wu_feed.specs.Scripts.{field_cause, has_bytes, script_line_of, words_among, words_unless}
+use Rattle.wu_core.specs.Reads.{IsOrWantsMemory}
+use Rattle.wu_core.specs.declared.fault.Fault.{Fault}
+use Rattle.wu_feed.proofs.FieldLemmas.{field_here}
+use Rattle.wu_feed.proofs.ReadLemmas.{value_read}
+use Rattle.wu_feed.specs.Scripts.{field_cause, has_bytes, line_with, script_line_of, words_among, words_at, words_unless, TellsLate}
 use Rattle.wu_feed.specs.declared.script.LineCause.{LineCause}
 use Rattle.wu_feed.specs.declared.script.LineCause.TheVariants as cause
 use Rattle.wu_feed.specs.declared.script.ScriptLine.{ScriptLine}
@@ -33,13 +37,6 @@ after_words front (Err why) = Err why
 pub no_words_before : (rest : Result (List (List ℕ)) LineCause) → after_words [] rest ≡ rest
 no_words_before (Ok words) = refl
 no_words_before (Err why) = refl
-
--- the fields from a place on
-field_here : (fields : List (List ℕ)) (i : ℕ) (field : List ℕ) → Some field ≡ field_at fields i → drop i fields ≡ field ∷ drop (i + 1) fields
-unfolding field_at
-field_here [] i field e = cc e
-field_here (a ∷ more) zero field e = cc e
-field_here (a ∷ more) (suc i) field e = rw add-one (field_here more i field e ∙ rw add-one refl)
 
 no_field : (fields : List (List ℕ)) (i : ℕ) → None ≡ field_at fields i → drop i fields ≡ []
 unfolding field_at
@@ -86,6 +83,46 @@ all_words front fields i whole none so_far =
 -- the lines from a place on, of which the first has the number after this one
 abbrev pub lines_from : ℕ → List (List ℕ) → List ScriptLine
 lines_from number lines = filter_map script_line_of (enumerate_from (number + 1) lines)
+
+-- the lines from a place on are what the line there is and those after it
+lines_at : (number : ℕ) (lines : List (Bor (List ℕ))) (i : ℕ) (d : Bor (List ℕ)) → i < length lines
+    → lines_from number (map (λ l. l.now) (drop i lines)) ≡ cons_option (script_line_of (number + 1, (get_or lines i d).now)) (lines_from (number + 1) (map (λ l. l.now) (drop (i + 1) lines)))
+lines_at number lines i d within = rw (drop_more lines i d within) refl
+
+-- what a line is that has no byte, and one that has some
+pub no_byte : (number : ℕ) (line : List ℕ) → (length line == 0) ≡ true → script_line_of (number, line) ≡ None
+no_byte number line empty =
+    let none : has_bytes line ≡ false = grind (arith, nat_tests) in
+    rw none refl
+
+has_byte : (number : ℕ) (line : List ℕ) → (length line == 0) ≡ false → script_line_of (number, line) ≡ line_with number (words_at number line)
+has_byte number line some =
+    let has : has_bytes line ≡ true = grind (arith, nat_tests) in
+    rw has refl
+
+pub line_made : (number : ℕ) (line : List ℕ) (words : Result (List (List ℕ)) LineCause) → (length line == 0) ≡ false → IsOrWantsMemory (Ok words) (Ok (words_at number line))
+    → line_with number words ≡ script_line_of (number, line)
+line_made number line words some read = ap (line_with number) (sym (value_read words (words_at number line) read)) ∙ sym (has_byte number line some)
+
+pub late_refused : {T U : Type 0} (fault : Fault) (number : ℕ) (expected : T) (line : U) → TellsLate number (Err fault) expected → TellsLate number (Err fault) line
+late_refused fault number expected line told = λ late. cc (told late)
+
+-- the next line was read
+pub line_added : (front : List ScriptLine) (item : ScriptLine) (number : ℕ) (lines : List (Bor (List ℕ))) (i : ℕ) (d : Bor (List ℕ)) (whole : List ScriptLine) → i < length lines
+    → IsOrWantsMemory (Ok (Some item)) (Ok (script_line_of (number + 1, (get_or lines i d).now))) → front ++ lines_from number (map (λ l. l.now) (drop i lines)) ≡ whole
+    → (front ++ item ∷ []) ++ lines_from (number + 1) (map (λ l. l.now) (drop (i + 1) lines)) ≡ whole
+line_added front item number lines i d whole within read so_far =
+    let at = lines_at number lines i d within in
+    let here = value_read (Some item) (script_line_of (number + 1, (get_or lines i d).now)) read in
+    append_assoc front (item ∷ []) (lines_from (number + 1) (map (λ l. l.now) (drop (i + 1) lines))) ∙ rw (at, here) at so_far
+
+pub line_skipped : (front : List ScriptLine) (number : ℕ) (lines : List (Bor (List ℕ))) (i : ℕ) (d : Bor (List ℕ)) (whole : List ScriptLine) → i < length lines
+    → IsOrWantsMemory (Ok None) (Ok (script_line_of (number + 1, (get_or lines i d).now))) → front ++ lines_from number (map (λ l. l.now) (drop i lines)) ≡ whole
+    → front ++ lines_from (number + 1) (map (λ l. l.now) (drop (i + 1) lines)) ≡ whole
+line_skipped front number lines i d whole within read so_far =
+    let at = lines_at number lines i d within in
+    let here = value_read None (script_line_of (number + 1, (get_or lines i d).now)) read in
+    rw (at, here) at so_far
 
 -- no line is left
 pub all_lines : (front : List ScriptLine) (number : ℕ) (lines : List (Bor (List ℕ))) (i : ℕ) (whole : List ScriptLine) → length lines ≤ i

@@ -1,8 +1,9 @@
 -- The document of a template, and its keys.
-use Rattle.std.proofs.Common.{◌≡◌, ◌⊎◌, ◌≤◌, ℕ, Bool, true, false, inl, inr, List, [], ◌∷◌, length, nat_le, Option, Some, None, Result, Ok, Err, IfOk, IfErr, ℤ, String, Global, IsUtf8, string_bytes, arith, refl}
+use Rattle.std.proofs.Common.{◌≡◌, ◌⊎◌, ◌≤◌, ℕ, Bool, true, false, ◌||◌, bytes_eq, codes, inl, inr, List, [], ◌∷◌, length, nat_le, Option, Some, None, Result, Ok, Err, IfOk, IfErr, ℤ, String, Global, IsUtf8, string_bytes, arith, refl, sym}
 use Rattle.std.proofs.lemmas.Bool.Decides.{nat_tests}
 use Rattle.std.proofs.lemmas.Str.{IsUtf8-from_is_utf8, is_utf8-from_IsUtf8}
-use Rattle.std.specs.List.{list_all}
+use Rattle.std.proofs.lemmas.Slice.Eq.{bytes_eq-Decides}
+use Rattle.std.specs.List.{list_all, list_any}
 use Rattle.std.specs.Map.{keys_of}
 use Rattle.std.specs.Str.{is_utf8}
 use Rattle.toml.specs.Data.{Members}
@@ -50,3 +51,38 @@ pub values_in : (document : Members) (a b c d e f g : Option ℤ) → a ≡ valu
     → f ≡ value_of_key document key.DelayBound → g ≡ value_of_key document key.Credit
     → template_parameters (whole_at (a ∷ b ∷ c ∷ d ∷ e ∷ f ∷ g ∷ [])) ≡ template_parameters (value_of_key document)
 values_in document a b c d e f g ea eb ec ed ee ef eg = rw (ea, eb, ec, ed, ee, ef, eg) refl
+
+-- ---- a key is one of a list
+
+same : (a b : Bool) → (a ≡ true → b ≡ true) → (b ≡ true → a ≡ true) → a ≡ b
+same true b f g = sym (f refl)
+same false true f g = g refl
+same false false f g = refl
+
+swapped : (a b : List ℕ) → bytes_eq a b ≡ bytes_eq b a
+swapped a b =
+    let left = bytes_eq-Decides a b in
+    let right = bytes_eq-Decides b a in
+    same (bytes_eq a b) (bytes_eq b a) (λ e. right.1 (sym (left.0 e))) (λ e. left.1 (sym (right.0 e)))
+
+regroup : (a b c d e f g : Bool) → (a || (b || (c || (d || (e || (f || (g || false))))))) ≡ (a || b || c || d || e || f || g)
+regroup true b c d e f g = refl
+regroup false true c d e f g = refl
+regroup false false true d e f g = refl
+regroup false false false true e f g = refl
+regroup false false false false true f g = refl
+regroup false false false false false true g = refl
+regroup false false false false false false true = refl
+regroup false false false false false false false = refl
+
+listed : (eq : List ℕ → List ℕ → Bool) → ((x y : List ℕ) → eq x y ≡ eq y x) → (text a b c d e f g : List ℕ)
+    → (eq a text || (eq b text || (eq c text || (eq d text || (eq e text || (eq f text || (eq g text || false)))))))
+    ≡ (eq text a || eq text b || eq text c || eq text d || eq text e || eq text f || eq text g)
+listed eq swap text a b c d e f g =
+    rw (swap a text, swap b text, swap c text, swap d text, swap e text, swap f text, swap g text)
+    (regroup (eq text a) (eq text b) (eq text c) (eq text d) (eq text e) (eq text f) (eq text g))
+
+pub is_key-listed : (text : List ℕ) → list_any (λ key. bytes_eq key text) (codes "min_quorum" ∷ codes "target_nresults" ∷ codes "max_error_results" ∷ codes "max_total_results"
+    ∷ codes "max_success_results" ∷ codes "delay_bound" ∷ codes "credit" ∷ []) ≡ is_key text
+is_key-listed text = listed bytes_eq swapped text (codes "min_quorum") (codes "target_nresults") (codes "max_error_results") (codes "max_total_results")
+    (codes "max_success_results") (codes "delay_bound") (codes "credit")

@@ -1,22 +1,22 @@
 -- Want of memory is told only where nothing else is wrong with a row.
-use Rattle.std.proofs.Common.{◌≡◌, ◌∙◌, ℕ, Bool, true, false, ◌&&◌, inl, inr, List, [], ◌∷◌, Result, Ok, Err, Option, Some, None, IfErr, if◌then◌else◌, refl, ap, subst, sym}
+use Rattle.std.proofs.Common.{◌≡◌, ◌≢◌, ◌∙◌, ℕ, length, Bool, true, false, ◌&&◌, inl, inr, List, [], ◌∷◌, Result, Ok, Err, Option, Some, None, IfErr, if◌then◌else◌, refl, ap, subst, sym}
 use Rattle.std.specs.List.{list_any, before_last, after_last}
 use Rattle.std.specs.Option.{ok_or}
 use Rattle.wu_core.specs.Names.{is_name, name_of, place_of}
 use Rattle.wu_core.specs.Reads.{IsOrWantsMemory, TellsRefusal}
 use Rattle.wu_core.specs.ResultNames.{instance_of, is_underscore, result_name_of}
 use Rattle.wu_core.specs.declared.fault.Fault.{Fault}
-use Rattle.wu_core.specs.declared.fault.Fault.TheVariants.{BadFile, BadMoment, BadName, Memory}
+use Rattle.wu_core.specs.declared.fault.Fault.TheVariants.{BadFile, BadMoment, BadName}
 use Rattle.wu_core.specs.declared.fault.FileCause.{FileCause}
 use Rattle.wu_core.specs.declared.fault.FileCause.TheVariants as cause
 use Rattle.wu_core.specs.declared.name.ResultName.{ResultName}
 use Rattle.wu_core.specs.declared.states.Status.{Status}
 use Rattle.wu_core.specs.declared.workunit.HostClass.{HostClass}
-use Rattle.wu_feed.specs.Classes.{class_written, classed, host_class_of_fields}
+use Rattle.wu_feed.specs.Classes.{classed, host_class_of_fields}
 use Rattle.wu_feed.specs.Jobs.{job_with}
 use Rattle.wu_feed.specs.Moments.{four_at, has_shape, moment_at, moment_of, two_at}
-use Rattle.wu_feed.specs.Reports.{ending_of, ending_with, report_of_fields, report_with, reported_output}
-use Rattle.wu_feed.specs.Sends.{send_of_fields}
+use Rattle.wu_feed.specs.Reports.{ending_of, ending_with, report_of, report_of_fields, report_with, reported_output}
+use Rattle.wu_feed.specs.Sends.{send_of, send_of_fields}
 use Rattle.wu_feed.specs.Told.{at_field, both, is_found, TellsFound}
 use Rattle.wu_feed.specs.declared.jobs.Job.{Job}
 use Rattle.wu_feed.specs.declared.reports.ReportRow.{ReportRow}
@@ -290,3 +290,20 @@ report_told number sent given status output read answer of_row gave told gave_en
     let made = report_made number sent status output of_row in
     let row = report_of_fields number sent status output in
     rw (← is) (made_gives Found report_by (both sent ending) (both given read) row made parts.0, made_tells Found report_by (both sent ending) (both given read) row made parts.1)
+
+-- a row of another number of fields is refused for that
+pub report_of-other : (number : ℕ) (fields : List (List ℕ)) → length fields ≢ 5 → report_of number fields ≡ Err (BadFile number cause.Fields)
+report_of-other number [] other = refl
+report_of-other number (a ∷ []) other = refl
+report_of-other number (a ∷ b ∷ []) other = refl
+report_of-other number (a ∷ b ∷ c ∷ []) other = refl
+report_of-other number (a ∷ b ∷ c ∷ d ∷ []) other = refl
+report_of-other number (a ∷ b ∷ c ∷ d ∷ e ∷ []) other = absurd (other refl)
+report_of-other number (a ∷ b ∷ c ∷ d ∷ e ∷ f ∷ more) other = refl
+
+pub send_of-other : (number : ℕ) (fields : List (List ℕ)) → length fields ≢ 3 → send_of number fields ≡ Err (BadFile number cause.Fields)
+send_of-other number [] other = refl
+send_of-other number (a ∷ []) other = refl
+send_of-other number (a ∷ b ∷ []) other = refl
+send_of-other number (a ∷ b ∷ c ∷ []) other = absurd (other refl)
+send_of-other number (a ∷ b ∷ c ∷ d ∷ more) other = refl

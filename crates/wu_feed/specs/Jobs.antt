@@ -1,19 +1,16 @@
 -- Files of jobs: a header `name,input`, and a row for each job.
-use Rattle.std.specs.Prelude.{ℕ, Bool, if◌then◌else◌, codes, List, [], ◌∷◌, Option, Some, None, Result, Ok, Err}
+use Rattle.std.specs.Prelude.{ℕ, if◌then◌else◌, codes, List, [], ◌∷◌, Option, Some, None, Result, Ok, Err}
 use Rattle.wu_core.specs.Names.{is_name}
 use Rattle.wu_core.specs.declared.fault.Fault.{Fault}
 use Rattle.wu_core.specs.declared.fault.Fault.TheVariants.{BadFile}
 use Rattle.wu_core.specs.declared.fault.FileCause.TheVariants as cause
 use Rattle.wu_feed.specs.Fields.{two_of}
 use Rattle.wu_feed.specs.Inputs.{input_of}
-use Rattle.wu_feed.specs.Rows.{is_header, rows_of_file}
+use Rattle.wu_feed.specs.Rows.{rows_of_file}
 use Rattle.wu_feed.specs.declared.jobs.Job.{Job}
 
 abbrev pub jobs_header : List (List ℕ)
 jobs_header = codes "name" ∷ codes "input" ∷ []
-
-abbrev pub is_jobs_header : List (List ℕ) → Bool
-is_jobs_header = is_header jobs_header
 
 -- a job, if there is an input
 abbrev pub job_with : ℕ → List ℕ → Option (List ℕ) → Result Job Fault

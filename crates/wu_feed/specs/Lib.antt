@@ -5,6 +5,7 @@ pub mod Jobs
 pub mod Limits
 pub mod Moments
 pub mod Ranges
+pub mod Readers
 pub mod Reports
 pub mod Rows
 pub mod Scripts

@@ -25,9 +25,17 @@ abbrev pub fields_if : Option Read → List (List ℕ)
 fields_if (Some read) = read.0
 fields_if None = []
 
--- the fields of a line; a carriage return at its end is none of them
+-- what is read first of a text, if anything
+abbrev pub first_read : List ℕ → Option Read
+first_read text = next_record script_config st.StartRecord [] [] (strip_bom text)
+
+-- the text of a line alone; a carriage return at its end is no part of it
+abbrev pub text_of_line : List ℕ → List ℕ
+text_of_line line = strip_carriage_return line ++ line_feed ∷ []
+
+-- the fields of a line
 abbrev pub fields_in : List ℕ → List (List ℕ)
-fields_in line = fields_if (next_record script_config st.StartRecord [] [] (strip_bom (strip_carriage_return line ++ line_feed ∷ [])))
+fields_in line = fields_if (first_read (text_of_line line))
 
 -- why a field is no word: a quote that is not closed takes in the line feed
 abbrev pub field_cause : List ℕ → Option LineCause

@@ -6,11 +6,11 @@ ghost use Rattle.std.specs.List.{list_all};
 ghost use Rattle.csv.specs.Records.{fields_of};
 ghost use Rattle.wu_core.specs.Classes.{AreClassed};
 ghost use Rattle.wu_core.specs.Reads.{IsOrWantsMemory, TellsRefusal};
-ghost use Rattle.wu_feed.specs.Classes.{class_written, classes_header, classes_of_file, host_class_of, is_decimal};
+ghost use Rattle.wu_feed.specs.Classes.{class_written, classes_of_file, host_class_of, is_decimal};
 ghost use Rattle.wu_feed.specs.Limits.{most_rows};
-ghost use Rattle.wu_feed.specs.Rows.{is_header, IsFileFault, TellsTooLong};
+ghost use Rattle.wu_feed.specs.Rows.{IsFileFault, TellsTooLong};
 
-use crate::records::{fault_at, two_fields};
+use crate::records::{fault_at, has_names, two_fields};
 use crate::rows::{Row, Rows, read_file};
 use crate::told::{at_field, both};
 use csv::ByteRecord;
@@ -66,16 +66,6 @@ fn read_host_class(
     Ok(HostClass { host, class })
 }
 
-/// Whether the row is the header of a file of classes.
-fn is_header(row: &ByteRecord) -> bool
-    ensures { result ≡ is_header classes_header (fields_of row.now) }
-{
-    match two_fields(row) {
-        Some((first, second)) => first == b"host".as_slice() && second == b"class".as_slice(),
-        None => false,
-    }
-}
-
 impl Row for HostClass {
     ghost use Rattle.wu_feed.specs.Classes.{classes_header, host_class_of};
 
@@ -84,7 +74,7 @@ impl Row for HostClass {
     ghost row_of = { host_class_of };
 
     fn is_header(row: &ByteRecord) -> bool {
-        is_header(row)
+        has_names(row, &[b"host", b"class"])
     }
 
     fn read(alloc: Global, number: u32, row: &ByteRecord) -> Result<Self, Fault> {

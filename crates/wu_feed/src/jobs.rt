@@ -10,7 +10,7 @@ ghost use Rattle.wu_feed.specs.Inputs.{input_of};
 ghost use Rattle.wu_feed.specs.Limits.{most_rows};
 ghost use Rattle.wu_feed.specs.Ranges.{IsJob};
 ghost use Rattle.wu_feed.specs.Rows.{IsFileFault, TellsTooLong};
-ghost use Rattle.wu_feed.specs.Jobs.{is_jobs_header, job_of, jobs_of_file};
+ghost use Rattle.wu_feed.specs.Jobs.{job_of, jobs_of_file};
 ghost use Rattle.wu_feed.specs.Told.{TellsFound};
 
 use crate::inputs::read_hex;
@@ -52,16 +52,6 @@ fn read_job(alloc: Global, number: u32, name: &[u8], input: &[u8]) -> Result<Job
     Ok(Job { name, input })
 }
 
-/// Whether the row is the header of a file of jobs.
-fn is_header(row: &ByteRecord) -> bool
-    ensures { result ≡ is_jobs_header (fields_of row.now) }
-{
-    match records::two_fields(row) {
-        Some((first, second)) => first == b"name".as_slice() && second == b"input".as_slice(),
-        None => false,
-    }
-}
-
 impl Row for Job {
     ghost use Rattle.wu_feed.specs.Jobs.{job_of, jobs_header};
 
@@ -70,7 +60,7 @@ impl Row for Job {
     ghost row_of = { job_of };
 
     fn is_header(row: &ByteRecord) -> bool {
-        is_header(row)
+        records::has_names(row, &[b"name", b"input"])
     }
 
     fn read(alloc: Global, number: u32, row: &ByteRecord) -> Result<Self, Fault> {

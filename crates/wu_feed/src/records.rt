@@ -1,15 +1,17 @@
 //! The records of a file, header and rows.
 
-ghost use Rattle.std.specs.Prelude.{◌≡◌, ◌≢◌, ◌∷◌, [], true, length, map, option_map, IfOk, IfSome, IfNone};
-ghost use Rattle.csv.specs.Reading.{error_kind, stops_reader};
-ghost use Rattle.csv.specs.Records.{fields_of};
+ghost use Rattle.std.specs.Prelude.{◌≡◌, ◌≢◌, ◌<◌, ◌∷◌, [], ℕ, List, Some, true, length, map, option_map, take, IfOk, IfSome, IfNone};
+ghost use Rattle.csv.specs.Reading.{default_config, error_kind, records, source_of, stops_reader};
+ghost use Rattle.csv.specs.Records.{field_at, fields_of};
 ghost use Rattle.wu_core.specs.declared.fault.Fault.TheVariants.{BadFile, Memory};
 ghost use Rattle.wu_core.specs.Reads.{FailsForMemory};
 ghost use Rattle.wu_feed.specs.Fields.{two_of};
-ghost use Rattle.wu_feed.specs.Rows.{first_records_of};
+ghost use Rattle.wu_feed.specs.Limits.{most_records};
+ghost use Rattle.wu_feed.specs.Readers.{GivesNext, IsFresh, TakesAny};
+ghost use Rattle.wu_feed.specs.Rows.{first_records_of, is_header};
 
 use crate::limits::MOST_RECORDS;
-use csv::{ByteRecord, ReaderBuilder};
+use csv::{ByteRecord, Reader, ReaderBuilder};
 use std::alloc::Global;
 use wu_core::{Fault, FileCause};
 
@@ -22,6 +24,38 @@ pub fn fault_of(_error: &csv::Error) -> Fault
     Fault::Memory
 }
 
+/// The next record of a reader, if it has one left. The only fault is `Memory`.
+pub fn read_record(alloc: Global, reader: &mut Reader<&[u8]>) -> Result<Option<ByteRecord>, Fault>
+    requires { TakesAny reader.old }
+    ensures found { IfOk result (GivesNext (λ s. Some s.now) reader.old reader.new) }
+    ensures refused { FailsForMemory result }
+{
+    let mut record = ByteRecord::new(alloc);
+    match reader.read_byte_record(&mut record) {
+        Ok(true) => Ok(Some(record)),
+        Ok(false) => Ok(None),
+        Err(error) => Err(fault_of(&error)),
+    }
+}
+
+/// The records of a reader, or the first 1,002 where it has more. The only fault is `Memory`.
+fn read_first(alloc: Global, reader: &mut Reader<&[u8]>) -> Result<Vec<ByteRecord>, Fault>
+    requires { IsFresh reader.old }
+    ensures found { IfOk result (λ rows. (text : List ℕ)
+        → source_of (λ s. Some s.now) reader.old ≡ Some text
+        → map fields_of rows.items ≡ take most_records (records default_config text)) }
+    ensures refused { FailsForMemory result }
+{
+    let mut records = Vec::new(alloc);
+    for _ in 0..MOST_RECORDS {
+        let Some(record) = read_record(alloc, reader)? else {
+            return Ok(records);
+        };
+        records.push(record)?;
+    }
+    Ok(records)
+}
+
 /// The records of a text, or the first 1,002 where it has more. The only fault is `Memory`.
 ///
 /// Records of different lengths are all read: their reader tells what is wrong with a row.
@@ -29,22 +63,11 @@ pub fn first_records(alloc: Global, text: &[u8]) -> Result<Vec<ByteRecord>, Faul
     ensures found { IfOk result (λ rows. map fields_of rows.items ≡ first_records_of text.now) }
     ensures refused { FailsForMemory result }
 {
-    let reader = ReaderBuilder::new()
+    let mut reader = ReaderBuilder::new()
         .has_headers(false)
         .flexible(true)
         .from_reader(alloc, text);
-    let mut records = Vec::new(alloc);
-    for record in reader.into_byte_records() {
-        let record = match record {
-            Ok(record) => record,
-            Err(error) => return Err(fault_of(&error)),
-        };
-        records.push(record)?;
-        if records.len() == MOST_RECORDS {
-            return Ok(records);
-        }
-    }
-    Ok(records)
+    read_first(alloc, &mut reader)
 }
 
 /// The fault of a file at a row.
@@ -54,15 +77,37 @@ pub fn fault_at(row: u32, cause: FileCause) -> Fault
     Fault::BadFile { row, cause }
 }
 
+/// The field of a row at a place that it has.
+fn field_in(row: &ByteRecord, place: usize) -> &[u8]
+    requires { place < length (fields_of row.now) }
+    ensures { Some result.now ≡ field_at (fields_of row.now) place }
+{
+    row.get(place).unwrap()
+}
+
+/// Whether the fields of a row are these names, in this order.
+pub fn has_names(row: &ByteRecord, names: &[&[u8]]) -> bool
+    ensures { result ≡ is_header (map (λ name. name.now) names.now) (fields_of row.now) }
+{
+    if row.len() != names.len() {
+        return false;
+    }
+    for (place, name) in names.iter().enumerate() {
+        if field_in(row, place) != *name {
+            return false;
+        }
+    }
+    true
+}
+
 /// The fields of a row of two.
 pub fn two_fields(row: &ByteRecord) -> Option<(&[u8], &[u8])>
     ensures { option_map (λ pair. (pair.0.now, pair.1.now)) result ≡ two_of (fields_of row.now) }
 {
-    let (first, second) = (row.get(0)?, row.get(1)?);
-    if row.get(2).is_some() {
+    if row.len() != 2 {
         return None;
     }
-    Some((first, second))
+    Some((field_in(row, 0), field_in(row, 1)))
 }
 
 /// The fields of a row of three.
@@ -73,7 +118,7 @@ pub fn three_fields(row: &ByteRecord) -> Option<(&[u8], &[u8], &[u8])>
     if row.len() != 3 {
         return None;
     }
-    Some((row.get(0)?, row.get(1)?, row.get(2)?))
+    Some((field_in(row, 0), field_in(row, 1), field_in(row, 2)))
 }
 
 /// The fields of a row of five.
@@ -85,6 +130,6 @@ pub fn five_fields(row: &ByteRecord) -> Option<(&[u8], &[u8], &[u8], &[u8], &[u8
     if row.len() != 5 {
         return None;
     }
-    let (first, second, third) = (row.get(0)?, row.get(1)?, row.get(2)?);
-    Some((first, second, third, row.get(3)?, row.get(4)?))
+    let (first, second, third) = (field_in(row, 0), field_in(row, 1), field_in(row, 2));
+    Some((first, second, third, field_in(row, 3), field_in(row, 4)))
 }

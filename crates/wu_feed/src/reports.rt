@@ -11,7 +11,7 @@ ghost use Rattle.wu_core.specs.Statuses.{status_of};
 ghost use Rattle.wu_feed.specs.Told.{TellsFound};
 
 use crate::inputs::read_hex;
-use crate::records::{fault_at, five_fields};
+use crate::records::{fault_at, five_fields, has_names};
 use crate::rows::{Row, Rows, read_file};
 use crate::sends::read_send;
 use crate::told::both;
@@ -98,16 +98,7 @@ impl Row for ReportRow {
     ghost row_of = { report_of };
 
     fn is_header(row: &ByteRecord) -> bool {
-        match five_fields(row) {
-            Some((first, second, third, fourth, fifth)) => {
-                first == b"result".as_slice()
-                    && second == b"host".as_slice()
-                    && third == b"moment".as_slice()
-                    && fourth == b"status".as_slice()
-                    && fifth == b"output".as_slice()
-            }
-            None => false,
-        }
+        has_names(row, &[b"result", b"host", b"moment", b"status", b"output"])
     }
 
     fn read(alloc: Global, number: u32, row: &ByteRecord) -> Result<Self, Fault> {

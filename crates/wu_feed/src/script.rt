@@ -1,16 +1,16 @@
 //! Scripts: a command a line, whose words stand apart by blanks.
 
-ghost use Rattle.std.specs.Prelude.{◌≡◌, ◌==◌, IfErr, IfOk, None, Ok, Some, map};
+ghost use Rattle.std.specs.Prelude.{◌≡◌, ◌==◌, IfErr, IfOk, None, Ok, Some, map, option_map};
 ghost use Rattle.std.specs.List.{enumerate_from, filter_map, slice_split};
 ghost use Rattle.std.specs.Str.Lines.{strip_carriage_return};
 ghost use Rattle.csv.specs.Machine.{line_feed};
 ghost use Rattle.csv.specs.Records.{fields_of};
 ghost use Rattle.wu_core.specs.Reads.{FailsForMemory, IsOrWantsMemory};
 ghost use Rattle.wu_feed.specs.Rows.{IsFileFault, TellsTooLong};
-ghost use Rattle.wu_feed.specs.Scripts.{field_cause, fields_in, script_line_of, script_of, words_among, words_at, TellsLate};
+ghost use Rattle.wu_feed.specs.Scripts.{field_cause, fields_in, first_read, line_with, script_line_of, script_of, text_of_line, words_among, words_at, TellsLate};
 
 use crate::limits::{LONGEST_FILE, MOST_LINES};
-use crate::records::{fault_at, fault_of};
+use crate::records::{fault_at, read_record};
 use crate::rows::Rows;
 use crate::words::Words;
 use csv::{ByteRecord, ReaderBuilder, Terminator};
@@ -46,27 +46,42 @@ fn without_return(line: &[u8]) -> &[u8]
     }
 }
 
-/// The fields of a line. The only fault is `Memory`.
-fn read_fields(alloc: Global, line: &[u8]) -> Result<ByteRecord, Fault>
-    ensures found { IfOk result (λ row. fields_of row ≡ fields_in line.now) }
-    ensures refused { FailsForMemory result }
+/// The text of a line alone: without the carriage return at its end, and with a line feed.
+fn as_text(alloc: Global, line: &[u8]) -> Result<Vec<u8>, AllocError>
+    ensures { IfOk result (λ text. text.items ≡ text_of_line line.now) }
 {
     let mut text = Vec::new(alloc);
     text.extend_from_slice(without_return(line))?;
     text.push(b'\n')?;
+    Ok(text)
+}
+
+/// The first record of a text, of which a comment has none. The only fault is `Memory`.
+fn first_record(alloc: Global, text: &[u8]) -> Result<Option<ByteRecord>, Fault>
+    ensures found { IfOk result (λ row. option_map fields_of row
+        ≡ option_map (λ read. read.0) (first_read text.now)) }
+    ensures refused { FailsForMemory result }
+{
     let mut reader = ReaderBuilder::new()
         .has_headers(false)
         .flexible(true)
         .delimiter(b' ')
         .comment(Some(b'#'))
         .terminator(Terminator::Any(b'\n'))
-        .from_reader(alloc, text.as_slice());
-    let mut row = ByteRecord::new(alloc);
-    match reader.read_byte_record(&mut row) {
-        Ok(true) => Ok(row),
+        .from_reader(alloc, text);
+    read_record(alloc, &mut reader)
+}
+
+/// The fields of a line. The only fault is `Memory`.
+fn read_fields(alloc: Global, line: &[u8]) -> Result<ByteRecord, Fault>
+    ensures found { IfOk result (λ row. fields_of row ≡ fields_in line.now) }
+    ensures refused { FailsForMemory result }
+{
+    let text = as_text(alloc, line)?;
+    match first_record(alloc, text.as_slice())? {
+        Some(row) => Ok(row),
         // A comment, or nothing.
-        Ok(false) => Ok(ByteRecord::new(alloc)),
-        Err(error) => Err(fault_of(&error)),
+        None => Ok(ByteRecord::new(alloc)),
     }
 }
 
@@ -113,6 +128,16 @@ fn read_words(alloc: Global, number: u64, line: &[u8]) -> Result<Result<Words, L
     words_among(alloc, &row)
 }
 
+/// The line with its words, or the cause for which it has none. A line without words is none.
+fn line_with(number: u64, words: Result<Words, LineCause>) -> Option<ScriptLine>
+    ensures { result ≡ line_with number words }
+{
+    match words {
+        Ok(words) if words.as_slice().is_empty() => None,
+        words => Some(ScriptLine { number, words }),
+    }
+}
+
 /// What the line of this number is: none without words.
 fn read_line(alloc: Global, number: u64, line: &[u8]) -> Result<Option<ScriptLine>, Fault>
     ensures exact { IsOrWantsMemory result (Ok (script_line_of (number, line.now))) }
@@ -121,10 +146,8 @@ fn read_line(alloc: Global, number: u64, line: &[u8]) -> Result<Option<ScriptLin
     if line.is_empty() {
         return Ok(None);
     }
-    match read_words(alloc, number, line)? {
-        Ok(words) if words.as_slice().is_empty() => Ok(None),
-        words => Ok(Some(ScriptLine { number, words })),
-    }
+    let words = read_words(alloc, number, line)?;
+    Ok(line_with(number, words))
 }
 
 /// The lines of a text that are numbered from 1. The only fault is `Memory`.

@@ -9,7 +9,7 @@ ghost use Rattle.wu_feed.specs.Rows.{is_header, IsFileFault, TellsTooLong};
 ghost use Rattle.wu_feed.specs.Sends.{send_of, sends_header, sends_of_file};
 
 use crate::moment::read_moment;
-use crate::records::{fault_at, three_fields};
+use crate::records::{fault_at, has_names, three_fields};
 use crate::rows::{Row, Rows, read_file};
 use crate::told::{at_field, both};
 use csv::ByteRecord;
@@ -61,14 +61,7 @@ impl Row for SendRow {
     ghost row_of = { send_of };
 
     fn is_header(row: &ByteRecord) -> bool {
-        match three_fields(row) {
-            Some((first, second, third)) => {
-                first == b"result".as_slice()
-                    && second == b"host".as_slice()
-                    && third == b"moment".as_slice()
-            }
-            None => false,
-        }
+        has_names(row, &[b"result", b"host", b"moment"])
     }
 
     fn read(alloc: Global, number: u32, row: &ByteRecord) -> Result<Self, Fault> {

@@ -37,15 +37,22 @@ fn read_document(alloc: Global, text: &[u8]) -> Result<Table, Fault>
     document_read(toml::table_from_slice(alloc, text))
 }
 
+/// The keys that a template may have.
+const KEYS: [&str; 7] = [
+    "min_quorum",
+    "target_nresults",
+    "max_error_results",
+    "max_total_results",
+    "max_success_results",
+    "delay_bound",
+    "credit",
+];
+
 /// Whether a template may have the key.
 fn is_key(text: &str) -> bool
     ensures { result ≡ is_key text.now }
 {
-    match text {
-        "min_quorum" | "target_nresults" | "max_error_results" | "max_total_results" => true,
-        "max_success_results" | "delay_bound" | "credit" => true,
-        _ => false,
-    }
+    KEYS.contains(&text)
 }
 
 /// Whether the document has no other key.

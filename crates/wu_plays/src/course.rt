@@ -1,6 +1,6 @@
 //! The course of a script over two files that do not stop.
 
-use crate::runs::{Left, Reach, run_over, views_of};
+use crate::runs::{Reach, run_over, views_of};
 use crate::scripts::steps;
 use anyhow::{Context, Result, bail, ensure};
 use std::alloc::{AllocError, Global};
@@ -70,24 +70,6 @@ impl Drop for Act {
 }
 
 impl Act {
-    /// An act of this title from a stage, which leaves these views.
-    fn new(
-        alloc: Global,
-        title: &str,
-        action: Option<Action>,
-        before: Stage,
-        after: &[u8],
-    ) -> Result<Act, AllocError> {
-        let title = String::from_str(alloc, title)?;
-        let after = Vec::from_slice(alloc, after)?;
-        Ok(Act {
-            title,
-            action,
-            before,
-            after,
-        })
-    }
-
     /// What these views are, which were found after the act was answered or not. After an answer nothing but what it
     /// leaves may be found.
     pub fn found(&self, views: &[u8], reach: Reach) -> Result<Found> {
@@ -98,8 +80,12 @@ impl Act {
         if views == self.after.as_slice() {
             return Ok(Found::After);
         }
-        ensure!(!is_before, "an answered command is not there");
-        bail!("neither the state before nor the one after")
+        let why = if is_before {
+            "an answered command is not there"
+        } else {
+            "neither the state before nor the one after"
+        };
+        bail!("{why}")
     }
 }
 
@@ -112,17 +98,11 @@ pub enum Between {
     Unclosed,
 }
 
-/// Sees that an act was answered, and its files were closed.
-fn is_closed(left: &Left) -> Result<()> {
-    ensure!(left.end.reach.is_done(), "it ends with a fault");
-    ensure!(left.is_closed, "it is not closed");
-    Ok(())
-}
-
 /// The files after an act, closed.
 fn closed_after(alloc: Global, files: &Saved, action: Option<&Action>) -> Result<Saved> {
     let left = run_over(alloc, files.files(alloc)?, action, Pages::All)?;
-    is_closed(&left)?;
+    ensure!(left.end.reach.is_done(), "it ends with a fault");
+    ensure!(left.is_closed, "it is not closed");
     Ok(left.files.saved(alloc)?)
 }
 
@@ -166,6 +146,13 @@ fn stage_after(
     Stage::of(alloc, files)
 }
 
+/// Copies of a title and of views.
+fn copied(alloc: Global, title: &str, views: &[u8]) -> Result<(String, Vec<u8>), AllocError> {
+    let title = String::from_str(alloc, title)?;
+    let views = Vec::from_slice(alloc, views)?;
+    Ok((title, views))
+}
+
 /// An act from a stage, and the stage that it leads to.
 fn act_from(
     alloc: Global,
@@ -175,7 +162,13 @@ fn act_from(
     between: Between,
 ) -> Result<(Act, Stage)> {
     let next = stage_after(alloc, &stage.files, action.as_ref(), between).context(title)?;
-    let act = Act::new(alloc, title, action, stage, next.views.as_slice())?;
+    let (title, after) = copied(alloc, title, next.views.as_slice())?;
+    let act = Act {
+        title,
+        action,
+        before: stage,
+        after,
+    };
     Ok((act, next))
 }
 
@@ -191,12 +184,6 @@ fn line_at(text: &str, number: u64) -> &str {
     ""
 }
 
-/// The adoption of blank files, and the stage that it leads to.
-fn adoption(alloc: Global, between: Between) -> Result<(Act, Stage)> {
-    let title = "(an adoption of empty files)";
-    act_from(alloc, Stage::blank(alloc), title, None, between)
-}
-
 /// The first stage: that of these files, or that of an adoption, which is then the first act.
 fn first_stage(
     alloc: Global,
@@ -207,7 +194,8 @@ fn first_stage(
     match start {
         Some(files) => Stage::of(alloc, files),
         None => {
-            let (act, stage) = adoption(alloc, between)?;
+            let title = "(an adoption of empty files)";
+            let (act, stage) = act_from(alloc, Stage::blank(alloc), title, None, between)?;
             acts.push(act)?;
             Ok(stage)
         }

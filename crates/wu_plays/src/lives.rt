@@ -26,12 +26,6 @@ fn cut_after(alloc: Global, files: &Saved, act: &Act, calls: u64) -> Result<(Opt
     Ok((files, is_stopped))
 }
 
-/// Whether this is found in files that a cut act left.
-fn is_found(alloc: Global, files: &Saved, act: &Act, wanted: Found) -> Result<bool> {
-    let seen = views_of(alloc, files)?;
-    Ok(act.found(seen.as_slice(), CUT)? == wanted)
-}
-
 /// Stops an act after so many calls on the log: what the files hold then, where the session began, the act was not
 /// answered, and this is found. None where it is not so, and whether the calls stopped.
 fn stop_after(
@@ -45,7 +39,8 @@ fn stop_after(
     let Some(files) = cut else {
         return Ok((None, is_stopped));
     };
-    if is_found(alloc, &files, act, wanted)? {
+    let seen = views_of(alloc, &files)?;
+    if act.found(seen.as_slice(), CUT)? == wanted {
         Ok((Some(files), is_stopped))
     } else {
         Ok((None, is_stopped))
@@ -72,47 +67,41 @@ fn first_stop(
     bail!("{}: the calls go on", act.title)
 }
 
-/// Cuts an act where this is found then, and tells of it. What the files hold then.
+/// Cuts an act where this is found then, and tells of it. The files are what they hold then.
 fn cut(
     alloc: Global,
-    files: Saved,
+    files: &mut Saved,
     act: &Act,
     wanted: Found,
     transcript: &mut Vec<u8>,
-) -> Result<Saved> {
+) -> Result<()> {
     writeln!(transcript, "> {}", act.title)?;
     let word = match wanted {
         Found::Before => "before",
         Found::After => "after",
     };
-    match first_stop(alloc, &files, act, wanted)? {
+    match first_stop(alloc, files, act, wanted)? {
         Some((left, calls)) => {
+            *files = left;
             writeln!(transcript, "stopped after {calls} calls on the log: {word}")?;
-            Ok(left)
         }
-        None => {
-            writeln!(transcript, "no stop leaves it so: {word}")?;
-            Ok(files)
-        }
+        None => writeln!(transcript, "no stop leaves it so: {word}")?,
     }
+    Ok(())
 }
 
-/// Does an act that no call stops. What the files hold then.
+/// Does an act that no call stops, and sees that the files hold what it leads to. What they hold then.
 fn go_on(alloc: Global, files: &Saved, act: &Act) -> Result<Saved> {
     let left = run_over(alloc, files.files(alloc)?, act.action.as_ref(), Pages::All)?;
     ensure!(left.end.reach.is_done(), "{} ends with a fault", act.title);
-    Ok(left.files.saved(alloc)?)
-}
-
-/// Sees that files hold what an act leads to.
-fn is_after(alloc: Global, files: &Saved, act: &Act) -> Result<()> {
-    let seen = views_of(alloc, files)?;
+    let files = left.files.saved(alloc)?;
+    let seen = views_of(alloc, &files)?;
     ensure!(
         seen.as_slice() == act.after.as_slice(),
         "{} ends otherwise",
         act.title
     );
-    Ok(())
+    Ok(files)
 }
 
 /// Plays a life in which the commands of these numbers are cut.
@@ -126,10 +115,9 @@ fn live(
     let mut files = Saved::empty(alloc);
     for (number, act) in acts.iter().enumerate() {
         if numbers.contains(&number) {
-            files = cut(alloc, files, act, wanted, transcript)?;
+            cut(alloc, &mut files, act, wanted, transcript)?;
         }
         files = go_on(alloc, &files, act)?;
-        is_after(alloc, &files, act)?;
     }
     writeln!(transcript, "the end is that of a run without a stop")?;
     Ok(())
@@ -143,8 +131,7 @@ pub fn play(
     transcript: &mut Vec<u8>,
 ) -> Result<()> {
     let acts = course(rt, text, Between::Closed, None)?;
-    for wanted in [Found::Before, Found::After] {
-        live(rt.alloc(), acts.as_slice(), numbers, wanted, transcript)?;
-    }
-    Ok(())
+    let acts = acts.as_slice();
+    live(rt.alloc(), acts, numbers, Found::Before, transcript)?;
+    live(rt.alloc(), acts, numbers, Found::After, transcript)
 }

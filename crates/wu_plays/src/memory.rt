@@ -1,11 +1,11 @@
 //! A play over a database in memory: each line of the script is a command of its own, and it goes on after a refusal.
 
 use crate::scripts::{DATABASE, action, write_comment, write_refusal, write_status};
-use crate::sessions::{adopt, do_action};
+use crate::sessions::adopt;
 use anyhow::Result;
 use sqlite::{Alter, Connection};
 use std::io::Write;
-use wu_cli::{BadLine, Entry, fault_status, read_lines, write_fault};
+use wu_cli::{BadLine, Entry, perform, read_lines, write_fault};
 use wu_drive::Project;
 
 /// Does what a line asks for, writes what it answers, and answers its status.
@@ -19,41 +19,30 @@ fn answer<S: Alter>(
         Ok(action) => action,
         Err(why) => return write_refusal(&BadLine { number: 1, why }, transcript),
     };
-    match do_action(rt.alloc(), project, &action, transcript) {
-        None => 0,
-        Some(fault) => {
-            let _ = write_fault(&fault, transcript);
-            fault_status(fault)
-        }
+    let (status, end) = perform(rt.alloc(), project, &action, transcript);
+    if let Some(fault) = end {
+        let _ = write_fault(&fault, transcript);
     }
-}
-
-/// The project, begun again where its session has ended.
-fn renewed<S: Alter + Drop>(project: Project<S>) -> Result<Project<S>> {
-    if project.ended() {
-        adopt(project.release())
-    } else {
-        Ok(project)
-    }
+    status
 }
 
 /// Plays a line of the script.
-fn play_line<S: Alter + Drop>(
+fn play_line<S: Alter>(
     rt: &HostRuntime,
-    mut project: Project<S>,
+    project: &mut Project<S>,
     line: &str,
     transcript: &mut Vec<u8>,
-) -> Result<Project<S>> {
+) -> Result<()> {
     write_comment(line, transcript)?;
     for entry in read_lines(rt.alloc(), DATABASE, line.as_bytes())?.into_vec() {
         writeln!(transcript, "> {line}")?;
-        let status = answer(rt, &mut project, entry, transcript);
+        let status = answer(rt, project, entry, transcript);
         write_status(status, transcript)?;
     }
-    renewed(project)
+    Ok(())
 }
 
-/// Plays a script over the project in a database.
+/// Plays a script over the project in a database, which is begun again where its session has ended.
 fn play_over<S: Alter + Drop>(
     rt: &HostRuntime,
     conn: Connection<S>,
@@ -62,7 +51,10 @@ fn play_over<S: Alter + Drop>(
 ) -> Result<()> {
     let mut project = adopt(conn)?;
     for line in text.lines() {
-        project = play_line(rt, project, line, transcript)?;
+        play_line(rt, &mut project, line, transcript)?;
+        if project.ended() {
+            project = adopt(project.release())?;
+        }
     }
     Ok(())
 }

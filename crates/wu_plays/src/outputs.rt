@@ -7,7 +7,7 @@ use anyhow::{Context, Result, ensure};
 use sqlite::{Alter, Connection};
 use std::alloc::Global;
 use std::io::Write;
-use wu_cli::{Step, fault_status, perform_script};
+use wu_cli::{LineFault, Step, fault_status, perform_script};
 use wu_core::Fault;
 use wu_play_files::{Full, Narrow};
 
@@ -17,14 +17,13 @@ fn run_over<S: Alter + Drop>(
     conn: Connection<S>,
     steps: &[Step],
     out: &mut Narrow,
-) -> Result<(u8, Option<Fault>)> {
+) -> Result<(u8, Option<LineFault>)> {
     let mut project = adopt(conn)?;
-    let (status, end) = perform_script(alloc, &mut project, steps, out);
-    Ok((status, end.map(|end| end.fault)))
+    Ok(perform_script(alloc, &mut project, steps, out))
 }
 
 /// Runs the script over a fresh project.
-fn run(alloc: Global, steps: &[Step], out: &mut Narrow) -> Result<(u8, Option<Fault>)> {
+fn run(alloc: Global, steps: &[Step], out: &mut Narrow) -> Result<(u8, Option<LineFault>)> {
     run_over(alloc, Connection::open_in_memory(alloc)?, steps, out)
 }
 
@@ -36,8 +35,15 @@ const WRITERS: [(Full, usize); 3] = [
 ];
 
 /// Sees that the fault of the output ended a run.
-fn is_cut(status: u8, end: Option<Fault>) -> Result<()> {
-    ensure!(end == Some(Fault::Output), "no fault of the output");
+fn is_cut(status: u8, end: Option<LineFault>) -> Result<()> {
+    let is_output = matches!(
+        end,
+        Some(LineFault {
+            fault: Fault::Output,
+            ..
+        })
+    );
+    ensure!(is_output, "no fault of the output");
     ensure!(status == fault_status(Fault::Output), "another status");
     Ok(())
 }
@@ -94,10 +100,9 @@ fn fail_flushes(
         is_cut(status, end)?;
         write!(transcript, " {count}")?;
     }
-    writeln!(transcript)?;
     writeln!(
         transcript,
-        "where one of these flushes fails: F17 Output, status 5, and the bytes before"
+        "\nwhere one of these flushes fails: F17 Output, status 5, and the bytes before"
     )?;
     Ok(())
 }

@@ -96,11 +96,7 @@ fn act<S: Alter + Drop>(
     mut project: Project<S>,
     action: Option<&Action>,
 ) -> (Connection<S>, End) {
-    let fault = match action {
-        Some(action) => do_action(alloc, &mut project, action, &mut Vec::new(alloc)),
-        None => None,
-    };
-    let reach = match fault {
+    let reach = match do_action(alloc, &mut project, action) {
         Some(fault) => Reach::Cut(fault),
         None => Reach::Done,
     };

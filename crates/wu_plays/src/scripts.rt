@@ -5,27 +5,23 @@ use std::alloc::AllocError;
 use std::fs;
 use std::io::{self, Write};
 use wu_cli::{
-    Action, BadLine, Entry, FedEntry, LineFile, Refusal, Steps, prepare, prepare_script,
-    read_lines, write_bad_line, write_fault, write_usage,
+    Action, BadLine, Entry, FedEntry, Refusal, Steps, prepare, prepare_script, read_lines,
+    write_bad_line, write_fault, write_usage,
 };
 
 /// The database that the lines of a script are for. Nothing is opened by this name.
 pub const DATABASE: &str = "project.db";
 
-/// What a file holds, None where it can't be read. A template that is left out has no bytes.
-fn content(rt: &HostRuntime, file: &LineFile<'_>) -> Option<Vec<u8>> {
-    match file.path {
-        Some(path) => fs::read(rt, path).ok(),
-        None => Some(Vec::new(rt.alloc())),
-    }
-}
-
-/// What the files of a line hold.
+/// What the files of a line hold, None for one that can't be read. A template that is left out has no bytes.
 fn contents(rt: &HostRuntime, entry: &Entry) -> Result<Vec<Option<Vec<u8>>>, AllocError> {
     let files = entry.files(rt.alloc())?;
     let mut contents = Vec::new(rt.alloc());
     for file in files.as_slice() {
-        contents.push(content(rt, file))?;
+        let content = match file.path {
+            Some(path) => fs::read(rt, path).ok(),
+            None => Some(Vec::new(rt.alloc())),
+        };
+        contents.push(content)?;
     }
     Ok(contents)
 }

@@ -49,14 +49,16 @@ pub fn views<S: Alter>(alloc: Global, project: &mut Project<S>) -> Result<Vec<u8
     Ok(out)
 }
 
-/// Does what a line asks for, and answers the fault that ended it.
+/// Does what is asked for, where anything is, and answers the fault that ended it. What it prints is let go.
 pub fn do_action<S: Alter>(
     alloc: Global,
     project: &mut Project<S>,
-    action: &Action,
-    out: &mut Vec<u8>,
+    action: Option<&Action>,
 ) -> Option<Fault> {
-    perform(alloc, project, action, out).1
+    match action {
+        Some(action) => perform(alloc, project, action, &mut Vec::new(alloc)).1,
+        None => None,
+    }
 }
 
 /// Whether a database has no table.

@@ -14,13 +14,6 @@ use wu_core::Fault;
 use wu_drive::Project;
 use wu_play_files::{MOST_CALLS, Pages, Saved, Side, Visit};
 
-/// Sees that a fault is no more than the refusal of an act that was done before.
-fn is_refused(act: &Act, fault: Fault, was_done: bool) -> Result<()> {
-    let is_refusal = !matches!(fault, Fault::Memory | Fault::Broken | Fault::Ended);
-    ensure!(was_done && is_refusal, "{fault} at {}", act.title);
-    Ok(())
-}
-
 /// Does an act that no call stops. It is answered, but where it was done before it may be refused.
 fn do_act<S: Alter>(
     alloc: Global,
@@ -28,13 +21,11 @@ fn do_act<S: Alter>(
     act: &Act,
     was_done: bool,
 ) -> Result<()> {
-    let Some(action) = &act.action else {
-        return Ok(());
-    };
-    match do_action(alloc, project, action, &mut Vec::new(alloc)) {
-        Some(fault) => is_refused(act, fault, was_done),
-        None => Ok(()),
+    if let Some(fault) = do_action(alloc, project, act.action.as_ref()) {
+        let is_refusal = !matches!(fault, Fault::Memory | Fault::Broken | Fault::Ended);
+        ensure!(was_done && is_refusal, "{fault} at {}", act.title);
     }
+    Ok(())
 }
 
 /// An act that is stopped, and those after it.
@@ -46,24 +37,6 @@ struct Case<'a> {
     pages: Pages,
 }
 
-/// Does acts that no call stops.
-fn do_rest<S: Alter>(alloc: Global, project: &mut Project<S>, acts: &[Act]) -> Result<()> {
-    for act in acts {
-        do_act(alloc, project, act, false)?;
-    }
-    Ok(())
-}
-
-/// Sees that these are the views behind an act and those after it.
-fn is_end(views: &[u8], act: &Act, rest: &[Act]) -> Result<()> {
-    let end = match rest.last() {
-        Some(last) => last.after.as_slice(),
-        None => act.after.as_slice(),
-    };
-    ensure!(views == end, "another end");
-    Ok(())
-}
-
 /// Does an act again, which was done or not, and those after it, and sees that the end is that of the course.
 fn go_on<S: Alter>(
     alloc: Global,
@@ -73,21 +46,16 @@ fn go_on<S: Alter>(
     was_done: bool,
 ) -> Result<()> {
     do_act(alloc, project, act, was_done)?;
-    do_rest(alloc, project, rest)?;
-    let end = views(alloc, project)?;
-    is_end(end.as_slice(), act, rest)
-}
-
-/// All views of what is left, none where there was no table.
-fn look<S: Alter>(alloc: Global, project: &mut Project<S>, was_blank: bool) -> Result<Vec<u8>> {
-    if was_blank {
-        Ok(Vec::new(alloc))
-    } else {
-        views(alloc, project)
+    for act in rest {
+        do_act(alloc, project, act, false)?;
     }
+    let end = views(alloc, project)?;
+    let last = rest.last().unwrap_or(act);
+    ensure!(end.as_slice() == last.after.as_slice(), "another end");
+    Ok(())
 }
 
-/// Looks at what is left of an act that came so far, and goes on.
+/// Looks at what is left of an act that came so far, and goes on. Where there was no table, there are no views.
 fn find<S: Alter>(
     alloc: Global,
     project: &mut Project<S>,
@@ -95,7 +63,11 @@ fn find<S: Alter>(
     case: Case<'_>,
     reach: Reach,
 ) -> Result<Found> {
-    let seen = look(alloc, project, was_blank)?;
+    let seen = if was_blank {
+        Vec::new(alloc)
+    } else {
+        views(alloc, project)?
+    };
     let found = case.act.found(seen.as_slice(), reach)?;
     let was_done = matches!(found, Found::After);
     go_on(alloc, project, case.act, case.rest, was_done)?;
@@ -143,31 +115,21 @@ fn play_on(
     })
 }
 
-/// Sees that an act which came so far ended with no other fault than that of its files.
-fn is_broken(reach: Reach) -> Result<()> {
-    if let Reach::Cut(fault) = reach {
+/// Sees that what was told of an act is right where calls stopped or not: it ended with no other fault than that of its
+/// files, and a session which began again saw the state before it.
+fn is_right(case: Case<'_>, left: &Left, is_stopped: bool) -> Result<()> {
+    let is_whole = left.end.reach.is_done() && left.is_closed;
+    ensure!(is_stopped || is_whole, "a fault without a stop");
+    if let Reach::Cut(fault) = left.end.reach {
         ensure!(fault == Fault::Broken, "{fault}");
     }
-    Ok(())
-}
-
-/// Sees that a session which began again saw the state before the act.
-fn is_before(case: Case<'_>, again: Option<&Vec<u8>>) -> Result<()> {
-    if let Some(seen) = again {
+    if let Some(seen) = &left.end.again {
         ensure!(
             seen.as_slice() == case.act.before.views.as_slice(),
             "a session begins again over another state"
         );
     }
     Ok(())
-}
-
-/// Sees that what was told of an act is right where calls stopped or not.
-fn is_right(case: Case<'_>, left: &Left, is_stopped: bool) -> Result<()> {
-    let is_whole = left.end.reach.is_done() && left.is_closed;
-    ensure!(is_stopped || is_whole, "a fault without a stop");
-    is_broken(left.end.reach)?;
-    is_before(case, left.end.again.as_ref())
 }
 
 /// Runs an act and stops it after so many calls: what it left, and whether the calls stopped.
@@ -263,16 +225,18 @@ fn play_act(
     transcript: &mut Vec<u8>,
 ) -> Result<()> {
     writeln!(transcript, "> {}", act.title)?;
-    for side in [Side::Log, Side::Database] {
-        let case = Case {
-            act,
-            rest,
-            side,
-            pages,
-        };
-        play_case(alloc, case, transcript)?;
-    }
-    Ok(())
+    let log = Case {
+        act,
+        rest,
+        side: Side::Log,
+        pages,
+    };
+    play_case(alloc, log, transcript)?;
+    let database = Case {
+        side: Side::Database,
+        ..log
+    };
+    play_case(alloc, database, transcript)
 }
 
 /// Plays the stops of each act.

@@ -135,7 +135,7 @@ impl Tally {
             ends.answered, lost.before, lost.after, kept.before, kept.after
         )?;
         if act.before.views.as_slice() == act.after.as_slice() {
-            write!(transcript, "; {} with the same database file", ends.same)?;
+            return writeln!(transcript, "; {} with the same database file", ends.same);
         }
         writeln!(transcript)
     }

@@ -1,6 +1,8 @@
+mod ActionLemmas
 mod BothLemmas
 mod ContentLemmas
 mod NumberLemmas
+mod OrderLemmas
 mod ParseLemmas
 mod ReadLemmas
 mod TableLemmas

@@ -1,7 +1,10 @@
 -- The command of the program: its subcommands and their options.
 use Rattle.std.specs.Prelude.{ℕ, Bool, true, false, if◌then◌else◌, List, [], ◌∷◌, map, codes, Option, Some, None, bytes_eq, find}
-use Rattle.clap.specs.Words.{App, Rule, Shape, new_app, new_rule}
+use Rattle.clap.specs.Words.{App, Rule, Shape, new_app, new_rule, rule_of, shape_of}
+use Rattle.clap.specs.declared.builder.arg.Arg.{Arg}
 use Rattle.clap.specs.declared.builder.action.ArgAction.TheVariants.{Set}
+use Rattle.clap.specs.declared.builder.command.Command.{Command}
+use Rattle.clap.specs.declared.builder.command.Command.TheViews.{out-Command}
 use Rattle.clap.specs.declared.builder.value_parser.ValueParser.TheVariants.{Unsigned}
 use Rattle.wu_words.specs.declared.option.LineOption.{LineOption}
 use Rattle.wu_words.specs.declared.option.LineOption.TheVariants.{Database, Name, Jobs, Template, File, Now, Limit, MinAge, Workunit, View}
@@ -82,6 +85,13 @@ option_rule option = record (new_rule (option_name option)) {
   parser = if is_number option then Some (Unsigned 0 18446744073709551615) else None;
 }
 
+-- an option is of its own command alone
+abbrev pub rule_and_global : Arg → Rule × Bool
+rule_and_global arg = (rule_of arg, arg.global)
+
+abbrev pub local_rule : LineOption → Rule × Bool
+local_rule option = (option_rule option, false)
+
 -- a subcommand with these options
 abbrev pub shape_with : List ℕ → List Rule → Shape
 shape_with name rules = record (new_app name).top { rules = rules }
@@ -91,6 +101,13 @@ leaf_with name rules = record { top = shape_with name rules; subs = [] }
 
 abbrev pub subcommand_shape : Subcommand → Shape
 subcommand_shape subcommand = shape_with (subcommand_name subcommand) (map option_rule (options_of subcommand))
+
+-- its options are of it alone
+abbrev pub shape_and_globals : Command → Shape × Bool
+shape_and_globals command = (shape_of command, (out-Command command).has_globals)
+
+abbrev pub local_shape : Subcommand → Shape × Bool
+local_shape subcommand = (subcommand_shape subcommand, false)
 
 abbrev pub are_none : List Shape → Bool
 are_none [] = true

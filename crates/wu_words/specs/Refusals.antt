@@ -122,6 +122,10 @@ abbrev pub IsOrderOf : List (List ℕ) → Order → Type 0
 IsOrderOf words (order.Line line) = IsLineOf words line
 IsOrderOf words (order.Script script) = IsScriptOf words script
 
+-- so it is of all words that are taken and in which clap finds this subcommand
+abbrev pub OfTaken : (List (List ℕ) → Type 0) → Option (List ℕ × List Row) → Type 0
+OfTaken Fact found = (words : List (List ℕ)) → fault_of program words ≡ [] → found ≡ subcommand_of program words → Fact words
+
 -- ---- of a check
 
 -- clap takes the words, and this is the database that it finds

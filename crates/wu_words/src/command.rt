@@ -1,9 +1,9 @@
 //! The command of the program, as `clap` builds it.
 
-ghost use Rattle.std.specs.Prelude.{◌≡◌, [], false, IfOk};
-ghost use Rattle.clap.specs.Words.{app_of, rule_of, shape_of, with_subcommand};
+ghost use Rattle.std.specs.Prelude.{◌≡◌, [], false, map, IfOk};
+ghost use Rattle.clap.specs.Words.{app_of, rule_of};
 ghost use Rattle.clap.specs.declared.builder.command.Command.TheViews.{out-Command};
-ghost use Rattle.wu_words.specs.CommandLine.{leaf_with, option_rule, program, program_with, subcommand_name, subcommand_shape};
+ghost use Rattle.wu_words.specs.CommandLine.{all_subcommands, leaf_with, local_rule, local_shape, option_rule, program, program_with, rule_and_global, shape_and_globals, subcommand_name};
 
 use crate::option::LineOption;
 use crate::subcommand::{SUBCOMMANDS, Subcommand};
@@ -38,16 +38,35 @@ fn bare_subcommand<'a>(alloc: Global, subcommand: Subcommand) -> Command<'a>
         .after_help(subcommand.example())
 }
 
+/// These options as arguments, in their order.
+fn args<'a>(alloc: Global, options: &[LineOption]) -> Result<Vec<Arg<'a>>, AllocError>
+    ensures { IfOk result (λ args. map rule_and_global args.items ≡ map local_rule options.now) }
+{
+    let mut args = Vec::with_capacity(alloc, options.len())?;
+    for option in options {
+        args.push_reserved(arg(alloc, *option));
+    }
+    Ok(args)
+}
+
 /// A subcommand with its options.
 fn subcommand<'a>(alloc: Global, subcommand: Subcommand) -> Result<Command<'a>, AllocError>
-    ensures shape { IfOk result (λ command. shape_of command ≡ subcommand_shape subcommand) }
-    ensures local { IfOk result (λ command. (out-Command command).has_globals ≡ false) }
+    ensures { IfOk result (λ command. shape_and_globals command ≡ local_shape subcommand) }
 {
-    let mut command = bare_subcommand(alloc, subcommand);
-    for option in subcommand.options() {
-        command = command.arg(arg(alloc, *option))?;
+    let args = args(alloc, subcommand.options())?;
+    bare_subcommand(alloc, subcommand).args(args)
+}
+
+/// All subcommands, each with its options, in the order of help.
+fn subcommands<'a>(alloc: Global) -> Result<Vec<Command<'a>>, AllocError>
+    ensures { IfOk result (λ all.
+        map shape_and_globals all.items ≡ map local_shape all_subcommands) }
+{
+    let mut all = Vec::with_capacity(alloc, SUBCOMMANDS.len())?;
+    for one in SUBCOMMANDS {
+        all.push_reserved(subcommand(alloc, one)?);
     }
-    Ok(command)
+    Ok(all)
 }
 
 /// What `--version` tells behind the program's name. No contract speaks of it: a play shows it, and `tools/docs` holds
@@ -67,26 +86,10 @@ fn bare_command<'a>(alloc: Global) -> Command<'a>
         .subcommand_required(true)
 }
 
-/// A command with one subcommand more.
-fn with_one_more<'a>(
-    alloc: Global,
-    command: Command<'a>,
-    one: Subcommand,
-) -> Result<Command<'a>, AllocError>
-    ensures { IfOk result (λ more.
-        app_of more ≡ with_subcommand (app_of command.entry) (subcommand_shape one)) }
-{
-    let one = subcommand(alloc, one)?;
-    command.subcommand(one)
-}
-
 /// The command of the program: one subcommand a line, each with its options.
 pub fn command<'a>(alloc: Global) -> Result<Command<'a>, AllocError>
     ensures { IfOk result (λ command. app_of command ≡ program) }
 {
-    let mut command = bare_command(alloc);
-    for one in SUBCOMMANDS {
-        command = with_one_more(alloc, command, one)?;
-    }
-    Ok(command)
+    let subcommands = subcommands(alloc)?;
+    bare_command(alloc).subcommands(subcommands)
 }

@@ -1,7 +1,7 @@
 //! The lines of a script as lines of the command line.
 
 ghost use Rattle.std.specs.Prelude.{◌≡◌, ◌++◌, ◌∷◌, ◌<◌, codes, drop, IfErr, IfOk, length, map, string_bytes};
-ghost use Rattle.wu_words.specs.Scripts.{asks_to_repeat, command_words, FailsToRead, is_pass, ReadsRepeated, ReadsScriptLine, ReadsScript, ReadsWords, ReadsWordsOf};
+ghost use Rattle.wu_words.specs.Scripts.{asks_to_repeat, command_words, FailsToRead, is_pass, IsEntryOf, ReadsRepeated, ReadsScript, ReadsWords, ReadsWordsOf};
 
 use crate::entry::{Entries, Entry, Refusal};
 use crate::line::Line;
@@ -9,7 +9,7 @@ use crate::order::Order;
 use crate::words::read_words;
 use std::alloc::{AllocError, Global};
 use wu_core::Fault;
-use wu_feed::{LineCause, ScriptLine, Words, read_script};
+use wu_feed::{ScriptLine, Words, read_script};
 
 /// The word that names the database.
 fn database_word(alloc: Global, db: &str) -> Result<String, AllocError>
@@ -109,20 +109,26 @@ fn line_of_all(alloc: Global, db: &str, words: Words, repeats: bool) -> Result<L
     }
 }
 
-/// The line of a script's words, or why there is none, and whether it is to be repeated.
-fn line_of(
-    alloc: Global,
-    db: &str,
-    words: Result<Words, LineCause>,
-) -> (bool, Result<Line, Refusal>)
-    ensures { ReadsScriptLine db.now words result.0 result.1 }
+/// The entry of a line of a script: the line of its words, or why there is none, and whether it is to be repeated.
+fn entry_of(alloc: Global, db: &str, line: ScriptLine) -> Entry
+    ensures { IsEntryOf db.now line result }
 {
+    let ScriptLine { number, words } = line;
     match words {
         Ok(words) => {
             let repeats = asks_to_repeat(words.as_slice());
-            (repeats, line_of_all(alloc, db, words, repeats))
+            let line = line_of_all(alloc, db, words, repeats);
+            Entry {
+                number,
+                repeats,
+                line,
+            }
         }
-        Err(cause) => (false, Err(Refusal::Text(cause))),
+        Err(cause) => Entry {
+            number,
+            repeats: false,
+            line: Err(Refusal::Text(cause)),
+        },
     }
 }
 
@@ -136,13 +142,8 @@ pub fn read_lines(alloc: Global, db: &str, text: &[u8]) -> Result<Entries, Fault
 {
     let lines = read_script(alloc, text)?;
     let mut entries = Vec::new(alloc);
-    for ScriptLine { number, words } in lines.into_vec() {
-        let (repeats, line) = line_of(alloc, db, words);
-        entries.push(Entry {
-            number,
-            repeats,
-            line,
-        })?;
+    for line in lines.into_vec() {
+        entries.push(entry_of(alloc, db, line))?;
     }
     Ok(Entries::from_vec(entries))
 }

@@ -69,23 +69,12 @@ impl Subcommand {
     pub fn named(name: &str) -> Option<Subcommand>
         ensures { result ≡ subcommand_named name.now }
     {
-        match name {
-            "batch" => Some(Subcommand::Batch),
-            "sent" => Some(Subcommand::Sent),
-            "reported" => Some(Subcommand::Reported),
-            "classes" => Some(Subcommand::Classes),
-            "transition" => Some(Subcommand::Transition),
-            "validate" => Some(Subcommand::Validate),
-            "assimilate" => Some(Subcommand::Assimilate),
-            "delete" => Some(Subcommand::Delete),
-            "purge" => Some(Subcommand::Purge),
-            "cancel" => Some(Subcommand::Cancel),
-            "cycle" => Some(Subcommand::Cycle),
-            "show" => Some(Subcommand::Show),
-            "upgrade" => Some(Subcommand::Upgrade),
-            "script" => Some(Subcommand::Script),
-            _ => None,
+        for one in SUBCOMMANDS {
+            if name == one.name() {
+                return Some(one);
+            }
         }
+        None
     }
 
     /// Its options, in the order of its usage line.

@@ -1,9 +1,9 @@
 //! The line that the words of the command line are.
 
 ghost use Rattle.std.specs.Prelude.{◌≡◌, map, string_bytes, IfErr, IfOk};
-ghost use Rattle.clap.specs.Words.{found_of, rows_of};
+ghost use Rattle.clap.specs.Words.{found_of, rows_of, subcommand_rows_of};
 ghost use Rattle.wu_words.specs.Lines.{IsLine, IsOrder, IsScript};
-ghost use Rattle.wu_words.specs.Refusals.{Explains, IsLacking, IsOrderOf, IsSeen, IsUnread, WantsOnly};
+ghost use Rattle.wu_words.specs.Refusals.{Explains, IsLacking, IsOrderOf, IsSeen, IsUnread, OfTaken, WantsOnly};
 
 use crate::line::Line;
 use crate::option::LineOption;
@@ -71,9 +71,9 @@ fn transition(alloc: Global, found: &ArgMatches<'_>) -> Result<Order, Usage>
         (IsUnread (rows_of (found_of found.now)) Subcommand.Transition) }
 {
     Ok(Order::Line(Line::Transition {
+        limit: number(found, LineOption::Limit)?,
         db: text(alloc, found, LineOption::Database)?,
         now: text(alloc, found, LineOption::Now)?,
-        limit: number(found, LineOption::Limit)?,
     }))
 }
 
@@ -83,8 +83,8 @@ fn validate(alloc: Global, found: &ArgMatches<'_>) -> Result<Order, Usage>
     ensures refused { IfErr result (IsUnread (rows_of (found_of found.now)) Subcommand.Validate) }
 {
     Ok(Order::Line(Line::Validate {
-        db: text(alloc, found, LineOption::Database)?,
         limit: number(found, LineOption::Limit)?,
+        db: text(alloc, found, LineOption::Database)?,
     }))
 }
 
@@ -95,9 +95,9 @@ fn assimilate(alloc: Global, found: &ArgMatches<'_>) -> Result<Order, Usage>
         (IsUnread (rows_of (found_of found.now)) Subcommand.Assimilate) }
 {
     Ok(Order::Line(Line::Assimilate {
+        limit: number(found, LineOption::Limit)?,
         db: text(alloc, found, LineOption::Database)?,
         now: text(alloc, found, LineOption::Now)?,
-        limit: number(found, LineOption::Limit)?,
     }))
 }
 
@@ -107,8 +107,8 @@ fn delete(alloc: Global, found: &ArgMatches<'_>) -> Result<Order, Usage>
     ensures refused { IfErr result (IsUnread (rows_of (found_of found.now)) Subcommand.Delete) }
 {
     Ok(Order::Line(Line::Delete {
-        db: text(alloc, found, LineOption::Database)?,
         limit: number(found, LineOption::Limit)?,
+        db: text(alloc, found, LineOption::Database)?,
     }))
 }
 
@@ -118,10 +118,10 @@ fn purge(alloc: Global, found: &ArgMatches<'_>) -> Result<Order, Usage>
     ensures refused { IfErr result (IsUnread (rows_of (found_of found.now)) Subcommand.Purge) }
 {
     Ok(Order::Line(Line::Purge {
-        db: text(alloc, found, LineOption::Database)?,
-        now: text(alloc, found, LineOption::Now)?,
         limit: number(found, LineOption::Limit)?,
         min_age: number(found, LineOption::MinAge)?,
+        db: text(alloc, found, LineOption::Database)?,
+        now: text(alloc, found, LineOption::Now)?,
     }))
 }
 
@@ -142,10 +142,10 @@ fn cycle(alloc: Global, found: &ArgMatches<'_>) -> Result<Order, Usage>
     ensures refused { IfErr result (IsUnread (rows_of (found_of found.now)) Subcommand.Cycle) }
 {
     Ok(Order::Line(Line::Cycle {
-        db: text(alloc, found, LineOption::Database)?,
-        now: text(alloc, found, LineOption::Now)?,
         limit: number(found, LineOption::Limit)?,
         min_age: number(found, LineOption::MinAge)?,
+        db: text(alloc, found, LineOption::Database)?,
+        now: text(alloc, found, LineOption::Now)?,
     }))
 }
 
@@ -207,6 +207,22 @@ fn order_of(alloc: Global, subcommand: Subcommand, found: &ArgMatches<'_>) -> Re
     }
 }
 
+/// What the words ask for that `clap` took apart.
+fn order_in(alloc: Global, matches: &ArgMatches<'_>) -> Result<Order, Usage>
+    ensures order { IfOk result (λ order.
+        OfTaken (λ words. IsOrderOf words order) (subcommand_rows_of matches.now)) }
+    ensures refused { IfErr result (λ usage.
+        OfTaken (λ words. Explains words usage) (subcommand_rows_of matches.now)) }
+{
+    let Some((name, found)) = matches.subcommand() else {
+        return Err(Usage::Incomplete);
+    };
+    match Subcommand::named(name) {
+        Some(subcommand) => order_of(alloc, subcommand, found),
+        None => Err(Usage::Incomplete),
+    }
+}
+
 /// What the words ask for, of which the first is the program's name. `clap` takes them apart: one subcommand, each
 /// option given once, `--db` always; limits and ages are numbers of 64 bits. Other words, and a request for help, are
 /// `Refused`; a view that there is not is `UnknownView`. Memory may be wanted for any words, by `clap` too.
@@ -215,11 +231,5 @@ pub fn read_words(alloc: Global, words: &[String]) -> Result<Order, Usage>
     ensures refused { IfErr result (Explains (map string_bytes words.now)) }
 {
     let matches = parse(alloc, words)?;
-    let Some((name, found)) = matches.subcommand() else {
-        return Err(Usage::Incomplete);
-    };
-    match Subcommand::named(name) {
-        Some(subcommand) => order_of(alloc, subcommand, found),
-        None => Err(Usage::Incomplete),
-    }
+    order_in(alloc, &matches)
 }

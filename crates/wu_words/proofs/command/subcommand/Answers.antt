@@ -1,17 +1,10 @@
-use Rattle.std.proofs.Common.{◌∙◌, ap, ap₂, sym, refl}
-use Rattle.clap.specs.Words.{with_rule}
-use Rattle.wu_words.proofs.TableLemmas.{map_more}
-use Rattle.wu_words.specs.CommandLine.{leaf_with, option_rule, subcommand_name}
+use Rattle.std.proofs.Common.{◌≡◌, map, subst}
+use Rattle.wu_words.proofs.TableLemmas.{options_added}
+use Rattle.wu_words.specs.CommandLine.{local_rule, options_of, rule_and_global, subcommand_name}
 use Rattle.wu_words.proofs.command.subcommand.Goals as goal
 
-pub loop-option-preserved : goal.loop-option-preserved
-loop-option-preserved c =
-    let items = c.options-option-items.result.now in
-    let i = c.loop-option.option-index in
-    let added = c.in_ok-command.ensures in
-    record {
-      shape = added.shape c.arg.ensures.local
-          ∙ ap₂ with_rule c.loop-option.invariant.shape c.arg.ensures.rule
-          ∙ ap (leaf_with (subcommand_name c.args.subcommand)) (sym (map_more option_rule items i _ c.loop-option-test.true));
-      local = rw (added.globals, c.loop-option.invariant.local, c.arg.ensures.local) refl;
-    }
+pub returns : goal.returns
+returns c =
+    let same = subst (λ options. map rule_and_global c.in_ok-args.args.items ≡ map local_rule options) c.options.ensures c.in_ok-args.ensures in
+    options_added (subcommand_name c.args.subcommand) (options_of c.args.subcommand) c.in_ok-args.args.items c.bare_subcommand.result c.args-3.result
+    same c.bare_subcommand.ensures.shape c.bare_subcommand.ensures.local c.args-3.ensures

@@ -1,5 +1,5 @@
 use Rattle.wu_words.specs.Scripts.{AreEntriesOf}
 use Rattle.wu_words.proofs.script.read_lines.Given as goal
 
-abbrev pub invariant-loop-number : goal.invariant-loop-number
-invariant-loop-number l = AreEntriesOf l.fn.db l.yielded l.entries.items
+abbrev pub invariant-loop-line : goal.invariant-loop-line
+invariant-loop-line l = AreEntriesOf l.fn.db l.yielded l.entries.items

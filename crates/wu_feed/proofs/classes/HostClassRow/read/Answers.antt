@@ -1,0 +1,18 @@
+use Rattle.std.proofs.Common.{◌∷◌, [], inl, refl}
+use Rattle.csv.specs.Records.{fields_of}
+use Rattle.wu_feed.proofs.FieldLemmas.{two_long}
+use Rattle.wu_feed.proofs.ToldLemmas.{Found, refusal_tells}
+use Rattle.wu_feed.specs.Classes.{host_class_of}
+use Rattle.wu_feed.proofs.classes.HostClassRow.read.Goals as goal
+
+pub returns-in-Some : goal.returns-in-Some
+returns-in-Some c =
+    let long = two_long (c.in-Some.host.now, c.in-Some.class.now) (fields_of c.args.row.now) c.in-Some.ensures in
+    rw (← c.in-Some.ensures) (record {
+      exact = c.read_host_class.ensures.exact;
+      fields = λ other. absurd (other long);
+      told = refusal_tells Found c.read_host_class.result (host_class_of c.args.number (c.in-Some.host.now ∷ c.in-Some.class.now ∷ [])) c.read_host_class.ensures.told;
+    })
+
+pub returns-in-None : goal.returns-in-None
+returns-in-None c = rw (c.fault_at.ensures, ← c.in-None.ensures) (record { exact = inl refl; fields = λ other. refl; told = λ row why found e. e })
