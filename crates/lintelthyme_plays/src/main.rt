@@ -3,6 +3,7 @@
 //! and the program then ends with status 1.
 #![tactic(auto)]
 
+mod laws;
 mod plays;
 mod words;
 

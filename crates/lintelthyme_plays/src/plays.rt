@@ -1,6 +1,6 @@
 //! A play: a script, and how it is played.
 
-use crate::words;
+use crate::{laws, words};
 use anyhow::{Context, Result, bail};
 use std::alloc::Global;
 use std::fs;
@@ -11,6 +11,8 @@ use wu_plays::Way;
 enum Means {
     /// Over files of the current folder, each line a whole command line.
     Words,
+    /// By the calls that the laws of stops and of lives speak of, each line a batch and a life.
+    Laws,
     Way(Way),
 }
 
@@ -30,6 +32,7 @@ impl<'a> Play<'a> {
         };
         let means = match *name {
             "words" => Means::Words,
+            "laws" => Means::Laws,
             name => Means::Way(Way::read(alloc, name, rest)?),
         };
         Ok(Play {
@@ -44,6 +47,7 @@ impl<'a> Play<'a> {
         let text = text.as_str();
         match &self.means {
             Means::Words => words::play(rt, text, transcript),
+            Means::Laws => laws::play(rt, text, transcript),
             Means::Way(way) => way.play(rt, text, transcript),
         }
     }

@@ -10,8 +10,10 @@ mod runs;
 mod scripts;
 mod sessions;
 mod stops;
+mod tables;
 mod tally;
 mod way;
 
+pub use runs::views_of;
 pub use scripts::{write_comment, write_status};
 pub use way::Way;

@@ -27,7 +27,7 @@ fn answer<S: Alter>(
 }
 
 /// Plays a line of the script.
-fn play_line<S: Alter>(
+pub fn play_line<S: Alter>(
     rt: &HostRuntime,
     project: &mut Project<S>,
     line: &str,

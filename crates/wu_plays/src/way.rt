@@ -1,7 +1,7 @@
 //! How a script is played.
 
 use crate::course::Between;
-use crate::{lives, memory, outputs, stops};
+use crate::{lives, memory, outputs, stops, tables};
 use anyhow::{Result, bail};
 use std::alloc::Global;
 use wu_play_files::Pages;
@@ -11,6 +11,8 @@ use wu_play_files::Pages;
 pub enum Way {
     /// Over a database in memory, each line a command of its own.
     Memory,
+    /// So too, but some of its lines are statements over the tables.
+    Tables,
     /// Over two files that stop at each call, left so between the acts, with so many pages in memory; from the database
     /// in a file where one is named.
     Stops(Between, Pages, Option<String>),
@@ -42,6 +44,7 @@ impl Way {
     pub fn read<'a>(alloc: Global, name: &str, rest: &[&'a str]) -> Result<Way> {
         let way = match name {
             "memory" => Way::Memory,
+            "tables" => Way::Tables,
             "stops" => Way::Stops(Between::Closed, Pages::All, file(alloc, rest)?),
             "few_pages" => Way::Stops(Between::Closed, Pages::Few, None),
             "unclosed" => Way::Stops(Between::Unclosed, Pages::All, None),
@@ -56,6 +59,7 @@ impl Way {
     pub fn play(&self, rt: &HostRuntime, text: &str, transcript: &mut Vec<u8>) -> Result<()> {
         match self {
             Way::Memory => memory::play(rt, text, transcript),
+            Way::Tables => tables::play(rt, text, transcript),
             Way::Stops(between, pages, path) => stops::play(
                 rt,
                 text,
