@@ -9,7 +9,7 @@ use std::io::Write;
 use wu_core::{Bytes, Name};
 use wu_drive::{Batch, Command};
 use wu_play_files::{MOST_CALLS, PlayDisk, PlayFiles, Saved, Side};
-use wu_play_laws::{close_and_go_on, live_on, open_left, run_at, run_twice};
+use wu_play_laws::{close_and_go_on, close_left, live_on, open_left, run_at, run_twice};
 use wu_plays::views_of;
 
 /// The batch that a line names, with its file.
@@ -71,13 +71,26 @@ fn stop_close(alloc: Global, saved: &Saved, calls: u64, seen: &[u8]) -> Result<O
     Ok(Some(is_closed))
 }
 
+/// Sees that the project is found in the store that a close leaves whose files take so many calls.
+fn adopt_left(alloc: Global, saved: &Saved, calls: u64, seen: &[u8]) -> Result<()> {
+    let files = saved.stopping(alloc, Side::Database, calls)?;
+    let Some(left) = close_left(alloc, files.into_files())? else {
+        bail!("the close leaves no store");
+    };
+    ensure!(views_in(alloc, left)?.as_slice() == seen, "another project");
+    Ok(())
+}
+
 /// Stops a close after each number of calls on the database. The numbers of those that it stopped at.
 fn stop_closes(alloc: Global, saved: &Saved, seen: &[u8]) -> Result<Vec<u64>> {
     let mut stops = Vec::new(alloc);
     for calls in 0..MOST_CALLS {
         match stop_close(alloc, saved, calls, seen)? {
             Some(true) => return Ok(stops),
-            Some(false) => stops.push(calls)?,
+            Some(false) => {
+                adopt_left(alloc, saved, calls, seen)?;
+                stops.push(calls)?;
+            }
             None => {}
         }
     }
@@ -95,7 +108,7 @@ fn stop(alloc: Global, saved: &Saved, seen: &[u8], transcript: &mut Vec<u8>) -> 
     ensure!(closes > 0, "no close stops");
     writeln!(
         transcript,
-        "a close stops {closes} times: each time this project is found"
+        "a close stops {closes} times: each time this project is found, also in the store that it left"
     )?;
     Ok(())
 }

@@ -2,10 +2,22 @@
 
 use crate::files::{database_of, files_of};
 use anyhow::{Result, bail, ensure};
-use sqlite::{Files, Options};
-use sqlite_disk::Crash;
+use sqlite::{Connection, FileStore, Files, Options};
+use sqlite_disk::{Crash, Disk};
 use std::alloc::Global;
-use wu_stops::{close_stop_and_adopt, open_and_adopt};
+use wu_stops::{close_stop_and_adopt, open_and_adopt, stop_and_adopt_unclosed};
+
+/// The database of the project in two files whose calls may stop on the way; None where one stopped.
+fn adopted<D: Disk + Drop>(
+    alloc: Global,
+    files: Files<D>,
+) -> Result<Option<Connection<FileStore<D>>>> {
+    ensure!(files.may_be_used(), "the files can't be used");
+    match open_and_adopt(alloc, files, Options::new(1)) {
+        Some(project) => Ok(Some(database_of(project))),
+        None => Ok(None),
+    }
+}
 
 /// Closes the project in two files whose calls may stop on the way; then the machine stops, and the project in what is
 /// left is adopted. Whether the close was answered, and what files the last session leaves; None where a call stopped
@@ -14,13 +26,29 @@ pub fn close_and_go_on<D: Crash + Drop>(
     alloc: Global,
     files: Files<D>,
 ) -> Result<Option<(bool, Files<D>)>> {
-    ensure!(files.may_be_used(), "the files can't be used");
-    let project = match open_and_adopt(alloc, files, Options::new(1)) {
-        Some(project) => project,
+    let conn = match adopted(alloc, files)? {
+        Some(conn) => conn,
         None => return Ok(None),
     };
-    match close_stop_and_adopt(alloc, database_of(project), Options::new(2)) {
+    match close_stop_and_adopt(alloc, conn, Options::new(2)) {
         Some((closed, again)) => Ok(Some((closed.is_ok(), files_of(again)))),
         None => bail!("what a close left is not adopted"),
+    }
+}
+
+/// Closes the project in two files whose calls may stop on the way. Where the close fails, the machine stops, and the
+/// project in the store that it left is adopted: what files that leaves. None where the close is answered, or a call
+/// stopped before it.
+pub fn close_left<D: Crash + Drop>(alloc: Global, files: Files<D>) -> Result<Option<Files<D>>> {
+    let conn = match adopted(alloc, files)? {
+        Some(conn) => conn,
+        None => return Ok(None),
+    };
+    match conn.close_files() {
+        Ok(_) => Ok(None),
+        Err((_, left)) => match stop_and_adopt_unclosed(alloc, left, Options::new(2)) {
+            Some(again) => Ok(Some(files_of(again))),
+            None => bail!("what a close left is not adopted"),
+        },
     }
 }

@@ -8,7 +8,7 @@ mod lives;
 mod openings;
 mod runs;
 
-pub use closings::close_and_go_on;
+pub use closings::{close_and_go_on, close_left};
 pub use lives::live_on;
 pub use openings::open_left;
 pub use runs::{run_at, run_twice};
