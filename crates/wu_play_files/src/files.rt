@@ -19,12 +19,19 @@ pub enum Pages {
     Few,
 }
 
+/// More pages than a database of a play has. An opening takes memory for as many as it may keep, and most of the time of
+/// a play goes into openings.
+const ALL: usize = 200;
+
 /// The options of an opening with this seed.
 pub fn options(seed: u64, pages: Pages) -> Options {
     let mut options = Options::new(seed);
-    if let Pages::Few = pages {
-        options.cache_pages = 1;
-        options.spill_pages = 0;
+    match pages {
+        Pages::All => options.cache_pages = ALL,
+        Pages::Few => {
+            options.cache_pages = 1;
+            options.spill_pages = 0;
+        }
     }
     options
 }

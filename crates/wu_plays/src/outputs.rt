@@ -28,11 +28,7 @@ fn run(alloc: Global, steps: &[Step], out: &mut Narrow) -> Result<(u8, Option<Li
 }
 
 /// How writers take no more, and how many bytes they take a call.
-const WRITERS: [(Full, usize); 3] = [
-    (Full::Fails, usize::MAX),
-    (Full::TakesNone, usize::MAX),
-    (Full::Fails, 1),
-];
+const WRITERS: [(Full, usize); 2] = [(Full::Fails, 1), (Full::TakesNone, usize::MAX)];
 
 /// Sees that the fault of the output ended a run.
 fn is_cut(status: u8, end: Option<LineFault>) -> Result<()> {

@@ -73,7 +73,7 @@ module _ {S W : Type 0} {c : calls.Ghosts Host} {s : start.Ghosts S} {g : Ghosts
     pub asked : AsksFor words order work
     pub runs : OpensAndDoes (database_in order) work old new done left
 
-  -- a database is opened only where work is asked for
+  -- files of a database come back only where its work was asked for
   abbrev pub RunsWords : List (List ℕ) → W → W → Result (Unit {0}) Trouble → Option (Left (Modelled Host S c s) g) → Type 0
   RunsWords words old new done (Some left) = RunsAsked words old new done left
   RunsWords words old new done None = RunsNothing words old new done
