@@ -102,6 +102,7 @@ storable_agreed = record {
   };
   class = omega arith;
   instances = record { each = all_two IsStoredInstance _ _ (stored_success h1 refl) (stored_success h2 refl); few = omega arith };
+  whole = record { within = formed_agreed.within; canonical = formed_agreed.canonical };
 }
 
 consistent_agreed : IsConsistent agreed

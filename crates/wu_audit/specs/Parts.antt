@@ -1,5 +1,5 @@
 -- Parts of what a sound world says of one workunit.
-use Rattle.std.specs.Prelude.{◌≡◌, ◌≢◌, ℕ, ◌<◌, ◌≤◌, ◌&&◌, true, false, length, All, IfSome, is_none, is_some, slice_get, Some}
+use Rattle.std.specs.Prelude.{◌≡◌, ◌≢◌, ℕ, ◌<◌, ◌&&◌, true, false, length, All, IfSome, is_none, is_some, slice_get, Some}
 use Rattle.std.specs.List.{list_any}
 use Rattle.wu_core.specs.declared.workunit.Instance.{Instance}
 use Rattle.wu_core.specs.declared.workunit.Workunit.{Workunit}
@@ -8,15 +8,9 @@ use Rattle.wu_core.specs.declared.states.FileDelete.TheVariants as file_delete
 use Rattle.wu_core.specs.declared.states.Outcome.TheVariants as outcome
 use Rattle.wu_core.specs.declared.states.ServerState.TheVariants as server
 use Rattle.wu_core.specs.declared.states.ValidateState.TheVariants as validate
-use Rattle.wu_core.specs.Formed.{IsInstance}
 use Rattle.wu_rules.specs.Consistent.{IsPossible}
 use Rattle.wu_rules.specs.Counts.{is_clear}
 use Rattle.wu_rules.specs.Instances.{is_success, is_unsent}
-
--- its instances are well formed, and no more than its parameters allow
-pub record HasFormedInstances (w : Workunit) : Type 0 where
-  pub instances : All IsInstance w.instances
-  pub within : length w.instances ≤ w.params.max_total_results
 
 -- the canonical instance, if there is one, is there
 abbrev pub IsCanonicalPlace : Workunit → Type 0

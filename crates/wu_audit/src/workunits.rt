@@ -4,12 +4,12 @@ ghost use Rattle.std.specs.Prelude.{◌≡◌, ◌≢◌, ◌↔◌, ◌<◌, �
 ghost use Rattle.std.specs.List.{list_any};
 ghost use Rattle.wu_core.specs.Formed.{IsInstance, IsWorkunit};
 ghost use Rattle.wu_core.specs.Parameters.{IsParameters};
-ghost use Rattle.wu_core.specs.Storable.{IsStorable, IsStoredInstance, IsStoredWorkunit, IsMoment, IsPlace, AreStoredInstances, bare};
+ghost use Rattle.wu_core.specs.Storable.{HasItsInstances, IsStorable, IsStoredInstance, IsStoredWorkunit, IsMoment, IsPlace, AreStoredInstances, bare};
 ghost use Rattle.wu_core.specs.declared.states.Assimilate.TheVariants as assimilate;
 ghost use Rattle.wu_rules.specs.Consistent.{IsConsistent, IsPossible};
 ghost use Rattle.wu_rules.specs.Counts.{is_clear};
 ghost use Rattle.wu_rules.specs.Instances.{is_unsent};
-ghost use Rattle.wu_audit.specs.Parts.{HasFormedInstances, IsCanonicalPlace, IsCanonicalValid, IsClasslessUnsent, IsDoneWithMoment, IsInOneState, IsSettable, IsValidSuccess};
+ghost use Rattle.wu_audit.specs.Parts.{IsCanonicalPlace, IsCanonicalValid, IsClasslessUnsent, IsDoneWithMoment, IsInOneState, IsSettable, IsValidSuccess};
 
 use crate::instances::{is_formed_instance, is_possible_instance, is_stored_instance, is_success};
 use wu_core::{
@@ -39,14 +39,6 @@ fn is_all_formed(instances: &Instances) -> bool
         .all(|instance| is_formed_instance(instance))
 }
 
-/// Whether the instances are well formed, and no more than the parameters allow.
-fn has_formed_instances(workunit: &Workunit) -> bool
-    ensures { IsTrue result ↔ HasFormedInstances workunit.now }
-{
-    is_all_formed(&workunit.instances)
-        && workunit.instances.len() <= workunit.params.max_total_results() as usize
-}
-
 /// Whether the canonical instance, if there is one, is there.
 fn is_canonical_there(workunit: &Workunit) -> bool
     ensures { IsTrue result ↔ IsCanonicalPlace workunit.now }
@@ -55,6 +47,14 @@ fn is_canonical_there(workunit: &Workunit) -> bool
         Some(n) => (n as usize) < workunit.instances.len(),
         None => true,
     }
+}
+
+/// Whether there are no more instances than the workunit may have, and its canonical one is among them.
+fn has_its_instances(workunit: &Workunit) -> bool
+    ensures { IsTrue result ↔ HasItsInstances workunit.now }
+{
+    workunit.instances.len() <= workunit.params.max_total_results() as usize
+        && is_canonical_there(workunit)
 }
 
 /// The moment of a workunit is in its range.
@@ -78,7 +78,7 @@ pub fn is_formed_workunit(workunit: &Workunit) -> bool
     ensures { IsTrue result ↔ IsWorkunit workunit.now }
 {
     know_parameters(workunit.params);
-    has_formed_instances(workunit) && is_canonical_there(workunit) && is_stamped(workunit)
+    is_all_formed(&workunit.instances) && has_its_instances(workunit) && is_stamped(workunit)
 }
 
 /// Whether each instance is what a row of an instance stands for.
@@ -110,7 +110,7 @@ fn is_stored_workunit(workunit: &Workunit) -> bool
     workunit.input.len() <= LONGEST_INPUT && is_stamped(workunit)
 }
 
-/// Whether the values of the workunit and of its instances are such as their rows are read as.
+/// Whether the values of the workunit and of its instances are such as their rows are read as, and it has its instances.
 pub fn is_storable_workunit(workunit: &Workunit) -> bool
     ensures { IsTrue result ↔ IsStorable workunit.now }
 {
@@ -118,6 +118,7 @@ pub fn is_storable_workunit(workunit: &Workunit) -> bool
         && is_stored_workunit(workunit)
         && workunit.class <= HIGHEST_CLASS
         && is_all_stored(&workunit.instances)
+        && has_its_instances(workunit)
 }
 
 /// Whether each instance is in a state that this project sets.

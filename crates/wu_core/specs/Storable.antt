@@ -1,5 +1,5 @@
 -- Values in the ranges that a project may hold: what a stored row is read as.
-use Rattle.std.specs.Prelude.{◌≡◌, ℕ, ◌+◌, ◌<◌, ◌≤◌, ◌^◌, true, List, [], length, All, Option, is_some, IfSome}
+use Rattle.std.specs.Prelude.{◌≡◌, ℕ, ◌+◌, ◌<◌, ◌≤◌, ◌^◌, true, List, [], length, All, Option, Some, is_some, IfSome}
 use Rattle.std.specs.List.{AllByRecursion}
 use Rattle.wu_core.specs.declared.import.ImportKind.{ImportKind}
 use Rattle.wu_core.specs.declared.states.Assimilate.{Assimilate}
@@ -86,12 +86,18 @@ pub record IsStoredWorkunit (w : Workunit) : Type 0 where
 abbrev pub IsClass : ℕ → Type 0
 IsClass class = class ≤ highest_class
 
--- the values of a workunit and of its instances are such as their rows are read as
+-- there are no more instances than the workunit may have, and a canonical one is among them
+pub record HasItsInstances (w : Workunit) : Type 0 where
+  pub within : length w.instances ≤ w.params.max_total_results
+  pub canonical : (n : ℕ) → w.canonical ≡ Some n → n < length w.instances
+
+-- the values of a workunit and of its instances are such as their rows are read as, and those are its instances
 pub record IsStorable (w : Workunit) : Type 0 where
   pub number : w.number < 2 ^ 63
   pub row : IsStoredWorkunit (bare w)
   pub class : IsClass w.class
   pub instances : AreStoredInstances w.instances
+  pub whole : HasItsInstances w
 
 -- each workunit that is present can be read
 abbrev pub AreStorable : World → Type 0

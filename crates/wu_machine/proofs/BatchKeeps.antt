@@ -95,6 +95,7 @@ new_storable params n job ranged is low = record {
   row = record { name = is.name; parameters = ranged; input = is.input; canonical = tt; stamped = record { moment = tt; done = λ e. cc; done_only = λ e. cc }; bare = refl; classless = refl };
   class = omega arith;
   instances = record { each = All-nil IsStoredInstance; few = omega arith };
+  whole = record { within = omega arith; canonical = λ place e. absurd (cc) };
 }
 
 news_storable : (params : Parameters) (n : ℕ) (jobs : List Job) → IsParameters params → All IsJob jobs → n + length jobs ≤ most_workunits + 1

@@ -69,8 +69,16 @@ keeps_storable w v keeps storable = record {
   };
   class = (let less = keeps.class in let within = storable.class in omega (arith, less, within));
   instances = record { each = keeps.each storable.instances.each; few = few };
+  whole = record {
+    within = subst (λ total. length v.instances ≤ total) (sym keeps.total) (keeps.room w.params.max_total_results (omega arith) storable.whole.within);
+    canonical = λ n e. among n (keeps.canonical n e);
+  };
 }
   where
+    among : (n : ℕ) → (w.canonical ≡ Some n) ⊎ (n < length v.instances) → n < length v.instances
+    among n (inl e) = (let before = storable.whole.canonical n e in let grows = keeps.grows in omega (arith, before, grows))
+    among n (inr within) = within
+
     few : length v.instances ≤ most_instances
     few = keeps.room most_instances storable.row.parameters.max_total_results.1 storable.instances.few
 
@@ -181,6 +189,7 @@ follows_assimilated w now low storable = by (is_ready_assimilate w.assimilate)
         };
         class = storable.class;
         instances = storable.instances;
+        whole = record { within = storable.whole.within; canonical = storable.whole.canonical };
       };
     }
     by false = record { number = refl; name = refl; storable = storable }

@@ -177,6 +177,9 @@ module _ (w : Workunit) (n : ℕ) (class : ℕ) (change : Instance → Instance)
       → IsStorable (changed_at w n class change)
   at_storable storable low keeps = by (slice_get w.instances n) refl
     where
+      long : (i : Instance) → length (changed_as w n class change i).instances ≡ length w.instances
+      long i = length-set w.instances n (change i)
+
       by : (found : Option Instance) → slice_get w.instances n ≡ found → IsStorable (option_map_or (changed_as w n class change) found w)
       by (Some i) at = record {
         number = storable.number;
@@ -184,7 +187,11 @@ module _ (w : Workunit) (n : ℕ) (class : ℕ) (change : Instance → Instance)
         class = low;
         instances = record {
           each = All-set IsStoredInstance w.instances n (change i) (keeps i at (stored_at i storable.instances at)) storable.instances.each;
-          few = (let long = length-set w.instances n (change i) in let few = storable.instances.few in omega (arith, long, few));
+          few = (let few = storable.instances.few in omega (arith, long i, few));
+        };
+        whole = record {
+          within = (let within = storable.whole.within in omega (arith, long i, within));
+          canonical = λ place e. (let among = storable.whole.canonical place e in omega (arith, long i, among));
         };
       }
       by None at = storable

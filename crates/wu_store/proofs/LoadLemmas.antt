@@ -6,6 +6,8 @@ use Rattle.std.specs.Option.{option_map_or}
 use Rattle.sqlite_rules.proofs.ListLemmas.{has_found}
 use Rattle.wu_schema.proofs.QuietLemmas.{same_some}
 use Rattle.std.proofs.lemmas.List.{get_or-map, take_more}
+use Rattle.std.proofs.lemmas.List.Elements.{All-weaker}
+use Rattle.wu_core.specs.Formed.{IsInstance, IsWorkunit}
 use Rattle.wu_core.specs.Limits.{most_instances}
 use Rattle.wu_schema.specs.Calls.{Answers}
 use Rattle.sqlite.proofs.StateLemmas.{survives_then}
@@ -19,7 +21,7 @@ use Rattle.wu_store.specs.Classes.{class_numbered, LoadsClass}
 use Rattle.wu_store.specs.Loading.{classless, FindsClassless, IsWholeIfThere, Asks, Finds, FindsIfThere, FindsInstances, LoadsInstances, LoadsImport, IsEarlier, IsLoadable, IsLoadableIfThere, IsReadOnly, IsRowIfThere, IsRowOfPresent, IsStoreFault, NotRefusedIn, ForEachWorld, instances_at}
 pub use Rattle.wu_store.proofs.AskLemmas.{never_refused}
 use Rattle.wu_store.specs.Reading.{IsStoredImport, row_before, stored_import_row}
-use Rattle.wu_core.specs.Storable.{AreStoredInstances, IsNextNumber, IsStoredInstance, IsStorable, IsStoredWorkunit, bare}
+use Rattle.wu_core.specs.Storable.{AreStoredInstances, HasItsInstances, IsNextNumber, IsStoredInstance, IsStorable, IsStoredWorkunit, bare}
 use Rattle.wu_store.specs.declared.rows.StoredImport.{StoredImport}
 use Rattle.wu_store.proofs.ReadingLemmas.{not_ok, same_verdicts}
 use Rattle.wu_store.proofs.PlacedLemmas.{Rises, world_rises}
@@ -168,6 +170,11 @@ instances_restored rows are is each few = record {
   refused = tt;
 }
 
+-- what is read is such as is stored
+pub instances_stored : (rows : List Row) (r : Result (List Instance) Fault) → Restores (map instance_row) AreStoredInstances rows r → IfOk r AreStoredInstances
+instances_stored rows (Ok are) reads = reads.value.1
+instances_stored rows (Err f) reads = tt
+
 rows_at : (n : ℕ) (world : World) → instance_rows_of n world ≡ map instance_row (instances_at n world)
 rows_at n world = go (numbered n world)
   where
@@ -188,6 +195,31 @@ module _ (n : ℕ) (world : World) (rows : List Row) (are : rows ≡ instance_ro
 at_present : (w : Workunit) (world : World) → numbered w.number world ≡ Some w → instances_at w.number world ≡ w.instances
 at_present w world is = ap (λ o. option_map_or (λ (v : Workunit). v.instances) o []) is
 
+-- a row that was read, with instances such as its workunit may have
+pub well_formed : (row : Row) (v : Workunit) (are : List Instance) → Restores workunit_row IsStoredWorkunit row (Ok v) → AreStoredInstances are → HasItsInstances (record v { instances = are })
+    → IsWorkunit (record v { instances = are })
+well_formed row v are reads stored whole =
+    let it = reads.value.1 in
+    record {
+      parameters = it.parameters;
+      instances = All-weaker IsStoredInstance IsInstance (λ i h. h.formed) are stored.each;
+      within = whole.within;
+      canonical = whole.canonical;
+      done = it.stamped.done;
+      done_only = it.stamped.done_only;
+    }
+
+-- and with its class
+pub formed_classed : (v : Workunit) (class : ℕ) → IsWorkunit v → IsWorkunit (record v { class = class })
+formed_classed v class formed = record {
+  parameters = formed.parameters;
+  instances = formed.instances;
+  within = formed.within;
+  canonical = formed.canonical;
+  done = formed.done;
+  done_only = formed.done_only;
+}
+
 module _ (row : Row) (world : World) (w : Workunit) (of : IsRowOfPresent row w world) where
   -- a row that was read, and its instances
   pub whole_found : (v : Workunit) (are : List Instance) → Restores workunit_row IsStoredWorkunit row (Ok v) → are ≡ instances_at v.number world → record v { instances = are } ≡ classless w
@@ -205,6 +237,10 @@ module _ (row : Row) (world : World) (w : Workunit) (of : IsRowOfPresent row w w
   instances_can v reads can =
       let same : v.number ≡ w.number = ap (λ (u : Workunit). u.number) (same_workunit v w (sym reads.value.0 ∙ of.row_is)) in
       (omega (arith, same, can.number), subst (λ n. AreStoredInstances (instances_at n world)) (sym same) (subst AreStoredInstances (sym (at_present w world of.present)) can.instances))
+
+  -- which are such as it may have
+  pub whole_can : (v : Workunit) (are : List Instance) → Restores workunit_row IsStoredWorkunit row (Ok v) → are ≡ instances_at v.number world → IsStorable w → HasItsInstances (record v { instances = are })
+  whole_can v are reads is can = subst HasItsInstances (sym (whole_found v are reads is)) (record { within = can.whole.within; canonical = can.whole.canonical })
 
 -- ---- what is found where there is a row, and where there is none
 

@@ -1,6 +1,6 @@
 -- What is loaded of a project: the present workunit of a number or a name, or the first one above a number, with its
 -- instances; an import; the next number, and the next place of a grant or of an archived row.
-use Rattle.std.specs.Prelude.{◌≡◌, ◌≢◌, ℕ, ◌<◌, ◌^◌, List, [], Option, Some, None, option_map, Result, find, IfErr, IfSome, IsTrue, MatchResult, ⊤}
+use Rattle.std.specs.Prelude.{◌≡◌, ◌≢◌, ℕ, ◌<◌, ◌^◌, List, [], Option, Some, None, option_map, Result, find, IfErr, IfOk, IfSome, IsTrue, MatchResult, ⊤}
 use Rattle.std.specs.Option.{option_map_or}
 use Rattle.sqlite.specs.Held.{Held, state}
 use Rattle.sqlite.specs.Order.{Row}
@@ -11,6 +11,7 @@ use Rattle.wu_core.specs.declared.fault.Fault.TheVariants.{NotAProject}
 use Rattle.wu_core.specs.declared.import.ImportKind.{ImportKind}
 use Rattle.wu_core.specs.declared.workunit.Instance.{Instance}
 use Rattle.wu_core.specs.declared.workunit.Workunit.{Workunit}
+use Rattle.wu_core.specs.Formed.{IsWorkunit}
 use Rattle.wu_core.specs.World.{World, Import, is_import}
 use Rattle.wu_schema.specs.Calls.{IsBack}
 pub use Rattle.wu_schema.specs.Asking.{Asks, ServesUnlessFailed}
@@ -84,6 +85,10 @@ FindsNamed name result world = KnowsClasses world → Finds (named name world) r
 -- that of the least number above this one, where there are no classes
 abbrev pub FindsAbove : ℕ → Result (Option Workunit) Fault → World → Type 0
 FindsAbove number result world = ¬ KnowsClasses world → Finds (first_above number world) result
+
+-- what is loaded, if a workunit is found, is well formed
+abbrev pub LoadsFormed : Result (Option Workunit) Fault → Type 0
+LoadsFormed result = IfOk result (λ found. IfSome found IsWorkunit)
 
 -- the instances of the workunit of this number; none where it is not there
 abbrev pub instances_at : ℕ → World → List Instance

@@ -1,6 +1,6 @@
 //! The workunits that a pass is to change, found by the queue; and the marks by which it finds them, of all workunits.
 
-ghost use Rattle.std.specs.Prelude.{◌≡◌, ◌≤◌, ◌<◌, ◌+◌, ◌++◌, ◌-◌, ◌^◌, ◌∷◌, [], ⊤, false, None, length, IfErr, IfOk, IfSome};
+ghost use Rattle.std.specs.Prelude.{◌≡◌, ◌≤◌, ◌<◌, ◌+◌, ◌++◌, ◌-◌, ◌^◌, ◌∷◌, [], ⊤, false, None, length, All, IfErr, IfOk, IfSome};
 ghost use Rattle.wu_core.specs.declared.fault.Fault.TheVariants.{Memory};
 ghost use Rattle.wu_core.specs.declared.marks.Marks.{Marks};
 ghost use Rattle.wu_rules.specs.Marks.{marks, selects};
@@ -9,6 +9,7 @@ ghost use Rattle.wu_store.specs.Queues.{AnswersQueue, first_marked, is_marked, N
 ghost use Rattle.wu_store.specs.StandsFor.{ForEachQueued, NotRefusedQueued};
 ghost use Rattle.wu_store.specs.Loading.{Asks, FindsAbove, IsStoreFault, LoadsAbove, NotRefusedIn, ForEachWorld, ServesUnlessFailed};
 ghost use Rattle.wu_store.specs.Reading.{IsReadFault};
+ghost use Rattle.wu_core.specs.Formed.{IsWorkunit};
 ghost use Rattle.wu_core.specs.Storable.{AreStorable};
 
 use crate::loading::{load, load_above, load_early};
@@ -142,6 +143,7 @@ fn due_rows<S: Alter>(
 fn present<S: Alter>(conn: &mut Connection<S>, alloc: Global, row: &Row) -> Result<Workunit, Fault>
     ensures asks { Asks S.Store conn.old conn.new result }
     ensures fault { IfErr result IsStoreFault }
+    ensures formed { IfOk result IsWorkunit }
     ensures found { ForEachWorld S.Store conn.old conn.new (FindsPresent row.now result) }
     ensures unrefused { NotRefusedIn S.Store conn.old conn.new result (IsRowOfStorable row.now) }
 {
@@ -197,6 +199,7 @@ fn load_all<S: Alter>(
 ) -> Result<Vec<Workunit>, Fault>
     ensures asks { Asks S.Store conn.old conn.new result }
     ensures fault { IfErr result IsStoreFault }
+    ensures formed { IfOk result (λ found. All IsWorkunit found.items) }
     ensures found { ForEachWorld S.Store conn.old conn.new (FindsAllPresent rows.now result) }
     ensures long { IfOk result (λ found. length found.items ≡ length rows.now) }
     ensures unrefused { NotRefusedIn S.Store conn.old conn.new result
@@ -212,8 +215,8 @@ fn load_all<S: Alter>(
 
 /// The workunits that the pass changes, in order of number: the first ones, up to the limit.
 ///
-/// The queue tells their numbers, and those workunits alone are loaded. `NotAProject` where a row is no value, or the
-/// limit is not below 2^63.
+/// The queue tells their numbers, and those workunits alone are loaded. `NotAProject` where a row is no value, a
+/// workunit is not well formed, or the limit is not below 2^63.
 pub fn load_due<S: Alter>(
     conn: &mut Connection<S>,
     alloc: Global,
@@ -227,6 +230,7 @@ pub fn load_due<S: Alter>(
     ensures fault { IfErr result IsStoreFault }
     ensures due { ForEachQueued S.Store conn.old conn.new
         (FindsDue pass now min_age limit result) }
+    ensures formed { IfOk result (λ due. All IsWorkunit due.items) }
     ensures few { IfOk result (λ due. length due.items ≤ limit) }
     ensures unrefused { limit < 2 ^ 63
         → NotRefusedQueued S.Store conn.old conn.new result AreStorable }

@@ -1,12 +1,12 @@
 //! What is loaded of a project, each by a question of its own: a workunit with its instances, an import, the next
 //! number, and the next places.
 
-ghost use Rattle.std.specs.Prelude.{◌<◌, ◌^◌, ⊤, IfErr, IfOk};
-ghost use Rattle.wu_store.specs.Loading.{Asks, FindsAbove, FindsClassless, FindsEarlier, FindsEarly, FindsIfThere, FindsInstances, FindsNamed, FindsNumbered, LoadsInstances, LoadsImport, IsLoadableIfThere, IsStoreFault, IsWholeIfThere, KnowsArchivedPlace, KnowsGrantPlace, KnowsNext, LoadsAbove, LoadsEarly, LoadsNamed, LoadsNumbered, NotRefusedIn, ForEachWorld, ServesUnlessFailed};
+ghost use Rattle.std.specs.Prelude.{◌<◌, ◌^◌, ◌↔◌, ⊤, IfErr, IfOk, IsTrue};
+ghost use Rattle.wu_store.specs.Loading.{Asks, FindsAbove, FindsClassless, FindsEarlier, FindsEarly, FindsIfThere, FindsInstances, FindsNamed, FindsNumbered, LoadsInstances, LoadsImport, IsLoadableIfThere, IsStoreFault, IsWholeIfThere, KnowsArchivedPlace, KnowsGrantPlace, KnowsNext, LoadsAbove, LoadsEarly, LoadsFormed, LoadsNamed, LoadsNumbered, NotRefusedIn, ForEachWorld, ServesUnlessFailed};
 ghost use Rattle.wu_schema.specs.Calls.{Answers};
 ghost use Rattle.wu_store.specs.Answers.{row_numbered};
 ghost use Rattle.wu_store.specs.Reading.{IsPlaceToGive};
-ghost use Rattle.wu_core.specs.Storable.{IsNextNumber, LoadsNext};
+ghost use Rattle.wu_core.specs.Storable.{AreStoredInstances, HasItsInstances, IsNextNumber, LoadsNext};
 
 use crate::classes::class_of_workunit;
 use crate::rows::{
@@ -26,6 +26,7 @@ fn instances_of<S: Alter>(
 ) -> Result<Instances, Fault>
     ensures asks { Asks S.Store conn.old conn.new result }
     ensures fault { IfErr result IsStoreFault }
+    ensures stored { IfOk result AreStoredInstances }
     ensures found { ForEachWorld S.Store conn.old conn.new (FindsInstances workunit result) }
     ensures unrefused { NotRefusedIn S.Store conn.old conn.new result (LoadsInstances workunit) }
 {
@@ -38,7 +39,19 @@ fn instances_of<S: Alter>(
     instances_from(alloc, &rows)
 }
 
-/// The workunit of a row, with its instances and without its class; none where there is no row.
+/// Whether there are no more instances than the workunit may have, and a canonical one is among them.
+fn has_its_instances(workunit: &Workunit) -> bool
+    ensures { IsTrue result ↔ HasItsInstances workunit.now }
+{
+    let is_canonical_there = match workunit.canonical {
+        Some(n) => (n as usize) < workunit.instances.len(),
+        None => true,
+    };
+    workunit.instances.len() <= workunit.params.max_total_results() as usize && is_canonical_there
+}
+
+/// The workunit of a row, with its instances and without its class; none where there is no row. `NotAProject` where it
+/// is not well formed.
 fn loaded<S: Alter>(
     conn: &mut Connection<S>,
     alloc: Global,
@@ -46,6 +59,7 @@ fn loaded<S: Alter>(
 ) -> Result<Option<Workunit>, Fault>
     ensures asks { Asks S.Store conn.old conn.new result }
     ensures fault { IfErr result IsStoreFault }
+    ensures formed { LoadsFormed result }
     ensures found { ForEachWorld S.Store conn.old conn.new (FindsClassless row result) }
     ensures unrefused { NotRefusedIn S.Store conn.old conn.new result (IsLoadableIfThere row) }
 {
@@ -54,11 +68,15 @@ fn loaded<S: Alter>(
     };
     let mut workunit = workunit_from(alloc, &row)?;
     workunit.instances = instances_of(conn, alloc, workunit.number)?;
-    Ok(Some(workunit))
+    if has_its_instances(&workunit) {
+        Ok(Some(workunit))
+    } else {
+        Err(Fault::NotAProject)
+    }
 }
 
 /// The workunit of a row, with its class and its instances; none where there is no row. `NotAProject` where it has no
-/// class.
+/// class, or is not well formed.
 fn whole<S: Alter>(
     conn: &mut Connection<S>,
     alloc: Global,
@@ -66,6 +84,7 @@ fn whole<S: Alter>(
 ) -> Result<Option<Workunit>, Fault>
     ensures asks { Asks S.Store conn.old conn.new result }
     ensures fault { IfErr result IsStoreFault }
+    ensures formed { LoadsFormed result }
     ensures found { ForEachWorld S.Store conn.old conn.new (FindsIfThere row result) }
     ensures unrefused { NotRefusedIn S.Store conn.old conn.new result (IsWholeIfThere row) }
 {
@@ -99,7 +118,7 @@ fn numbered_row<S: Alter>(conn: &mut Connection<S>, number: u64) -> Result<Optio
 
 /// The present workunit of this number, with its class and its instances, or none.
 ///
-/// `NotAProject` where a row is no value, or the number is not below 2^63.
+/// `NotAProject` where a row is no value, the workunit is not well formed, or the number is not below 2^63.
 pub fn load<S: Alter>(
     conn: &mut Connection<S>,
     alloc: Global,
@@ -108,6 +127,7 @@ pub fn load<S: Alter>(
     ensures asks { Asks S.Store conn.old conn.new result }
     ensures opens { number < 2 ^ 63 → ServesUnlessFailed S.Store conn.new result }
     ensures fault { IfErr result IsStoreFault }
+    ensures formed { LoadsFormed result }
     ensures found { ForEachWorld S.Store conn.old conn.new (FindsNumbered number result) }
     ensures unrefused { NotRefusedIn S.Store conn.old conn.new result (LoadsNumbered number) }
 {
@@ -117,7 +137,7 @@ pub fn load<S: Alter>(
 
 /// The present workunit of this number, with its instances, or none, where there are no classes.
 ///
-/// `NotAProject` where a row is no value, or the number is not below 2^63.
+/// `NotAProject` where a row is no value, the workunit is not well formed, or the number is not below 2^63.
 pub fn load_early<S: Alter>(
     conn: &mut Connection<S>,
     alloc: Global,
@@ -126,6 +146,7 @@ pub fn load_early<S: Alter>(
     ensures asks { Asks S.Store conn.old conn.new result }
     ensures opens { number < 2 ^ 63 → ServesUnlessFailed S.Store conn.new result }
     ensures fault { IfErr result IsStoreFault }
+    ensures formed { LoadsFormed result }
     ensures found { ForEachWorld S.Store conn.old conn.new (FindsEarly number result) }
     ensures unrefused { NotRefusedIn S.Store conn.old conn.new result (LoadsEarly number) }
 {
@@ -135,7 +156,7 @@ pub fn load_early<S: Alter>(
 
 /// The present workunit of the least number above this one, with its instances, or none, where there are no classes.
 ///
-/// `NotAProject` where a row is no value, or the number is not below 2^63.
+/// `NotAProject` where a row is no value, the workunit is not well formed, or the number is not below 2^63.
 pub fn load_above<S: Alter>(
     conn: &mut Connection<S>,
     alloc: Global,
@@ -144,6 +165,7 @@ pub fn load_above<S: Alter>(
     ensures asks { Asks S.Store conn.old conn.new result }
     ensures opens { number < 2 ^ 63 → ServesUnlessFailed S.Store conn.new result }
     ensures fault { IfErr result IsStoreFault }
+    ensures formed { LoadsFormed result }
     ensures found { ForEachWorld S.Store conn.old conn.new (FindsAbove number result) }
     ensures unrefused { NotRefusedIn S.Store conn.old conn.new result (LoadsAbove number) }
 {
@@ -156,7 +178,8 @@ pub fn load_above<S: Alter>(
     loaded(conn, alloc, row)
 }
 
-/// The present workunit of this name, with its class and its instances, or none. `NotAProject` where a row is no value.
+/// The present workunit of this name, with its class and its instances, or none. `NotAProject` where a row is no value,
+/// or the workunit is not well formed.
 pub fn load_named<S: Alter>(
     conn: &mut Connection<S>,
     alloc: Global,
@@ -165,6 +188,7 @@ pub fn load_named<S: Alter>(
     ensures asks { Asks S.Store conn.old conn.new result }
     ensures opens { ServesUnlessFailed S.Store conn.new result }
     ensures fault { IfErr result IsStoreFault }
+    ensures formed { LoadsFormed result }
     ensures found { ForEachWorld S.Store conn.old conn.new (FindsNamed name.now result) }
     ensures unrefused { NotRefusedIn S.Store conn.old conn.new result (LoadsNamed name.now) }
 {

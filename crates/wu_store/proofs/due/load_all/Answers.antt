@@ -1,10 +1,12 @@
 use Rattle.std.proofs.Common.{rules, ◌≡◌, ◌<◌, ◌++◌, ◌∷◌, [], ◌∙◌, get_or, length, take, sym, ap, arith}
 use Rattle.std.proofs.lemmas.List.{take_more, take_all}
+use Rattle.std.proofs.lemmas.List.Elements.{All-push}
 use Rattle.std.specs.Prelude.{IfErr, Vec}
 use Rattle.std.specs.declared.alloc.Global.{Global}
 use Rattle.sqlite.specs.State.{HasCleanDisk}
 use Rattle.sqlite.specs.Held.{state}
 use Rattle.wu_core.specs.declared.workunit.Workunit.{Workunit}
+use Rattle.wu_core.specs.Formed.{IsWorkunit}
 use Rattle.wu_schema.specs.Refines.{Refines}
 use Rattle.wu_store.specs.Reading.{IsReadFault}
 use Rattle.wu_store.proofs.QueuedLemmas.{as_many, number_at, storable_at}
@@ -15,6 +17,7 @@ pub loop-row-preserved : goal.loop-row-preserved
 loop-row-preserved g c = record {
   asks = asks_then g.S.Store _ _ _ tt c.loop-row.invariant.asks _ (asks_done g.S.Store _ _ c.in_ok-workunit.workunit c.in_ok-workunit.ensures.asks);
   long = search (arith, rules);
+  formed = (let pushed : c.push.new.self.items ≡ c.loop-row.found.items ++ c.in_ok-workunit.workunit ∷ [] = search rules in rw pushed (All-push IsWorkunit c.loop-row.found.items c.in_ok-workunit.workunit c.loop-row.invariant.formed c.in_ok-workunit.ensures.formed));
   so_far = λ clean world stands known ws are.
       let before : HasCleanDisk (state g.S.Store c.loop-row.conn) = omega (arith, c.present.ensures.asks.crash.clean) in
       let still : Refines (state g.S.Store c.loop-row.conn).now world = asks_stands g.S.Store _ _ tt c.loop-row.invariant.asks before world stands in
@@ -36,6 +39,7 @@ returns-in_err-workunit g c =
       asks = asks_then g.S.Store _ _ _ tt c.loop-row.invariant.asks r (asks_handed g.S.Store _ _ r fault same c.in_err-workunit.ensures.asks);
       fault = fault_handed r fault same c.in_err-workunit.ensures.fault;
       found = λ clean world stands known ws are. match_handed r fault same _ c.in_err-workunit.ensures.fault;
+      formed = nothing_handed r fault same _;
       long = nothing_handed r fault same _;
       unrefused = λ clean world stands can limit.
           let before : HasCleanDisk (state g.S.Store c.loop-row.conn) = omega (arith, c.present.ensures.asks.crash.clean) in

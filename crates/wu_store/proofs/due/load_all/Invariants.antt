@@ -1,6 +1,8 @@
 use Rattle.std.proofs.Common.{Ok, List, length, take, ◌≡◌}
+use Rattle.std.specs.Prelude.{All}
 use Rattle.sqlite.specs.State.{HasCleanDisk}
 use Rattle.sqlite.specs.Held.{state}
+use Rattle.wu_core.specs.Formed.{IsWorkunit}
 use Rattle.wu_core.specs.World.{World}
 use Rattle.wu_core.specs.declared.workunit.Workunit.{Workunit}
 use Rattle.wu_schema.specs.Refines.{Refines}
@@ -13,6 +15,7 @@ abbrev pub invariant-loop-row : goal.invariant-loop-row
 invariant-loop-row g l = record {
   asks : Asks {T = Unit {0}} g.S.Store l.fn.conn l.conn (Ok tt);
   long : length l.found.items ≡ l.row-index;
+  formed : All IsWorkunit l.found.items;
   so_far : HasCleanDisk (state g.S.Store l.conn) → (world : World) → Refines (state g.S.Store l.fn.conn).now world
       → KnowsClasses world → (ws : List Workunit) → AreNumbersOf l.rows ws world → l.found.items ≡ take l.row-index ws;
 }

@@ -35,6 +35,7 @@ returns-in_err-rows g c =
       opens = λ low. opens_handed r fault same g.S.Store c.first_due_rows.new.conn (c.in_err-rows.ensures.opens low);
       fault = fault_handed r fault same c.in_err-rows.ensures.fault;
       due = λ clean world known stands. match_handed r fault same _ c.in_err-rows.ensures.fault;
+      formed = nothing_handed r fault same _;
       few = nothing_handed r fault same _;
       unrefused = λ low clean world known stands storable limit. handed_on r fault same (c.in_err-rows.ensures.unrefused low clean (marked world) (stands.queue (queued world known)) limit);
     }

@@ -1,5 +1,7 @@
-use Rattle.wu_schema.proofs.Words.{Err, None, NotAProject, Some, inr, refl, sym, ◌∙◌, ◌≡◌}
-use Rattle.wu_store.proofs.AskLemmas.{asks_handed, asks_made, asks_none, asks_row, fault_handed, fault_read, handed_on, match_handed, never_broken, never_err, read_handed, read_told}
+use Rattle.wu_schema.proofs.Words.{Err, None, NotAProject, Some, inr, refl, subst, sym, ◌∙◌, ◌≡◌}
+use Rattle.std.specs.Prelude.{IfSome}
+use Rattle.wu_core.specs.Formed.{IsWorkunit}
+use Rattle.wu_store.proofs.AskLemmas.{asks_handed, asks_made, asks_none, asks_row, fault_handed, fault_read, handed_on, match_handed, never_broken, never_err, nothing_handed, read_handed, read_told}
 use Rattle.wu_store.proofs.QueuedLemmas.{loads_there, number_read, number_told, told_present}
 use Rattle.wu_store.proofs.due.present.Goals as goal
 
@@ -12,6 +14,7 @@ returns-in_err-number g c =
     record {
       asks = asks_none g.S.Store c.args.conn.now r (never_broken r refused);
       fault = fault_read r refused;
+      formed = nothing_handed r fault same _;
       found = λ clean world stands known w of. match_handed r fault same _ (read_told fault c.in_err-number.ensures.refused);
       unrefused = λ clean world stands can limit. handed_on r fault same (number_read c.args.row.now can.1 world can.2 _ c.in_err-number.ensures);
     }
@@ -24,6 +27,7 @@ returns-in_err-workunit g c =
     record {
       asks = asks_handed g.S.Store _ _ r fault same c.in_err-workunit.ensures.asks;
       fault = fault_handed r fault same c.in_err-workunit.ensures.fault;
+      formed = nothing_handed r fault same _;
       found = λ clean world stands known w of. match_handed r fault same _ c.in_err-workunit.ensures.fault;
       unrefused = λ clean world stands can limit.
           let number = number_told c.args.row.now can.1 world can.2 c.in_ok-number.number c.in_ok-number.ensures in
@@ -34,6 +38,7 @@ pub returns-in-Some : goal.returns-in-Some
 returns-in-Some g c = record {
   asks = asks_made g.S.Store _ _ c.in_ok-workunit.field-0 _ (never_err _) c.in_ok-workunit.ensures.asks;
   fault = tt;
+  formed = subst (λ o. IfSome o IsWorkunit) c.in-Some.is c.in_ok-workunit.ensures.formed;
   found = λ clean world stands known w of.
       let number = number_told c.args.row.now w world of c.in_ok-number.number c.in_ok-number.ensures in
       let found : Some c.in-Some.workunit ≡ Some w = told_present c.args.row.now w world of c.in_ok-number.number number (Some c.in-Some.workunit) (sym c.in-Some.is ∙ c.in_ok-workunit.ensures.found clean world stands known) in
@@ -45,6 +50,7 @@ pub returns-in-None : goal.returns-in-None
 returns-in-None g c = record {
   asks = asks_row g.S.Store _ _ c.in_ok-workunit.field-0 (Err NotAProject) (inr refl) c.in_ok-workunit.ensures.asks;
   fault = inr (inr refl);
+  formed = tt;
   found = λ clean world stands known w of. inr (inr refl);
   unrefused = λ clean world stands can limit.
       let number = number_told c.args.row.now can.1 world can.2 c.in_ok-number.number c.in_ok-number.ensures in

@@ -3,11 +3,11 @@ use Rattle.wu_schema.proofs.Parts.{Instances}
 use Rattle.wu_schema.proofs.InsertEffect.{also, no_more}
 use Rattle.wu_store.specs.Answers.{instance_rows_of}
 use Rattle.wu_store.specs.Reading.{IsReadFault}
-use Rattle.wu_store.proofs.AskLemmas.{asked_all, asks_handed, asks_none, asks_row, fault_handed, fault_read, handed_on, match_handed, never_broken, question, read_handed, read_told}
+use Rattle.wu_store.proofs.AskLemmas.{asked_all, asks_handed, asks_none, asks_row, fault_handed, fault_read, handed_on, match_handed, never_broken, nothing_handed, question, read_handed, read_told}
 use Rattle.wu_store.proofs.ChangeLemmas.{sent_number}
 use Rattle.wu_store.proofs.SelectTexts.{instances_asked, instances_fits}
 use Rattle.wu_store.proofs.InstanceAnswers as answers
-use Rattle.wu_store.proofs.LoadLemmas.{instances_found, instances_read}
+use Rattle.wu_store.proofs.LoadLemmas.{instances_found, instances_read, instances_stored}
 use Rattle.wu_store.proofs.loading.instances_of.Goals as goal
 
 pub returns-in_err-key : goal.returns-in_err-key
@@ -20,6 +20,7 @@ returns-in_err-key g c =
     record {
       asks = asks_none g.S.Store c.args.conn.now r (never_broken r (read_handed r fault same refused));
       fault = fault_handed r fault same (read_told fault refused);
+      stored = nothing_handed r fault same _;
       found = λ clean world stands. match_handed r fault same _ (read_told fault refused);
       unrefused = λ clean world stands has limit. absurd (omega (arith, has.0, beyond));
     }
@@ -35,6 +36,7 @@ returns-in_err-rows g c =
     record {
       asks = asks_handed g.S.Store _ _ r fault same it.asks;
       fault = fault_handed r fault same it.fault;
+      stored = nothing_handed r fault same _;
       found = λ clean world stands. match_handed r fault same _ it.fault;
       unrefused = λ clean world stands has limit. handed_on r fault same (it.unrefused clean world stands tt limit);
     }
@@ -49,6 +51,7 @@ returns g c =
     record {
       asks = asks_row g.S.Store _ _ c.in_ok-rows.rows r reads.refused it.asks;
       fault = fault_read r reads.refused;
+      stored = instances_stored _ r reads;
       found = λ clean world stands. instances_found c.args.workunit world _ (c.deref.ensures.value ∙ it.answers clean world stands) r reads;
       unrefused = λ clean world stands has limit. instances_read c.args.workunit world _ (c.deref.ensures.value ∙ it.answers clean world stands) r reads has.1;
     }

@@ -6,7 +6,7 @@ use Rattle.wu_store.specs.Reading.{IsReadFault}
 use Rattle.wu_store.proofs.ChangeLemmas.{sent_number}
 use Rattle.wu_store.proofs.SelectTexts.{above_asked, above_fits}
 use Rattle.wu_store.proofs.OrderAnswers.{above_found}
-use Rattle.wu_store.proofs.AskLemmas.{asked_row, asks_handed, asks_none, asks_then, fault_handed, handed_on, match_handed, never_broken, opens_handed, opens_then, question, read_handed, read_told}
+use Rattle.wu_store.proofs.AskLemmas.{asked_row, asks_handed, asks_none, asks_then, fault_handed, handed_on, match_handed, never_broken, nothing_handed, opens_handed, opens_then, question, read_handed, read_told}
 use Rattle.wu_store.proofs.LoadLemmas.{early_found, early_unrefused}
 use Rattle.wu_store.proofs.loading.load_above.Goals as goal
 
@@ -21,6 +21,7 @@ returns-in_err-key g c =
       asks = asks_none g.S.Store c.args.conn.now r (never_broken r (read_handed r fault same refused));
       opens = λ low. absurd (omega (arith, low, beyond));
       fault = fault_handed r fault same (read_told fault refused);
+      formed = nothing_handed r fault same _;
       found = λ clean world stands early. match_handed r fault same _ (read_told fault refused);
       unrefused = λ clean world stands can limit. absurd (omega (arith, can.1, beyond));
     }
@@ -37,6 +38,7 @@ returns-in_err-row g c =
       asks = asks_handed g.S.Store _ _ r fault same it.asks;
       opens = λ low. opens_handed r fault same g.S.Store c.ask_row.new.conn it.opens;
       fault = fault_handed r fault same it.fault;
+      formed = nothing_handed r fault same _;
       found = λ clean world stands early. match_handed r fault same _ it.fault;
       unrefused = λ clean world stands can limit. handed_on r fault same (it.unrefused clean world stands tt limit);
     }
@@ -52,6 +54,7 @@ returns g c =
       asks = asks_then g.S.Store _ _ _ row it.asks c.loaded.result c.loaded.ensures.asks;
       opens = λ low. opens_then g.S.Store c.ask_row.new.conn c.loaded.new.conn it.opens c.loaded.result c.loaded.ensures.asks;
       fault = c.loaded.ensures.fault;
+      formed = c.loaded.ensures.formed;
       found = early_found g.S.Store _ _ _ test row c.loaded.result it.asks it.answers c.loaded.ensures.asks c.loaded.ensures.found;
       unrefused = λ clean world stands can limit.
           early_unrefused g.S.Store _ _ _ test row c.loaded.result it.asks it.answers c.loaded.ensures.asks c.loaded.ensures.unrefused clean world stands can.2 limit;

@@ -4,7 +4,7 @@ use Rattle.wu_schema.proofs.InsertEffect.{also, no_more}
 use Rattle.wu_store.specs.Answers.{row_named}
 use Rattle.wu_store.proofs.SelectTexts.{named_asked, named_fits}
 use Rattle.wu_store.proofs.ReadAnswers.{named_found}
-use Rattle.wu_store.proofs.AskLemmas.{asked_row, asks_handed, asks_then, fault_handed, handed_on, match_handed, opens_handed, opens_then, question}
+use Rattle.wu_store.proofs.AskLemmas.{asked_row, asks_handed, asks_then, fault_handed, handed_on, match_handed, nothing_handed, opens_handed, opens_then, question}
 use Rattle.wu_store.proofs.LoadLemmas.{load_found, load_unrefused}
 use Rattle.wu_store.proofs.loading.load_named.Goals as goal
 
@@ -20,6 +20,7 @@ returns-in_err-row g c =
       asks = asks_handed g.S.Store _ _ r fault same it.asks;
       opens = opens_handed r fault same g.S.Store c.ask_row.new.conn it.opens;
       fault = fault_handed r fault same it.fault;
+      formed = nothing_handed r fault same _;
       found = λ clean world stands known. match_handed r fault same _ it.fault;
       unrefused = λ clean world stands can limit. handed_on r fault same (it.unrefused clean world stands tt limit);
     }
@@ -35,6 +36,7 @@ returns g c =
       asks = asks_then g.S.Store _ _ _ row it.asks c.whole.result c.whole.ensures.asks;
       opens = opens_then g.S.Store c.ask_row.new.conn c.whole.new.conn it.opens c.whole.result c.whole.ensures.asks;
       fault = c.whole.ensures.fault;
+      formed = c.whole.ensures.formed;
       found = load_found g.S.Store _ _ _ test row c.whole.result it.asks it.answers c.whole.ensures.asks c.whole.ensures.found;
       unrefused = λ clean world stands can limit.
           load_unrefused g.S.Store _ _ _ test row c.whole.result it.asks it.answers c.whole.ensures.asks c.whole.ensures.unrefused clean world stands can limit;

@@ -1,8 +1,9 @@
 use Rattle.wu_schema.proofs.Words.{Err, HasCleanDisk, NotAProject, None, Ok, Refines, Some, arith, inr, refl, state, subst, sym, ◌∙◌, ◌≡◌}
 use Rattle.std.specs.Option.{IfSome}
+use Rattle.wu_core.specs.Formed.{IsWorkunit}
 use Rattle.wu_core.specs.Storable.{IsStorable}
-use Rattle.wu_store.proofs.AskLemmas.{asks_handed, asks_made, asks_row, asks_stands, asks_then, fault_handed, handed_on, match_handed, never_err}
-use Rattle.wu_store.proofs.LoadLemmas.{nothing_back, back_there, class_back, class_can, class_told, number_can}
+use Rattle.wu_store.proofs.AskLemmas.{asks_handed, asks_made, asks_row, asks_stands, asks_then, fault_handed, handed_on, match_handed, never_err, nothing_handed}
+use Rattle.wu_store.proofs.LoadLemmas.{nothing_back, back_there, class_back, class_can, class_told, formed_classed, number_can}
 use Rattle.wu_store.proofs.loading.whole.Goals as goal
 
 pub returns-in_err-workunit : goal.returns-in_err-workunit
@@ -14,6 +15,7 @@ returns-in_err-workunit g c =
     record {
       asks = asks_handed g.S.Store _ _ r fault same it.asks;
       fault = fault_handed r fault same it.fault;
+      formed = nothing_handed r fault same _;
       found = λ clean world stands known found of. match_handed r fault same _ it.fault;
       unrefused = λ clean world stands can limit. handed_on r fault same (it.unrefused clean world stands can.loadable limit);
     }
@@ -24,6 +26,7 @@ returns-in_default g c =
     record {
       asks = asks_made g.S.Store _ _ c.in_ok-workunit.field-0 (Ok None) (never_err None) it.asks;
       fault = tt;
+      formed = tt;
       found = λ clean world stands known found of. nothing_back found (sym c.in_default.is ∙ it.found clean world stands found of);
       unrefused = λ clean world stands can limit. tt;
     }
@@ -39,6 +42,7 @@ returns-in_err-class g c =
     record {
       asks = asks_then g.S.Store _ _ _ c.in_ok-workunit.field-0 it.asks r (asks_handed g.S.Store _ _ r fault same told.asks);
       fault = fault_handed r fault same told.fault;
+      formed = nothing_handed r fault same _;
       found = λ clean world stands known found of. match_handed r fault same _ told.fault;
       unrefused = λ clean world stands can limit.
           let before : HasCleanDisk (state g.S.Store c.loaded.new.conn) = omega (arith, clean, told.asks.crash.clean) in
@@ -57,6 +61,7 @@ returns-in-Some-2 g c =
     record {
       asks = asks_then g.S.Store _ _ _ c.in_ok-workunit.field-0 it.asks _ (asks_made g.S.Store _ _ c.in_ok-class.field-0 _ (never_err _) told.asks);
       fault = tt;
+      formed = formed_classed v c.in-Some-2.class (subst (λ o. IfSome o IsWorkunit) c.in-Some.is it.formed);
       found = λ clean world stands known found of.
           let before : HasCleanDisk (state g.S.Store c.loaded.new.conn) = omega (arith, clean, told.asks.crash.clean) in
           let still : Refines (state g.S.Store c.loaded.new.conn).now world = asks_stands g.S.Store _ _ _ it.asks before world stands in
@@ -73,6 +78,7 @@ returns-in-None g c =
     record {
       asks = asks_then g.S.Store _ _ _ c.in_ok-workunit.field-0 it.asks _ (asks_row g.S.Store _ _ c.in_ok-class.field-0 (Err NotAProject) (inr refl) told.asks);
       fault = inr (inr refl);
+      formed = tt;
       found = λ clean world stands known found of. inr (inr refl);
       unrefused = λ clean world stands can limit refused.
           let before : HasCleanDisk (state g.S.Store c.loaded.new.conn) = omega (arith, clean, told.asks.crash.clean) in
