@@ -80,6 +80,7 @@ sound_in_any_order world imports moved sound = record {
   ascending = sound.ascending;
   names = sound.names;
   archived = sound.archived;
+  archived_masks = sound.archived_masks;
   archived_once = sound.archived_once;
   archived_names = sound.archived_names;
   grants = sound.grants;

@@ -13,12 +13,12 @@ use Rattle.wu_core.specs.Parameters.{IsParameters, default_parameters}
 use Rattle.wu_core.specs.Storable.{IsName, IsStorable, IsStoredArchived, IsStoredInstance}
 use Rattle.wu_rules.specs.Consistent.{IsConsistent, IsPossible}
 use Rattle.wu_rules.specs.Examples.{aa, credit, h1, h2, success}
-use Rattle.wu_machine.specs.Sound.{IsGiven, IsSound}
+use Rattle.wu_machine.specs.Sound.{HasPossibleMask, IsGiven, IsSound}
 use Rattle.wu_audit.specs.Records.{AreBacked, HasKeys, IsBackedGrant, IsArchivedOf, IsBackedRow, IsGrantOf, IsGranted, IsArchivedIfDone, IsNameFree}
 use Rattle.wu_audit.specs.Rows.{IsRightGrant, IsRightImport}
 use Rattle.wu_audit.specs.Keys.{AreApart}
 use Rattle.wu_audit.specs.Against.{IsFirstPairAgainst}
-use Rattle.wu_audit.specs.Examples.{agreed, decided_and_given_up, kept_row, kept_otherwise, kept_too_late, named_again, one_agreed, sent_with, unstamped, unstorable}
+use Rattle.wu_audit.specs.Examples.{agreed, decided_and_given_up, kept_row, kept_otherwise, kept_too_late, kept_unsendable, named_again, one_agreed, sent_with, unstamped, unstorable}
 use Rattle.wu_audit.proofs.RecordLemmas.{recorded_from_backed}
 
 all_one : {X : Type 0} (P : X → Type 0) (x : X) → P x → All P (x ∷ [])
@@ -155,6 +155,7 @@ sound_agreed = record {
   ascending = pairs_one (λ (one other : Workunit). one.number < other.number) agreed;
   names = pairs_one (λ (one other : Workunit). one.name ≢ other.name) agreed;
   archived = all_one (λ (row : Archived). IsGiven one_agreed row.number) kept_row (omega arith, omega arith);
+  archived_masks = all_one HasPossibleMask kept_row (record { sendable = refl; decidable = refl });
   archived_once = keys_agreed.archived_once;
   archived_names = keys_agreed.archived_names;
   grants = all_two (IsRightGrant one_agreed) _ _ ((omega arith, omega arith), omega arith, omega arith) ((omega arith, omega arith), omega arith, omega arith);
@@ -181,6 +182,9 @@ unstorable_wrong storable = absurd (omega (arith, storable.number))
 
 pub kept_too_late_wrong : ¬ IsStoredArchived kept_too_late
 kept_too_late_wrong stored = absurd (omega (arith, stored.done_at))
+
+pub kept_unsendable_wrong : ¬ HasPossibleMask kept_unsendable
+kept_unsendable_wrong possible = true≢false possible.sendable
 
 pub verdict_wrong : ¬ IsRightImport (sent_with 5)
 verdict_wrong right = absurd (omega (arith, right.1 0 0 (omega arith)))

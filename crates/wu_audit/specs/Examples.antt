@@ -56,6 +56,10 @@ decided_and_given_up = record agreed { error_mask = record no_errors { cancelled
 abbrev pub kept_too_late : Archived
 kept_too_late = record kept_row { done_at = 4102444800 }
 
+-- given up by an error that is never set
+abbrev pub kept_unsendable : Archived
+kept_unsendable = record kept_row { error_mask = record no_errors { couldnt_send_result = true } }
+
 -- with another canonical result
 abbrev pub kept_otherwise : Archived
 kept_otherwise = record kept_row { canonical = Some 1 }

@@ -6,7 +6,7 @@ use Rattle.wu_core.specs.Formed.{IsWorkunit}
 use Rattle.wu_core.specs.Storable.{AreStorable, IsArchiveStorable, IsStorable, IsStoredArchived, LoadsNext}
 use Rattle.wu_core.specs.World.{World, IsInOrder}
 use Rattle.wu_rules.specs.Consistent.{IsConsistent}
-use Rattle.wu_machine.specs.Sound.{HasClassesInTime, IsGiven}
+use Rattle.wu_machine.specs.Sound.{HasClassesInTime, HasPossibleMask, IsGiven}
 use Rattle.wu_audit.specs.Against.{IsFirstAgainst, IsFirstPairAgainst}
 use Rattle.wu_audit.specs.Keys.{AreApart, AreOtherImports, IsBefore}
 use Rattle.wu_audit.specs.Records.{IsBackedGrant, IsBackedRow, IsGranted, IsArchivedIfDone, IsNameFree}
@@ -31,8 +31,11 @@ ToVerdicts world = ToArchivedValues world × IsArchiveStorable world
 abbrev pub ToStates : World → Type 0
 ToStates world = ToVerdicts world × All IsRightImport world.imports
 
+abbrev pub ToArchivedMask : World → Type 0
+ToArchivedMask world = ToStates world × All IsConsistent world.workunits
+
 abbrev pub ToNumber : World → Type 0
-ToNumber world = ToStates world × All IsConsistent world.workunits
+ToNumber world = ToArchivedMask world × All HasPossibleMask world.archived
 
 abbrev pub ToOrder : World → Type 0
 ToOrder world = ToNumber world × All (λ w. IsGiven world w.number) world.workunits
@@ -103,6 +106,8 @@ StandsAgainst world (wrong.ArchivedValues place) =
     ToArchivedValues world × IsFirstAgainst IsStoredArchived world.archived place
 StandsAgainst world (wrong.ImportVerdicts place) = ToVerdicts world × IsFirstAgainst IsRightImport world.imports place
 StandsAgainst world (wrong.WorkunitStates place) = ToStates world × IsFirstAgainst IsConsistent world.workunits place
+StandsAgainst world (wrong.ArchivedMask place) =
+    ToArchivedMask world × IsFirstAgainst HasPossibleMask world.archived place
 StandsAgainst world (wrong.WorkunitNumber place) =
     ToNumber world × IsFirstAgainst (λ w. IsGiven world w.number) world.workunits place
 StandsAgainst world (wrong.WorkunitOrder place) =

@@ -8,8 +8,9 @@ ghost use Rattle.wu_machine.specs.Sound.{HasClassesInTime, IsClassless, IsSound}
 ghost use Rattle.wu_audit.specs.Wrong.{FindsWrong, StandsAgainst, ToArchivedAstray, ToArchivedNumber, ToClassValues, ToEnd, ToGrantAstray, ToGrantValues, ToNumber};
 
 use crate::firsts::{
-    first_inconsistent, first_unclassed, first_unformed, first_ungiven, first_ungiven_archived,
-    first_unstorable, first_unstorable_archived, first_wrong_grant, first_wrong_import, know_hosts,
+    first_impossible_mask, first_inconsistent, first_unclassed, first_unformed, first_ungiven,
+    first_ungiven_archived, first_unstorable, first_unstorable_archived, first_wrong_grant,
+    first_wrong_import, know_hosts,
 };
 use crate::lacks::{first_taken, first_ungranted, first_unkept};
 use crate::loaded::Loaded;
@@ -54,6 +55,9 @@ fn wrong_row(loaded: &Loaded) -> Option<Wrong>
     }
     if let Some(place) = first_inconsistent(workunits) {
         return Some(Wrong::WorkunitStates(place));
+    }
+    if let Some(place) = first_impossible_mask(loaded.archived()) {
+        return Some(Wrong::ArchivedMask(place));
     }
     None
 }

@@ -5,9 +5,9 @@ ghost use Rattle.wu_core.specs.Formed.{IsWorkunit};
 ghost use Rattle.wu_core.specs.Storable.{IsStorable, IsStoredArchived};
 ghost use Rattle.wu_rules.specs.Consistent.{IsConsistent};
 ghost use Rattle.wu_rules.specs.Examples.{credit, h1, h2};
-ghost use Rattle.wu_machine.specs.Sound.{IsSound};
+ghost use Rattle.wu_machine.specs.Sound.{HasPossibleMask, IsSound};
 ghost use Rattle.wu_audit.specs.Against.{IsFirstPairAgainst};
-ghost use Rattle.wu_audit.specs.Examples.{agreed, decided_and_given_up, kept_row, kept_otherwise, kept_too_late, named_again, one_agreed, same_names, same_numbers, same_rows, sent_with, unstamped, unstorable};
+ghost use Rattle.wu_audit.specs.Examples.{agreed, decided_and_given_up, kept_row, kept_otherwise, kept_too_late, kept_unsendable, named_again, one_agreed, same_names, same_numbers, same_rows, sent_with, unstamped, unstorable};
 ghost use Rattle.wu_audit.specs.Keys.{AreApart, AreOtherImports};
 ghost use Rattle.wu_audit.specs.Records.{IsBackedGrant, IsBackedRow, IsGranted, IsArchivedIfDone, IsNameFree};
 ghost use Rattle.wu_audit.specs.Rows.{IsRightGrant, IsRightImport};
@@ -18,12 +18,13 @@ pub fn one_agreed_is_sound()
 {}
 
 /// Rows that are wrong by themselves: assimilated without a moment; a number of 2^63; decided and given up; archived in
-/// the year 2100; verdict 5 of a file of sends; a grant of instance 100.
+/// the year 2100; archived with mask 1; verdict 5 of a file of sends; a grant of instance 100.
 pub fn rows_may_be_wrong()
     ensures form { ¬ IsWorkunit unstamped }
     ensures values { ¬ IsStorable unstorable }
     ensures states { ¬ IsConsistent decided_and_given_up }
     ensures archived { ¬ IsStoredArchived kept_too_late }
+    ensures mask { ¬ HasPossibleMask kept_unsendable }
     ensures verdict { ¬ IsRightImport (sent_with 5) }
     ensures grant { ¬ IsRightGrant one_agreed (credit 100 h1) }
 {}

@@ -5,12 +5,14 @@ ghost use Rattle.wu_core.specs.Classes.{IsClassed};
 ghost use Rattle.wu_core.specs.Formed.{IsWorkunit};
 ghost use Rattle.wu_core.specs.Storable.{IsName, IsStorable, IsStoredArchived};
 ghost use Rattle.wu_rules.specs.Consistent.{IsConsistent};
-ghost use Rattle.wu_machine.specs.Sound.{IsGiven};
+ghost use Rattle.wu_machine.specs.Sound.{HasPossibleMask, IsGiven};
 ghost use Rattle.wu_audit.specs.Against.{FirstAgainst};
 ghost use Rattle.wu_audit.specs.Rows.{IsRightGrant, IsRightImport};
 
 use crate::loaded::{Imported, Loaded};
-use crate::rows::{is_classed, is_given, is_right_grant, is_right_import, is_storable_archived};
+use crate::rows::{
+    has_possible_mask, is_classed, is_given, is_right_grant, is_right_import, is_storable_archived,
+};
 use crate::workunits::{is_consistent_workunit, is_formed_workunit, is_storable_workunit};
 use wu_core::{Archived, Grant, HostClass, Workunit};
 
@@ -77,6 +79,18 @@ pub fn first_inconsistent(workunits: &[Workunit]) -> Option<usize>
 {
     for (place, workunit) in workunits.iter().enumerate() {
         if !is_consistent_workunit(workunit) {
+            return Some(place);
+        }
+    }
+    None
+}
+
+/// The first archived row whose mask has a bit that this project never sets.
+pub fn first_impossible_mask(archived: &[Archived]) -> Option<usize>
+    ensures { FirstAgainst HasPossibleMask archived.now result }
+{
+    for (place, row) in archived.iter().enumerate() {
+        if !has_possible_mask(row) {
             return Some(place);
         }
     }

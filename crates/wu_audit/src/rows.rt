@@ -4,7 +4,7 @@ ghost use Rattle.std.specs.Prelude.{◌≡◌, ◌↔◌, ◌≤◌, IsTrue, All
 ghost use Rattle.wu_core.specs.Classes.{IsClassed};
 ghost use Rattle.wu_core.specs.Storable.{AreVerdicts, IsName, IsPlace, IsStoredArchived};
 ghost use Rattle.wu_core.specs.World.{last_skip};
-ghost use Rattle.wu_machine.specs.Sound.{IsGiven};
+ghost use Rattle.wu_machine.specs.Sound.{HasPossibleMask, IsGiven};
 ghost use Rattle.wu_audit.specs.Rows.{IsRightGrant, IsRightImport};
 
 use crate::loaded::{Imported, Loaded};
@@ -38,6 +38,14 @@ pub fn is_storable_archived(archived: &Archived) -> bool
     know_place(archived.canonical);
     archived.done_at.seconds();
     archived.output.len() <= LONGEST_OUTPUT
+}
+
+/// Whether no bit of the archived row's mask stands that this project never sets.
+pub fn has_possible_mask(archived: &Archived) -> bool
+    ensures { IsTrue result ↔ HasPossibleMask archived.now }
+{
+    let mask = archived.error_mask;
+    !mask.couldnt_send_result && !mask.no_canonical_result
 }
 
 /// The greatest number of a skip in a file of this kind.

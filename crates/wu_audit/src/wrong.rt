@@ -46,6 +46,8 @@ pub enum Wrong {
     ImportVerdicts(usize),
     /// The states and verdicts of the workunit do not agree.
     WorkunitStates(usize),
+    /// The mask of the archived row has a bit that is never set.
+    ArchivedMask(usize),
     /// The number of the workunit was not given.
     WorkunitNumber(usize),
     /// The number of the workunit is not above that of the one before it.
@@ -101,6 +103,7 @@ impl Wrong {
             Wrong::GrantValues(_) | Wrong::GrantTwice(_) | Wrong::GrantAstray(_) =>
                 Table::CreditGrant,
             Wrong::ArchivedValues(_)
+            | Wrong::ArchivedMask(_)
             | Wrong::ArchivedNumber(_)
             | Wrong::ArchivedTwice(_)
             | Wrong::ArchivedNameTwice(_)
@@ -121,6 +124,7 @@ impl Wrong {
             | Wrong::ArchivedValues(place)
             | Wrong::ImportVerdicts(place)
             | Wrong::WorkunitStates(place)
+            | Wrong::ArchivedMask(place)
             | Wrong::WorkunitNumber(place)
             | Wrong::WorkunitOrder(place)
             | Wrong::WorkunitTwice(place)
@@ -151,6 +155,7 @@ impl Wrong {
             Wrong::ArchivedValues(_) => "has a value out of its range",
             Wrong::ImportVerdicts(_) => "has a verdict that such a file has not",
             Wrong::WorkunitStates(_) => "has states or verdicts that do not agree",
+            Wrong::ArchivedMask(_) => "has an error that is never set",
             Wrong::WorkunitNumber(_) => "has a number that was not given",
             Wrong::WorkunitOrder(_) => "has a number that is not above the one before",
             Wrong::WorkunitTwice(_) => "has the name of an earlier one",

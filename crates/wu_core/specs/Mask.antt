@@ -1,5 +1,5 @@
 -- BOINC's mask of errors of a workunit.
-use Rattle.std.specs.Prelude.{ℕ, ◌+◌, ◌*◌, Bool, false, if◌then◌else◌}
+use Rattle.std.specs.Prelude.{◌≡◌, ℕ, ◌+◌, ◌*◌, Bool, false, if◌then◌else◌}
 use Rattle.wu_core.specs.declared.mask.ErrorMask.{ErrorMask}
 
 -- no bit is set
@@ -12,6 +12,11 @@ no_errors = record {
   cancelled = false;
   no_canonical_result = false;
 }
+
+-- no bit stands that this project never sets
+pub record IsPossibleMask (mask : ErrorMask) : Type 0 where
+  pub sendable : mask.couldnt_send_result ≡ false
+  pub decidable : mask.no_canonical_result ≡ false
 
 abbrev pub bit_value : Bool → ℕ
 bit_value bit = if bit then 1 else 0

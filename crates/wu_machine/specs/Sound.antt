@@ -1,11 +1,13 @@
 -- Sound worlds: verdicts, grants and archived rows agree, numbers and names are used once, and values are in their
 -- ranges.
 use Rattle.std.specs.Prelude.{◌≡◌, ◌≢◌, ◌↔◌, ℕ, ◌<◌, ◌≤◌, ◌+◌, ◌==◌, ◌&&◌, List, [], filter, length, All, AllPairs}
+use Rattle.wu_core.specs.declared.workunit.Archived.{Archived}
 use Rattle.wu_core.specs.declared.workunit.Grant.{Grant}
 use Rattle.wu_core.specs.declared.workunit.Workunit.{Workunit}
 use Rattle.wu_core.specs.Classes.{AreClassed, AreInOrder}
 use Rattle.wu_core.specs.Formed.{IsWorkunit}
 use Rattle.wu_core.specs.Limits.{most_credit, most_instances, most_workunits}
+use Rattle.wu_core.specs.Mask.{IsPossibleMask}
 use Rattle.wu_core.specs.World.{World, IsInOrder}
 use Rattle.wu_rules.specs.Consistent.{IsConsistent, IsGrantFor, IsRowOf, is_done, is_valid_at, one_if}
 use Rattle.wu_core.specs.Storable.{AreVerdicts, IsAbove, IsName, AreStorable, IsArchiveStorable, LoadsNext}
@@ -27,6 +29,10 @@ pub record IsRecorded (world : World) (w : Workunit) : Type 0 where
   pub as_archived : All (λ row. row.number ≡ w.number → IsRowOf w row) world.archived
   -- it shares its name with its own archived row alone
   pub named : All (λ row. (row.name ≡ w.name) ↔ (row.number ≡ w.number)) world.archived
+
+-- no bit of the row's mask stands that this project never sets
+abbrev pub HasPossibleMask : Archived → Type 0
+HasPossibleMask row = IsPossibleMask row.error_mask
 
 -- a number that was given to a workunit
 abbrev pub IsGiven : World → ℕ → Type 0
@@ -58,6 +64,7 @@ pub record IsSound (world : World) : Type 0 where
   pub ascending : IsInOrder world
   pub names : AllPairs (λ one other. one.name ≢ other.name) world.workunits
   pub archived : All (λ row. IsGiven world row.number) world.archived
+  pub archived_masks : All HasPossibleMask world.archived
   pub archived_once : AllPairs (λ one other. one.number ≢ other.number) world.archived
   pub archived_names : AllPairs (λ one other. one.name ≢ other.name) world.archived
   pub grants : All (λ grant. IsGiven world grant.workunit × (grant.n < most_instances) × (grant.credit ≤ most_credit)) world.grants

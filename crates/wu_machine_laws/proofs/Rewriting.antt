@@ -8,6 +8,7 @@ use Rattle.std.specs.Option.{option_map_or}
 use Rattle.std.specs.Prelude.{◌&&◌, not, slice_get}
 use Rattle.wu_core.specs.Limits.{most_credit, most_instances}
 use Rattle.wu_core.specs.Formed.{IsWorkunit}
+use Rattle.wu_core.specs.Mask.{IsPossibleMask}
 use Rattle.wu_core.specs.World.{World}
 use Rattle.wu_core.specs.declared.workunit.Archived.{Archived}
 use Rattle.wu_core.specs.declared.workunit.Grant.{Grant}
@@ -16,7 +17,7 @@ use Rattle.wu_core.specs.declared.workunit.Workunit.{Workunit}
 use Rattle.wu_rules.specs.Consistent.{instance_host, IsConsistent, IsGrantFor, IsRowOf, is_done, is_valid_at, one_if, Rewrites}
 use Rattle.wu_rules_laws.proofs.Rewriting.{canonical_stays}
 use Rattle.wu_core.specs.Storable.{AreStoredInstances, IsHost, IsName, IsStoredArchived, IsStoredInstance, IsStorable}
-use Rattle.wu_machine.specs.Sound.{first_with_classes, IsGiven, IsRecorded, IsSound}
+use Rattle.wu_machine.specs.Sound.{first_with_classes, HasPossibleMask, IsGiven, IsRecorded, IsSound}
 use Rattle.wu_machine_laws.proofs.Middles.{around, count_agree, count_all, count_append, count_none, counted, from_pairs, instead, none_counted, Pairs, pairs_append, pairs_around, pairs_instead, pairs_of_one, pairs_without, to_pairs, without}
 use Rattle.wu_machine_laws.proofs.SoundLemmas.{too_old}
 use Rattle.wu_machine_laws.proofs.SoundParts.{Differ, GrantsDiffer, is_at, is_for, is_row_of, IsGrantIn, IsGrantOf, IsIn, IsItsRow, IsNamedAlike, IsOwn, IsOwnRow, IsRowIn, IsToName, Ordered, RowNamesDiffer, RowsDiffer}
@@ -137,6 +138,7 @@ module _ (world : World) (young : first_with_classes ≤ world.version) (us : Li
     names = from_pairs Differ (us ++ ws)
         (pairs_without Differ us w ws (to_pairs Differ (us ++ w ∷ ws) sound.names));
     archived = sound.archived;
+    archived_masks = sound.archived_masks;
     archived_once = sound.archived_once;
     archived_names = sound.archived_names;
     grants = sound.grants;
@@ -342,6 +344,8 @@ module _ (world : World) (young : first_with_classes ≤ world.version) (us : Li
           (λ u other same. other (sym rewrites.name ∙ same)) (to_pairs Differ (us ++ w ∷ ws) sound.names));
       archived = All-append (IsRowIn world) world.archived kept sound.archived
           (All-weaker (IsItsRow w v) (IsRowIn world) (λ row at. subst (IsGiven world) (rewrites.number ∙ sym at.0) given_v) kept rewrites.archives.own);
+      archived_masks = All-append HasPossibleMask world.archived kept sound.archived_masks
+          (All-weaker (IsItsRow w v) HasPossibleMask (λ row at. its_mask row at.2) kept rewrites.archives.own);
       archived_once = from_pairs RowsDiffer (world.archived ++ kept) (pairs_append RowsDiffer world.archived kept
           (to_pairs RowsDiffer world.archived sound.archived_once) (pairs_of_one RowsDiffer kept few_rows) archived_apart);
       archived_names = from_pairs RowNamesDiffer (world.archived ++ kept) (pairs_append RowNamesDiffer world.archived kept
@@ -355,6 +359,10 @@ module _ (world : World) (young : first_with_classes ≤ world.version) (us : Li
       classes_in_time = too_old world.version young;
     }
       where
+        -- a row that is archived of it has its mask
+        its_mask : (row : Archived) → IsRowOf v row → HasPossibleMask row
+        its_mask row of = subst IsPossibleMask (sym of.1) (record { sendable = rewrites.consistent.sendable; decidable = rewrites.consistent.decidable })
+
         few_rows : length kept ≤ 1
         few_rows = at_most_one (is_done v && not (is_done w)) (length kept) rewrites.archives.once
 

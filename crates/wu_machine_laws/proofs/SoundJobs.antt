@@ -119,6 +119,7 @@ module _ (world : World) (sound : IsSound world) (params : Parameters) (job : Jo
         (to_pairs Ordered world.workunits sound.ascending) (λ k d within. (sound.given k d within).1));
     names = from_pairs Differ (world.workunits ++ new ∷ []) (pairs_more Differ world.workunits new (to_pairs Differ world.workunits sound.names) apart);
     archived = All-weaker (IsRowIn world) (IsRowIn with_new) (λ row given. given_still row.number given) world.archived sound.archived;
+    archived_masks = sound.archived_masks;
     archived_once = sound.archived_once;
     archived_names = sound.archived_names;
     grants = All-weaker (IsGrantIn world) (IsGrantIn with_new)
@@ -234,6 +235,7 @@ sound_kept world sound import named told fresh = (kept, lasts)
       ascending = sound.ascending;
       names = sound.names;
       archived = sound.archived;
+      archived_masks = sound.archived_masks;
       archived_once = sound.archived_once;
       archived_names = sound.archived_names;
       grants = sound.grants;

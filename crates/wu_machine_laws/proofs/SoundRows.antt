@@ -190,6 +190,7 @@ sound_classed it ranged world young sound = (
     ascending = sound.ascending;
     names = sound.names;
     archived = sound.archived;
+    archived_masks = sound.archived_masks;
     archived_once = sound.archived_once;
     archived_names = sound.archived_names;
     grants = sound.grants;
