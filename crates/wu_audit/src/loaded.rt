@@ -1,8 +1,8 @@
 //! A world held in memory: all that the tables of a project stand for.
 
-ghost use Rattle.std.specs.Prelude.{◌≡◌, ◌≤◌, ◌<◌, ◌^◌, true};
+ghost use Rattle.std.specs.Prelude.{◌≡◌, ◌≤◌, ◌<◌, ◌^◌, ◌↔◌, true, IsTrue};
 ghost use Rattle.wu_core.specs.Names.{is_name};
-ghost use Rattle.wu_core.specs.World.{World, Import};
+ghost use Rattle.wu_core.specs.World.{World, Import, MayBeKept};
 
 use std::marker::Model;
 use wu_core::{Archived, Bytes, Grant, HostClass, ImportKind, Name, Workunit};
@@ -73,6 +73,15 @@ impl Imported {
         ensures { result.now ≡ self.now.name }
     {
         &self.name
+    }
+
+    /// Whether only a batch has a template, and a first number is there only where workunits were made.
+    pub fn may_be_kept(&self) -> bool
+        ensures { IsTrue result ↔ MayBeKept self.now }
+    {
+        let is_batch = self.kind == ImportKind::Batch;
+        let has_made = is_batch && !self.verdicts.is_empty();
+        (is_batch || self.template.is_empty()) && (has_made || self.first_number == 0)
     }
 
     /// A verdict for each row, as its code.

@@ -34,7 +34,7 @@ readable world sound first = record {
   workunits = sound.storable;
   grants = λ k d low. record { host = sound.granted_to k d low; n = let few = (sound.grants k d low).1 in omega (arith, few) };
   archived = sound.archivable;
-  imports = λ k d low. record { name = (sound.imports k d low).0; verdicts = (sound.imports k d low).1 };
+  imports = sound.imports;
   classes = λ k d low. record { host = (sound.classed k d low).host; class = (sound.classed k d low).within };
 }
 

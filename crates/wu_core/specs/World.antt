@@ -1,5 +1,5 @@
 -- The world: what a project holds, apart from any tables.
-use Rattle.std.specs.Prelude.{ℕ, ◌<◌, ◌==◌, Bool, ◌&&◌, List, [], AllPairs, bytes_eq}
+use Rattle.std.specs.Prelude.{◌≡◌, ◌≢◌, ◌⊎◌, ℕ, ◌<◌, ◌==◌, Bool, ◌&&◌, List, [], AllPairs, bytes_eq}
 use Rattle.wu_core.specs.declared.workunit.Workunit.{Workunit}
 use Rattle.wu_core.specs.declared.workunit.Grant.{Grant}
 use Rattle.wu_core.specs.declared.workunit.Archived.{Archived}
@@ -22,6 +22,15 @@ pub record Import : Type 0 where
 -- whether an import is the one of this kind and name
 abbrev pub is_import : ImportKind → List ℕ → Import → Bool
 is_import kind name import = import_kind_code import.kind == import_kind_code kind && bytes_eq import.name name
+
+-- no workunit was made of it: it is of rows, or a batch of no job
+abbrev pub MadeNone : Import → Type 0
+MadeNone import = (import.kind ≢ kind.Batch) ⊎ (import.verdicts ≡ [])
+
+-- only a batch has a template, and where no workunit was made the first number is 0
+pub record MayBeKept (import : Import) : Type 0 where
+  pub template : import.kind ≢ kind.Batch → import.template ≡ []
+  pub first_number : MadeNone import → import.first_number ≡ 0
 
 -- the greatest number of a skip
 abbrev pub last_skip : ImportKind → ℕ

@@ -186,6 +186,7 @@ found_rows version rows plain found are has is = record {
     hosts = are.hosts;
     archived = are.archived;
     imports = are.imports;
+    imports_kept = are.imports_kept;
   };
   classes = has.classes (record plain { workunits = found.workunits.items; classes = found.hosts.items }) refl refl;
   in_order = has.in_order;

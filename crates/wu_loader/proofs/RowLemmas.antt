@@ -1,6 +1,7 @@
 -- How rows read as values.
 use Rattle.wu_schema.proofs.Words.{Archived, Err, Fault, Grant, Import, ImportKind, Instance, IsErrAnd, NotAProject, Ok, Result, Row, Value, [], ap, column, drop, if◌then◌else◌, import_cells, import_kind_code, inl, inr, instance_row, length, map, number, number_or_null, refl, subst, sym, text_or_null, ℕ, ⊤, ◌++◌, ◌==◌, ◌∙◌, ◌∷◌, ◌≡◌, ◌≢◌, ◌≤◌}
 use Rattle.std.specs.List.{range_with_len}
+use Rattle.wu_core.specs.World.{MayBeKept}
 use Rattle.sqlite.specs.declared.types.Value.TheVariants.{Text, Blob}
 use Rattle.wu_core.specs.Limits.{last_moment}
 use Rattle.wu_core.specs.Storable.{AreVerdicts, IsHost, IsName, IsOutput, IsPlace, IsStoredArchived, MayBeInstance}
@@ -61,8 +62,14 @@ kind_again : (k : ImportKind) → kind_of (import_kind_code k) ≡ k
 kind_again kind.Batch = refl
 kind_again _ = refl
 
-pub one_import : (a b : Import) → IsStoredImport a → IsStoredImport b → import_cells a ≡ import_cells b → a ≡ b
-one_import a b is_a is_b same =
+-- the values of an import's row
+pub record ImportReads (row : Row) (a : Import) : Type 0 where
+  pub row_is : row ≡ import_cells a
+  pub name : IsName a.name
+  pub verdicts : AreVerdicts a.kind a.verdicts
+
+same_cells : (a b : Import) → import_cells a ≡ import_cells b → a ≡ b
+same_cells a b same =
     let kinds = sym (kind_again a.kind) ∙ ap (λ r. kind_of (read_number (column r 0))) same ∙ kind_again b.kind in
     let verdicts = same_verdicts a.verdicts b.verdicts (ap (λ r. read_text (column r 5)) same) in
     (λ i. record {
@@ -74,13 +81,30 @@ one_import a b is_a is_b same =
       verdicts = verdicts i;
     })
 
+pub one_import : (a b : Import) → IsStoredImport a → IsStoredImport b → import_cells a ≡ import_cells b → a ≡ b
+one_import a b is_a is_b same = same_cells a b same
+
 pub import_reads : (row : Row) (a : Import) → length row ≡ 6 → Restores kind_cell (λ _. ⊤) (column row 0) (Ok a.kind) → Restores Text IsName (column row 1) (Ok a.name)
     → Restores Blob (λ _. ⊤) (column row 2) (Ok a.template) → Restores Blob (λ _. ⊤) (column row 3) (Ok a.content) → Restores number (λ _. ⊤) (column row 4) (Ok a.first_number)
-    → Restores verdicts_cell (AreVerdicts a.kind) (column row 5) (Ok a.verdicts) → Restores import_cells IsStoredImport row (Ok a)
-import_reads row a long kind_is name_is template_is content_is first_is verdicts_are =
-    reads_as import_cells IsStoredImport row a
-    (columns_of row 6 long ∙ (λ i. kind_is.value.0 i ∷ name_is.value.0 i ∷ template_is.value.0 i ∷ content_is.value.0 i ∷ first_is.value.0 i ∷ verdicts_are.value.0 i ∷ []))
-    (record { name = name_is.value.1; verdicts = verdicts_are.value.1 }) one_import
+    → Restores verdicts_cell (AreVerdicts a.kind) (column row 5) (Ok a.verdicts) → ImportReads row a
+import_reads row a long kind_is name_is template_is content_is first_is verdicts_are = record {
+  row_is = columns_of row 6 long ∙ (λ i. kind_is.value.0 i ∷ name_is.value.0 i ∷ template_is.value.0 i ∷ content_is.value.0 i ∷ first_is.value.0 i ∷ verdicts_are.value.0 i ∷ []);
+  name = name_is.value.1;
+  verdicts = verdicts_are.value.1;
+}
+
+module _ (row : Row) (a : Import) (reads : ImportReads row a) where
+  -- one that may be kept is read,
+  pub import_kept : MayBeKept a → Restores import_cells IsStoredImport row (Ok a)
+  import_kept may = reads_as import_cells IsStoredImport row a reads.row_is (record { name = reads.name; verdicts = reads.verdicts; kept = may }) one_import
+
+  -- and the row of another is that of none
+  pub import_unkept : ¬ MayBeKept a → Restores import_cells IsStoredImport row (Err NotAProject)
+  import_unkept not = record {
+    value = tt;
+    found = λ b is same. absurd (not (subst MayBeKept (sym (same_cells a b (sym reads.row_is ∙ same))) is.kept));
+    refused = inr refl;
+  }
 
 -- ---- parts of a row
 

@@ -4,7 +4,9 @@ use Rattle.sqlite_schema.specs.Rules.{are_typed}
 use Rattle.wu_core.specs.Hosts.{grants_of}
 use Rattle.wu_schema.specs.Refines.{HasClasses, HasRows, IsClassless, host_of}
 use Rattle.wu_schema.specs.Tables.{IsClassedVersion}
+use Rattle.std.proofs.lemmas.List.Elements.{All-from_recursion, recursion_from_All}
 use Rattle.std.specs.Prelude.{MatchOption}
+use Rattle.wu_core.specs.World.{MayBeKept}
 use Rattle.wu_core.specs.Classes.{AreInOrder}
 use Rattle.wu_schema.proofs.RowLemmas.{filter_same, int_value, one_test}
 use Rattle.wu_schema.proofs.StandsLemmas.{is_there}
@@ -289,6 +291,7 @@ module _ (version : ℕ) (db : Database) (trees : ProjectTrees) (rows : PlainRow
     archived = archived_stand;
     imports = imports_stand;
     imported_once = imports_once db trees.import sound (there has.tables.import) has.arranged.import world.imports imports_stand.same;
+    imports_kept = recursion_from_All MayBeKept world.imports are.imports_kept;
     classes = λ on. with_classes classes shows same (subst IsClassedVersion is on);
     classless = λ off. without classes shows same (λ on. off (subst IsClassedVersion (sym is) on));
     classes_in_order = in_order;
@@ -349,6 +352,7 @@ module _ (db : Database) (trees : ProjectTrees) (world : World) (stands : HasRow
     hosts = IsPermutation-trans _ _ _ (shown_unkeyed 2 (db.trees trees.host) _ (mapped_long (host_of world.grants) (hosts_of world.grants) 3 (λ name. refl)) stands.hosts.same) shown.hosts;
     archived = shown.archived ∙ ap (map (keyed 7)) stands.archived.same ∙ map-map (keyed 7) stored_archived (enumerate_from 1 world.archived);
     imports = IsPermutation-trans _ _ _ (shown_unkeyed 5 (db.trees trees.import) _ (mapped_long import_cells world.imports 6 (λ import. refl)) stands.imports.same) shown.imports;
+    imports_kept = All-from_recursion MayBeKept world.imports stands.imports_kept;
   }
 
   classes_shown : (classes : Option ClassRows) → MatchOption classes (¬ IsClassedVersion world.version) (λ found. IsClassedVersion world.version × ShowsClasses db.trees trees found) → AreAnyClassRowsOf classes world

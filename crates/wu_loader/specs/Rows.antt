@@ -2,7 +2,7 @@
 use Rattle.std.specs.Prelude.{ℕ, ◌<◌, ◌≤◌, ◌^◌, [], ◌∷◌}
 use Rattle.sqlite.specs.Order.{Row}
 use Rattle.wu_core.specs.Storable.{AreVerdicts, IsClass, IsName, IsNextNumber, IsStoredInstance}
-use Rattle.wu_core.specs.World.{Import}
+use Rattle.wu_core.specs.World.{Import, MayBeKept}
 use Rattle.wu_core.specs.declared.workunit.Archived.{Archived}
 use Rattle.wu_core.specs.declared.workunit.Grant.{Grant}
 use Rattle.wu_core.specs.declared.workunit.HostClass.{HostClass}
@@ -58,6 +58,7 @@ pub record IsStoredGrant (g : Grant) : Type 0 where
 pub record IsStoredImport (i : Import) : Type 0 where
   pub name : IsName i.name
   pub verdicts : AreVerdicts i.kind i.verdicts
+  pub kept : MayBeKept i
 
 abbrev pub IsStoredClass : Classed → Type 0
 IsStoredClass c = IsClass c.class

@@ -6,12 +6,12 @@ use Rattle.sqlite.specs.Order.{Row}
 use Rattle.sqlite.specs.Tree.{IsAscending}
 use Rattle.wu_core.specs.Classes.{AreInOrder}
 use Rattle.wu_core.specs.Hosts.{hosts_of}
-use Rattle.wu_core.specs.Storable.{AreStorable, IsArchiveStorable}
-use Rattle.wu_core.specs.World.{World}
+use Rattle.wu_core.specs.Storable.{AreStorable, AreVerdicts, IsArchiveStorable, IsName}
+use Rattle.wu_core.specs.World.{MayBeKept, World}
 use Rattle.wu_core.specs.declared.workunit.Workunit.{Workunit}
 use Rattle.wu_schema.specs.Refines.{IsClassless, host_of, instances_of}
 use Rattle.wu_schema.specs.Stored.{class_cells, import_cells, workunit_row}
-use Rattle.wu_loader.specs.Rows.{archived_row, classed_of, classed_row, grant_row, project_row, IsStoredGrant, IsStoredHostClass, IsStoredImport, IsStoredProject}
+use Rattle.wu_loader.specs.Rows.{archived_row, classed_of, classed_row, grant_row, project_row, IsStoredGrant, IsStoredHostClass, IsStoredProject}
 use Rattle.wu_loader.specs.Whole.{rows_of}
 use Rattle.wu_loader.specs.declared.rows.ProjectRow.{ProjectRow}
 use Rattle.wu_loader.specs.declared.tables.ClassRows.{ClassRows}
@@ -37,6 +37,7 @@ pub record ArePlainRowsOf (rows : PlainRows) (world : World) : Type 0 where
   pub hosts : IsPermutation (map (host_of world.grants) (hosts_of world.grants)) rows.hosts.items
   pub archived : rows.archived.items ≡ rows_of archived_row world.archived
   pub imports : IsPermutation (map import_cells world.imports) rows.imports.items
+  pub imports_kept : All MayBeKept world.imports
 
 -- so are those of the tables of classes
 pub record AreClassRowsOf (rows : ClassRows) (world : World) : Type 0 where
@@ -60,7 +61,7 @@ pub record IsReadable (world : World) : Type 0 where
   pub workunits : AreStorable world
   pub grants : All IsStoredGrant world.grants
   pub archived : IsArchiveStorable world
-  pub imports : All IsStoredImport world.imports
+  pub imports : All (λ import. IsName import.name × AreVerdicts import.kind import.verdicts) world.imports
   pub classes : All IsStoredHostClass world.classes
 
 -- the rows of workunits and of instances are those of these workunits

@@ -164,7 +164,12 @@ impl FromRow for Imported {
         let content = bytes_at(row, 3)?;
         let name = name_at(alloc, row, 1)?;
         let verdicts = verdicts_at(alloc, kind, row, 5)?;
-        Ok(Imported::new(kind, name, template, content, first_number, verdicts))
+        let import = Imported::new(kind, name, template, content, first_number, verdicts);
+        if import.may_be_kept() {
+            Ok(import)
+        } else {
+            Err(Fault::NotAProject)
+        }
     }
 }
 

@@ -8,7 +8,7 @@ use Rattle.wu_core.specs.declared.fault.Fault.TheVariants.{Memory, TooMany, Work
 use Rattle.wu_core.specs.declared.workunit.Workunit.{Workunit}
 use Rattle.wu_core.specs.Limits.{most_workunits}
 use Rattle.wu_core.specs.Parameters.{Parameters}
-use Rattle.wu_core.specs.World.{World, Import}
+use Rattle.wu_core.specs.World.{MadeNone, MayBeKept, World, Import}
 use Rattle.wu_core.specs.Storable.{IsAbove}
 use Rattle.wu_feed.specs.declared.jobs.Job.{Job}
 use Rattle.wu_feed.specs.Jobs.{jobs_of_file}
@@ -55,6 +55,15 @@ first_is world (job ∷ jobs) = let no : (length (job ∷ jobs) == 0) ≡ false 
 few_enough : (n : ℕ) → n ≤ most_workunits + 1 → nat_lt (most_workunits + 1) n ≡ false
 few_enough n few = grind (arith, nat_tests)
 
+-- a batch may be kept with the number of its first job
+batch_kept : (name template file : List ℕ) (world : World) (jobs : List Job) → MayBeKept (kept_import (batch_given name template file) (first_number world jobs) (all_applied jobs))
+batch_kept name template file world jobs = record { template = λ other. absurd (other refl); first_number = numbered jobs }
+  where
+    numbered : (jobs : List Job) → MadeNone (kept_import (batch_given name template file) (first_number world jobs) (all_applied jobs)) → first_number world jobs ≡ 0
+    numbered [] none = refl
+    numbered (job ∷ jobs) (inl other) = absurd (other refl)
+    numbered (job ∷ jobs) (inr none) = absurd cc
+
 -- a batch that is not refused
 module _ (world : World) (is : IsUpToDate world) (project : IsProject world) (name template file : List ℕ) (params : Parameters) (jobs : List Job) where
   made_new : (kept : Kept) → made_all (additions params world.next_number jobs ++ Keep kept ∷ []) world ≡ with_kept (import_of_change kept) (with_jobs world params jobs)
@@ -63,18 +72,18 @@ module _ (world : World) (is : IsUpToDate world) (project : IsProject world) (na
       ap (λ changes. made_all changes world) (append_assoc adds (Next (world.next_number + length jobs) ∷ []) (Keep kept ∷ []))
       ∙ made_adds params (enumerate_from world.next_number jobs) (Next (world.next_number + length jobs) ∷ Keep kept ∷ []) world
 
-  right_new : (kept : Kept) → AreRight (additions params world.next_number jobs ++ Keep kept ∷ []) world
-  right_new kept =
+  right_new : (kept : Kept) → MayBeKept (import_of_change kept) → AreRight (additions params world.next_number jobs ++ Keep kept ∷ []) world
+  right_new kept may =
       let adds = map (added params) (enumerate_from world.next_number jobs) in
       subst (λ changes. AreRight changes world) (sym (append_assoc adds (Next (world.next_number + length jobs) ∷ []) (Keep kept ∷ [])))
-      (right_adds params world.next_number jobs (Next (world.next_number + length jobs) ∷ Keep kept ∷ []) world (classed world is) project.above (λ after. (tt, (tt, tt))))
+      (right_adds params world.next_number jobs (Next (world.next_number + length jobs) ∷ Keep kept ∷ []) world (classed world is) project.above (λ after. (tt, (may, tt))))
 
   pub added_jobs : import_of world (batch_given name template file) ≡ None → template_of template ≡ Ok params → jobs_of_file file ≡ Ok jobs → first_taken world jobs ≡ None
       → world.next_number + length jobs ≤ most_workunits + 1 → (plan : Plan) → IsNewBatch (batch_given name template file) world.next_number params jobs plan
       → Plans world (AskBatch name template file) plan.answer plan.changes.items
   added_jobs fresh template_is file_is free few plan new = record {
     done = asked_of world is name template file ∙ rw (fresh, template_is, file_is, free, few_enough _ few) (ap (λ (it : Done). Ok it) same);
-    right = subst (λ changes. AreRight changes world) (sym new.changes) (right_new new.kept);
+    right = subst (λ changes. AreRight changes world) (sym new.changes) (right_new new.kept (subst MayBeKept import_is (batch_kept name template file world jobs)));
     idle = λ before. absurd (never_before world (batch_given name template file) fresh before);
   }
     where

@@ -9,7 +9,7 @@ use Rattle.wu_core.specs.declared.fault.Fault.{Fault}
 use Rattle.wu_core.specs.declared.fault.Fault.TheVariants.{Memory, NameUsed}
 use Rattle.wu_core.specs.declared.workunit.HostClass.{HostClass}
 use Rattle.wu_core.specs.Reads.{IsOrWantsMemory}
-use Rattle.wu_core.specs.World.{World, Import, is_import}
+use Rattle.wu_core.specs.World.{MayBeKept, World, Import, is_import}
 use Rattle.wu_schema.specs.Refines.{Refines}
 use Rattle.wu_store.specs.Changes.{with_import}
 use Rattle.wu_store.specs.Changing.{AreRight, import_of_change, made_all}
@@ -47,17 +47,21 @@ both_true false b is = absurd cc
 
 -- ---- the rows of a file
 
+-- a file that no template goes with may be kept, and without a first number
+may_be_kept : (given : Given) (verdicts : List ℕ) (import : Import) → given.template ≡ [] → import ≡ kept_import given 0 verdicts → MayBeKept import
+may_be_kept given verdicts import empty is = subst MayBeKept (sym is) (record { template = λ other. empty; first_number = λ none. refl })
+
 -- the changes of a new file make of the world what its rows make of it, and keep it
 pub file_planned : {Row : Type 0} → (rule : Rule Row) (given : Given) (rows : List Row) (db : Database) (world : World) → Refines db world → KnowsClasses world → (left : Left) → IsLeft rule rows world left.touched left.verdicts.items
     → (r : Result Plan Fault) → IfOk r (IsNewFile given left) → IfErr r (λ fault. fault ≡ Memory) → MatchResult r (IsFilePlan rule given rows world) IsStoreFault
 file_planned rule given rows db world stands known left is (Ok plan) new err =
-    let made = rows_then rule rows world left.touched left.verdicts.items (Keep new.kept) (once_named db world stands) (once_number db world stands) is new.distinct tt in
+    let made = rows_then rule rows world left.touched left.verdicts.items (Keep new.kept) (once_named db world stands) (once_number db world stands) is new.distinct in
     record {
       kept = new.kept;
       keeps = subst (λ (verdicts : List ℕ). KeepsImport given 0 verdicts new.kept) is.told new.keeps;
       reply = new.reply;
       made = subst (λ changes. made_all changes world ≡ with_import (import_of_change new.kept) (after_rows rule world rows)) (sym new.changes) made.0;
-      right = subst (λ changes. AreRight changes world) (sym new.changes) (made.1 known);
+      right = λ empty. subst (λ changes. AreRight changes world) (sym new.changes) (made.1 known (may_be_kept given left.verdicts.items (import_of_change new.kept) empty new.keeps));
     }
 file_planned rule given rows db world stands known left is (Err fault) new err = inl err
 
@@ -107,11 +111,11 @@ module _ (world : World) (request : Request) (given : Given) (asked : done world
   pub newly_refused : (fault : Fault) → import_of world given ≡ None → newly_imported world given given.kind ≡ Err fault → done world request ≡ Err fault
   newly_refused fault fresh is = asked ∙ rw fresh is
 
-  pub rows_planned : {Row : Type 0} → (rule : Rule Row) (rows : List Row) → import_of world given ≡ None → newly_imported world given given.kind ≡ rows_read rule given world (Ok rows)
+  pub rows_planned : {Row : Type 0} → given.template ≡ [] → (rule : Rule Row) (rows : List Row) → import_of world given ≡ None → newly_imported world given given.kind ≡ rows_read rule given world (Ok rows)
       → (MakesNothing world request → CameBefore world given) → (r : Result Plan Fault) → MatchResult r (IsFilePlan rule given rows world) IsStoreFault → IsPlan world request r
-  rows_planned rule rows fresh read before (Ok plan) it = record {
+  rows_planned empty rule rows fresh read before (Ok plan) it = record {
     done = asked ∙ rw fresh (read ∙ ap (λ (d : Done). Ok d) same);
-    right = it.right;
+    right = it.right empty;
     idle = λ none. absurd (never_before world given fresh (before none));
   }
     where
@@ -122,14 +126,14 @@ module _ (world : World) (request : Request) (given : Given) (asked : done world
       same = ap {B = Done} (λ (i : Import). (first_answer i, with_import i (after_rows rule world rows))) import_is
           ∙ ap {B = Done} (λ (a : Reply). (a, with_import (import_of_change it.kept) (after_rows rule world rows))) (sym it.reply)
           ∙ ap {B = Done} (λ (w : World). (reply_of_answer plan.answer, w)) (sym it.made)
-  rows_planned rule rows fresh read before (Err fault) it = inr it
+  rows_planned empty rule rows fresh read before (Err fault) it = inr it
 
   -- a new file of classes
-  pub classes_planned : (rows : List HostClass) → KnowsClasses world → import_of world given ≡ None → newly_imported world given given.kind ≡ classes_read given world (Ok rows)
+  pub classes_planned : given.template ≡ [] → (rows : List HostClass) → KnowsClasses world → import_of world given ≡ None → newly_imported world given given.kind ≡ classes_read given world (Ok rows)
       → (MakesNothing world request → CameBefore world given) → (r : Result Plan Fault) → IfOk r (IsNewClasses given rows) → IfErr r (λ fault. fault ≡ Memory) → IsPlan world request r
-  classes_planned rows known fresh read before (Ok plan) it err = record {
+  classes_planned empty rows known fresh read before (Ok plan) it err = record {
     done = asked ∙ rw fresh (read ∙ ap (λ (d : Done). Ok d) same);
-    right = subst (λ changes. AreRight changes world) (sym it.changes) (right_append (map sets_class rows) (Keep it.kept ∷ []) world (classes_right rows world known) (tt, tt));
+    right = subst (λ changes. AreRight changes world) (sym it.changes) (right_append (map sets_class rows) (Keep it.kept ∷ []) world (classes_right rows world known) (may_be_kept given (all_applied rows) (import_of_change it.kept) empty it.keeps, tt));
     idle = λ none. absurd (never_before world given fresh (before none));
   }
     where
@@ -140,7 +144,7 @@ module _ (world : World) (request : Request) (given : Given) (asked : done world
       same = ap {B = Done} (λ (i : Import). (first_answer i, with_import i (after_classes world rows))) (sym it.keeps)
           ∙ ap {B = Done} (λ (a : Reply). (a, with_import (import_of_change it.kept) (after_classes world rows))) (sym it.reply)
           ∙ ap {B = Done} (λ (w : World). (reply_of_answer plan.answer, w)) (sym made_is)
-  classes_planned rows known fresh read before (Err fault) it err = inr (inl err)
+  classes_planned empty rows known fresh read before (Err fault) it err = inr (inl err)
 
   kind_of : (kept : Import) → is_import given.kind given.name kept ≡ true → kept.kind ≡ given.kind
   kind_of kept is = kind_is kept.kind given.kind (both_true _ _ is).0

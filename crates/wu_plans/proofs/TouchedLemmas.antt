@@ -418,9 +418,10 @@ right_append (change ∷ more) next world right later = (right.0, right_append m
 
 -- what rows left, and a change more
 pub rows_then : {Row : Type 0} (rule : Rule Row) (rows : List Row) (world : World) (ts : List Touch) (verdicts : List ℕ) (change : Change) → NamesOnce world → NumbersOnce world
-    → IsLeft rule rows world ts verdicts → AreDistinct ts → IsRight change (after_rows rule world rows)
-    → (made_all (map replaces ts ++ change ∷ []) world ≡ made change (after_rows rule world rows)) × (KnowsClasses world → AreRight (map replaces ts ++ change ∷ []) world)
-rows_then rule rows world ts verdicts change names numbers left distinct right =
+    → IsLeft rule rows world ts verdicts → AreDistinct ts
+    → (made_all (map replaces ts ++ change ∷ []) world ≡ made change (after_rows rule world rows))
+    × (KnowsClasses world → IsRight change (after_rows rule world rows) → AreRight (map replaces ts ++ change ∷ []) world)
+rows_then rule rows world ts verdicts change names numbers left distinct =
     let all = replaced_all ts world names numbers left.images distinct in
     let after : made_all (map replaces ts) world ≡ after_rows rule world rows = all.0 ∙ left.left in
-    (made_append (map replaces ts) (change ∷ []) world ∙ ap (made change) after, λ classed. right_append (map replaces ts) (change ∷ []) world (all.1 classed) (subst (IsRight change) (sym after) right, tt))
+    (made_append (map replaces ts) (change ∷ []) world ∙ ap (made change) after, λ classed right. right_append (map replaces ts) (change ∷ []) world (all.1 classed) (subst (IsRight change) (sym after) right, tt))

@@ -129,13 +129,14 @@ pub record IsNewFile (given : Given) (left : Left) (plan : Plan) : Type 0 where
   pub changes : plan.changes.items ≡ map replaces left.touched ++ Keep kept ∷ []
   pub distinct : AreDistinct left.touched
 
--- the plan of a file of these rows: they are applied or skipped, and the file is kept with their verdicts
+-- the plan of a file of these rows: they are applied or skipped, and the file is kept with their verdicts; where no
+-- template goes with it, that may be made of the world
 pub record IsFilePlan {Row : Type 0} (rule : Rule Row) (given : Given) (rows : List Row) (world : World) (plan : Plan) : Type 0 where
   pub kept : Kept
   pub keeps : KeepsImport given 0 (row_verdicts rule world rows) kept
   pub reply : reply_of_answer plan.answer ≡ first_answer (import_of_change kept)
   pub made : made_all plan.changes.items world ≡ with_import (import_of_change kept) (after_rows rule world rows)
-  pub right : AreRight plan.changes.items world
+  pub right : given.template ≡ [] → AreRight plan.changes.items world
 
 -- the change that sets the class of a row's host
 abbrev pub sets_class : HostClass → Change

@@ -114,7 +114,7 @@ module _ (old : Database) (world : World) (s : Refines old world) (older : ¬ Is
   held Grants off = s.rows.grants
   held Hosts off = s.rows.hosts
   held Archive off = s.rows.archived
-  held Imports off = (s.rows.imports, s.rows.imported_once)
+  held Imports off = (s.rows.imports, s.rows.imported_once, s.rows.imports_kept)
   held HostClasses off = (no_cells, s.rows.classes_in_order)
   held WorkClasses off = subst (ListsAll (old.trees c.workunit_class)) (unbound_rows world.workunits (s.rows.classless older).workunits) c.rows
 

@@ -118,7 +118,7 @@ none_held Instances off rows none = no_cells rows none
 none_held Grants off rows none = no_list rows none
 none_held Hosts off rows none = no_cells rows none
 none_held Archive off rows none = no_list rows none
-none_held Imports off rows none = (no_cells rows none, tt)
+none_held Imports off rows none = (no_cells rows none, tt, tt)
 none_held HostClasses off rows none = (no_cells rows none, none_in_order [] refl)
 none_held WorkClasses off rows none = no_list rows none
 

@@ -2,6 +2,7 @@
 pub use Rattle.std.proofs.lemmas.Bool.{or_parts as either_false}
 use Rattle.std.proofs.lemmas.Bool.{leb-true, le-leb}
 use Rattle.wu_core.specs.Classes.{AreInOrder}
+use Rattle.wu_core.specs.World.{MayBeKept}
 use Rattle.wu_core.specs.declared.workunit.HostClass.{HostClass}
 use Rattle.wu_schema.proofs.Words.{AllByRecursion, IsPermutation-refl, IsTable, Less, Workunit, arith, class_cells, column, drop, false_from_ne_true, host_class_at, length_permutation, nat_le, number, rowid, stored_class, value_cmp, workunit_class_at, ◌⊎◌, Bool, Database, Enforced, Has, HasNamed, HasTables, HoldsAll, Import, IsAscending, IsCalm, IsDatabase, IsShaped, List, ListsAll, None, Option, OwnsTree, ProjectTrees, Reference, Row, Schema, Some, Refines, Table, World, [], ap, archived_at, bytes_eq, bytes_eq-Decides, cases_Bool, codes, enumerate_from, false, find, flat_map, grant_at, host_at, hosts_of, if◌then◌else◌, import_at, import_cells, inl, inr, instances_of, is_import, is_some, map, project_at, refl, result_at, stored_archived, stored_grant, stored_project, stored_workunit, subst, sym, true, workunit_at, ℕ, ⊤, ◌==◌, ◌||◌, ◌∙◌, ◌∷◌, ◌≡◌, ◌≢◌}
 use Rattle.sqlite_trees.specs.declared.store.Shape.TheVariants as shape
@@ -63,7 +64,7 @@ Holds Instances rows world = HoldsAll rows (flat_map instances_of world.workunit
 Holds Grants rows world = ListsAll rows (map stored_grant (enumerate_from 1 world.grants))
 Holds Hosts rows world = HoldsAll rows (map (host_of world.grants) (hosts_of world.grants))
 Holds Archive rows world = ListsAll rows (map stored_archived (enumerate_from 1 world.archived))
-Holds Imports rows world = HoldsAll rows (map import_cells world.imports) × IsAscending (λ (a b : Import). is_import a.kind a.name b ≡ false) world.imports
+Holds Imports rows world = HoldsAll rows (map import_cells world.imports) × IsAscending (λ (a b : Import). is_import a.kind a.name b ≡ false) world.imports × AllByRecursion MayBeKept world.imports
 Holds HostClasses rows world = HoldsAll rows (map class_cells world.classes) × AreInOrder world.classes
 Holds WorkClasses rows world = ListsAll rows (map stored_class world.workunits)
 
@@ -100,7 +101,7 @@ parts_hold db world s Instances is_in = s.rows.instances
 parts_hold db world s Grants is_in = s.rows.grants
 parts_hold db world s Hosts is_in = s.rows.hosts
 parts_hold db world s Archive is_in = s.rows.archived
-parts_hold db world s Imports is_in = (s.rows.imports, s.rows.imported_once)
+parts_hold db world s Imports is_in = (s.rows.imports, s.rows.imported_once, s.rows.imports_kept)
 parts_hold db world s HostClasses is_in = ((s.rows.classes is_in).hosts, s.rows.classes_in_order)
 parts_hold db world s WorkClasses is_in = (s.rows.classes is_in).workunits
 
@@ -122,6 +123,7 @@ rows_stand db t world holds classless = record {
   archived = holds Archive tt;
   imports = (holds Imports tt).0;
   imported_once = (holds Imports tt).1;
+  imports_kept = (holds Imports tt).2;
   classes = λ on. record { hosts = (holds HostClasses on).0; workunits = holds WorkClasses on };
   classless = classless;
   classes_in_order = elim (classed_or_not world.version) [ inl on ↦ (holds HostClasses on).1 | inr off ↦ none_in_order world.classes (classless off).hosts ];

@@ -14,7 +14,7 @@ use Rattle.wu_core.specs.declared.workunit.Instance.{Instance}
 use Rattle.wu_core.specs.declared.workunit.Workunit.{Workunit}
 use Rattle.wu_core.specs.Classes.{AreInOrder}
 use Rattle.wu_core.specs.Hosts.{credit_of, grants_of, hosts_of}
-use Rattle.wu_core.specs.World.{World, Import, is_import}
+use Rattle.wu_core.specs.World.{World, Import, is_import, MayBeKept}
 use Rattle.wu_schema.specs.Stored.{stored_project, stored_workunit, stored_grant, stored_archived, stored_class, class_cells, instance_cells, host_cells, import_cells}
 use Rattle.wu_schema.specs.Tables.{ProjectTrees, HasTables, IsClassedVersion}
 
@@ -57,6 +57,7 @@ pub record HasRows (db : Trees) (trees : ProjectTrees) (world : World) : Type 0 
   pub imports : HoldsAll (db trees.import) (map import_cells world.imports)
   -- no two imports are of one kind and name
   pub imported_once : IsAscending (λ (a b : Import). is_import a.kind a.name b ≡ false) world.imports
+  pub imports_kept : AllByRecursion MayBeKept world.imports
   -- classes stand in tables of their own from their version on, and before it there are none
   pub classes : IsClassedVersion world.version → HasClasses db trees world
   pub classless : ¬ IsClassedVersion world.version → IsClassless world

@@ -5,6 +5,7 @@ use Rattle.sqlite.specs.Store.{Ghosts}
 use Rattle.sqlite.specs.declared.transaction.Transaction.{Transaction}
 use Rattle.wu_schema.specs.Calls.{StatementFrame, TransactionFrame}
 use Rattle.wu_schema.proofs.CallLemmas.{part_then}
+use Rattle.wu_core.specs.World.{MayBeKept}
 use Rattle.wu_store.specs.Changes.{HasInstances, IsNextPlace, PutsGrants, with_archived, with_import, with_instance, with_next, with_version}
 use Rattle.std.specs.Prelude.{FitsSigned}
 use Rattle.std.proofs.lemmas.Int.{fits_signed_from_abs}
@@ -103,8 +104,8 @@ module _ (old new : State) (world : World) (s : Refines old.now world) where
   pub put_import : (import : Import) (count : ℕ) → Executes import_put.text (import_cells import) old new (Ok count) → PutsOne old.now new.now s.trees.import (Int (next_rowid (old.now.trees s.trees.import)) ∷ import_cells import)
   put_import import count h = puts_one (codes "import") import_at import_put import_fits (import_cells import) old new s.tables.import.0 s.trees.import s.tables.import.1 (Null ∷ import_cells import) _ (import_kept s.trees.import import) refl count h
 
-  pub puts_import : (import : Import) (count : ℕ) → Executes import_put.text (import_cells import) old new (Ok count) → Refines new.now (with_import import world)
-  puts_import import count h = stands_with_import old.now new.now world s import (put_import import count h)
+  pub puts_import : (import : Import) (count : ℕ) → Executes import_put.text (import_cells import) old new (Ok count) → MayBeKept import → Refines new.now (with_import import world)
+  puts_import import count h kept = stands_with_import old.now new.now world s import kept (put_import import count h)
 
   pub sets_number : (n count : ℕ) → Executes next_text (number n ∷ []) old new (Ok count) → Refines new.now (with_next n world)
   sets_number n count h =

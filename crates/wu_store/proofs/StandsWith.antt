@@ -1,5 +1,7 @@
 -- What each change keeps of the world that a database stands for.
 use Rattle.wu_schema.proofs.Words.{AllByRecursion, Binary, Database, Enforced, Has, HoldsAll, Workunit, cases_Bool, filter, inl, not, ℕ, Import, Int, IsCalm, IsDatabase, IsTrue, List, ListsAll, OwnsTree, PutsOne, Row, Schema, Some, Refines, Table, World, [], all_has, and_from, and_parts, ap, bytes_eq, column, drop, eq-eqb, eqb-true, equal, false, false_from_ne_true, first_key, has_mapped, import_at, import_cells, import_kind_code, inr, is_eq, is_import, is_int, map, map-append, mapped_has, next_rowid, put_row, refl, rowid, stored_project, stored_workunit, subst, sym, true, value_cmp, ℕ, ◌++◌, ◌==◌, ◌∙◌, ◌∷◌, ◌≡◌, ◌≢◌}
+use Rattle.std.proofs.lemmas.List.Elements.{All-from_recursion, All-push, recursion_from_All}
+use Rattle.wu_core.specs.World.{MayBeKept}
 use Rattle.wu_store.specs.Changes.{with_import, with_next, without_workunit}
 use Rattle.sqlite_rules.proofs.TableLemmas.{has_put}
 use Rattle.sqlite_catalog.proofs.ListFacts.{ascending_push}
@@ -48,14 +50,15 @@ module _ (old new : Database) (world : World) (s : Refines old world) where
         no_row (eqb-true _ _ parts.0) parts.1 it.0 it.1 it.2)
 
   -- an import of which no row has the rowid
-  pub stands_with_import : (import : Import) → PutsOne old new s.trees.import (Int (next_rowid (old.trees s.trees.import)) ∷ import_cells import) → Refines new (with_import import world)
-  stands_with_import import put =
+  pub stands_with_import : (import : Import) → MayBeKept import → PutsOne old new s.trees.import (Int (next_rowid (old.trees s.trees.import)) ∷ import_cells import) → Refines new (with_import import world)
+  stands_with_import import kept put =
       let row : Row = Int (next_rowid (old.trees s.trees.import)) ∷ import_cells import in
       let before = old.trees s.trees.import in
       frame_one old new world (with_import import world) s Imports tt put.schema refl (keeps_put old new world s Imports row tt put) carry (
         subst (λ rs. HoldsAll rs (map import_cells (world.imports ++ import ∷ []))) (sym put.rows)
             (subst (HoldsAll (put_row row before)) (sym (map-append import_cells world.imports (import ∷ []))) (holds_put (import_cells import) (map import_cells world.imports) before put.fresh s.rows.imports)),
         ascending_push (λ (a b : Import). is_import a.kind a.name b ≡ false) world.imports import s.rows.imported_once (new_once import put),
+        recursion_from_All MayBeKept (world.imports ++ import ∷ []) (All-push MayBeKept world.imports import (All-from_recursion MayBeKept world.imports s.rows.imports_kept) kept),
       ) put.sound
     where
       carry : (q : Part) → is_part Imports q ≡ false → (rows : List Row) → Holds q rows world → Holds q rows (with_import import world)

@@ -14,7 +14,7 @@ use Rattle.wu_core.specs.declared.workunit.Grant.{Grant}
 use Rattle.wu_core.specs.declared.workunit.Instance.{Instance}
 use Rattle.wu_core.specs.declared.workunit.Workunit.{Workunit}
 use Rattle.wu_core.specs.Hosts.{hosts_of}
-use Rattle.wu_core.specs.World.{World, Import}
+use Rattle.wu_core.specs.World.{World, Import, MayBeKept}
 use Rattle.wu_schema.specs.Stored.{stored_grant}
 use Rattle.wu_schema.specs.Tables.{ProjectTrees, HasTables}
 use Rattle.wu_schema.specs.Refines.{Refines, HoldsAll, ListsAll, host_of}
@@ -233,6 +233,10 @@ AddsArchived place a old new = (world : World) → Refines old world → IsNextP
 -- with an import more
 abbrev pub with_import : Import → World → World
 with_import import world = record world { imports = world.imports ++ import ∷ [] }
+
+-- the import is added, where it may be kept
+abbrev pub AddsImport : Import → Database → Database → Type 0
+AddsImport import old new = (world : World) → Refines old world → MayBeKept import → Refines new (with_import import world)
 
 -- with this number for the next workunit
 abbrev pub with_next : ℕ → World → World

@@ -5,7 +5,7 @@ use Rattle.std.specs.declared.alloc.Global.{Global}
 use Rattle.sqlite.specs.Effect.{Database}
 use Rattle.wu_core.specs.declared.workunit.Archived.{Archived}
 use Rattle.wu_core.specs.declared.workunit.Grant.{Grant}
-use Rattle.wu_core.specs.World.{World, Import}
+use Rattle.wu_core.specs.World.{World, Import, MayBeKept}
 use Rattle.wu_store.specs.Changes.{with_workunit, with_replaced, without_workunit, with_grants, with_archived, with_import, with_next, with_version, IsNextPlace}
 use Rattle.wu_core.specs.Storable.{IsAbove}
 use Rattle.wu_store.specs.Answers.{numbered}
@@ -47,8 +47,8 @@ made_all (change ∷ more) world = made_all more (made change world)
 
 -- a workunit that is added has a number above all, one that takes a place has that of the present one that it is said to
 -- take it from, each in a world with classes, and so a class is set; grants and an archived row have the next place of
--- their list, and grants their sums; an upgrade is of a world of that version without classes, and has the marks of all
--- workunits
+-- their list, and grants their sums; an import may be kept; an upgrade is of a world of that version without classes,
+-- and has the marks of all workunits
 abbrev pub IsRight : Change → World → Type 0
 IsRight (Add w) world = KnowsClasses world × IsAbove w.number world.workunits
 IsRight (Replace was w) world = KnowsClasses world × (numbered w.number world ≡ Some was)
@@ -56,7 +56,7 @@ IsRight (Remove number) world = ⊤
 IsRight (Grants place grants sums) world = IsNextPlace place world.grants × AreSums sums.items grants.items
 IsRight (Archive place a) world = IsNextPlace place world.archived
 IsRight (Next number) world = ⊤
-IsRight (Keep kept) world = ⊤
+IsRight (Keep kept) world = MayBeKept (import_of_change kept)
 IsRight (Class host class) world = KnowsClasses world
 IsRight (Upgrade from rows) world = (from ≡ world.version) × (¬ KnowsClasses world) × (rows.items ≡ marked world)
 

@@ -4,7 +4,7 @@ ghost use Rattle.std.specs.Prelude.{ℕ, ◌≡◌, ◌<◌, ◌≤◌, ◌^◌,
 ghost use Rattle.sqlite.specs.Values.{bound};
 ghost use Rattle.wu_store.specs.Changing.{import_of_change};
 ghost use Rattle.wu_store.specs.Classes.{ChangesClasses, SetsVersion};
-ghost use Rattle.wu_store.specs.Changes.{with_placed, without_instances, without_workunit, with_import, with_next, AddsArchived, AddsInstance, Credits, PutsGrants, WasFree};
+ghost use Rattle.wu_store.specs.Changes.{with_placed, without_instances, without_workunit, with_next, AddsArchived, AddsImport, AddsInstance, Credits, PutsGrants, WasFree};
 ghost use Rattle.wu_core.specs.declared.fault.Fault.TheVariants.{NotAProject};
 ghost use Rattle.wu_schema.specs.Asking.{Asks, FailsAll, IsSelect};
 ghost use Rattle.wu_schema.specs.Calls.{Answers, StatementFrame, Does, Changes, RunsText};
@@ -382,8 +382,8 @@ pub fn insert_import<S: Alter>(
     import: &Import<'_>,
 ) -> Result<(), Error>
     ensures writes { StatementFrame S.Store tx.old tx.new result }
-    ensures puts { Changes S.Store tx.old tx.new result
-        (with_import (import_of_change import.now)) }
+    ensures puts { Does S.Store tx.old tx.new result
+        (AddsImport (import_of_change import.now)) }
     ensures queue { Does S.Store tx.old tx.new result KeepsQueue }
 {
     let first_number = signed(import.first_number)?;

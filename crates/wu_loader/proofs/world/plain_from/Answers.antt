@@ -35,7 +35,7 @@ returns-in_err-archived-clause-none c =
 pub returns-in_err-imports-clause-none : goal.returns-in_err-imports-clause-none
 returns-in_err-imports-clause-none c =
     handed c.from_residual-in_err-imports.result c.in_err-imports.field-0.0 _ _ (λ wrong none world readable ordered are.
-    none_permuted import_cells IsStoredImport _ wrong.place none.1 world.imports readable.imports (subst (IsPermutation (map import_cells world.imports)) (sym c.deref-8.ensures.value) are.imports))
+    none_permuted import_cells IsStoredImport _ wrong.place none.1 world.imports (λ k d low. record { name = (readable.imports k d low).0; verdicts = (readable.imports k d low).1; kept = are.imports_kept k d low }) (subst (IsPermutation (map import_cells world.imports)) (sym c.deref-8.ensures.value) are.imports))
     c.from_residual-in_err-imports.ensures.1 c.in_err-imports.ensures.none
 
 pub returns-clause-plain : goal.returns-clause-plain
@@ -50,6 +50,7 @@ returns-clause-plain c =
       hosts = rw (c.deref-5.ensures.value, c.deref-6.ensures.value) at c.in_ok-know_hosts.ensures.hosts;
       archived = sym c.deref-7.ensures.value ∙ c.in_ok-archived.ensures.same;
       imports = subst (IsPermutation (map import_cells c.in_ok-imports.imports.items)) (sym imports) (IsPermutation-refl (map import_cells c.in_ok-imports.imports.items));
+      imports_kept = λ k d low. (c.in_ok-imports.ensures.each k d low).kept;
     }
 
 pub returns-in_err-project-clause-told : goal.returns-in_err-project-clause-told

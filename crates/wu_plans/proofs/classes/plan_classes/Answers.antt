@@ -1,4 +1,4 @@
-use Rattle.std.proofs.Common.{◌≡◌, None, Ok, ap, inr}
+use Rattle.std.proofs.Common.{◌≡◌, None, Ok, ap, inr, refl}
 use Rattle.wu_core.specs.declared.import.ImportKind.TheVariants as kind
 use Rattle.wu_feed.specs.Classes.{classes_of_file}
 use Rattle.wu_machine.specs.Commands.{file_of}
@@ -26,7 +26,7 @@ returns-in_ok-read_classes-in-None-clause-plan g c clean world stands is project
     let given = file_of kind.Classes c.args.file.now in
     let fresh : import_of world given ≡ None = rw c.in-None.is at (c.in_ok-earlier.ensures.found clean world stands) in
     let rows_are : classes_of_file c.args.file.now.file ≡ Ok c.in_ok-read_classes-in-None.field-0 = read_ok _ _ (rw c.as_slice.ensures at c.in_ok-read_classes-in-None.ensures.exact) in
-    classes_planned world (AskClasses c.args.file.now.name c.args.file.now.file) given (asked_classes world is c.args.file.now.name c.args.file.now.file) c.in_ok-read_classes-in-None.field-0 (classed world is) fresh
+    classes_planned world (AskClasses c.args.file.now.name c.args.file.now.file) given (asked_classes world is c.args.file.now.name c.args.file.now.file) refl c.in_ok-read_classes-in-None.field-0 (classed world is) fresh
     (ap (classes_read given world) rows_are) (λ came. came) c.new_classes.result (rw c.file_source-source.ensures at c.new_classes.ensures.plan) c.new_classes.ensures.fault
 
 pub returns-in_ok-read_classes-in-None-clause-unrefused : goal.returns-in_ok-read_classes-in-None-clause-unrefused

@@ -1,4 +1,4 @@
-use Rattle.std.proofs.Common.{◌≡◌, None, Ok, ap, arith, inr, ◌∙◌}
+use Rattle.std.proofs.Common.{◌≡◌, None, Ok, ap, arith, inr, refl, ◌∙◌}
 use Rattle.sqlite.specs.Held.{state}
 use Rattle.sqlite.specs.State.{HasCleanDisk}
 use Rattle.wu_core.specs.declared.import.ImportKind.TheVariants as kind
@@ -29,7 +29,7 @@ returns-in_ok-read_sends-in-None-clause-plan g c clean world stands is project =
     let still : Refines (state g.S.Store c.import_of.new.conn).now world = asks_stands g.S.Store _ _ c.in_ok-earlier.field-0 c.in_ok-earlier.ensures.asks before world stands in
     let fresh : import_of world given ≡ None = rw c.in-None.is at (c.in_ok-earlier.ensures.found before world stands) in
     let rows_are : sends_of_file c.args.file.now.file ≡ Ok c.in_ok-read_sends-in-None.field-0 = read_ok _ _ (rw c.as_slice.ensures at c.in_ok-read_sends-in-None.ensures.exact) in
-    rows_planned world (AskSent c.args.file.now.name c.args.file.now.file) given (asked_sent world is c.args.file.now.name c.args.file.now.file) (send_rule world.classes) c.in_ok-read_sends-in-None.field-0 fresh
+    rows_planned world (AskSent c.args.file.now.name c.args.file.now.file) given (asked_sent world is c.args.file.now.name c.args.file.now.file) refl (send_rule world.classes) c.in_ok-read_sends-in-None.field-0 fresh
     (ap (rows_read (send_rule world.classes) given world) rows_are) (λ came. came) c.plan_rows.result (rw c.file_source-source.ensures at (c.plan_rows.ensures.plan clean world still (classed world is)))
 
 pub returns-in_err-earlier-clause-unrefused : goal.returns-in_err-earlier-clause-unrefused

@@ -60,7 +60,7 @@ returns-in-Keep-clause-makes g c clean =
     let new = (state g.S.Store c.insert_import.new.tx.conn.now).now in
     subst (λ change. OnOk c.insert_import.result (MakesWorlds (change ∷ []) old new)) (sym c.in-Keep.is)
     (ok_both c.insert_import.result _ _ _ (λ puts keeps world stands right.
-    stands_kept old new world (with_import (import_of_change c.in-Keep.import) world) stands (λ queued. queued) refl (puts world stands.refines) keeps) (c.insert_import.ensures.puts clean) (c.insert_import.ensures.queue clean))
+    stands_kept old new world (with_import (import_of_change c.in-Keep.import) world) stands (λ queued. queued) refl (puts world stands.refines right.0) keeps) (c.insert_import.ensures.puts clean) (c.insert_import.ensures.queue clean))
 
 pub returns-in-Class-clause-makes : goal.returns-in-Class-clause-makes
 returns-in-Class-clause-makes g c clean =

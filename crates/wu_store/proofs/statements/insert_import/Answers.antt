@@ -22,6 +22,6 @@ returns g c =
     λ clean. ran_as old new import_put.text _ _ given c.execute.result (c.execute.ensures.ran clean) (λ count ran. (count, ran)) in
     record {
       writes = c.execute.ensures.writes;
-      puts = λ clean. ok_on c.execute.result _ _ (λ it world s. puts_import old new world s i it.0 it.1) (ran clean);
+      puts = λ clean. ok_on c.execute.result _ _ (λ it world s kept. puts_import old new world s i it.0 it.1 kept) (ran clean);
       queue = λ clean. ok_on c.execute.result _ _ (λ it world marked s q. import_leaves old new world s marked q i it.0 it.1) (ran clean);
     }
