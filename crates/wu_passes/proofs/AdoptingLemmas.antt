@@ -13,7 +13,7 @@ use Rattle.wu_schema.proofs.CallLemmas.{back_none, back_unchanged}
 use Rattle.wu_schema.proofs.VersionLemmas.{has_understood, project_of, project_row}
 use Rattle.wu_schema.specs.Calls.{IsBack, IsDone, IsMade, IsRefused, IsUndone, LeavesOnly}
 use Rattle.wu_schema.specs.Faults.{IsFailure}
-use Rattle.wu_schema.specs.Fresh.{MakesProject}
+use Rattle.wu_schema.specs.Fresh.{IsTakenFault, MakesProject}
 use Rattle.wu_schema.specs.Refines.{Refines}
 use Rattle.wu_schema.specs.Versions.{AnswersVersion, HasProject, HasVersion}
 use Rattle.wu_machine.specs.Machine.{IsUpToDate, present_version}
@@ -63,6 +63,7 @@ limit_refuses old new fault r = record {
     stored = λ version is. let s = why.stored version is in record { is_open = s.is_open; there = s.there; stored = s.stored; later = s.later };
     only = why.only;
     broken = why.broken;
+    vacant = why.vacant;
   };
   given = λ clean. let left = r.given clean in record {
     back = record { was_open = left.back.was_open; now = left.back.now; committed = left.back.committed };
@@ -100,6 +101,12 @@ never_later fault version (inl wanted) is = absurd (let no = sym wanted ∙ is i
 never_later fault version (inr (inl failed)) is = absurd (let no = sym failed ∙ is in cc)
 never_later fault version (inr (inr refused)) is = absurd (let no = sym refused ∙ is in cc)
 
+-- where no project is, one of these
+taken_fault : (fault : Fault) {broke : Type 0} → IsStoreFault fault → (fault ≡ Broken → broke) → IsTakenFault broke fault
+taken_fault fault (inl memory) breaks = inr (inl memory)
+taken_fault fault (inr (inl broken)) breaks = inr (inr (broken, breaks broken))
+taken_fault fault (inr (inr refused)) breaks = inl refused
+
 -- ---- what stands is a project
 
 -- a lone row has one version
@@ -127,6 +134,7 @@ busy_refused s busy = record {
     stored = λ version is. absurd cc;
     only = λ idle has version of. absurd (let no = sym busy ∙ idle in cc);
     broken = λ is. absurd cc;
+    vacant = λ vacant. inl refl;
   };
   given = λ clean. record {
     back = back_none s;
@@ -198,6 +206,7 @@ module _ (old asked : State) (crash : Survives old asked (λ _. ⊥)) (unlimited
             };
         only = λ idle has one of. inr (subst (λ n. TellsLater n fault) (one_version old.now has version one (of_row clean has) of) later);
         broken = λ is. absurd (let no = sym later.0 ∙ is in cc);
+        vacant = λ vacant. absurd (there clean vacant);
       };
       given = λ clean. record {
         back = back_unchanged old asked (same clean);
@@ -219,7 +228,8 @@ module _ (old asked : State) (crash : Survives old asked (λ _. ⊥)) (unlimited
     cause = λ clean. record {
       stored = λ version is. absurd (never_later fault version told is);
       only = λ idle has version of. inl (fails clean has version of);
-      broken = λ is. inl (breaks clean is);
+      broken = breaks clean;
+      vacant = λ vacant. taken_fault fault told (breaks clean);
     };
     given = λ clean. record {
       back = back clean;
@@ -292,14 +302,15 @@ module _ (old asked : State) (crash : Survives old asked (λ _. ⊥)) (unlimited
             committed = λ is_open. (undone.now is_open).1 ∙ was.0.committed_is;
           }
 
-      pub unmade_refuses : (fault : Fault) → IsStoreFault fault → (HasCleanDisk made → IsUndone asked made) → (HasCleanDisk made → fault ≡ NotAProject → IsRefused asked made) → RefusesAdoption old made fault
-      unmade_refuses fault told undone refused = record {
+      pub unmade_refuses : (fault : Fault) → IsStoreFault fault → (HasCleanDisk made → IsUndone asked made) → (HasCleanDisk made → fault ≡ NotAProject → IsRefused asked made) → (HasCleanDisk made → fault ≡ Broken → BreaksBetween asked made) → RefusesAdoption old made fault
+      unmade_refuses fault told undone refused breaks = record {
         told = adoption_fault fault told;
         clean = omega (arith, crash.clean, creates.clean);
         cause = λ clean. record {
           stored = λ version is. absurd (never_later fault version told is);
           only = λ idle has version of. absurd (has_understood _ has (vacant (before clean)));
-          broken = λ is. inr (vacant (before clean));
+          broken = broke clean;
+          vacant = λ vacant. taken_fault fault told (broke clean);
         };
         given = λ clean. record {
           back = back_undone clean (undone clean);
@@ -313,6 +324,12 @@ module _ (old asked : State) (crash : Survives old asked (λ _. ⊥)) (unlimited
           ];
         };
       }
+        where
+          broke : HasCleanDisk made → fault ≡ Broken → BreaksBetween old made
+          broke clean is = elim (breaks clean is) [
+            | inl more ↦ inl (omega (arith, crash.counts, more))
+            | inr shut ↦ absurd (let no = sym shut ∙ (same (before clean)).0.is_open in cc)
+          ]
 
 -- ---- what follows
 

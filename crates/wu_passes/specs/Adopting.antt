@@ -9,7 +9,7 @@ use Rattle.wu_core.specs.declared.fault.Fault.TheVariants.{Broken, NewSchema, No
 use Rattle.wu_core.specs.World.{World, empty_world}
 use Rattle.wu_schema.specs.Calls.{IsBack}
 use Rattle.wu_schema.specs.Faults.{IsFailure}
-use Rattle.wu_schema.specs.Fresh.{MakesProject}
+use Rattle.wu_schema.specs.Fresh.{IsTakenFault, MakesProject}
 use Rattle.wu_schema.specs.Versions.{HasProject, HasVersion, LacksProject}
 use Rattle.wu_machine.specs.Machine.{present_version}
 use Rattle.wu_store.specs.Loading.{IsStoreFault}
@@ -45,7 +45,7 @@ pub record FindsProject (old new : State) : Type 0 where
   pub kept : KeepsAll old new
   pub known : (has : HasProject old.now.schema) → IsKnown old.now has
 
--- a fresh project was made beside what was there: it stands for the empty world
+-- a fresh project was made beside what was there, where none of its names was taken: it stands for the empty world
 pub record MakesFresh (old new : State) : Type 0 where
   pub beside : MakesProject old.now new.now
   pub goes : GoesOn new empty_world
@@ -116,8 +116,10 @@ pub record TellsCause (old new : State) (fault : Fault) : Type 0 where
   pub stored : (version : ℕ) → fault ≡ NewSchema version → StoresLater old version
   -- and over a lone row of a project, whatever stands in other tables, nothing else is told but a failure
   pub only : old.in_transaction ≡ false → (has : HasProject old.now.schema) (version : ℕ) → HasVersion old.now has version → IsRefusalOf version fault
-  -- `Broken` tells that the disk failed, or that the connection was not open; or that no fresh project could be made
-  pub broken : fault ≡ Broken → BreaksBetween old new ⊎ IsVacant old
+  -- `Broken` tells that the disk failed, or that the connection was not open
+  pub broken : fault ≡ Broken → BreaksBetween old new
+  -- where no project is, as where a name is taken, it is `NotAProject`, but for want of memory or such a failure
+  pub vacant : IsVacant old → IsTakenFault (BreaksBetween old new) fault
 
 -- What a refusal leaves.
 pub record GivesBack (old new : State) (fault : Fault) : Type 0 where

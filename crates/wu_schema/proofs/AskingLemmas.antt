@@ -132,13 +132,13 @@ module _ {S T U : Type 0} (g : Ghosts S) (a b : Held S) where
 
 -- ---- one question
 
-input_other : (fault : CompileError) → fault_of (SqlInputError fault) ≢ Broken
+pub input_other : (fault : CompileError) → fault_of (SqlInputError fault) ≢ Broken
 input_other compile.OutOfMemory is = absurd cc
 input_other (compile.Parse parse.OutOfMemory) is = absurd cc
 input_other (compile.Parse _) is = absurd cc
 input_other _ is = absurd cc
 
-told_other : (e f : Error) → e ≡ f → fault_of f ≢ Broken → fault_of e ≢ Broken
+pub told_other : (e f : Error) → e ≡ f → fault_of f ≢ Broken → fault_of e ≢ Broken
 told_other e f same other is = other (ap fault_of (sym same) ∙ is)
 
 query_other : (limit : Option ℕ) (db : Database) (p : Program) (params : Row) (e : Error) → RefusesQuery limit db p params e → fault_of e ≢ Broken
@@ -161,18 +161,18 @@ module _ (old new : State) (e : Error) where
   no_statement_other sql params (inr (c, read, inr (inl given))) = told_other e _ given.1 (λ is. absurd cc)
   no_statement_other sql params (inr (c, read, inr (inr timed))) = told_other e _ timed.1 (λ is. absurd cc)
 
-  caused : (cause : StoreError) → HasCause old new ⊥ cause → fault_of (store_error cause) ≡ Broken → Broke
-  caused kind.OutOfMemory has is = absurd cc
-  caused kind.Io has is = inl has
-  caused kind.Corrupt has is = inl has
-  caused kind.Full has is = inl has
-  caused kind.Broken has is = inr has
-  caused kind.Unstorable has is = absurd has
+  pub caused : {big : Type 0} → ¬ big → (cause : StoreError) → HasCause old new big cause → fault_of (store_error cause) ≡ Broken → Broke
+  caused never kind.OutOfMemory has is = absurd cc
+  caused never kind.Io has is = inl has
+  caused never kind.Corrupt has is = inl has
+  caused never kind.Full has is = inl has
+  caused never kind.Broken has is = inr has
+  caused never kind.Unstorable has is = absurd (never has)
 
-  not_run_broke : (sql : List ℕ) (params : Row) → IsNotRun old new sql params e → fault_of e ≡ Broken → Broke
+  pub not_run_broke : (sql : List ℕ) (params : Row) → IsNotRun old new sql params e → fault_of e ≡ Broken → Broke
   unfolding IsNotRun
   not_run_broke sql params (inl refused) is = absurd (no_statement_other sql params refused.0 is)
-  not_run_broke sql params (inr failed) is = caused failed.0 failed.2 (ap fault_of (sym failed.1) ∙ is)
+  not_run_broke sql params (inr failed) is = caused (λ none. none) failed.0 failed.2 (ap fault_of (sym failed.1) ∙ is)
 
   -- a question fails so where the disk failed, or the connection was not open
   pub query_broke : (text : List ℕ) → IsSelect text → (params : Row) → FailsToQuery text params old new e → fault_of e ≡ Broken → Broke

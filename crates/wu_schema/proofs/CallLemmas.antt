@@ -5,7 +5,9 @@ use Rattle.sqlite.proofs.StateLemmas.{survives_then}
 use Rattle.sqlite.proofs.InsideLemmas.{inside_keeps, keeps_then}
 use Rattle.sqlite.proofs.Callers.{survives_begin}
 use Rattle.sqlite_trees.specs.declared.error.StoreError.TheVariants as kind
-use Rattle.wu_schema.specs.Calls.{LeavesOnly, StatementFrame}
+use Rattle.sqlite.specs.declared.error.Error.TheVariants.{SqliteFailure}
+use Rattle.sqlite.specs.declared.error.ErrorCode.TheVariants.{TransactionState}
+use Rattle.wu_schema.specs.Calls.{LeavesOnly, RefusesText, StatementFrame}
 
 pub part_then : (a b c : State) → IsPart a b → IsPart b c → IsPart a c
 part_then a b c one two = record {
@@ -28,6 +30,9 @@ part_of g old new sql params e r ended runs survives = elim (cases_Bool old.in_t
   | inr outside ↦ subst (λ h. IsPart (state g old) (state g h)) (sym (ended outside).1) (part_none (state g old))
 ]
 
+same_error : {e f : Error} → ◌≡◌ {A = Result ℕ Error} (Err e) (Err f) → e ≡ f
+same_error same = cc
+
 module _ {S : Type 0} (g : Ghosts S) (old new : Transaction S) (one : new.conn.ghost_name ≡ old.conn.ghost_name) (sql : List ℕ) (given : Row) (stop : Error) where
   abbrev pub IsEnded : Result ℕ Error → Type 0
   IsEnded r = old.conn.now.in_transaction ≡ false → (r ≡ Err stop) × (new.conn.now ≡ old.conn.now)
@@ -39,6 +44,17 @@ module _ {S : Type 0} (g : Ghosts S) (old new : Transaction S) (one : new.conn.g
   pub refuses : {T : Type 0} (e : Error) → IsEnded (Err e) → Runs (Err e) → Survives (state g old.conn.now) (state g new.conn.now) (λ _. ⊥) → (result : Result T Error) → IsErrAnd result (λ d. d ≡ e) → StatementFrame g old new result
   refuses e ended runs survives (Ok x) is = absurd is
   refuses e ended runs survives (Err d) is = record { same_reference = one; part = part_of g old.conn.now new.conn.now sql given stop (Err e) ended runs survives; inside = λ clean. tt }
+
+  -- and how the text was
+  pub refuses_text : {T : Type 0} (e : Error) → stop ≡ SqliteFailure TransactionState → IsEnded (Err e) → Runs (Err e) → (result : Result T Error) → IsErrAnd result (λ d. d ≡ e) → RefusesText g old new result sql given
+  refuses_text e stopped ended runs (Ok x) is clean = absurd is
+  refuses_text e stopped ended runs (Err d) is clean = elim (cases_Bool old.conn.now.in_transaction) [
+    | inl within ↦ elim (runs clean within) [
+      | inl ran ↦ inr (subst (λ f. Executes sql given (state g old.conn.now) (state g new.conn.now) (Err f)) (sym is) ran.0)
+      | inr ends ↦ inl (is ∙ ends.1)
+    ]
+    | inr outside ↦ inl (is ∙ same_error (ended outside).0 ∙ stopped)
+  ]
 
   module _ (count : ℕ) (ended : IsEnded (Ok count)) (runs : Runs (Ok count)) where
     -- at Ok it ran

@@ -1,5 +1,5 @@
 -- What CREATE TABLE leaves, for any text whose table is known, over any schema.
-use Rattle.wu_schema.proofs.Words.{everything, project_at, Blob, Bool, Checked, Command, CompileError, Compiled, CreateTable, Database, Does, Err, Executes, ExecutesIn, Has, HasMade, HasTable, Index, Int, IsDatabase, IsFree, List, Mode, Name, None, Null, Ok, Option, OwnsTree, Parsed, Real, Row, Schema, Some, State, Table, Tally, Text, Value, [], all_from, all_has, and_parts, and_then, ap, arith, cases_Bool, command, compiled, create_table, eq-eqb, eqb-true, false, false_from_ne_true, find, first, got_last, guards, has_either, has_left, has_right, if_select, if◌then◌else◌, inl, inr, is_attached, is_reserved, is_select, is_some, length, meaning, mode_of, nat_le, ne_eqb, next_tree, not, option_or, planned, reads_listing, refl, returning, runs_as, same_name, slice_range, statement_of, subst, sym, timed, true, understood, with_command, ℕ, ◌&&◌, ◌++◌, ◌+◌, ◌<◌, ◌==◌, ◌^◌, ◌∙◌, ◌∷◌, ◌≡◌, ◌≢◌, ◌≤◌, ◌⊎◌}
+use Rattle.wu_schema.proofs.Words.{everything, project_at, Blob, Bool, Checked, Command, CompileError, Compiled, CreateTable, Database, Does, Err, Executes, ExecutesIn, Has, HasMade, HasTable, Index, Int, IsDatabase, IsFree, List, Mode, Name, None, Null, Ok, Option, OwnsTree, Parsed, Real, Row, Schema, Some, State, Table, Tally, Text, Value, [], all_from, all_has, and_parts, and_then, ap, arith, cases_Bool, command, compiled, create_table, eq-eqb, eqb-true, false, false_from_ne_true, find, first, got_last, guards, has_either, has_left, has_right, if_select, if◌then◌else◌, inl, inr, is_attached, is_reserved, is_select, is_some, length, meaning, mode_of, nat_le, nat_lt, ne_eqb, next_tree, not, option_or, planned, reads_listing, refl, returning, runs_as, same_name, slice_range, statement_of, subst, sym, timed, true, understood, with_command, ℕ, ◌&&◌, ◌*◌, ◌++◌, ◌+◌, ◌<◌, ◌==◌, ◌^◌, ◌∙◌, ◌∷◌, ◌≡◌, ◌≢◌, ◌≤◌, ◌⊎◌}
 use Rattle.std.proofs.lemmas.Bool.{leb-true}
 use Rattle.sqlite_schema.specs.Names.{table_named, index_named, view_named}
 use Rattle.sqlite_catalog.specs.Listing.{IsTableRow, IsIndexRow, IsDefined}
@@ -35,6 +35,8 @@ pub record Defines (text name : List ℕ) (table : ℕ → Table) : Type 0 where
   pub whole : ((length (table 0).computed == length (table 0).stamps.places) && not def.resolves) ≡ true
   pub text_is : slice_range text parsed.start parsed.end ≡ text
   pub named : (tree : ℕ) → same_name (table tree).name name ≡ true
+  -- the row that lists it is not too long
+  pub short : nat_lt (2 * length (table 0).name + length text + 200) (10 ^ 9) ≡ true
 
 pub defined_by : (text name : List ℕ) (table : ℕ → Table) → Defines text name table → table_defined_by text ≡ Ok (table 0)
 unfolding table_defined_by table_in
@@ -61,7 +63,7 @@ is_new false name same other b off h = go same other (passes (is_reserved name) 
     go (Some n) None e = absurd (cc)
     go s (Some n) e = absurd (cc)
 
-neither : (o p : Option ℕ) → option_or o p ≡ None → (o ≡ None) × (p ≡ None)
+pub neither : (o p : Option ℕ) → option_or o p ≡ None → (o ≡ None) × (p ≡ None)
 neither None p h = (refl, h)
 neither (Some n) p h = absurd (cc)
 
@@ -98,7 +100,7 @@ module _ (text name : List ℕ) (table : ℕ → Table) (d : Defines text name t
       go (Ok k) is h = let it = made_if schema d.def k (table 0) d.new d.made d.whole is in (subst (IsFree schema) d.called it.0, ap (λ (j : Compiled). j.command) (sym (same_value h)) ∙ it.1)
       go (Err e) is h = absurd (cc)
 
-  understood_free : (schema : Schema) (c : Compiled) → understood schema text ≡ Ok c → IsFree schema name
+  pub understood_free : (schema : Schema) (c : Compiled) → understood schema text ≡ Ok c → IsFree schema name
   understood_free schema c h = (compiled_free schema c (understood_compiled schema text c (λ s k is. ap is_select (compiled_free s k is).1) h)).0
 
 -- ---- lists
@@ -201,10 +203,10 @@ sequence_named : ((made_of (table_defined_by sequence_text)).name ≡ codes "sql
 unfolding everything table_defined_by table_in
 sequence_named = (refl, refl)
 
-sequence_is : (t : Table) → table_defined_by sequence_text ≡ Ok t → (t.name ≡ codes "sqlite_sequence") × (t.uniques ≡ [])
+pub sequence_is : (t : Table) → table_defined_by sequence_text ≡ Ok t → (t.name ≡ codes "sqlite_sequence") × (t.uniques ≡ [])
 sequence_is t is = let same = same_value (sym is ∙ sequence_made) in (ap (λ (u : Table). u.name) same ∙ sequence_named.0, ap (λ (u : Table). u.uniques) same ∙ sequence_named.1)
 
-module _ (text name : List ℕ) (table : ℕ → Table) (d : Defines text name table) (old new : Database) (free : table_named old.schema name ≡ None) (sound : IsDatabase new) where
+module _ (text name : List ℕ) (table : ℕ → Table) (d : Defines text name table) (old new : Database) (free : IsFree old.schema name) (sound : IsDatabase new) where
   abbrev added : Table
   added = record (table 0) { tree = next_tree old.schema }
 
@@ -218,9 +220,10 @@ module _ (text name : List ℕ) (table : ℕ → Table) (d : Defines text name t
       let on : Grows old new = grows_both old mid new (created_grows old mid (table 0) is kept) more in
       let listed : Has mid.schema.tables added = subst (λ (s : Schema). Has s.tables added) (sym is) (has_right old.schema.tables (added ∷ []) added (inl refl)) in
       let still = more.keeps.tables added listed in
-      let first = made_table old.schema name table free d.named d.placed (tree_low new sound added still.0) in
+      let first = made_table old.schema name table free.table d.named d.placed (tree_low new sound added still.0) in
       let own : OwnsTree mid.schema added = subst (λ (s : Schema). OwnsTree s added) (sym is) (owns_created old.schema (table 0)) in
       record {
+        free = free;
         has = subst (HasTable new.schema name (length old.schema.tables)) is_added (more.named name (length old.schema.tables) added (subst (λ s. HasTable s name (length old.schema.tables) added) (sym is) first));
         placed = ap (λ (t : Table). t.tree) (sym is_added);
         empty = still.1 ∙ empty;
@@ -276,7 +279,7 @@ module _ (text name : List ℕ) (table : ℕ → Table) (d : Defines text name t
       ]
 
 module _ (schema : Schema) (text name : List ℕ) (table : ℕ → Table) (d : Defines text name table) where
-  create_compiles : IsFree schema name → CompilesTo schema text d.parsed Make
+  pub create_compiles : IsFree schema name → CompilesTo schema text d.parsed Make
   create_compiles free = compiles_to schema text d.parsed Make d.read
       (create_planned schema d.def (table 0) d.parsed d.is d.nameless d.plain (subst (IsFree schema) (sym d.called) free) (subst (λ n. is_reserved n ≡ false) (sym d.called) d.unreserved) d.made d.whole)
 
@@ -288,5 +291,5 @@ creates old new text name table d count h =
     let schema = old.now.schema in
     let it = create_compiles schema text name table d free in
     let ran = runs_as text [] old new schema refl Make it.is it.plain count h in
-    create_does text name table d old.now new.now free.table ran.sound old.step_limit (mode_of old) [] ran.tally
+    create_does text name table d old.now new.now free ran.sound old.step_limit (mode_of old) [] ran.tally
     (subst (λ t. Does old.step_limit (mode_of old) [] old.now t None Make (Ok (ran.tally, new.now))) (ap (statement_of text) it.known ∙ d.text_is) ran.changed)

@@ -42,43 +42,43 @@ workunit_class_text = codes "CREATE TABLE workunit_class (\n  workunit INTEGER P
 
 pub project_made : Defines project_text (codes "project") project_at
 unfolding everything
-project_made = record { parsed = or_empty (first project_text); def = def_by (or_empty (first project_text)).statement; read = refl; is = refl; nameless = refl; plain = refl; new = refl; called = refl; unreserved = refl; made = refl; placed = λ tree. refl; whole = refl; text_is = refl; named = λ tree. refl }
+project_made = record { parsed = or_empty (first project_text); def = def_by (or_empty (first project_text)).statement; read = refl; is = refl; nameless = refl; plain = refl; new = refl; called = refl; unreserved = refl; made = refl; placed = λ tree. refl; whole = refl; text_is = refl; named = λ tree. refl; short = refl }
 
 pub workunit_made : Defines workunit_text (codes "workunit") workunit_at
 unfolding everything
-workunit_made = record { parsed = or_empty (first workunit_text); def = def_by (or_empty (first workunit_text)).statement; read = refl; is = refl; nameless = refl; plain = refl; new = refl; called = refl; unreserved = refl; made = refl; placed = λ tree. refl; whole = refl; text_is = refl; named = λ tree. refl }
+workunit_made = record { parsed = or_empty (first workunit_text); def = def_by (or_empty (first workunit_text)).statement; read = refl; is = refl; nameless = refl; plain = refl; new = refl; called = refl; unreserved = refl; made = refl; placed = λ tree. refl; whole = refl; text_is = refl; named = λ tree. refl; short = refl }
 
 pub result_made : Defines result_text (codes "result") result_at
 unfolding everything
-result_made = record { parsed = or_empty (first result_text); def = def_by (or_empty (first result_text)).statement; read = refl; is = refl; nameless = refl; plain = refl; new = refl; called = refl; unreserved = refl; made = refl; placed = λ tree. refl; whole = refl; text_is = refl; named = λ tree. refl }
+result_made = record { parsed = or_empty (first result_text); def = def_by (or_empty (first result_text)).statement; read = refl; is = refl; nameless = refl; plain = refl; new = refl; called = refl; unreserved = refl; made = refl; placed = λ tree. refl; whole = refl; text_is = refl; named = λ tree. refl; short = refl }
 
 pub grant_made : Defines grant_text (codes "credit_grant") grant_at
 unfolding everything
-grant_made = record { parsed = or_empty (first grant_text); def = def_by (or_empty (first grant_text)).statement; read = refl; is = refl; nameless = refl; plain = refl; new = refl; called = refl; unreserved = refl; made = refl; placed = λ tree. refl; whole = refl; text_is = refl; named = λ tree. refl }
+grant_made = record { parsed = or_empty (first grant_text); def = def_by (or_empty (first grant_text)).statement; read = refl; is = refl; nameless = refl; plain = refl; new = refl; called = refl; unreserved = refl; made = refl; placed = λ tree. refl; whole = refl; text_is = refl; named = λ tree. refl; short = refl }
 
 pub host_made : Defines host_text (codes "host") host_at
 unfolding everything
-host_made = record { parsed = or_empty (first host_text); def = def_by (or_empty (first host_text)).statement; read = refl; is = refl; nameless = refl; plain = refl; new = refl; called = refl; unreserved = refl; made = refl; placed = λ tree. refl; whole = refl; text_is = refl; named = λ tree. refl }
+host_made = record { parsed = or_empty (first host_text); def = def_by (or_empty (first host_text)).statement; read = refl; is = refl; nameless = refl; plain = refl; new = refl; called = refl; unreserved = refl; made = refl; placed = λ tree. refl; whole = refl; text_is = refl; named = λ tree. refl; short = refl }
 
 pub archived_made : Defines archived_text (codes "archived") archived_at
 unfolding everything
-archived_made = record { parsed = or_empty (first archived_text); def = def_by (or_empty (first archived_text)).statement; read = refl; is = refl; nameless = refl; plain = refl; new = refl; called = refl; unreserved = refl; made = refl; placed = λ tree. refl; whole = refl; text_is = refl; named = λ tree. refl }
+archived_made = record { parsed = or_empty (first archived_text); def = def_by (or_empty (first archived_text)).statement; read = refl; is = refl; nameless = refl; plain = refl; new = refl; called = refl; unreserved = refl; made = refl; placed = λ tree. refl; whole = refl; text_is = refl; named = λ tree. refl; short = refl }
 
 pub import_made : Defines import_text (codes "import") import_at
 unfolding everything
-import_made = record { parsed = or_empty (first import_text); def = def_by (or_empty (first import_text)).statement; read = refl; is = refl; nameless = refl; plain = refl; new = refl; called = refl; unreserved = refl; made = refl; placed = λ tree. refl; whole = refl; text_is = refl; named = λ tree. refl }
+import_made = record { parsed = or_empty (first import_text); def = def_by (or_empty (first import_text)).statement; read = refl; is = refl; nameless = refl; plain = refl; new = refl; called = refl; unreserved = refl; made = refl; placed = λ tree. refl; whole = refl; text_is = refl; named = λ tree. refl; short = refl }
 
 pub queue_made : Defines queue_text (codes "queue") queue_at
 unfolding everything
-queue_made = record { parsed = or_empty (first queue_text); def = def_by (or_empty (first queue_text)).statement; read = refl; is = refl; nameless = refl; plain = refl; new = refl; called = refl; unreserved = refl; made = refl; placed = λ tree. refl; whole = refl; text_is = refl; named = λ tree. refl }
+queue_made = record { parsed = or_empty (first queue_text); def = def_by (or_empty (first queue_text)).statement; read = refl; is = refl; nameless = refl; plain = refl; new = refl; called = refl; unreserved = refl; made = refl; placed = λ tree. refl; whole = refl; text_is = refl; named = λ tree. refl; short = refl }
 
 pub host_class_made : Defines host_class_text (codes "host_class") host_class_at
 unfolding everything
-host_class_made = record { parsed = or_empty (first host_class_text); def = def_by (or_empty (first host_class_text)).statement; read = refl; is = refl; nameless = refl; plain = refl; new = refl; called = refl; unreserved = refl; made = refl; placed = λ tree. refl; whole = refl; text_is = refl; named = λ tree. refl }
+host_class_made = record { parsed = or_empty (first host_class_text); def = def_by (or_empty (first host_class_text)).statement; read = refl; is = refl; nameless = refl; plain = refl; new = refl; called = refl; unreserved = refl; made = refl; placed = λ tree. refl; whole = refl; text_is = refl; named = λ tree. refl; short = refl }
 
 pub workunit_class_made : Defines workunit_class_text (codes "workunit_class") workunit_class_at
 unfolding everything
-workunit_class_made = record { parsed = or_empty (first workunit_class_text); def = def_by (or_empty (first workunit_class_text)).statement; read = refl; is = refl; nameless = refl; plain = refl; new = refl; called = refl; unreserved = refl; made = refl; placed = λ tree. refl; whole = refl; text_is = refl; named = λ tree. refl }
+workunit_class_made = record { parsed = or_empty (first workunit_class_text); def = def_by (or_empty (first workunit_class_text)).statement; read = refl; is = refl; nameless = refl; plain = refl; new = refl; called = refl; unreserved = refl; made = refl; placed = λ tree. refl; whole = refl; text_is = refl; named = λ tree. refl; short = refl }
 
 -- ---- the indexes of the queue
 
@@ -103,20 +103,20 @@ purge_text = codes "CREATE INDEX queue_purge ON queue (purge_from)"
 
 pub wake_made : DefinesAs wake_text queue_table queue_wake
 unfolding everything index_defined_by index_in
-wake_made = record { defines = record { parsed = or_empty (first wake_text); def = index_by (or_empty (first wake_text)).statement; read = refl; is = refl; plain = refl; on = refl; new = refl; shared = refl; text_is = refl }; made = λ tree. refl }
+wake_made = record { defines = record { parsed = or_empty (first wake_text); def = index_by (or_empty (first wake_text)).statement; read = refl; is = refl; plain = refl; on = refl; new = refl; shared = refl; text_is = refl }; made = λ tree. refl; called = refl; short = λ tree. refl }
 
 pub validate_made : DefinesAs validate_text queue_table queue_validate
 unfolding everything index_defined_by index_in
-validate_made = record { defines = record { parsed = or_empty (first validate_text); def = index_by (or_empty (first validate_text)).statement; read = refl; is = refl; plain = refl; on = refl; new = refl; shared = refl; text_is = refl }; made = λ tree. refl }
+validate_made = record { defines = record { parsed = or_empty (first validate_text); def = index_by (or_empty (first validate_text)).statement; read = refl; is = refl; plain = refl; on = refl; new = refl; shared = refl; text_is = refl }; made = λ tree. refl; called = refl; short = λ tree. refl }
 
 pub assimilate_made : DefinesAs assimilate_text queue_table queue_assimilate
 unfolding everything index_defined_by index_in
-assimilate_made = record { defines = record { parsed = or_empty (first assimilate_text); def = index_by (or_empty (first assimilate_text)).statement; read = refl; is = refl; plain = refl; on = refl; new = refl; shared = refl; text_is = refl }; made = λ tree. refl }
+assimilate_made = record { defines = record { parsed = or_empty (first assimilate_text); def = index_by (or_empty (first assimilate_text)).statement; read = refl; is = refl; plain = refl; on = refl; new = refl; shared = refl; text_is = refl }; made = λ tree. refl; called = refl; short = λ tree. refl }
 
 pub delete_made : DefinesAs delete_text queue_table queue_delete
 unfolding everything index_defined_by index_in
-delete_made = record { defines = record { parsed = or_empty (first delete_text); def = index_by (or_empty (first delete_text)).statement; read = refl; is = refl; plain = refl; on = refl; new = refl; shared = refl; text_is = refl }; made = λ tree. refl }
+delete_made = record { defines = record { parsed = or_empty (first delete_text); def = index_by (or_empty (first delete_text)).statement; read = refl; is = refl; plain = refl; on = refl; new = refl; shared = refl; text_is = refl }; made = λ tree. refl; called = refl; short = λ tree. refl }
 
 pub purge_made : DefinesAs purge_text queue_table queue_purge
 unfolding everything index_defined_by index_in
-purge_made = record { defines = record { parsed = or_empty (first purge_text); def = index_by (or_empty (first purge_text)).statement; read = refl; is = refl; plain = refl; on = refl; new = refl; shared = refl; text_is = refl }; made = λ tree. refl }
+purge_made = record { defines = record { parsed = or_empty (first purge_text); def = index_by (or_empty (first purge_text)).statement; read = refl; is = refl; plain = refl; on = refl; new = refl; shared = refl; text_is = refl }; made = λ tree. refl; called = refl; short = λ tree. refl }

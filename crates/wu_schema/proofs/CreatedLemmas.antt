@@ -8,7 +8,7 @@ use Rattle.wu_schema.proofs.CreateEffect.{Defines, creates}
 abbrev pub project_row : ℤ → Row
 project_row version = Int (pos 1) ∷ Null ∷ Int version ∷ Int (pos 1) ∷ []
 
-project_kept : (tree : ℕ) (version : ℤ) → map (λ s. cast_row (project_at tree) s) (value_rows (Int version ∷ []) 4 1 project_put.terms) ≡ project_row version ∷ []
+pub project_kept : (tree : ℕ) (version : ℤ) → map (λ s. cast_row (project_at tree) s) (value_rows (Int version ∷ []) 4 1 project_put.terms) ≡ project_row version ∷ []
 project_kept tree version = simp (cast_null, cast_int)
 
 pub puts_project : (old new : State) (version : ℤ) (count at tree : ℕ) → HasTable old.now.schema (codes "project") at (project_at tree) → Executes project_put.text (Int version ∷ []) old new (Ok count) → PutsOne old.now new.now tree (project_row version)

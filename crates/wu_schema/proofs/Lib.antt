@@ -16,12 +16,15 @@ pub mod GroupLemmas
 pub mod AnswerLemmas
 pub mod ReadLemmas
 pub mod ToldLemmas
+pub mod TakenLemmas
 pub mod PutLemmas
 pub mod StandsLemmas
 pub mod Parts
 pub mod CreateLemmas
 pub mod CreateEffect
 pub mod CreateTexts
+pub mod FreeLemmas
+pub mod BreakLemmas
 pub mod MadeLemmas
 pub mod CallLemmas
 pub mod CommitLemmas

@@ -1,10 +1,11 @@
 -- The tables, one after another, and the row of a fresh project.
 use Rattle.wu_schema.proofs.Words.{Database, Has, HasMade, HasNamed, HasTable, HasTables, HoldsAll, Index, IsDatabase, IsPermutation-refl, List, ListsAll, ProjectTrees, PutsOne, Row, Schema, Table, [], all_has, and_parts, ap, archived_at, arith, cases_Bool, codes, eqb-true, false, first_key, host_at, import_at, inl, inr, length, next_tree, project_at, put_row, refl, stored_project, subst, sym, ℕ, ◌++◌, ◌+◌, ◌==◌, ◌∙◌, ◌∷◌, ◌≡◌, ◌⊎◌}
 use Rattle.wu_core.specs.World.{empty_world}
-use Rattle.wu_schema.specs.Made.{MakesAll, Named, MakesEmpty, IsSequence, keys_of, work_tables, record_tables, class_tables, project_tables}
+use Rattle.wu_schema.specs.Made.{AreFree, MakesAll, Named, MakesEmpty, IsSequence, keys_of, work_tables, record_tables, class_tables, names_of, project_tables}
 use Rattle.wu_schema.proofs.StandsLemmas.{but_one, is_there}
 use Rattle.wu_schema.proofs.Parts.{Part, Project, Workunits, Instances, Grants, Hosts, Archive, Imports, HostClasses, WorkClasses, none_in_order, HasParts, Holds, IsIn, is_part, keeps_but, name_of, placed, rows_stand, same_part, table_of, tree_in}
 use Rattle.wu_schema.proofs.StandsOver.{Grows, ByBytes, grows_same, grows_both, still_named, still_compares, tables_are}
+use Rattle.wu_schema.proofs.FreeLemmas.{all_before}
 use Rattle.wu_schema.proofs.CreateEffect.{index_low, own_table, tree_apart, unguarded}
 
 -- ---- a list of tables
@@ -30,7 +31,7 @@ pub all_grow : (old new : Database) (made : List Named) → MakesAll old new mad
 all_grow old new [] same = grows_same old new same
 all_grow old new (named ∷ made) h = grows_both old h.0 new (made_grows old h.0 named h.1) (all_grow h.0 new made h.2)
 
-all_then : (old mid new : Database) (one two : List Named) → MakesAll old mid one → MakesAll mid new two → MakesAll old new (one ++ two)
+pub all_then : (old mid new : Database) (one two : List Named) → MakesAll old mid one → MakesAll mid new two → MakesAll old new (one ++ two)
 all_then old mid new [] two same h = subst (λ d. MakesAll d new two) same h
 all_then old mid new (named ∷ one) two h k = (h.0, h.1, all_then h.0 mid new one two h.2 k)
 
@@ -95,6 +96,11 @@ still_made old mid end named made rest =
 
 made_in : (old end : Database) (named : Named) (more : List Named) → MakesAll old end (named ∷ more) → IsMadeIn end named.0 (named.1 (next_tree old.schema))
 made_in old end named more h = still_made old h.0 end named h.1 (all_grow h.0 end more h.2)
+
+-- the names of tables that were made one after another
+pub all_free : (old new : Database) (made : List Named) → MakesAll old new made → AreFree old.schema (names_of made)
+all_free old new [] h = tt
+all_free old new (named ∷ made) h = (h.1.free, all_before old h.0 (made_grows old h.0 named h.1).keeps (names_of made) (all_free h.0 new made h.2))
 
 abbrev pub AreMadeIn : (old end : Database) (made : List Named) → MakesAll old end made → Type 0
 AreMadeIn old end [] same = Unit
@@ -166,6 +172,7 @@ module _ (old end new : Database) (h : MakesAll old end project_tables) (put : P
       let grows = all_grow old end project_tables h in
       let adds = all_add old end project_tables h in
       record {
+        free = all_free old end project_tables h;
         stands = record { trees = trees; tables = subst (λ (s : Schema). HasTables empty_world.version s trees) (sym put.schema) (tables_are empty_world.version end.schema trees there compares); rows = rows_stand new trees empty_world held (λ off. absurd (off (omega arith))); sound = put.sound };
         keeps = record {
           tables = λ t has.

@@ -37,7 +37,7 @@ never_no_statement e (inr (c, is, inl (long, told))) = absurd (long (subst (λ (
 never_no_statement e (inr (c, is, inr (inl (many, told)))) = absurd (many (subst (λ (k : Compiled). 0 ≡ length k.names) (same_ok is) refl))
 never_no_statement e (inr (c, is, inr (inr (timed, told)))) = absurd (timed (subst (λ (k : Compiled). k.formats ≡ []) (same_ok is) refl))
 
-broken_by : (old new : State) (cause : StoreError) → commit_fault_of (store_error cause) ≡ Broken → HasCause old new ⊥ cause → MoreFaults old.faults new.faults ⊎ (old.is_open ≡ false)
+pub broken_by : (old new : State) (cause : StoreError) → commit_fault_of (store_error cause) ≡ Broken → HasCause old new ⊥ cause → MoreFaults old.faults new.faults ⊎ (old.is_open ≡ false)
 broken_by old new kind.OutOfMemory is has = absurd cc
 broken_by old new kind.Io is has = inl has
 broken_by old new kind.Corrupt is has = inl has

@@ -1,11 +1,11 @@
 -- The queue: made beside what was there, and what a change of something else leaves of it.
-use Rattle.wu_schema.proofs.Words.{AllByRecursion, all_from, all_has, Database, Enforced, Has, HasMade, HasNamed, IsCalm, IsDatabase, List, ListsAll, ProjectTrees, PutsOne, Refines, Row, Schema, Table, World, bytes_eq, codes, false, inl, inr, length, map, next_tree, refl, subst, sym, ℕ, ◌∙◌, ◌≡◌, ◌≢◌}
+use Rattle.wu_schema.proofs.Words.{AllByRecursion, [], ◌∷◌, all_from, all_has, Database, Enforced, Has, HasMade, HasNamed, IsCalm, IsDatabase, List, ListsAll, ProjectTrees, PutsOne, Refines, Row, Schema, Table, World, bytes_eq, codes, false, inl, inr, length, map, next_tree, refl, subst, sym, ℕ, ◌∙◌, ◌≡◌, ◌≢◌}
 use Rattle.wu_core.specs.declared.marks.Marks.{Marks}
 use Rattle.wu_core.specs.World.{empty_world}
 use Rattle.wu_schema.specs.Fresh.{MakesProject}
-use Rattle.wu_schema.specs.Indexes.{IsIndexed, mark_indexes, moment_indexes, queue_indexes}
-use Rattle.wu_schema.specs.Made.{MakesEmpty}
-use Rattle.wu_schema.specs.Queue.{AddsIndexes, HasQueue, MakesIndexes, MakesQueue, queue_table}
+use Rattle.wu_schema.specs.Indexes.{IsIndexed, NamedIndex, mark_indexes, moment_indexes, queue_indexes}
+use Rattle.wu_schema.specs.Made.{AreFree, MakesEmpty, names_of, project_tables}
+use Rattle.wu_schema.specs.Queue.{AddsIndexes, HasQueue, MakesIndexes, MakesQueue, queue_names, queue_table}
 use Rattle.wu_schema.specs.Stored.{stored_marks}
 use Rattle.wu_schema.specs.Tables.{queue_at}
 use Rattle.wu_schema.specs.Calm.{IsSteady}
@@ -14,7 +14,13 @@ use Rattle.wu_schema.proofs.Parts.{Part, Project, Workunits, IsIn, is_part, tabl
 use Rattle.wu_schema.proofs.BesideLemmas.{IsBeside, beside_apart, beside_calm, beside_self, beside_steady, keeps_world, leaves_rows, puts_beside}
 use Rattle.wu_schema.proofs.MadeLemmas.{made_grows, no_list, still_made}
 use Rattle.wu_schema.proofs.StandsOver.{Grows, grows_both, stands_over, still_named}
-use Rattle.wu_schema.proofs.IndexEffect.{added_then, all_added_grow, all_added_sound, all_indexed, only_indexed}
+use Rattle.wu_schema.proofs.FreeLemmas.{all_before, all_both}
+use Rattle.wu_schema.proofs.IndexEffect.{added_grows, added_then, all_added_grow, all_added_sound, all_indexed, only_indexed}
+
+-- the names of indexes that were added one after another
+added_free : (old new : Database) (table : Table) (named : List NamedIndex) → AddsIndexes old new table named → AreFree old.schema (map (λ one. one.0) named)
+added_free old new table [] same = tt
+added_free old new table (one ∷ more) h = (h.1.free, all_before old h.0 (added_grows old h.0 table one h.1).keeps (map (λ named. named.0) more) (added_free h.0 new table more h.2))
 
 pub queue_is_made : (old first next new : Database) → HasMade old first queue_table → MakesIndexes queue_table mark_indexes first next → MakesIndexes queue_table moment_indexes next new → MakesQueue old new
 queue_is_made old first next new made marks moments =
@@ -29,6 +35,7 @@ queue_is_made old first next new made marks moments =
     let only = only_indexed first new table queue_indexes all in
     let sound = all_added_sound first new table queue_indexes made.sound all in
     record {
+      free = (made.free, all_before old first (made_grows old first queue_table made).keeps (map (λ named. named.0) queue_indexes) (added_free first new table queue_indexes all));
       queue = record { tree = tree; table = is.has; indexes = all_indexed first new table queue_indexes all; rows = no_list _ is.empty };
       stands = λ world s. stands_over old new grows world s sound;
       keeps = grows.keeps;
@@ -49,6 +56,7 @@ queue_is_made old first next new made marks moments =
 -- made behind the tables of an empty world, it makes a fresh project
 pub fresh_is_made : (old mid new : Database) → MakesEmpty old mid → MakesQueue mid new → MakesProject old new
 fresh_is_made old mid new first second = record {
+  free = all_both old.schema (names_of project_tables) queue_names first.free (all_before old mid first.keeps queue_names second.free);
   stands = second.stands empty_world first.stands;
   queue = second.queue;
   keeps = record {

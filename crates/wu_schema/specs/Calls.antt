@@ -1,5 +1,5 @@
 -- What a call does to a connection, and what a crash may then leave.
-use Rattle.std.specs.Prelude.{◌≡◌, ◌⊎◌, ℕ, false, List, Vec, Ok, Result, OnOk, OnErr, IfOk, IfErr, IsTrue}
+use Rattle.std.specs.Prelude.{◌≡◌, ◌⊎◌, ℕ, false, List, Vec, Ok, Err, Result, OnOk, OnErr, IfOk, IfErr, IsTrue}
 use Rattle.sqlite_disk.specs.Disk.{MoreFaults}
 use Rattle.sqlite.specs.Order.{Row}
 use Rattle.sqlite.specs.Tree.{Trees}
@@ -8,11 +8,15 @@ use Rattle.sqlite.specs.Held.{Held, state}
 use Rattle.sqlite.specs.Store.{Ghosts}
 use Rattle.sqlite.specs.Effect.{Database}
 use Rattle.sqlite.specs.declared.error.Error.{Error}
+use Rattle.sqlite.specs.declared.error.Error.TheVariants.{SqliteFailure}
+use Rattle.sqlite.specs.declared.error.ErrorCode.TheVariants.{TransactionState}
 use Rattle.sqlite.specs.declared.transaction.Transaction.{Transaction}
 use Rattle.wu_core.specs.declared.fault.Fault.{Fault}
 use Rattle.wu_core.specs.declared.fault.Fault.TheVariants.{Broken, NotAProject}
 use Rattle.wu_core.specs.World.{World}
-use Rattle.wu_schema.specs.Faults.{fault_of}
+use Rattle.wu_schema.specs.declared.transaction.Stopped.{Stopped}
+use Rattle.wu_schema.specs.declared.transaction.Stopped.TheVariants.{Commit, Statement}
+use Rattle.wu_schema.specs.Faults.{commit_fault_of, fault_of}
 use Rattle.wu_schema.specs.Refines.{Refines}
 
 -- a crash leaves these tables and no others
@@ -76,6 +80,10 @@ BreaksTruly g old new fault = HasCleanDisk (state g new) → fault ≡ Broken �
 abbrev pub BreaksAfter : {S T : Type 0} → Ghosts S → Held S → Held S → Result T Error → Type 0
 BreaksAfter g old new result = HasCleanDisk (state g new) → IfErr result (λ e. fault_of e ≡ Broken → HasBroken g old new)
 
+-- so does such an error of what is done over such a database
+abbrev pub BreaksOver : {S T : Type 0} → Ghosts S → Held S → Held S → Result T Error → (Database → Type 0) → Type 0
+BreaksOver g old new result Over = Over (state g old).now → BreaksAfter g old new result
+
 -- the same of an error that would be told so
 abbrev pub ServesAfter : {S T : Type 0} → Ghosts S → Held S → Held S → Result T Error → Type 0
 ServesAfter g old new result = HasCleanDisk (state g new) → IfErr result (λ e. fault_of e ≡ NotAProject → IsUnchanged (state g old) (state g new))
@@ -114,6 +122,10 @@ HasRun sql params old new = (count : ℕ) × Executes sql params old new (Ok cou
 abbrev pub RunsText : {S T E : Type 0} → Ghosts S → Transaction S → Transaction S → Result T E → List ℕ → Row → Type 0
 RunsText g old new result sql params = HasCleanDisk (state g new.conn.now) → OnOk result (HasRun sql params (state g old.conn.now) (state g new.conn.now))
 
+-- with an error, the text was refused so, or the transaction had ended before it
+abbrev pub RefusesText : {S T : Type 0} → Ghosts S → Transaction S → Transaction S → Result T Error → List ℕ → Row → Type 0
+RefusesText g old new result sql params = HasCleanDisk (state g new.conn.now) → IfErr result (λ e. (e ≡ SqliteFailure TransactionState) ⊎ Executes sql params (state g old.conn.now) (state g new.conn.now) (Err e))
+
 -- What any number of statements inside a transaction do to it: with Ok it is still there, where it was there.
 pub record TransactionFrame {S T E : Type 0} (g : Ghosts S) (old new : Transaction S) (result : Result T E) : Type 0 where
   pub same_reference : new.conn.ghost_name ≡ old.conn.ghost_name
@@ -139,6 +151,19 @@ pub record IsDone (Makes : Database → Database → Type 0) (old new : State) :
 -- these trees are those of what is made of a database
 abbrev pub IsMade : (Database → Database → Type 0) → Database → Trees → Type 0
 IsMade Makes old trees = (after : Database) × (after.trees ≡ trees) × Makes old after
+
+-- the fault that a transaction which was stopped is told as
+abbrev pub stop_fault : Stopped → Fault
+stop_fault (Statement error) = fault_of error
+stop_fault (Commit error) = commit_fault_of error
+
+-- over such a database it is `Broken` only where the disk failed in this call, or the connection was not open
+abbrev pub BreaksStopped : {S T : Type 0} → Ghosts S → Held S → Held S → Result T Stopped → (Database → Type 0) → Type 0
+BreaksStopped g old new result Over = Over (state g old).now → HasCleanDisk (state g new) → IfErr result (λ stop. stop_fault stop ≡ Broken → HasBroken g old new)
+
+-- so is the fault that is answered
+abbrev pub BreaksFor : {S T : Type 0} → Ghosts S → Held S → Held S → Result T Fault → (Database → Type 0) → Type 0
+BreaksFor g old new result Over = Over (state g old).now → IfErr result (BreaksTruly g old new)
 
 -- What a transaction that makes this does to a connection: with Ok it is made and committed,
 abbrev pub Commits : {S T E : Type 0} → Ghosts S → Held S → Held S → Result T E → (Database → Database → Type 0) → Type 0

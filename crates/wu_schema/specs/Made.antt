@@ -1,5 +1,5 @@
 -- What the statements that make a project do to a database.
-use Rattle.std.specs.Prelude.{◌≡◌, ◌≢◌, ◌⊎◌, ℕ, ℤ, pos, ◌+◌, List, [], ◌∷◌, ◌++◌, length, codes, false}
+use Rattle.std.specs.Prelude.{◌≡◌, ◌≢◌, ◌⊎◌, ℕ, ℤ, pos, ◌+◌, List, [], ◌∷◌, ◌++◌, length, map, codes, false}
 use Rattle.std.specs.List.{AllByRecursion}
 use Rattle.sqlite.specs.Order.{Row}
 use Rattle.sqlite.specs.declared.types.Value.TheVariants.{Null, Int}
@@ -8,11 +8,12 @@ use Rattle.sqlite.specs.Tree.{put_row}
 use Rattle.sqlite.specs.Edit.{is_taken}
 use Rattle.sqlite.specs.Effect.{Database, IsDatabase}
 use Rattle.sqlite_schema.specs.declared.schema.Index.{Index}
+use Rattle.sqlite_schema.specs.declared.schema.Schema.{Schema}
 use Rattle.sqlite_catalog.specs.Change.{next_tree, automatics, KeepsRows}
 use Rattle.sqlite_rules.specs.Lists.{Has}
 use Rattle.wu_core.specs.World.{empty_world}
 use Rattle.wu_schema.specs.Tables.{HasTable, OwnsTree, project_at, workunit_at, result_at, grant_at, host_at, archived_at, import_at, host_class_at, workunit_class_at}
-use Rattle.wu_schema.specs.Refines.{Refines}
+use Rattle.wu_schema.specs.Refines.{IsFree, Refines}
 
 -- one row is put in, and every other table stays
 pub record PutsOne (old new : Database) (tree : ℕ) (row : Row) : Type 0 where
@@ -34,8 +35,17 @@ keys_of table tree = automatics table 0 tree table.uniques
 abbrev pub IsSequence : Table → Type 0
 IsSequence table = table.name ≡ codes "sqlite_sequence"
 
--- the table is there and is empty, and what was there stays
+-- their names
+abbrev pub names_of : List Named → List (List ℕ)
+names_of made = map (λ named. named.0) made
+
+-- nothing has one of these names
+abbrev pub AreFree : Schema → List (List ℕ) → Type 0
+AreFree schema names = AllByRecursion (IsFree schema) names
+
+-- the table is there and is empty, nothing had its name, and what was there stays
 pub record HasMade (old new : Database) (named : Named) : Type 0 where
+  pub free : IsFree old.schema named.0
   pub has : HasTable new.schema named.0 (length old.schema.tables) (named.1 (next_tree old.schema))
   pub placed : (named.1 (next_tree old.schema)).tree ≡ next_tree old.schema
   pub empty : new.trees (next_tree old.schema) ≡ []
@@ -65,6 +75,14 @@ MakesAll old new (named ∷ more) = (mid : Database) × HasMade old mid named ×
 -- these tables are made, in this order
 abbrev pub MakesTables : List Named → Database → Database → Type 0
 MakesTables made old new = MakesAll old new made
+
+-- no index stands on the tree
+abbrev pub IsUnindexed : Schema → ℕ → Type 0
+IsUnindexed schema tree = (i : Index) → Has schema.indexes i → i.table ≢ tree
+
+-- the table `project` is there, and no index stands on it
+abbrev pub HasBareProject : Database → Type 0
+HasBareProject db = (at tree : ℕ) × HasTable db.schema (codes "project") at (project_at tree) × IsUnindexed db.schema tree
 
 -- the row of a fresh project of this version is put in
 abbrev pub PutsProject : ℤ → Database → Database → Type 0
@@ -105,8 +123,9 @@ pub record AddsOurs (old new : Database) : Type 0 where
   pub tables : (t : Table) → Has new.schema.tables t → Has old.schema.tables t ⊎ (IsOurTable t ⊎ IsSequence t)
   pub indexes : (i : Index) → Has new.schema.indexes i → Has old.schema.indexes i ⊎ IsOurKey i
 
--- they stand for the empty world beside what was there
+-- they stand for the empty world beside what was there, where nothing had their names
 pub record MakesEmpty (old new : Database) : Type 0 where
+  pub free : AreFree old.schema (names_of project_tables)
   pub stands : Refines new empty_world
   pub keeps : KeepsOthers old new
   pub adds : AddsOurs old new

@@ -9,8 +9,8 @@ use Rattle.sqlite_schema.specs.declared.schema.Index.{Index}
 use Rattle.wu_core.specs.World.{World}
 use Rattle.wu_core.specs.declared.marks.Marks.{Marks}
 use Rattle.wu_schema.specs.Indexes.{NamedIndex, index_at, IsIndexed, queue_indexes}
-use Rattle.wu_schema.specs.Made.{Named, IsSequence, KeepsOthers}
-use Rattle.wu_schema.specs.Refines.{ListsAll, Refines}
+use Rattle.wu_schema.specs.Made.{AreFree, Named, IsSequence, KeepsOthers}
+use Rattle.wu_schema.specs.Refines.{IsFree, ListsAll, Refines}
 use Rattle.wu_schema.specs.Stored.{stored_marks}
 use Rattle.wu_schema.specs.Tables.{HasNamed, HasTable, queue_at}
 
@@ -26,8 +26,9 @@ pub record HasQueue (db : Database) (marked : List (ℕ × Marks)) : Type 0 wher
   pub indexes : AllByRecursion (IsIndexed db.schema tree) queue_indexes
   pub rows : ListsAll (db.trees tree) (map stored_marks marked)
 
--- one index more is there, on this table, and all else is as it was
+-- one index more is there, on this table, nothing had its name, and all else is as it was
 pub record AddsIndex (old new : Database) (table : Table) (named : NamedIndex) : Type 0 where
+  pub free : IsFree old.schema named.0
   pub schema : new.schema ≡ with_index old.schema (index_at named table.tree (next_tree old.schema))
   pub rows : KeepsRows old.schema.tables old.trees new.trees
   pub sound : IsDatabase new
@@ -45,6 +46,10 @@ MakesIndex table named old new = (at tree : ℕ) → HasTable old.schema table.0
 abbrev pub MakesIndexes : Named → List NamedIndex → Database → Database → Type 0
 MakesIndexes table named old new = (at tree : ℕ) → HasTable old.schema table.0 at (table.1 tree) → AddsIndexes old new (table.1 tree) named
 
+-- its name finds the table, which has no row
+abbrev pub HasEmpty : Named → Database → Type 0
+HasEmpty table db = (at tree : ℕ) × HasTable db.schema table.0 at (table.1 tree) × (db.trees (table.1 tree).tree ≡ [])
+
 -- one of the queue's indexes, wherever they are
 abbrev pub IsQueueIndex : Index → Type 0
 IsQueueIndex i = (named : NamedIndex) × (table tree : ℕ) × Has queue_indexes named × (i ≡ index_at named table tree)
@@ -59,8 +64,13 @@ pub record AddsQueue (old new : Database) : Type 0 where
       → Has old.schema.tables t ⊎ (IsQueueTable t ⊎ IsSequence t)
   pub indexes : (i : Index) → Has new.schema.indexes i → Has old.schema.indexes i ⊎ IsQueueIndex i
 
--- the queue is made, with no row, beside the world that the tables stand for
+-- the names of the queue and of its indexes
+abbrev pub queue_names : List (List ℕ)
+queue_names = queue_table.0 ∷ map (λ named. named.0) queue_indexes
+
+-- the queue is made, with no row, beside the world that the tables stand for, where nothing had its names
 pub record MakesQueue (old new : Database) : Type 0 where
+  pub free : AreFree old.schema queue_names
   pub queue : HasQueue new []
   pub stands : (world : World) → Refines old world → Refines new world
   pub keeps : KeepsOthers old new

@@ -1,6 +1,6 @@
 //! The tables of classes of schema version 3.
 
-ghost use Rattle.wu_schema.specs.Calls.{Does, StatementFrame};
+ghost use Rattle.wu_schema.specs.Calls.{BreaksAfter, Does, StatementFrame};
 ghost use Rattle.wu_schema.specs.Classes.{MakesClasses};
 ghost use Rattle.wu_schema.specs.Made.{MakesTables, class_tables};
 
@@ -19,6 +19,7 @@ const CREATE_WORKUNIT_CLASS: &str = "CREATE TABLE workunit_class (
 pub fn create_classes<S: Alter>(tx: &mut Transaction<'_, S>) -> Result<(), Error>
     ensures writes { StatementFrame S.Store tx.old tx.new result }
     ensures makes { Does S.Store tx.old tx.new result (MakesTables class_tables) }
+    ensures breaks { BreaksAfter S.Store tx.old.conn.now tx.new.conn.now result }
 {
     execute(tx, CREATE_HOST_CLASS, &[])?;
     execute(tx, CREATE_WORKUNIT_CLASS, &[])

@@ -1,8 +1,8 @@
 //! The queue of schema version 2: its table and its indexes.
 
-ghost use Rattle.wu_schema.specs.Calls.{Does, StatementFrame};
+ghost use Rattle.wu_schema.specs.Calls.{BreaksAfter, BreaksOver, Does, StatementFrame};
 ghost use Rattle.wu_schema.specs.Indexes.{mark_indexes, moment_indexes};
-ghost use Rattle.wu_schema.specs.Queue.{MakesIndexes, MakesQueue, queue_table};
+ghost use Rattle.wu_schema.specs.Queue.{HasEmpty, MakesIndexes, MakesQueue, queue_table};
 
 use crate::texts::{
     CREATE_QUEUE, CREATE_QUEUE_ASSIMILATE, CREATE_QUEUE_DELETE, CREATE_QUEUE_PURGE,
@@ -15,6 +15,8 @@ use sqlite::{Alter, Error, Transaction};
 fn create_mark_indexes<S: Alter>(tx: &mut Transaction<'_, S>) -> Result<(), Error>
     ensures writes { StatementFrame S.Store tx.old tx.new result }
     ensures makes { Does S.Store tx.old tx.new result (MakesIndexes queue_table mark_indexes) }
+    ensures breaks { BreaksOver S.Store tx.old.conn.now tx.new.conn.now result
+        (HasEmpty queue_table) }
 {
     execute(tx, CREATE_QUEUE_VALIDATE, &[])?;
     execute(tx, CREATE_QUEUE_ASSIMILATE, &[])?;
@@ -25,6 +27,8 @@ fn create_mark_indexes<S: Alter>(tx: &mut Transaction<'_, S>) -> Result<(), Erro
 fn create_moment_indexes<S: Alter>(tx: &mut Transaction<'_, S>) -> Result<(), Error>
     ensures writes { StatementFrame S.Store tx.old tx.new result }
     ensures makes { Does S.Store tx.old tx.new result (MakesIndexes queue_table moment_indexes) }
+    ensures breaks { BreaksOver S.Store tx.old.conn.now tx.new.conn.now result
+        (HasEmpty queue_table) }
 {
     execute(tx, CREATE_QUEUE_WAKE, &[])?;
     execute(tx, CREATE_QUEUE_PURGE, &[])
@@ -36,6 +40,7 @@ fn create_moment_indexes<S: Alter>(tx: &mut Transaction<'_, S>) -> Result<(), Er
 pub fn make_queue<S: Alter>(tx: &mut Transaction<'_, S>) -> Result<(), Error>
     ensures writes { StatementFrame S.Store tx.old tx.new result }
     ensures makes { Does S.Store tx.old tx.new result MakesQueue }
+    ensures breaks { BreaksAfter S.Store tx.old.conn.now tx.new.conn.now result }
 {
     execute(tx, CREATE_QUEUE, &[])?;
     create_mark_indexes(tx)?;

@@ -3,7 +3,7 @@
 ghost use Rattle.std.specs.Prelude.{◌≡◌, false, IfErr};
 ghost use Rattle.sqlite.specs.Values.{bound};
 ghost use Rattle.sqlite.specs.Effect.{Database};
-ghost use Rattle.wu_schema.specs.Calls.{StatementFrame, TransactionFrame, Does, RunsText, Commits, CrashAllows, Refuses, Undoes};
+ghost use Rattle.wu_schema.specs.Calls.{BreaksFor, BreaksOver, BreaksStopped, StatementFrame, TransactionFrame, Does, RefusesText, RunsText, Commits, CrashAllows, Refuses, Undoes};
 ghost use Rattle.wu_schema.specs.Faults.{IsStoreFault};
 
 use crate::fault::{commit_fault_of, fault_after};
@@ -19,6 +19,7 @@ pub fn execute<S: Alter>(
 ) -> Result<(), Error>
     ensures writes { StatementFrame S.Store tx.old tx.new result }
     ensures ran { RunsText S.Store tx.old tx.new result sql.now (bound params.now) }
+    ensures refused { RefusesText S.Store tx.old tx.new result sql.now (bound params.now) }
 {
     tx.execute(sql, params)?;
     Ok(())
@@ -29,10 +30,15 @@ pub trait Work {
     /// What it makes of a database.
     ghost makes: { Self → Database → Database → Type 0 };
 
+    /// Over which databases an error that is told as `Broken` tells of a disk that failed. Over none, if it says none.
+    ghost breaks_over: { Self → Database → Type 0 } = { λ _ _. ⊥ };
+
     /// Makes the changes; it begins and ends no transaction.
     fn run<S: Alter>(&self, tx: &mut Transaction<'_, S>) -> Result<(), Error>
         ensures works { TransactionFrame S.Store tx.old tx.new result }
-        ensures makes { Does S.Store tx.old tx.new result (makes self.now) };
+        ensures makes { Does S.Store tx.old tx.new result (makes self.now) }
+        ensures breaks { BreaksOver S.Store tx.old.conn.now tx.new.conn.now result
+            (breaks_over self.now) };
 }
 
 /// What stopped a transaction: a statement, which rolled it back, or its commit.
@@ -48,6 +54,7 @@ fn run_and_commit<S: Alter, W: Work>(conn: &mut Connection<S>, work: &W) -> Resu
     ensures done { Commits S.Store conn.old conn.new result (W.makes work.now) }
     ensures undone { Undoes S.Store conn.old conn.new result }
     ensures crash { CrashAllows S.Store conn.old conn.new (W.makes work.now) }
+    ensures breaks { BreaksStopped S.Store conn.old conn.new result (W.breaks_over work.now) }
 {
     let mut tx = conn.transaction();
     if let Err(error) = work.run(&mut tx) {
@@ -72,6 +79,7 @@ pub fn transact<S: Alter, W: Work>(conn: &mut Connection<S>, work: &W) -> Result
     ensures undone { Undoes S.Store conn.old conn.new result }
     ensures told { IfErr result IsStoreFault }
     ensures crash { CrashAllows S.Store conn.old conn.new (W.makes work.now) }
+    ensures breaks { BreaksFor S.Store conn.old conn.new result (W.breaks_over work.now) }
 {
     match run_and_commit(conn, work) {
         Ok(()) => Ok(()),

@@ -1,4 +1,5 @@
 use Rattle.wu_schema.proofs.Words.{arith, state}
+use Rattle.wu_schema.proofs.BreakLemmas.{breaks_on, breaks_then}
 use Rattle.wu_schema.proofs.CallLemmas.{never_ok, ok_on}
 use Rattle.wu_schema.proofs.QueueLemmas.{fresh_is_made}
 use Rattle.wu_schema.proofs.StepLemmas.{frame_refused, frame_then}
@@ -17,7 +18,7 @@ returns-in_err-create_empty g c =
     let at_one = c.create_empty.new.tx in
     let r = c.from_residual.result in
     let is = c.from_residual.ensures.1 in
-    record { writes = frame_refused s start at_one c.in_err-create_empty.field-0.0 c.in_err-create_empty.ensures.writes r _ is; makes = λ clean. never_ok r _ _ is }
+    record { writes = frame_refused s start at_one c.in_err-create_empty.field-0.0 c.in_err-create_empty.ensures.writes r _ is; makes = λ clean. never_ok r _ _ is; breaks = λ over. breaks_on s start at_one c.in_err-create_empty.field-0.0 (c.in_err-create_empty.ensures.breaks over) r is }
 
 pub returns-clause-writes : goal.returns-clause-writes
 returns-clause-writes g c =
@@ -29,3 +30,8 @@ returns-clause-writes g c =
     let one = c.in_ok-create_empty.ensures in
     let last = c.make_queue.ensures in
     frame_then s start at_one at_two c.in_ok-create_empty.field-0 one.writes r last.writes
+
+pub returns-clause-breaks : goal.returns-clause-breaks
+returns-clause-breaks g c sound =
+    let last = c.make_queue.ensures in
+    breaks_then g.S.Store c.args.tx.now c.create_empty.new.tx c.make_queue.new.tx c.in_ok-create_empty.field-0 c.in_ok-create_empty.ensures.writes c.make_queue.result last.writes last.breaks

@@ -1,6 +1,8 @@
-use Rattle.wu_schema.proofs.Words.{Int, [], ap, bound_value, state, to_z-of_z, w64, ◌∙◌, ◌∷◌, ◌≡◌}
+use Rattle.wu_schema.proofs.Words.{Int, [], subst, ap, bound_value, state, to_z-of_z, w64, ◌∙◌, ◌∷◌, ◌≡◌}
 use Rattle.wu_schema.proofs.InsertTexts.{project_put}
 use Rattle.wu_schema.proofs.InsertEffect.{also, no_more}
+use Rattle.wu_schema.specs.Calls.{RefusesText}
+use Rattle.wu_schema.proofs.BreakLemmas.{project_breaks}
 use Rattle.wu_schema.proofs.CallLemmas.{ran_as}
 use Rattle.wu_schema.proofs.CreatedLemmas.{puts_project}
 use Rattle.wu_schema.proofs.creation.insert_project.Goals as goal
@@ -9,3 +11,8 @@ pub returns-clause-puts : goal.returns-clause-puts
 returns-clause-puts g c clean =
     let given : _ ≡ Int c.args.version ∷ [] = also (ap bound_value c.params-to_sql.ensures ∙ ap (λ z. Int z) (to_z-of_z w64 c.args.version c.ranges.version)) no_more in
     ran_as (state g.S.Store c.args.tx.now.conn.now) (state g.S.Store c.execute.new.tx.conn.now) project_put.text _ _ given c.execute.result (c.execute.ensures.ran clean) (λ count ran at tree has. puts_project (state g.S.Store c.args.tx.now.conn.now) (state g.S.Store c.execute.new.tx.conn.now) c.args.version count at tree has ran)
+
+pub returns-clause-breaks : goal.returns-clause-breaks
+returns-clause-breaks g c over =
+    let given : _ ≡ Int c.args.version ∷ [] = also (ap bound_value c.params-to_sql.ensures ∙ ap (λ z. Int z) (to_z-of_z w64 c.args.version c.ranges.version)) no_more in
+    project_breaks g.S.Store c.args.tx.now c.execute.new.tx c.args.version over c.execute.result (subst (λ row. RefusesText g.S.Store c.args.tx.now c.execute.new.tx c.execute.result project_put.text row) given c.execute.ensures.refused)

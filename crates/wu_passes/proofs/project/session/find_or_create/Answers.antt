@@ -57,7 +57,7 @@ returns-in_err-create-clause-refused g c =
     (unmade_refuses (state g.S.Store c.set_step_limit.new.self) asked c.version_of.ensures.asks.crash unlimited (state g.S.Store c.create.new.conn) c.create.ensures.crash same (λ clean. (c.in_ok-version.ensures.answers clean).none c.in_default.is)
     (bare_settled g.S.Store c.args.conn.now c.set_step_limit.new.self c.set_step_limit.ensures asked (c.if-not-is_autocommit.ensures.settled refl))
     (leaves_only g.S.Store g.met.S.Store.settled g.met.S.Store.stays c.version_of.new.conn)
-    c.in_err-create.field-0.0 c.in_err-create.ensures.told c.in_err-create.ensures.undone c.in_err-create.ensures.refused))
+    c.in_err-create.field-0.0 c.in_err-create.ensures.told c.in_err-create.ensures.undone c.in_err-create.ensures.refused c.in_err-create.ensures.breaks))
 
 pub returns-in_err-version-clause-refused : goal.returns-in_err-version-clause-refused
 returns-in_err-version-clause-refused g c =
