@@ -1,5 +1,5 @@
 -- A later version is told before all else.
-use Rattle.wu_schema.proofs.Words.{Database, Ghosts, HasProject, HasVersion, Fault, Held, IfOk, IsFailure, List, NotAProject, Ok, Option, Refines, Result, Row, Some, Table, World, ap, arith, codes, column_named, inl, inr, map, slice_get, state, subst, sym, ℕ, ◌<◌, ◌∙◌, ◌≡◌}
+use Rattle.wu_schema.proofs.Words.{Database, Ghosts, HasProject, HasVersion, Fault, Held, IfOk, IsFailure, List, NotAProject, Ok, Option, Refines, Result, Row, Some, Table, World, ap, arith, codes, column_named, inl, inr, map, refl, slice_get, state, subst, sym, ℕ, ◌<◌, ◌∙◌, ◌≡◌}
 use Rattle.std.specs.Prelude.{IfSome}
 use Rattle.wu_machine.specs.Machine.{present_version}
 use Rattle.wu_schema.proofs.AskingLemmas.{asks_now}
@@ -8,7 +8,8 @@ use Rattle.wu_schema.specs.Asking.{Asks}
 use Rattle.wu_schema.specs.Calls.{OnAnswer}
 use Rattle.wu_schema.specs.Versions.{project_cells, rows_of_project, AnswersVersion, AreOfVersion, HasColumn, RefusesVersion}
 use Rattle.wu_check.specs.Checking.{IsKnown}
-use Rattle.wu_check.specs.Findings.{TellsLater, TellsUnknown}
+use Rattle.wu_check.specs.Findings.{HasOtherVersion, TellsLater, TellsUnknown}
+use Rattle.wu_check.specs.Versions.{IsVersionOf}
 use Rattle.wu_check.specs.declared.finding.Finding.{Finding}
 use Rattle.wu_check.specs.declared.finding.Finding.TheVariants as finding
 
@@ -75,3 +76,24 @@ judged_later limit db world stands found tells what is unlimited has version tol
     let same = version_is db world stands has version told in
     let it = tells (subst (λ v. ¬ IsKnown v) same (unknown version later)) in
     same_some (sym is ∙ it) ∙ ap finding.Version (sym same)
+
+-- ---- another version than this program knows
+
+-- the row of a project that a world stands in has its version
+world_row : (db : Database) (world : World) → Refines db world → (has : HasProject db.schema) → AreOfVersion (rows_of_project db has) world.version
+world_row db world stands has = subst (λ rows. AreOfVersion rows world.version) (same_rows db (project_of db world stands) has) (project_row db world stands)
+
+pub tells_version : (db : Database) (world : World) → Refines db world → ¬ IsKnown world.version → HasOtherVersion db world.version
+tells_version db world stands other = record { row = world_row db world stands; there = inl (project_of db world stands); other = other }
+
+pub tells_row : (db : Database) (version : ℕ) → AnswersVersion db (Some version) → ¬ IsKnown version → HasOtherVersion db version
+tells_row db version answers other = record {
+  row = λ has. let it = answers.of_row has in subst (λ n. AreOfVersion (rows_of_project db has) n) (sym (same_some it.1)) it.2.1;
+  there = inr (answers.told version refl);
+  other = other;
+}
+
+-- so each world has it
+pub other_stands : (db : Database) (version : ℕ) → HasOtherVersion db version → IsVersionOf db version
+other_stands db version told world stands =
+    let has = project_of db world stands in one_version (rows_of_project db has) world.version version (project_row db world stands) (told.row has)

@@ -17,6 +17,7 @@ use Rattle.wu_store.proofs.SameWorld.{one_world}
 use Rattle.wu_tables.specs.Found.{HasQueueIn}
 use Rattle.sqlite_trees.specs.View.{IsShaped}
 use Rattle.sqlite_trees.specs.declared.store.Shape.TheVariants as shape
+use Rattle.wu_check.proofs.LaterLemmas.{other_stands}
 use Rattle.wu_check.proofs.VersionLemmas.{fewer_tables, one_table}
 use Rattle.wu_check.specs.Queues.{HasMarks}
 use Rattle.wu_check.specs.Checking.{IsCounted, IsKnown, IsSoundProject}
@@ -71,7 +72,7 @@ module _ (any_order : SoundInAnyOrder) (db : Database) (p : IsSoundProject db) w
   refuted : (found : Finding) → Tells db found → ⊥
   refuted (finding.Tables misfit) told = told.none p.stands.refines.trees (fewer_tables p.world.version told.version (told.needed p.world p.stands.refines) db p.stands.refines.trees p.stands.refines.tables)
   refuted (finding.Row wrong) told = told.none p.world (readable p.world p.sound p.known.first) p.stands.refines
-  refuted (finding.Version version) told = told.other (subst IsKnown (told.stands p.world p.stands.refines) p.known)
+  refuted (finding.Version version) told = told.other (subst IsKnown (other_stands db version told p.world p.stands.refines) p.known)
   refuted (finding.World wrong key) told = stands_against told.world wrong told.against (sound_of told.world told.refines)
   refuted finding.Queue told =
       let q = queue_of told.world told.refines told.queued in

@@ -1,12 +1,12 @@
 -- The version of each world that the tables stand for, in the row of their project.
-use Rattle.wu_schema.proofs.Words.{Database, Ghosts, HasNamed, Held, List, Ok, ProjectTrees, Row, Some, Table, Vec, ap, map, slice_get, state, sym, ℕ, ◌∙◌, ◌≡◌, number, subst}
+use Rattle.wu_schema.proofs.Words.{[], ◌∷◌, column, inl, inr, refl, Database, Ghosts, HasNamed, Held, List, Ok, ProjectTrees, Row, Some, Table, Vec, ap, map, slice_get, state, sym, ℕ, ◌∙◌, ◌≡◌, number, subst}
 use Rattle.wu_schema.specs.Tables.{HasTables, IsClassedVersion}
-use Rattle.wu_schema.specs.Versions.{AreOfVersion}
+use Rattle.wu_schema.specs.Versions.{AreOfVersion, project_row}
 use Rattle.wu_loader.specs.Asked.{Looks}
 use Rattle.wu_loader.specs.Shown.{keyed}
 use Rattle.wu_loader.proofs.LookLemmas.{never_broken}
 use Rattle.wu_schema.proofs.AskingLemmas.{asks_made}
-use Rattle.wu_check.specs.Versions.{IsReadVersion, IsVersionOf}
+use Rattle.wu_check.specs.Versions.{IsReadVersion, IsVersionOf, TellVersion}
 
 -- a name finds one table, and so one list of rows
 pub one_table : (db : Database) (name : List ℕ) (s t : Table) → HasNamed db.schema name s → HasNamed db.schema name t → db.trees s.tree ≡ db.trees t.tree
@@ -32,25 +32,37 @@ fewer_tables more fewer within db trees has = record {
   by_bytes = has.by_bytes;
 }
 
+one_row : {r s : Row} → ◌≡◌ {A = List Row} (r ∷ []) (s ∷ []) → r ≡ s
+one_row e = cc
+
+same_number : {a b : ℕ} → number a ≡ number b → a ≡ b
+same_number e = cc
+
+-- what the rows of a project tell is its version
+told_is : (rows : List Row) (version : ℕ) → TellVersion rows version → (told : ℕ) → AreOfVersion rows told → version ≡ told
+told_is rows version (inl (value, (row, one, is), inl same)) told of = let e = sym one ∙ of.1 in let f = sym is ∙ ap (λ (r : Row). column r 1) (one_row e) in same_number (sym same ∙ f)
+told_is rows version (inl (value, (row, one, is), inr none)) told of = let e = sym one ∙ of.1 in absurd (none.1 told (sym is ∙ ap (λ (r : Row). column r 1) (one_row e)))
+told_is rows version (inr none) told of = absurd (none.1 (number told) (project_row of.0 told, of.1, refl))
+
 -- what is read in the row of the project is the version of each world
-version_of_row : (rows : List Row) (version : ℕ) → ((told : ℕ) → AreOfVersion rows told → version ≡ told) → (db : Database) (trees : ProjectTrees) → HasTables 1 db.schema trees → rows ≡ map (keyed 3) (db.trees trees.project) → IsVersionOf db version
-version_of_row rows version reads db trees tables shown world stands =
+version_of_row : (rows : List Row) (version : ℕ) → TellVersion rows version → (db : Database) (trees : ProjectTrees) → HasTables 1 db.schema trees → rows ≡ map (keyed 3) (db.trees trees.project) → IsVersionOf db version
+version_of_row rows version tells db trees tables shown world stands =
     let stored = one_table db _ _ _ tables.project stands.tables.project ∙ stands.rows.project in
-    sym (reads world.version (number world.next_number, shown ∙ ap (map (keyed 3)) stored))
+    sym (told_is rows version tells world.version (number world.next_number, shown ∙ ap (map (keyed 3)) stored))
 
 -- and of its one row
-read_of_row : (rows : List Row) (version : ℕ) → ((told : ℕ) → AreOfVersion rows told → version ≡ told) → (db : Database) (trees : ProjectTrees) → HasTables 1 db.schema trees → rows ≡ map (keyed 3) (db.trees trees.project) → IsReadVersion db version
-read_of_row rows version reads db trees tables shown = record {
-  stands = version_of_row rows version reads db trees tables shown;
-  read = λ others there told are. reads told (subst (λ rs. AreOfVersion rs told) (ap (map (keyed 3)) (one_table db _ _ _ there.project tables.project) ∙ sym shown) are);
+read_of_row : (rows : List Row) (version : ℕ) → TellVersion rows version → (db : Database) (trees : ProjectTrees) → HasTables 1 db.schema trees → rows ≡ map (keyed 3) (db.trees trees.project) → IsReadVersion db version
+read_of_row rows version tells db trees tables shown = record {
+  stands = version_of_row rows version tells db trees tables shown;
+  read = λ others there. subst (λ rs. TellVersion rs version) (shown ∙ ap (map (keyed 3)) (one_table db _ _ _ tables.project there.project)) tells;
 }
 
 module _ {S A : Type 0} (g : Ghosts S) (a b : Held S) where
-  pub looks_version : (rows : Vec Row A) (version : ℕ) → Looks 1 g a b (Ok rows) (λ db trees shown. shown.items ≡ map (keyed 3) (db.trees trees.project)) → ((told : ℕ) → AreOfVersion rows.items told → version ≡ told) → Looks 1 g a b (Ok version) (λ db trees version. IsReadVersion db version)
-  looks_version rows version it reads = record {
+  pub looks_version : (rows : Vec Row A) (version : ℕ) → Looks 1 g a b (Ok rows) (λ db trees shown. shown.items ≡ map (keyed 3) (db.trees trees.project)) → TellVersion rows.items version → Looks 1 g a b (Ok version) (λ db trees version. IsReadVersion db version)
+  looks_version rows version it tells = record {
     asks = asks_made g a b rows (Ok version) (never_broken version) it.asks;
     opens = it.opens;
-    says = λ clean trees has. read_of_row rows.items version reads (state g a).now trees has.tables (it.says clean trees has);
+    says = λ clean trees has. read_of_row rows.items version tells (state g a).now trees has.tables (it.says clean trees has);
     fault = tt;
     answered = λ clean trees has unlimited. tt;
   }

@@ -1,5 +1,5 @@
 -- What is found to keep a database from holding a sound project.
-use Rattle.std.specs.Prelude.{◌≡◌, ℕ, ◌+◌, ◌<◌, ⊤, List, map, Option, Some, None, slice_get}
+use Rattle.std.specs.Prelude.{◌≡◌, ◌⊎◌, ℕ, ◌+◌, ◌<◌, ⊤, List, map, Option, Some, None, slice_get}
 use Rattle.sqlite.specs.Effect.{Database}
 use Rattle.sqlite.specs.Schema.{Schema}
 use Rattle.wu_core.specs.World.{World, Import}
@@ -20,12 +20,12 @@ use Rattle.wu_schema.specs.Queue.{HasQueue}
 use Rattle.wu_schema.specs.Refines.{Refines}
 use Rattle.wu_schema.specs.Stored.{stored_marks}
 use Rattle.wu_schema.specs.Tables.{HasTables, IsClassedVersion, ProjectTrees}
-use Rattle.wu_schema.specs.Versions.{HasProject, HasVersion}
+use Rattle.wu_schema.specs.Versions.{AreOfVersion, HasProject, HasVersion, rows_of_project, ShowsVersion}
 use Rattle.wu_store.specs.StandsFor.{IsQueued, marked}
 use Rattle.wu_tables.specs.Found as tables
 use Rattle.wu_tables.specs.declared.project.Misfit.{Misfit}
 use Rattle.wu_check.specs.Checking.{IsCounted, IsKnown, IsSoundProject}
-use Rattle.wu_check.specs.Versions.{IsReadVersion, IsVersionOf}
+use Rattle.wu_check.specs.Versions.{IsReadVersion}
 use Rattle.wu_check.specs.declared.finding.Finding.{Finding}
 use Rattle.wu_check.specs.declared.finding.Finding.TheVariants as finding
 use Rattle.wu_check.specs.declared.finding.Key.{Key}
@@ -73,9 +73,12 @@ pub record HasWrongRow (db : Database) (wrong : row.Wrong) : Type 0 where
   pub shown : IsShownWrong version db trees wrong
   pub none : (world : World) → IsReadable world → Refines db world → ⊥
 
--- each world that the tables stand for has this version, which this program does not know
+-- the one row of the project has this version, which this program does not know
 pub record HasOtherVersion (db : Database) (version : ℕ) : Type 0 where
-  pub stands : IsVersionOf db version
+  -- a table `project` has one row, of this version,
+  pub row : (has : HasProject db.schema) → AreOfVersion (rows_of_project db has) version
+  -- and it is there, or what else has its name shows one such row
+  pub there : HasProject db.schema ⊎ ShowsVersion db version
   pub other : ¬ IsKnown version
 
 -- the tables stand for a world of which this is told, at the row with this key

@@ -1,17 +1,31 @@
 -- The version of each world that the tables stand for.
-use Rattle.std.specs.Prelude.{◌≡◌, ℕ, map}
+use Rattle.std.specs.Prelude.{◌≡◌, ◌≢◌, ◌⊎◌, ℕ, List, [], ◌∷◌, map}
 use Rattle.sqlite.specs.Effect.{Database}
+use Rattle.sqlite.specs.Order.{Row, column}
+use Rattle.sqlite.specs.declared.types.Value.{Value}
 use Rattle.wu_core.specs.World.{World}
 use Rattle.wu_loader.specs.Shown.{keyed}
 use Rattle.wu_schema.specs.Refines.{Refines}
+use Rattle.wu_schema.specs.Stored.{number}
 use Rattle.wu_schema.specs.Tables.{HasTables, ProjectTrees}
-use Rattle.wu_schema.specs.Versions.{AreOfVersion}
 
 -- each has this version
 abbrev pub IsVersionOf : Database → ℕ → Type 0
 IsVersionOf db version = (world : World) → Refines db world → world.version ≡ version
 
--- so has the row of the project, where its table has one that tells a version
+-- the value is the number of this version; or it is of none, and this is the first
+abbrev pub IsToldBy : Value → ℕ → Type 0
+IsToldBy value version = (value ≡ number version) ⊎ ((version ≡ 1) × ((told : ℕ) → value ≢ number told))
+
+-- the value stands behind the key in the one row
+abbrev pub HasValue : List Row → Value → Type 0
+HasValue rows value = (row : Row) × (rows ≡ row ∷ []) × (column row 1 ≡ value)
+
+-- the one row of a project tells this version; other rows tell the first
+abbrev pub TellVersion : List Row → ℕ → Type 0
+TellVersion rows version = ((value : Value) × HasValue rows value × IsToldBy value version) ⊎ ((version ≡ 1) × ((value : Value) → ¬ HasValue rows value))
+
+-- so do the rows of the project, where its table is there
 pub record IsReadVersion (db : Database) (version : ℕ) : Type 0 where
   pub stands : IsVersionOf db version
-  pub read : (trees : ProjectTrees) → HasTables 1 db.schema trees → (told : ℕ) → AreOfVersion (map (keyed 3) (db.trees trees.project)) told → version ≡ told
+  pub read : (trees : ProjectTrees) → HasTables 1 db.schema trees → TellVersion (map (keyed 3) (db.trees trees.project)) version

@@ -1,11 +1,10 @@
 //! The version of a project, in the row of its table.
 
 ghost use Rattle.std.specs.Prelude.{◌≡◌, ℕ, map};
-ghost use Rattle.sqlite.specs.declared.types.Value.{Value};
-ghost use Rattle.wu_check.specs.Versions.{IsReadVersion};
+ghost use Rattle.sqlite.specs.Order.{column};
+ghost use Rattle.wu_check.specs.Versions.{IsReadVersion, IsToldBy, TellVersion};
 ghost use Rattle.wu_loader.specs.Asked.{Looks};
 ghost use Rattle.wu_loader.specs.Shown.{keyed};
-ghost use Rattle.wu_schema.specs.Versions.{project_row, AreOfVersion};
 
 use sqlite::types::ValueRef;
 use sqlite::{Alter, Connection, Row};
@@ -27,10 +26,9 @@ fn project_rows<S: Alter>(conn: &mut Connection<S>) -> Result<Vec<Row>, Fault>
     )
 }
 
-/// The version in the row of a project; any in another row.
+/// The version in the row of a project; the first in another row.
 fn version_in_row(row: &Row) -> u64
-    ensures { (version : ℕ) (next : Value) → row.now ≡ project_row next version
-        → result ≡ version }
+    ensures { IsToldBy (column row.now 1) result }
 {
     match row.get_ref(1) {
         Ok(ValueRef::Int(version)) if version >= 0 => version as u64,
@@ -38,9 +36,9 @@ fn version_in_row(row: &Row) -> u64
     }
 }
 
-/// The version in the one row of a project; any in other rows.
+/// The version in the one row of a project; the first in other rows.
 fn version_in(rows: &[Row]) -> u64
-    ensures { (version : ℕ) → AreOfVersion rows.now version → result ≡ version }
+    ensures { TellVersion rows.now result }
 {
     match rows {
         [row] => version_in_row(row),

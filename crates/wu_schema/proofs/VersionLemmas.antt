@@ -5,10 +5,11 @@ use Rattle.sqlite.specs.Effect.{RefusesToRead}
 use Rattle.sqlite_trees.specs.declared.error.StoreError.TheVariants as kind
 use Rattle.sqlite.specs.declared.error.Error.TheVariants.{SqlInputError, InvalidQuery}
 use Rattle.sqlite.specs.Clock.{timed}
+use Rattle.sqlite.specs.State.{ShowsRows}
 use Rattle.wu_core.specs.declared.fault.Fault.TheVariants.{Broken, Memory}
 use Rattle.wu_schema.specs.Faults.{IsStoreFault}
 use Rattle.std.specs.Prelude.{◌≢◌}
-use Rattle.wu_schema.specs.Versions.{IsMissing, project_cells, rows_of_project, AreOfVersion, TellsMissing, LacksProject}
+use Rattle.wu_schema.specs.Versions.{IsAnswered, IsMissing, project_cells, rows_of_project, AreOfVersion, TellsMissing, LacksProject}
 use Rattle.wu_schema.proofs.AnswerLemmas.{answers_are, meeting, showing}
 use Rattle.wu_schema.proofs.CallLemmas.{serves_after}
 use Rattle.wu_schema.proofs.AnswerLemmas.{shown_answers}
@@ -112,6 +113,18 @@ module _ (text : List ℕ) (it : IsSelect text) (params : Row) (old new : State)
 pub version_missing : (old new : State) (e : Error) → FailsToQuery version_text [] old new e → TellsMissing e → LacksProject old.now.schema
 version_missing old new e h m = (m.0, query_text version_text version_selects [] old new e m.0 m.1 h, m.2)
 
+-- ---- what the question is answered with
+
+pub version_answered : (old new : State) (rows : List Row) → Shown version_text [] old new rows → IsAnswered old.now rows
+unfolding Shown
+version_answered old new rows h =
+    let none = shows_none old.now.schema version_text version_selects h.0 h.1.is in
+    let read = subst (λ r. ShowsRows old new version_text h.0 (timed [] h.0.formats h.1.now) rows r) none h.2 in
+    (h.0, h.1.is, read.0, read.1, timed [] h.0.formats h.1.now, read.2)
+
+pub answered_there : (db : Database) (rows : List Row) → IsAnswered db rows → ¬ LacksProject db.schema
+answered_there db rows it lacks = absurd (let no = sym lacks.1 ∙ it.1 in cc)
+
 -- ---- no table of the name
 
 same_fault : {X E : Type 0} {a b : E} → ◌≡◌ {A = Result X E} (Err a) (Err b) → a ≡ b
@@ -124,10 +137,6 @@ free_lacks schema free = (NoSuchTable, free_understood schema free, inl refl)
 module _ (old new : State) (lacks : LacksProject old.now.schema) where
   unknown : understood old.now.schema version_text ≡ Err lacks.0
   unknown = lacks.1
-
-  pub version_there : (rows : List Row) → ¬ Shown version_text [] old new rows
-  unfolding Shown
-  version_there rows h = absurd (let no = sym unknown ∙ h.1.is in cc)
 
   pub version_absent : (e : Error) → FailsToQuery version_text [] old new e → TellsMissing e ⊎ IsFailure (fault_of e)
   unfolding FailsToQuery IsNotRun
@@ -149,6 +158,12 @@ of_answer all rows version same of = (of.0, one_permutation _ rows (subst (λ rs
 
 pub of_table : (all rows : List Row) (version : ℕ) → IsPermutation all rows → AreOfVersion rows version → AreOfVersion all version
 of_table all rows version same of = of_answer rows all version (IsPermutation-sym all rows same) of
+
+-- the version that was read is that of the rows
+pub same_version : (rows slice : List Row) → slice ≡ rows → (found : Option ℕ) → (v : ℕ) × (found ≡ Some v) × (1 ≤ v) × AreOfVersion slice v → (version : ℕ) → found ≡ Some version → AreOfVersion rows version
+same_version rows slice is found (v, at, positive, of) version told =
+    let same : v ≡ version = let e = sym at ∙ told in cc in
+    subst (λ n. AreOfVersion rows n) same (subst (λ rs. AreOfVersion rs v) is of)
 
 module _ (all rows slice : List Row) (is : slice ≡ rows) (same : IsPermutation all rows) where
   -- what was read is of the table

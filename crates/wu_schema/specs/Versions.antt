@@ -3,13 +3,14 @@ use Rattle.std.specs.Prelude.{◌≡◌, ◌⊎◌, ◌≤◌, ℕ, List, [], �
 use Rattle.std.specs.List.Sorted.{IsPermutation}
 use Rattle.sqlite.specs.Order.{Row, column}
 use Rattle.sqlite.specs.Schema.{Schema}
-use Rattle.sqlite.specs.Listing.{understood}
+use Rattle.sqlite.specs.Listing.{IsSourceOf, reads_listing, understood}
 use Rattle.sqlite.specs.declared.error.Error.{Error}
 use Rattle.sqlite.specs.declared.error.Error.TheVariants.{SqlInputError}
 use Rattle.sqlite.specs.declared.types.Value.{Value}
 use Rattle.sqlite_resolve.specs.declared.error.CompileError.{CompileError}
 use Rattle.sqlite_resolve.specs.declared.error.CompileError.TheVariants.{NoSuchTable, NoSuchColumn}
-use Rattle.sqlite.specs.Effect.{Database}
+use Rattle.sqlite.specs.Effect.{Database, Reads}
+use Rattle.sqlite_resolve.specs.declared.compiled.Compiled.{Compiled}
 use Rattle.sqlite.specs.Table.{Table}
 use Rattle.sqlite_schema.specs.declared.schema.Column.{Column}
 use Rattle.sqlite_schema.specs.Names.{column_named, place_of}
@@ -87,6 +88,17 @@ HasVersion db has version = (1 ≤ version) × AreOfVersion (rows_of_project db 
 abbrev pub ShowsProject : {A : Type 0} → Database → Vec Row A → Type 0
 ShowsProject db rows = (has : HasProject db.schema) → IsPermutation (rows_of_project db has) rows.items
 
+-- the question is answered with these rows, by a table `project` or by what else has the name
+abbrev pub IsAnswered : Database → List Row → Type 0
+IsAnswered db rows =
+    (c : Compiled) × (understood db.schema version_text ≡ Ok c)
+    × (source : Database) × IsSourceOf (reads_listing db.schema version_text) db source
+    × (given : Row) × Reads c.command source given rows
+
+-- with the one row of a project of this version
+abbrev pub ShowsVersion : Database → ℕ → Type 0
+ShowsVersion db version = (rows : List Row) × IsAnswered db rows × AreOfVersion rows version
+
 -- over a project only a failure refuses the question, where steps have no limit
 abbrev pub FailsToAsk : Option ℕ → Database → Error → Type 0
 FailsToAsk limit db e = HasProject db.schema → limit ≡ None → IsFailure (fault_of e)
@@ -108,7 +120,9 @@ pub record AnswersVersion (db : Database) (found : Option ℕ) : Type 0 where
   pub of_world : (world : World) → Refines db world → found ≡ Some world.version
   -- where no project is, it is none,
   pub absent : LacksProject db.schema → found ≡ None
-  -- and nowhere else
+  -- a version is that of the one row that the question is answered with
+  pub told : (version : ℕ) → found ≡ Some version → ShowsVersion db version
+  -- and it is none nowhere else
   pub none : found ≡ None → LacksProject db.schema
 
 -- What a fault says, where steps have this limit: over which tables it tells of a failure.

@@ -5,7 +5,7 @@ ghost use Rattle.wu_core.specs.declared.fault.Fault.TheVariants.{Memory, NotAPro
 ghost use Rattle.wu_schema.specs.Asking.{Asks, ServesUnlessFailed};
 ghost use Rattle.wu_schema.specs.Calls.{BreaksAfter, Reads, OnAnswer, OnFault, ServesAfter};
 ghost use Rattle.wu_schema.specs.Faults.{fault_of, IsStoreFault};
-ghost use Rattle.wu_schema.specs.Versions.{AnswersVersion, FailsToAsk, IsMissingOnly, IsOtherFault, IsVersionIn, LacksProject, ReadsVersion, RefusesVersion, ShowsProject, TellsAbsence, TellsMissing};
+ghost use Rattle.wu_schema.specs.Versions.{AnswersVersion, FailsToAsk, IsAnswered, IsMissingOnly, IsOtherFault, IsVersionIn, ReadsVersion, RefusesVersion, ShowsProject, TellsAbsence, TellsMissing};
 
 use crate::columns::version_from;
 use crate::fault::fault_of;
@@ -22,7 +22,7 @@ fn project_rows<S: Alter>(conn: &mut Connection<S>) -> Result<Vec<Row>, Error>
     ensures serves { ServesAfter S.Store conn.old conn.new result }
     ensures answers { OnAnswer S.Store conn.old conn.new result ShowsProject }
     ensures told { OnFault S.Store conn.old conn.new result (FailsToAsk conn.old.step_limit) }
-    ensures there { OnAnswer S.Store conn.old conn.new result (λ db _. ¬ LacksProject db.schema) }
+    ensures shown { OnAnswer S.Store conn.old conn.new result (λ db rows. IsAnswered db rows.items) }
     ensures absent { OnFault S.Store conn.old conn.new result TellsAbsence }
     ensures missing { OnFault S.Store conn.old conn.new result IsMissingOnly }
     ensures breaks { BreaksAfter S.Store conn.old conn.new result }

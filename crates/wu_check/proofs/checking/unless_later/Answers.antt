@@ -2,17 +2,17 @@ use Rattle.wu_schema.proofs.Words.{Err, Fault, IfErr, IfOk, None, NotAProject, O
 use Rattle.wu_schema.proofs.AskingLemmas.{asks_made}
 use Rattle.wu_check.proofs.ExamineLemmas.{never_broken}
 use Rattle.wu_schema.specs.Versions.{AnswersVersion, RefusesVersion}
-use Rattle.wu_check.proofs.LaterLemmas.{known_later, refused_later, told_later}
+use Rattle.wu_check.proofs.LaterLemmas.{known_later, refused_later, tells_row, told_later}
 use Rattle.wu_check.proofs.checking.unless_later.Goals.{in-Ok-Some+else-not-is_known, in-Ok+in-None-1, in-Err+in-NotAProject-1}
 use Rattle.wu_check.proofs.checking.unless_later.Goals as goal
 
 pub returns-in-Ok-Some-clause-examines : goal.returns-in-Ok-Some-clause-examines
 returns-in-Ok-Some-clause-examines g c = record {
   asks = asks_made g.S.Store c.args.conn.now c.version_of.new.conn c.in-Ok-Some.field-0 _ (never_broken _) c.in-Ok-Some.ensures.asks;
-  says = λ clean kept told. record {
-    stands = λ world stands. let is = (c.in-Ok-Some.ensures.answers clean).of_world world stands in let at = c.in-Ok-Some.field-0-is in cc;
-    other = λ known. let yes = c.is_known.ensures.1 known in let no = c.if-not-is_known.true in cc;
-  };
+  says = λ clean kept told.
+      let now = (state g.S.Store c.args.conn.now).now in
+      tells_row now c.in-Ok-Some.version (subst (AnswersVersion now) c.in-Ok-Some.field-0-is (c.in-Ok-Some.ensures.answers clean))
+      (λ known. let yes = c.is_known.ensures.1 known in let no = c.if-not-is_known.true in cc);
   fault = tt;
   answered = λ clean unlimited. tt;
 }

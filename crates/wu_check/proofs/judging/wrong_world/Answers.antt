@@ -1,4 +1,8 @@
-use Rattle.wu_schema.proofs.Words.{Option, None, Some, Schema, ℕ, false, subst, ◌≡◌}
+use Rattle.wu_schema.proofs.Words.{Option, None, Some, Schema, ℕ, false, subst, sym, ◌≡◌}
+use Rattle.std.proofs.lemmas.Bool.{iff_false}
+use Rattle.wu_check.specs.Checking.{IsKnown}
+use Rattle.wu_check.specs.Findings.{HasOtherVersion}
+use Rattle.wu_check.proofs.LaterLemmas.{tells_version}
 use Rattle.std.specs.Prelude.{is_some}
 use Rattle.wu_tables.specs.Found.{Finds, HasQueueIn}
 use Rattle.wu_check.proofs.judging.wrong_world.Goals as goal
@@ -6,6 +10,12 @@ use Rattle.wu_check.proofs.judging.wrong_world.Goals as goal
 none_found : (P : ℕ → Type 0) (found : Option ℕ) → is_some found ≡ false → Finds P found → (n : ℕ) → P n → ⊥
 none_found P None is none n has = none n has
 none_found P (Some m) is none n has = absurd cc
+
+pub returns-then-not-is_known-clause-told : goal.returns-then-not-is_known-clause-told
+returns-then-not-is_known-clause-told c = λ db same stands.
+    let world = c.args.loaded.now in
+    let other : ¬ IsKnown world.version = subst (λ n. ¬ IsKnown n) c.version.ensures (iff_false c.is_known.ensures c.if-not-is_known.true) in
+    subst (HasOtherVersion db) (sym c.version-then-not-is_known.ensures) (tells_version db world stands other)
 
 pub returns-then-is_none-clause-told : goal.returns-then-is_none-clause-told
 returns-then-is_none-clause-told c = λ db same stands. record {

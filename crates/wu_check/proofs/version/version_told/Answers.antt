@@ -1,5 +1,5 @@
-use Rattle.wu_schema.proofs.Words.{List, Row, subst, sym}
-use Rattle.wu_schema.specs.Versions.{AreOfVersion}
+use Rattle.wu_schema.proofs.Words.{List, Row, subst}
+use Rattle.wu_check.specs.Versions.{TellVersion}
 use Rattle.wu_loader.proofs.LookLemmas.{looks_fault}
 use Rattle.wu_check.proofs.VersionLemmas.{looks_version}
 use Rattle.wu_check.proofs.version.version_told.Goals as goal
@@ -10,4 +10,4 @@ returns-in_err-rows g c = looks_fault 1 g.S.Store c.args.conn.now c.project_rows
 pub returns : goal.returns
 returns g c =
     looks_version g.S.Store c.args.conn.now c.project_rows.new.conn c.in_ok-rows.rows c.version_in.result c.in_ok-rows.ensures
-    (λ version are. c.version_in.ensures version (subst (λ (rows : List Row). AreOfVersion rows version) (sym c.deref.ensures.value) are))
+    (subst (λ (rows : List Row). TellVersion rows c.version_in.result) c.deref.ensures.value c.version_in.ensures)

@@ -1,6 +1,6 @@
 use Rattle.wu_schema.proofs.Words.{[], state, version_text}
-use Rattle.wu_schema.proofs.ReadLemmas.{all_read, if_ok, if_err, on_ok}
-use Rattle.wu_schema.proofs.VersionLemmas.{version_selects, version_found, version_told, version_there, version_absent, version_missing, query_serves}
+use Rattle.wu_schema.proofs.ReadLemmas.{all_read, if_ok, if_err}
+use Rattle.wu_schema.proofs.VersionLemmas.{version_selects, version_found, version_told, version_answered, version_absent, version_missing, query_serves}
 use Rattle.wu_schema.proofs.AskingLemmas.{query_broke}
 use Rattle.wu_schema.proofs.version.project_rows.Goals as goal
 
@@ -21,9 +21,9 @@ pub returns-clause-told : goal.returns-clause-told
 returns-clause-told g c clean =
     if_err c.query_all.result _ _ (λ e h has unlimited. version_told (state g.S.Store c.args.conn.now) (state g.S.Store c.query_all.new.self) has unlimited e h) (c.query_all.ensures.err clean)
 
-pub returns-clause-there : goal.returns-clause-there
-returns-clause-there g c clean =
-    on_ok c.query_all.result _ _ (λ rows h free. version_there (state g.S.Store c.args.conn.now) (state g.S.Store c.query_all.new.self) free rows.items h) (c.query_all.ensures.ok clean)
+pub returns-clause-shown : goal.returns-clause-shown
+returns-clause-shown g c clean =
+    if_ok c.query_all.result _ _ (λ rows h. version_answered (state g.S.Store c.args.conn.now) (state g.S.Store c.query_all.new.self) rows.items h) (c.query_all.ensures.ok clean)
 
 pub returns-clause-absent : goal.returns-clause-absent
 returns-clause-absent g c clean =

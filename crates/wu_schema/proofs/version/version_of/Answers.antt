@@ -3,7 +3,7 @@ use Rattle.std.specs.Prelude.{◌≤◌}
 use Rattle.wu_schema.proofs.Words.{HasProject, HasVersion, IsFailure, Some, inl, inr, state, subst, sym, ℕ, ◌∙◌, ◌≡◌}
 use Rattle.wu_schema.proofs.AskingLemmas.{asks_error, asks_read, error_told, opens_error, opens_read}
 use Rattle.wu_schema.proofs.ReadLemmas.{if_ok, if_err, on_ok}
-use Rattle.wu_schema.proofs.VersionLemmas.{each_fault, fault_of_missing, has_understood, project_of, project_row, row_fault, row_never_broken, rows_refused, rows_stored, stored_is}
+use Rattle.wu_schema.proofs.VersionLemmas.{answered_there, each_fault, fault_of_missing, has_understood, project_of, project_row, row_fault, row_never_broken, rows_refused, rows_stored, same_version, stored_is}
 use Rattle.wu_schema.proofs.version.version_of.Goals as goal
 
 pub returns-in-Ok-clause-asks : goal.returns-in-Ok-clause-asks
@@ -51,7 +51,8 @@ returns-in-Ok-clause-answers g c clean =
     record {
       of_row = of_row;
       of_world = λ world s. stored_is db world s found (of_row (project_of db world s));
-      absent = λ lacks. absurd (c.in-Ok.ensures.there clean lacks);
+      absent = λ lacks. absurd (answered_there db c.in-Ok.rows.items (c.in-Ok.ensures.shown clean) lacks);
+      told = λ version is. (c.in-Ok.rows.items, c.in-Ok.ensures.shown clean, same_version c.in-Ok.rows.items c.as_slice.result.now c.as_slice.ensures.value found h version is);
       none = λ is. absurd (let no = sym is ∙ h.1 in cc);
     }) c.version_in.ensures.value
 
@@ -64,6 +65,7 @@ returns-in-Err-clause-answers g c clean =
       of_row = λ has. absurd (has_understood db.schema has lacks);
       of_world = λ world s. absurd (has_understood db.schema (project_of db world s) lacks);
       absent = λ _. h.0;
+      told = λ version is. absurd (let no = sym is ∙ h.0 in cc);
       none = λ _. lacks;
     }) c.version_after.ensures.none
 
@@ -76,7 +78,7 @@ returns-in-Ok-clause-refuses g c clean =
     record {
       of_row = λ has version of unlimited. of_row has version of;
       of_world = λ world s positive unlimited. of_row (project_of db world s) world.version (positive, project_row db world s);
-      absent = λ lacks. absurd (c.in-Ok.ensures.there clean lacks);
+      absent = λ lacks. absurd (answered_there db c.in-Ok.rows.items (c.in-Ok.ensures.shown clean) lacks);
     })
 
 pub returns-in-Err-clause-refuses : goal.returns-in-Err-clause-refuses
