@@ -1,5 +1,5 @@
 -- What goes out for an action, for the steps of a script and for work over an open database.
-use Rattle.std.proofs.Common.{◌≡◌, ◌∙◌, ◌++◌, ◌∷◌, [], ℕ, List, Option, Some, None, IfSome, IsSome, Result, refl, sym, ap, subst, arith, inl, inr, append_assoc, take, drop, take-append-drop}
+use Rattle.std.proofs.Common.{◌≡◌, ◌∙◌, ◌⊎◌, ◌++◌, ◌∷◌, [], ℕ, List, Option, Some, None, IfSome, IsSome, Result, refl, sym, ap, subst, arith, inl, inr, append_assoc, take, drop, take-append-drop}
 use Rattle.std.proofs.KnownBytes.{Appends-nil, Appends-trans}
 use Rattle.std.proofs.Math.Seq.{take-length}
 use Rattle.std.specs.Io.KnownBytes.{Appends}
@@ -14,8 +14,9 @@ use Rattle.wu_machine.specs.declared.command.Command.{Command}
 use Rattle.wu_machine.specs.Commands.{request_of}
 use Rattle.wu_machine.specs.Machine.{IsUpToDate, reply, step}
 use Rattle.wu_passes.specs.declared.project.Project.{Project}
-use Rattle.wu_passes.specs.Projects.{IsKnownTo, IsSessionOpen, older_version, state_of}
-use Rattle.wu_passes.specs.Standing.{GoesOn}
+use Rattle.wu_machine.proofs.Versions.{up_to_date}
+use Rattle.wu_passes.proofs.SessionLemmas.{none_older, over_shows}
+use Rattle.wu_passes.specs.Projects.{IsSessionOpen, older_version, ShowsProject, state_of}
 use Rattle.wu_store.specs.StandsFor.{KnowsClasses}
 use Rattle.wu_report.specs.Texts.{view_text}
 use Rattle.wu_report.specs.Views.{RefusesWith}
@@ -80,17 +81,17 @@ module _ {S W : Type 0} {store : Ghosts S} (contents : W → Option (List ℕ)) 
   none_written fault (Some version) some refused = refused.2
 
   pub one_prints : (action : Action) (end : Option Fault) → Performs contents old new out_old out_new action end → PrintsAction contents old new out_old out_new action end
-  one_prints (Commands commands) None (run, runs, is) going clean world known goes =
-      let (answers, written, drives) = runs.answers in
-      let driven = drives going clean world known goes in
+  one_prints (Commands commands) None (run, runs, is) going clean world shows =
+      let (answers, written, drives, drives_from) = runs.answers in
+      let driven = drives_from going clean world shows in
       let all : take run.acknowledged commands ≡ commands = ap (λ k. take k commands) (runs.all is) ∙ take-length commands in
       let texts : answers_text answers ≡ printed_replies world commands =
       replies_are world (take run.acknowledged commands) answers driven.answered ∙ ap (λ cs. printed_replies world cs) all in
       subst (Appends (contents out_old) (contents out_new)) texts
       (written.whole (λ cut. absurd (let no : ◌≡◌ {A = Option Fault} None (Some Output) = sym is ∙ cut in cc)))
-  one_prints (Commands commands) (Some fault) (run, runs, is) going clean world known goes =
-      let (answers, written, drives) = runs.answers in
-      let driven = drives going clean world known goes in
+  one_prints (Commands commands) (Some fault) (run, runs, is) going clean world shows =
+      let (answers, written, drives, drives_from) = runs.answers in
+      let driven = drives_from going clean world shows in
       let done = take run.acknowledged commands in
       let left = drop run.acknowledged commands in
       let texts : answers_text answers ≡ printed_replies world done = replies_are world done answers driven.answered in
@@ -100,45 +101,49 @@ module _ {S W : Type 0} {store : Ghosts S} (contents : W → Option (List ℕ)) 
       subst (AppendsFront (contents out_old) (contents out_new)) (sym whole)
       (AppendsFront-longer (contents out_old) (contents out_new) (printed_replies world done) (printed_replies (world_of world done) left)
       (subst (AppendsFront (contents out_old) (contents out_new)) texts front))
-  one_prints (Look view) None sees going clean world known goes =
-      sees.text going clean world (with_classes world (shown_present contents old new out_old out_new view sees going world known.0)) goes
-  one_prints (Look view) (Some fault) sees going clean world known goes = elim known.0 [
-    | inl is ↦ sees.text going clean world (with_classes world is) goes
+  one_prints (Look view) None sees going clean world shows =
+      sees.text going clean world (with_classes world (shown_present contents old new out_old out_new view sees going world shows)) shows.shows
+  one_prints (Look view) (Some fault) sees going clean world shows = elim (none_or_some (older_version old)) [
+    | inl none ↦ sees.text going clean world (with_classes world (up_to_date world shows.is_project (none_older world.version (sym none ∙ shows.version)))) shows.shows
     | inr some ↦
         subst (λ c. AppendsFront (contents out_old) c (view_text world view)) (sym (none_written fault (older_version old) some (sees.refused.older going)))
         (AppendsFront-nothing (contents out_old) (view_text world view))
   ]
+    where
+      none_or_some : (older : Option ℕ) → (older ≡ None) ⊎ IsSome older
+      none_or_some None = inl refl
+      none_or_some (Some version) = inr refl
 
 -- ---- all steps
 
 module _ {S W : Type 0} {store : Ghosts S} (contents : W → Option (List ℕ)) where
   each_prints : (old new : Project S store) (out_old out_new : W) (steps : List Step) → PerformsEach contents old new out_old out_new steps
-      → IsSessionOpen old → HasCleanDisk (state_of new) → (world : World) → IsKnownTo old world → GoesOn (state_of old) world
+      → IsSessionOpen old → HasCleanDisk (state_of new) → (world : World) → ShowsProject old world
       → Appends (contents out_old) (contents out_new) (printed_steps world steps)
   unfolding PerformsEach
-  each_prints old new out_old out_new [] each going clean world known goes =
+  each_prints old new out_old out_new [] each going clean world shows =
       subst (λ o. Appends (contents out_old) (contents o) []) (sym each.1) (Appends-nil (contents out_old))
-  each_prints old new out_old out_new (one ∷ steps) each going clean world known goes =
+  each_prints old new out_old out_new (one ∷ steps) each going clean world shows =
       let rest_clean = each_clean contents each.0 new each.1 out_new steps each.3 in
       let before : HasCleanDisk (state_of each.0) = omega (arith, rest_clean, clean) in
-      let first = one_prints contents old each.0 out_old each.1 one.action None each.2 going before world known goes in
-      let done = one_done contents old each.0 out_old each.1 one.action each.2 going before world known goes in
+      let first = one_prints contents old each.0 out_old each.1 one.action None each.2 going before world shows in
+      let done = one_done contents old each.0 out_old each.1 one.action each.2 going before world shows in
       let still = one_goes contents old each.0 out_old each.1 one.action each.2 going in
-      let rest = each_prints each.0 new each.1 out_new steps each.3 still clean (world_behind world one.action) done.3 done.2 in
+      let rest = each_prints each.0 new each.1 out_new steps each.3 still clean (world_behind world one.action) done.2 in
       Appends-trans (contents out_old) (contents each.1) (contents out_new) (printed_action world one.action) (printed_steps (world_behind world one.action) steps) first rest
 
   steps_print : (old new : Project S store) (out_old out_new : W) (steps : List Step) (end : Option LineFault) → PerformsSteps contents old new out_old out_new steps end
-      → IsSessionOpen old → HasCleanDisk (state_of new) → (world : World) → IsKnownTo old world → GoesOn (state_of old) world
+      → IsSessionOpen old → HasCleanDisk (state_of new) → (world : World) → ShowsProject old world
       → WritesTo contents out_old out_new (printed_steps world steps) (script_outcome end)
-  steps_print old new out_old out_new steps None each going clean world known goes = each_prints old new out_old out_new steps each going clean world known goes
-  steps_print old new out_old out_new steps (Some end) until going clean world known goes =
+  steps_print old new out_old out_new steps None each going clean world shows = each_prints old new out_old out_new steps each going clean world shows
+  steps_print old new out_old out_new steps (Some end) until going clean world shows =
       let last_clean = one_clean contents until.mid new until.out_mid out_new until.last.action (Some end.fault) until.ends in
       let before : HasCleanDisk (state_of until.mid) = omega (arith, last_clean, clean) in
-      let firsts = each_prints old until.mid out_old until.out_mid until.before until.each going before world known goes in
-      let done = each_done contents old until.mid out_old until.out_mid until.before until.each going before world known goes in
+      let firsts = each_prints old until.mid out_old until.out_mid until.before until.each going before world shows in
+      let done = each_done contents old until.mid out_old until.out_mid until.before until.each going before world shows in
       let still = each_goes contents old until.mid out_old until.out_mid until.before until.each going in
       let mid = world_of world (commands_of_steps until.before) in
-      let last = one_prints contents until.mid new until.out_mid out_new until.last.action (Some end.fault) until.ends still clean mid done.3 done.2 in
+      let last = one_prints contents until.mid new until.out_mid out_new until.last.action (Some end.fault) until.ends still clean mid done.2 in
       let so_long = printed_steps world until.before in
       let its = printed_action mid until.last.action in
       let behind = printed_steps (world_behind mid until.last.action) until.after in
@@ -150,21 +155,21 @@ module _ {S W : Type 0} {store : Ghosts S} (contents : W → Option (List ℕ)) 
 
   pub script_prints : (old new : Project S store) (out_old out_new : W) (steps : List Step) (end : Option LineFault) → PerformsScript contents old new out_old out_new steps end
       → PrintsSteps contents old new out_old out_new steps end
-  script_prints old new out_old out_new steps end it going clean world known goes =
-      steps_print old new out_old out_new (unrolled world steps) end (it.over going clean world known goes) going clean world known goes
+  script_prints old new out_old out_new steps end it going clean world shows =
+      steps_print old new out_old out_new (unrolled world steps) end (it.over going clean world shows) going clean world shows
 
 -- ---- over an open database
 
 module _ {S W : Type 0} {store : Ghosts S} (contents : W → Option (List ℕ)) (old new : Project S store) (out_old out_new : W) where
   work_prints : (asked : Work) (done : Result (Unit {0}) Trouble) → PerformsWork contents old new out_old out_new asked done
-      → IsSessionOpen old → HasCleanDisk (state_of new) → (world : World) → IsKnownTo old world → GoesOn (state_of old) world
+      → IsSessionOpen old → HasCleanDisk (state_of new) → (world : World) → ShowsProject old world
       → WritesTo contents out_old out_new (printed_work world asked) done
-  work_prints (work.Line action) done (end, does, is) going clean world known goes =
+  work_prints (work.Line action) done (end, does, is) going clean world shows =
       subst (λ d. WritesTo contents out_old out_new (printed_action world action) d) (sym is)
-      (one_prints contents old new out_old out_new action end does going clean world known goes)
-  work_prints (work.Script steps) done (end, does, is) going clean world known goes =
+      (one_prints contents old new out_old out_new action end does going clean world shows)
+  work_prints (work.Script steps) done (end, does, is) going clean world shows =
       subst (λ d. WritesTo contents out_old out_new (printed_steps world (unrolled world steps)) d) (sym is)
-      (script_prints contents old new out_old out_new steps end does going clean world known goes)
+      (script_prints contents old new out_old out_new steps end does going clean world shows)
 
 module _ {S W : Type 0} (g : Ghosts S) (contents : W → Option (List ℕ)) (conn again : Held S) (out_old out_new : W) (asked : Work) (done : Result (Unit {0}) Trouble) where
   pub prints_over : DoesOver g contents conn again out_old out_new asked done → PrintsOver g contents conn again out_old out_new asked done
@@ -172,8 +177,8 @@ module _ {S W : Type 0} (g : Ghosts S) (contents : W → Option (List ℕ)) (con
       let after : HasCleanDisk (state_of does.new) = subst (λ c. HasCleanDisk (state g c)) does.released clean in
       let kept = work_clean contents does.old does.new out_old out_new asked done does.does in
       let before : HasCleanDisk (state_of does.old) = omega (arith, kept, after) in
-      let (known, goes) = begins g contents conn again out_old out_new asked done does before world project begun in
-      work_prints contents does.old does.new out_old out_new asked done does.does does.begins after world known goes
+      let shows = over_shows does.old world (begins g contents conn again out_old out_new asked done does before world project begun) in
+      work_prints contents does.old does.new out_old out_new asked done does.does does.begins after world shows
   prints_over (inr none) clean world project begun =
       subst (λ d. WritesTo contents out_old out_new (printed_work world asked) d) (sym none.told)
       (0, subst (λ o. Appends (contents out_old) (contents o) []) (sym none.unwritten) (Appends-nil (contents out_old)))

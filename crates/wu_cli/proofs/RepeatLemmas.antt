@@ -10,8 +10,7 @@ use Rattle.wu_drive.specs.Counting.{CountsLast, last_handled}
 use Rattle.wu_drive.specs.declared.runs.Run.{Run}
 use Rattle.wu_machine.specs.declared.command.Command.{Command}
 use Rattle.wu_passes.specs.declared.project.Project.{Project}
-use Rattle.wu_passes.specs.Projects.{IsKnownTo, IsSessionOpen, state_of}
-use Rattle.wu_passes.specs.Standing.{GoesOn}
+use Rattle.wu_passes.specs.Projects.{IsSessionOpen, ShowsProject, state_of}
 use Rattle.wu_words.specs.declared.action.Action.TheVariants.{Commands}
 use Rattle.wu_words.specs.declared.step.LineFault.{LineFault}
 use Rattle.wu_words.specs.declared.step.Step.{Step}
@@ -26,8 +25,8 @@ use Rattle.wu_cli.proofs.ScriptLemmas.{each_both, each_clean, each_done, each_go
 pub tells_full : {S : Type 0} {store : Ghosts S} (old new : Project S store) (commands : List Command) (run : Run) (handled : Option ℕ)
     → CountsLast old new commands run handled → (run.end ≡ None → take run.acknowledged commands ≡ commands)
     → TellsFull old new (Commands commands) run.end (fill_limit commands handled)
-tells_full old new commands run handled counts all none going clean world known goes =
-    ap (fill_limit commands) (counts going clean world known goes ∙ ap (λ cs. last_handled world cs) (all none))
+tells_full old new commands run handled counts all none going clean world shows =
+    ap (fill_limit commands) (counts going clean world shows ∙ ap (λ cs. last_handled world cs) (all none))
 
 -- ---- the steps that they come to
 
@@ -117,13 +116,13 @@ module _ {S W : Type 0} {store : Ghosts S} (contents : W → Option (List ℕ)) 
   pub record HasRounds (old mid : Project S store) (out_old out_mid : W) (step : Step) (i : ℕ) : Type 0 where
     pub each : PerformsEach contents old mid out_old out_mid (replicate i step)
     pub left :
-        IsSessionOpen old → HasCleanDisk (state_of mid) → (world : World) → IsKnownTo old world → GoesOn (state_of old) world
+        IsSessionOpen old → HasCleanDisk (state_of mid) → (world : World) → ShowsProject old world
         → AreLeft world step i
 
   pub rounds_none : (old : Project S store) (out_old : W) (step : Step) → HasRounds old old out_old out_old step 0
   rounds_none old out_old step = record {
     each = each_none contents old out_old;
-    left = λ going clean world known goes. all_left world step;
+    left = λ going clean world shows. all_left world step;
   }
 
   module _ (old mid new : Project S store) (out_old out_mid out_new : W) (step : Step) (i : ℕ) (within : i < most_rounds step.repeats) (has : HasRounds old mid out_old out_mid step i) where
@@ -136,17 +135,17 @@ module _ {S W : Type 0} {store : Ghosts S} (contents : W → Option (List ℕ)) 
       was_clean : HasCleanDisk (state_of new) → HasCleanDisk (state_of mid)
       was_clean clean = let kept = one_clean contents mid new out_mid out_new step.action None does in omega (arith, kept, clean)
 
-      told_here : IsSessionOpen old → HasCleanDisk (state_of new) → (world : World) → IsKnownTo old world → GoesOn (state_of old) world
+      told_here : IsSessionOpen old → HasCleanDisk (state_of new) → (world : World) → ShowsProject old world
           → told ≡ is_full (world_behind_steps world (replicate i step)) step.action
-      told_here going clean world known goes =
-          let done = each_done contents old mid out_old out_mid (replicate i step) has.each going (was_clean clean) world known goes in
-          tells refl (each_goes contents old mid out_old out_mid (replicate i step) has.each going) clean (world_behind_steps world (replicate i step)) done.3 done.2
+      told_here going clean world shows =
+          let done = each_done contents old mid out_old out_mid (replicate i step) has.each going (was_clean clean) world shows in
+          tells refl (each_goes contents old mid out_old out_mid (replicate i step) has.each going) clean (world_behind_steps world (replicate i step)) done.2
 
       pub rounds_more : told ≡ true → HasRounds old new out_old out_new step (i + 1)
       rounds_more full = record {
         each = each_here;
-        left = λ going clean world known goes.
-            left_next world step i within (has.left going (was_clean clean) world known goes) (sym (told_here going clean world known goes) ∙ full);
+        left = λ going clean world shows.
+            left_next world step i within (has.left going (was_clean clean) world shows) (sym (told_here going clean world shows) ∙ full);
       }
 
       pub rounds_end : told ≡ false → PerformsStep contents old new out_old out_new step None
@@ -154,9 +153,9 @@ module _ {S W : Type 0} {store : Ghosts S} (contents : W → Option (List ℕ)) 
         times = i + 1;
         once = λ single. only_one single;
         does = each_here;
-        over = λ going clean world known goes.
+        over = λ going clean world shows.
             subst (λ n. PerformsEach contents old new out_old out_new (replicate n step))
-            (sym (left_none world step i within (has.left going (was_clean clean) world known goes) (sym (told_here going clean world known goes) ∙ full))) each_here;
+            (sym (left_none world step i within (has.left going (was_clean clean) world shows) (sym (told_here going clean world shows) ∙ full))) each_here;
       }
         where
           only_one : step.repeats ≡ false → i + 1 ≡ 1
@@ -168,10 +167,10 @@ module _ {S W : Type 0} {store : Ghosts S} (contents : W → Option (List ℕ)) 
       times = i + 1;
       once = λ single. let most = ap most_rounds single in omega (arith, within, most);
       does = cut (replicate (i + 1) step) [] (sym (replicate_more i step));
-      over = λ going clean world known goes.
+      over = λ going clean world shows.
           let kept = one_clean contents mid new out_mid out_new step.action (Some fault) does in
           let before : HasCleanDisk (state_of mid) = omega (arith, kept, clean) in
-          let left = one_more world step i within (has.left going before world known goes) in
+          let left = one_more world step i within (has.left going before world shows) in
           cut (replicate (rounds world step) step) (replicate (left_behind world step i) step)
           (ap (λ n. replicate n step) left ∙ replicate_split i (left_behind world step i) step);
     }
@@ -196,8 +195,8 @@ module _ {S W : Type 0} {store : Ghosts S} (contents : W → Option (List ℕ)) 
     times = i;
     once = λ single. let most = ap most_rounds single in omega (arith, within, all, most);
     does = has.each;
-    over = λ going clean world known goes.
-        subst (λ n. PerformsEach contents old new out_old out_new (replicate n step)) (sym (left_out world step i all within (has.left going clean world known goes))) has.each;
+    over = λ going clean world shows.
+        subst (λ n. PerformsEach contents old new out_old out_new (replicate n step)) (sym (left_out world step i all within (has.left going clean world shows))) has.each;
   }
 
   -- ---- step by step
@@ -207,29 +206,29 @@ module _ {S W : Type 0} {store : Ghosts S} (contents : W → Option (List ℕ)) 
     ran = [];
     repeats = refl;
     does = each_none contents old out_old;
-    over = λ going clean world known goes. each_none contents old out_old;
+    over = λ going clean world shows. each_none contents old out_old;
   }
 
   module _ (old mid new : Project S store) (out_old out_mid out_new : W) (front : List Step) (step : Step) (first : PerformsScript contents old mid out_old out_mid front None) where
     -- over a world: the steps so far, and the next one over the world behind them
     next_over : (end : Option LineFault) → PerformsStep contents mid new out_mid out_new step end → (HasCleanDisk (state_of new) → HasCleanDisk (state_of mid))
-        → IsSessionOpen old → HasCleanDisk (state_of new) → (world : World) → IsKnownTo old world → GoesOn (state_of old) world
+        → IsSessionOpen old → HasCleanDisk (state_of new) → (world : World) → ShowsProject old world
         → PerformsEach contents old mid out_old out_mid (unrolled world front)
         × PerformsSteps contents mid new out_mid out_new (replicate (rounds (world_behind_steps world (unrolled world front)) step) step) end
-    next_over end next was_clean going clean world known goes =
+    next_over end next was_clean going clean world shows =
         let before = was_clean clean in
-        let one = first.over going before world known goes in
-        let done = each_done contents old mid out_old out_mid (unrolled world front) one going before world known goes in
-        (one, next.over (each_goes contents old mid out_old out_mid (unrolled world front) one going) clean (world_behind_steps world (unrolled world front)) done.3 done.2)
+        let one = first.over going before world shows in
+        let done = each_done contents old mid out_old out_mid (unrolled world front) one going before world shows in
+        (one, next.over (each_goes contents old mid out_old out_mid (unrolled world front) one going) clean (world_behind_steps world (unrolled world front)) done.2)
 
     pub script_more : PerformsStep contents mid new out_mid out_new step None → PerformsScript contents old new out_old out_new (front ++ step ∷ []) None
     script_more next = record {
       ran = first.ran ++ replicate next.times step;
       repeats = repeated_both front (step ∷ []) first.ran (replicate next.times step) first.repeats (next.times, [], sym (append-nil (replicate next.times step)), next.once, refl);
       does = each_both contents old mid new out_old out_mid out_new first.ran (replicate next.times step) first.does next.does;
-      over = λ going clean world known goes.
+      over = λ going clean world shows.
           let kept = each_clean contents mid new out_mid out_new (replicate next.times step) next.does in
-          let (one, two) = next_over None next (λ after. omega (arith, kept, after)) going clean world known goes in
+          let (one, two) = next_over None next (λ after. omega (arith, kept, after)) going clean world shows in
           let here = world_behind_steps world (unrolled world front) in
           let mine = replicate (rounds here step) step in
           let whole : unrolled world (front ++ step ∷ []) ≡ unrolled world front ++ mine =
@@ -243,8 +242,8 @@ module _ {S W : Type 0} {store : Ghosts S} (contents : W → Option (List ℕ)) 
       ran = first.ran ++ (replicate next.times step ++ after);
       repeats = repeated_both front (step ∷ after) first.ran (replicate next.times step ++ after) first.repeats (next.times, after, refl, next.once, repeated_self after);
       does = until_both contents old mid new out_old out_mid out_new first.ran (replicate next.times step) after end first.does next.does;
-      over = λ going clean world known goes.
-          let (one, two) = next_over (Some end) next was_clean going clean world known goes in
+      over = λ going clean world shows.
+          let (one, two) = next_over (Some end) next was_clean going clean world shows in
           let here = world_behind_steps world (unrolled world front) in
           let mine = replicate (rounds here step) step in
           subst (λ l. PerformsUntil contents old new out_old out_new l end) (sym (unrolled_both world front (step ∷ after)))

@@ -22,7 +22,10 @@ use Rattle.wu_report.specs.Seeing.{Sees}
 use Rattle.wu_report.specs.Views.{RefusesWith}
 use Rattle.wu_machine.specs.Commands.{request_of}
 use Rattle.wu_machine.specs.Sound.{IsProject}
-use Rattle.wu_passes.specs.Projects.{IsKnownTo, IsSessionOpen, has_ended, KnowsItsVersion, older_version, state_of}
+use Rattle.wu_machine.proofs.Versions.{up_to_date}
+use Rattle.wu_passes.proofs.SessionLemmas.{none_older, over_shows}
+use Rattle.wu_passes.proofs.StandingLemmas.{shows_back}
+use Rattle.wu_passes.specs.Projects.{IsOver, IsSessionOpen, has_ended, older_version, ShowsProject, state_of}
 use Rattle.wu_machine.specs.Requests.{Request}
 use Rattle.wu_machine.specs.Sessions.{world_of_life}
 use Rattle.wu_passes.specs.Standing.{GoesOn, HasEnded, FaultsOnlyGrow}
@@ -164,11 +167,11 @@ module _ {S W : Type 0} {store : Ghosts S} (contents : W → Option (List ℕ)) 
 
   -- what a step does of its commands
   pub one_drives : (action : Action) (end : Option Fault) → Performs contents old new out_old out_new action end
-      → IsSessionOpen old → HasCleanDisk (state_of new) → (world : World) → IsKnownTo old world → GoesOn (state_of old) world
+      → IsSessionOpen old → HasCleanDisk (state_of new) → (world : World) → IsOver old world
       → (answers : List Answer) × (run : Run) × (is_cut : Bool) × Drives world (commands_of_action action) answers run is_cut (state_of new)
-  one_drives (Commands commands) end (run, runs, is) going clean world known goes =
-      (runs.answers.0, run, has_ended new, runs.answers.2 going clean world known goes)
-  one_drives (Look view) end sees going clean world known goes = (
+  one_drives (Commands commands) end (run, runs, is) going clean world over =
+      (runs.answers.0, run, has_ended new, runs.answers.2 going clean world over)
+  one_drives (Look view) end sees going clean world over = (
     [],
     so_far 0,
     false,
@@ -176,40 +179,50 @@ module _ {S W : Type 0} {store : Ghosts S} (contents : W → Option (List ℕ)) 
       within = omega arith;
       answered = tt;
       end = λ fault told. absurd (cc);
-      goes = λ still. sees.goes clean world goes;
+      goes = λ still. sees.goes clean world over.goes;
       ended = λ ended. absurd (cc);
-      project = known.1;
+      project = over.is_project;
       cut_project = λ ended cut there. absurd (cc);
     },
   )
 
-  never_refused : (older : Option ℕ) → IsSome older → IfSome older (λ version. RefusesWith contents old new out_old out_new (as_result None) (OldSchema version)) → ⊥
-  never_refused None some refused = absurd cc
-  never_refused (Some version) some refused = absurd (let no = refused.0 in cc)
+  shown_none : (older : Option ℕ) → older_version old ≡ older → IfSome older (λ version. RefusesWith contents old new out_old out_new (as_result None) (OldSchema version)) → older_version old ≡ None
+  shown_none None is refused = is
+  shown_none (Some version) is refused = absurd (let no = refused.0 in cc)
 
   -- a view is shown of a world of the present version alone
-  pub shown_present : (view : View) → Sees contents old new out_old out_new view (as_result None) → IsSessionOpen old → (world : World) → KnowsItsVersion old world → IsUpToDate world
-  shown_present view sees going world (inl is) = is
-  shown_present view sees going world (inr some) = absurd (never_refused (older_version old) some (sees.refused.older going))
+  pub shown_present : (view : View) → Sees contents old new out_old out_new view (as_result None) → IsSessionOpen old → (world : World) → ShowsProject old world → IsUpToDate world
+  shown_present view sees going world shows =
+      let none = shown_none (older_version old) refl (sees.refused.older going) in
+      up_to_date world shows.is_project (none_older world.version (sym none ∙ shows.version))
 
   -- and all of them, where it ends without a fault
   pub one_done : (action : Action) → Performs contents old new out_old out_new action None
-      → IsSessionOpen old → HasCleanDisk (state_of new) → (world : World) → IsKnownTo old world → GoesOn (state_of old) world
-      → (answers : List Answer) × AnswerAll world (commands_of_action action) answers
-      × GoesOn (state_of new) (world_of world (commands_of_action action)) × IsKnownTo new (world_of world (commands_of_action action))
-  one_done (Commands commands) (run, runs, end) going clean world known goes =
+      → IsSessionOpen old → HasCleanDisk (state_of new) → (world : World) → ShowsProject old world
+      → (answers : List Answer) × AnswerAll world (commands_of_action action) answers × ShowsProject new (world_of world (commands_of_action action))
+  one_done (Commands commands) (run, runs, end) going clean world shows =
       let all : take run.acknowledged commands ≡ commands = ap (λ k. take k commands) (runs.all end) ∙ take-length commands in
-      let drives = runs.answers.2 going clean world known goes in
-      let still : KnowsItsVersion new (world_after world commands run.acknowledged) = elim (runs.knows going clean world known goes) [
-        | inl wanted ↦ absurd (let no : ◌≡◌ {A = Option Fault} None (Some wanted.0) = sym end ∙ wanted.1 in cc)
-        | inr still ↦ still
-      ] in (
+      let drives = runs.answers.3 going clean world shows in (
         runs.answers.0,
         subst (λ cs. AnswerAll world cs runs.answers.0) all drives.answered,
-        subst (λ cs. GoesOn (state_of new) (world_of world cs)) all (drives.goes (one_goes (Commands commands) (run, runs, end) going)),
-        subst (λ cs. IsKnownTo new (world_of world cs)) all (still, drives.project),
+        subst (λ cs. ShowsProject new (world_of world cs)) all drives.shows,
       )
-  one_done (Look view) sees going clean world known goes = ([], tt, sees.goes clean world goes, (inl (shown_present view sees going world known.0), known.1))
+  one_done (Look view) sees going clean world shows =
+      ([], tt, record { is_project = shows.is_project; version = sees.version ∙ shows.version; shows = shows_back (state_of old) (state_of new) world (sees.reads.back clean) shows.shows })
+
+  -- where a stop could leave that world alone, it then leaves the one behind alone
+  pub one_over : (action : Action) → Performs contents old new out_old out_new action None
+      → IsSessionOpen old → HasCleanDisk (state_of new) → (world : World) → IsOver old world → IsOver new (world_of world (commands_of_action action))
+  one_over (Commands commands) (run, runs, end) going clean world over =
+      let all : take run.acknowledged commands ≡ commands = ap (λ k. take k commands) (runs.all end) ∙ take-length commands in
+      let drives = runs.answers.2 going clean world over in
+      let done = one_done (Commands commands) (run, runs, end) going clean world (over_shows old world over) in
+      record {
+        is_project = done.2.is_project;
+        version = done.2.version;
+        goes = subst (λ cs. GoesOn (state_of new) (world_of world cs)) all (drives.goes (one_goes (Commands commands) (run, runs, end) going));
+      }
+  one_over (Look view) sees going clean world over = record { is_project = over.is_project; version = sees.version ∙ over.version; goes = sees.goes clean world over.goes }
 
 -- ---- all steps
 
@@ -229,25 +242,33 @@ module _ {S W : Type 0} {store : Ghosts S} (contents : W → Option (List ℕ)) 
       each_goes each.0 new each.1 out_new steps each.3 (one_goes contents old each.0 out_old each.1 one.action each.2 going)
 
   pub each_done : (old new : Project S store) (out_old out_new : W) (steps : List Step) → PerformsEach contents old new out_old out_new steps
-      → IsSessionOpen old → HasCleanDisk (state_of new) → (world : World) → IsKnownTo old world → GoesOn (state_of old) world
-      → (answers : List Answer) × AnswerAll world (commands_of_steps steps) answers
-      × GoesOn (state_of new) (world_of world (commands_of_steps steps)) × IsKnownTo new (world_of world (commands_of_steps steps))
+      → IsSessionOpen old → HasCleanDisk (state_of new) → (world : World) → ShowsProject old world
+      → (answers : List Answer) × AnswerAll world (commands_of_steps steps) answers × ShowsProject new (world_of world (commands_of_steps steps))
   unfolding PerformsEach
-  each_done old new out_old out_new [] each going clean world known goes =
-      ([], tt, subst (λ p. GoesOn (state_of p) world) (sym each.0) goes, subst (λ p. IsKnownTo p world) (sym each.0) known)
-  each_done old new out_old out_new (one ∷ steps) each going clean world known goes =
+  each_done old new out_old out_new [] each going clean world shows = ([], tt, subst (λ p. ShowsProject p world) (sym each.0) shows)
+  each_done old new out_old out_new (one ∷ steps) each going clean world shows =
       let rest_clean = each_clean each.0 new each.1 out_new steps each.3 in
       let before : HasCleanDisk (state_of each.0) = omega (arith, rest_clean, clean) in
-      let first = one_done contents old each.0 out_old each.1 one.action each.2 going before world known goes in
+      let first = one_done contents old each.0 out_old each.1 one.action each.2 going before world shows in
       let still = one_goes contents old each.0 out_old each.1 one.action each.2 going in
       let mine = commands_of_action one.action in
-      let rest = each_done each.0 new each.1 out_new steps each.3 still clean (world_of world mine) first.3 first.2 in
-      let both = sym (world_both world mine (commands_of_steps steps)) in (
+      let rest = each_done each.0 new each.1 out_new steps each.3 still clean (world_of world mine) first.2 in (
         first.0 ++ rest.0,
         answer_both world mine (commands_of_steps steps) first.0 rest.0 first.1 rest.1,
-        subst (λ w. GoesOn (state_of new) w) both rest.2,
-        subst (λ w. IsKnownTo new w) both rest.3,
+        subst (λ w. ShowsProject new w) (sym (world_both world mine (commands_of_steps steps))) rest.2,
       )
+
+  pub each_over : (old new : Project S store) (out_old out_new : W) (steps : List Step) → PerformsEach contents old new out_old out_new steps
+      → IsSessionOpen old → HasCleanDisk (state_of new) → (world : World) → IsOver old world → IsOver new (world_of world (commands_of_steps steps))
+  unfolding PerformsEach
+  each_over old new out_old out_new [] each going clean world over = subst (λ p. IsOver p world) (sym each.0) over
+  each_over old new out_old out_new (one ∷ steps) each going clean world over =
+      let rest_clean = each_clean each.0 new each.1 out_new steps each.3 in
+      let before : HasCleanDisk (state_of each.0) = omega (arith, rest_clean, clean) in
+      let first = one_over contents old each.0 out_old each.1 one.action each.2 going before world over in
+      let still = one_goes contents old each.0 out_old each.1 one.action each.2 going in
+      let mine = commands_of_action one.action in
+      subst (λ w. IsOver new w) (sym (world_both world mine (commands_of_steps steps))) (each_over each.0 new each.1 out_new steps each.3 still clean (world_of world mine) first)
 
   pub steps_clean : (old new : Project S store) (out_old out_new : W) (steps : List Step) (end : Option LineFault) → PerformsSteps contents old new out_old out_new steps end → FaultsOnlyGrow (state_of old) (state_of new)
   steps_clean old new out_old out_new steps None each = each_clean old new out_old out_new steps each
@@ -257,10 +278,11 @@ module _ {S W : Type 0} {store : Ghosts S} (contents : W → Option (List ℕ)) 
       omega (arith, first, last)
 
   pub drives_steps : (old new : Project S store) (out_old out_new : W) (steps : List Step) (end : Option LineFault) → PerformsSteps contents old new out_old out_new steps end
-      → IsSessionOpen old → HasCleanDisk (state_of new) → (world : World) → IsKnownTo old world → GoesOn (state_of old) world
+      → IsSessionOpen old → HasCleanDisk (state_of new) → (world : World) → IsOver old world
       → DrivesCommands world steps end (state_of new)
-  drives_steps old new out_old out_new steps None each going clean world known goes =
-      let done = each_done old new out_old out_new steps each going clean world known goes in
+  drives_steps old new out_old out_new steps None each going clean world over =
+      let done = each_done old new out_old out_new steps each going clean world (over_shows old world over) in
+      let behind = each_over old new out_old out_new steps each going clean world over in
       let commands = commands_of_steps steps in
       let whole : take (length commands) commands ≡ commands = take-length commands in
       record {
@@ -271,20 +293,21 @@ module _ {S W : Type 0} {store : Ghosts S} (contents : W → Option (List ℕ)) 
           within = omega arith;
           answered = subst (λ cs. AnswerAll world cs done.0) (sym whole) done.1;
           end = λ fault told. absurd (cc);
-          goes = λ still. subst (λ cs. GoesOn (state_of new) (world_of world cs)) (sym whole) done.2;
+          goes = λ still. subst (λ cs. GoesOn (state_of new) (world_of world cs)) (sym whole) behind.goes;
           ended = λ ended. absurd (cc);
-          project = subst (λ cs. IsProject (world_of world cs)) (sym whole) done.3.1;
+          project = subst (λ cs. IsProject (world_of world cs)) (sym whole) behind.is_project;
           cut_project = λ ended cut there. absurd (cc);
         };
         whole = λ none. refl;
       }
-  drives_steps old new out_old out_new steps (Some end) until going clean world known goes =
+  drives_steps old new out_old out_new steps (Some end) until going clean world over =
       let last_clean = one_clean contents until.mid new until.out_mid out_new until.last.action (Some end.fault) until.ends in
       let before : HasCleanDisk (state_of until.mid) = omega (arith, last_clean, clean) in
-      let done = each_done old until.mid out_old until.out_mid until.before until.each going before world known goes in
+      let done = each_done old until.mid out_old until.out_mid until.before until.each going before world (over_shows old world over) in
+      let here = each_over old until.mid out_old until.out_mid until.before until.each going before world over in
       let still = each_goes old until.mid out_old until.out_mid until.before until.each going in
       let firsts = commands_of_steps until.before in
-      let last = one_drives contents until.mid new until.out_mid out_new until.last.action (Some end.fault) until.ends still clean (world_of world firsts) done.3 done.2 in
+      let last = one_drives contents until.mid new until.out_mid out_new until.last.action (Some end.fault) until.ends still clean (world_of world firsts) here in
       let all = ap commands_of_steps until.order ∙ commands_around until.before until.last until.after in
       record {
         count = length firsts + last.1.acknowledged;
@@ -300,11 +323,11 @@ module _ {S W : Type 0} {store : Ghosts S} (contents : W → Option (List ℕ)) 
   script_clean old new out_old out_new steps end it = steps_clean old new out_old out_new it.ran end it.does
 
   pub drives_script : (old new : Project S store) (out_old out_new : W) (steps : List Step) (end : Option LineFault) → PerformsScript contents old new out_old out_new steps end → DrivesSteps old new steps end
-  drives_script old new out_old out_new steps end it going clean world known goes =
-      drives_steps old new out_old out_new (unrolled world steps) end (it.over going clean world known goes) going clean world known goes
+  drives_script old new out_old out_new steps end it going clean world over =
+      drives_steps old new out_old out_new (unrolled world steps) end (it.over going clean world (over_shows old world over)) going clean world over
 
   pub lengthens_script : (old new : Project S store) (out_old out_new : W) (steps : List Step) (end : Option LineFault) → PerformsScript contents old new out_old out_new steps end → LengthensBySteps old new steps
-  lengthens_script old new out_old out_new steps end it going clean start life known goes =
+  lengthens_script old new out_old out_new steps end it going clean start life over =
       let world = world_of_life start life in
-      let driven = drives_script old new out_old out_new steps end it going clean world known goes in
+      let driven = drives_script old new out_old out_new steps end it going clean world over in
       (driven.count, driven.is_cut, lengthens start life (commands_of_steps (unrolled world steps)) driven.answers (so_far driven.count) driven.is_cut (state_of new) driven.drives)

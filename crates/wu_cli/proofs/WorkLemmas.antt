@@ -8,7 +8,7 @@ use Rattle.wu_core.specs.declared.fault.Fault.{Fault}
 use Rattle.wu_core.specs.World.{World}
 use Rattle.wu_machine.specs.Sound.{IsProject}
 use Rattle.wu_passes.specs.declared.project.Project.{Project}
-use Rattle.wu_passes.specs.Projects.{IsKnownTo, IsSessionOpen, has_ended, state_of}
+use Rattle.wu_passes.specs.Projects.{IsOver, IsSessionOpen, has_ended, state_of}
 use Rattle.wu_passes.specs.Standing.{GoesOn, FaultsOnlyGrow}
 use Rattle.wu_words.specs.declared.action.Action.{Action}
 use Rattle.wu_words.specs.declared.action.Action.TheVariants.{Commands, Look}
@@ -39,10 +39,10 @@ script_whole (Some fault) whole of_none = tt
 
 module _ {S W : Type 0} {store : Ghosts S} (contents : W → Option (List ℕ)) (old new : Project S store) (out_old out_new : W) where
   line_works : (action : Action) (end : Option Fault) → Performs contents old new out_old out_new action end
-      → IsSessionOpen old → HasCleanDisk (state_of new) → (world : World) → IsKnownTo old world → GoesOn (state_of old) world
+      → IsSessionOpen old → HasCleanDisk (state_of new) → (world : World) → IsOver old world
       → DrivesWork world (work.Line action) (line_outcome end) (state_of new)
-  line_works (Commands commands) end (run, runs, is) going clean world known goes =
-      let driven = runs.answers.2 going clean world known goes in
+  line_works (Commands commands) end (run, runs, is) going clean world over =
+      let driven = runs.answers.2 going clean world over in
       record {
         count = run.acknowledged;
         answers = runs.answers.0;
@@ -58,7 +58,7 @@ module _ {S W : Type 0} {store : Ghosts S} (contents : W → Option (List ℕ)) 
         };
         whole = line_whole end _ (λ none. runs.all (is ∙ none));
       }
-  line_works (Look view) end sees going clean world known goes = record {
+  line_works (Look view) end sees going clean world over = record {
     count = 0;
     answers = [];
     is_cut = false;
@@ -66,9 +66,9 @@ module _ {S W : Type 0} {store : Ghosts S} (contents : W → Option (List ℕ)) 
       within = omega arith;
       answered = tt;
       end = λ fault told. absurd (cc);
-      goes = λ still. sees.goes clean world goes;
+      goes = λ still. sees.goes clean world over.goes;
       ended = λ ended. absurd (cc);
-      project = known.1;
+      project = over.is_project;
       cut_project = λ ended cut there. absurd (cc);
     };
     whole = line_whole end _ (λ none. refl);
@@ -80,12 +80,12 @@ module _ {S W : Type 0} {store : Ghosts S} (contents : W → Option (List ℕ)) 
 
   -- a beginning of its commands is done over each world that the session goes on over
   work_drives : (asked : Work) (done : Result (Unit {0}) Trouble) → PerformsWork contents old new out_old out_new asked done
-      → IsSessionOpen old → HasCleanDisk (state_of new) → (world : World) → IsKnownTo old world → GoesOn (state_of old) world
+      → IsSessionOpen old → HasCleanDisk (state_of new) → (world : World) → IsOver old world
       → DrivesWork world asked done (state_of new)
-  work_drives (work.Line action) done (end, does, is) going clean world known goes =
-      subst (λ d. DrivesWork world (work.Line action) d (state_of new)) (sym is) (line_works action end does going clean world known goes)
-  work_drives (work.Script steps) done (end, does, is) going clean world known goes =
-      let driven = drives_script contents old new out_old out_new steps end does going clean world known goes in
+  work_drives (work.Line action) done (end, does, is) going clean world over =
+      subst (λ d. DrivesWork world (work.Line action) d (state_of new)) (sym is) (line_works action end does going clean world over)
+  work_drives (work.Script steps) done (end, does, is) going clean world over =
+      let driven = drives_script contents old new out_old out_new steps end does going clean world over in
       subst (λ d. DrivesWork world (work.Script steps) d (state_of new)) (sym is) (record {
         count = driven.count;
         answers = driven.answers;
@@ -97,10 +97,10 @@ module _ {S W : Type 0} {store : Ghosts S} (contents : W → Option (List ℕ)) 
 -- ---- over an open database
 
 module _ {S W : Type 0} (g : Ghosts S) (contents : W → Option (List ℕ)) (conn again : Held S) (out_old out_new : W) (asked : Work) (done : Result (Unit {0}) Trouble) where
-  -- the session begins from the world, whose version it knows
+  -- the session begins over the world
   pub begins : (does : DoesAdopted g contents conn again out_old out_new asked done) → HasCleanDisk (state_of does.old) → (world : World) → IsProject world
-      → BeginsFrom (state g conn) world → IsKnownTo does.old world × GoesOn (state_of does.old) world
-  begins does clean world project begun = ((does.knows clean world goes, project), goes)
+      → BeginsFrom (state g conn) world → IsOver does.old world
+  begins does clean world project begun = record { is_project = project; version = does.knows clean world goes.stands; goes = goes }
     where
       from : BeginsFrom (state g conn) world → GoesOn (state_of does.old) world
       from (inl goes) = (does.adopts.goes clean world project.first goes).0
@@ -117,9 +117,9 @@ module _ {S W : Type 0} (g : Ghosts S) (contents : W → Option (List ℕ)) (con
       let after : HasCleanDisk (state_of does.new) = subst (λ c. HasCleanDisk (state g c)) does.released clean in
       let kept = work_clean contents does.old does.new out_old out_new asked done does.does in
       let before : HasCleanDisk (state_of does.old) = omega (arith, kept, after) in
-      let (known, goes) = begins does before world project begun in
+      let over = begins does before world project begun in
       inl (subst (λ c. DrivesWork world asked done (state g c)) (sym does.released)
-      (work_drives contents does.old does.new out_old out_new asked done does.does does.begins after world known goes))
+      (work_drives contents does.old does.new out_old out_new asked done does.does does.begins after world over))
   drives_over (inr none) clean world project begun = inr (record {
     fault = none.fault;
     told = none.told;

@@ -11,8 +11,7 @@ use Rattle.wu_machine.specs.Machine.{reply, step}
 use Rattle.wu_machine.specs.Requests.{Reply}
 use Rattle.wu_machine.specs.Sound.{IsProject}
 use Rattle.wu_passes.specs.declared.project.Project.{Project}
-use Rattle.wu_passes.specs.Projects.{IsKnownTo, IsSessionOpen, state_of}
-use Rattle.wu_passes.specs.Standing.{GoesOn}
+use Rattle.wu_passes.specs.Projects.{IsSessionOpen, ShowsProject, state_of}
 use Rattle.wu_report.specs.Texts.{view_text}
 use Rattle.wu_report.specs.Writing.{WritesTo}
 use Rattle.wu_drive.specs.Texts.{reply_text}
@@ -56,16 +55,16 @@ printed_work world (work.Script steps) = printed_steps world (unrolled world ste
 
 -- ---- what goes out: exactly this, and with a fault a beginning of it
 
--- of an action, over a world that the session goes on over, where the disk does not fail
+-- of an action, over a world that the tables stand for, where the disk does not fail
 abbrev pub PrintsAction : {S W : Type 0} {store : Ghosts S} → (W → Option (List ℕ)) → Project S store → Project S store → W → W → Action → Option Fault → Type 0
 PrintsAction contents old new out_old out_new action end =
-    IsSessionOpen old → HasCleanDisk (state_of new) → (world : World) → IsKnownTo old world → GoesOn (state_of old) world
+    IsSessionOpen old → HasCleanDisk (state_of new) → (world : World) → ShowsProject old world
     → WritesTo contents out_old out_new (printed_action world action) (line_outcome end)
 
 -- of the steps of a script, each as often as it is done
 abbrev pub PrintsSteps : {S W : Type 0} {store : Ghosts S} → (W → Option (List ℕ)) → Project S store → Project S store → W → W → List Step → Option LineFault → Type 0
 PrintsSteps contents old new out_old out_new steps end =
-    IsSessionOpen old → HasCleanDisk (state_of new) → (world : World) → IsKnownTo old world → GoesOn (state_of old) world
+    IsSessionOpen old → HasCleanDisk (state_of new) → (world : World) → ShowsProject old world
     → WritesTo contents out_old out_new (printed_steps world (unrolled world steps)) (script_outcome end)
 
 -- of work over an open database, whatever world a session over it may begin from

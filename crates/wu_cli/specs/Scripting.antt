@@ -8,9 +8,8 @@ use Rattle.wu_drive.specs.declared.runs.Run.{Run}
 use Rattle.wu_drive.specs.Driving.{Drives, Lengthens, session_of}
 use Rattle.wu_machine.specs.declared.command.Answer.{Answer}
 use Rattle.wu_passes.specs.declared.project.Project.{Project}
-use Rattle.wu_passes.specs.Projects.{IsKnownTo, IsSessionOpen, state_of}
+use Rattle.wu_passes.specs.Projects.{IsOver, IsSessionOpen, ShowsProject, state_of}
 use Rattle.wu_machine.specs.Sessions.{Lived, world_of_life}
-use Rattle.wu_passes.specs.Standing.{GoesOn}
 use Rattle.wu_cli.specs.Performing.{Performs}
 use Rattle.wu_cli.specs.Repeating.{AreRepeated, commands_of_steps, is_full, rounds, unrolled}
 use Rattle.wu_words.specs.declared.action.Action.{Action}
@@ -46,14 +45,14 @@ module _ {S W : Type 0} {store : Ghosts S} (contents : W → Option (List ℕ)) 
 -- ---- as often as they are repeated
 
 module _ {S W : Type 0} {store : Ghosts S} (contents : W → Option (List ℕ)) where
-  -- A step is done some times, one that is not repeated once, or it ends with a fault. Over a world that its session
-  -- goes on over, where the disk does not fail, it is done as often as the machine's answers ask for.
+  -- A step is done some times, one that is not repeated once, or it ends with a fault. Over a world that the tables
+  -- stand for, where the disk does not fail, it is done as often as the machine's answers ask for.
   pub record PerformsStep (old new : Project S store) (out_old out_new : W) (step : Step) (end : Option LineFault) : Type 0 where
     pub times : ℕ
     pub once : step.repeats ≡ false → times ≡ 1
     pub does : PerformsSteps contents old new out_old out_new (replicate times step) end
     pub over :
-        IsSessionOpen old → HasCleanDisk (state_of new) → (world : World) → IsKnownTo old world → GoesOn (state_of old) world
+        IsSessionOpen old → HasCleanDisk (state_of new) → (world : World) → ShowsProject old world
         → PerformsSteps contents old new out_old out_new (replicate (rounds world step) step) end
 
   -- so are the steps of a script, in order
@@ -62,13 +61,13 @@ module _ {S W : Type 0} {store : Ghosts S} (contents : W → Option (List ℕ)) 
     pub repeats : AreRepeated steps ran
     pub does : PerformsSteps contents old new out_old out_new ran end
     pub over :
-        IsSessionOpen old → HasCleanDisk (state_of new) → (world : World) → IsKnownTo old world → GoesOn (state_of old) world
+        IsSessionOpen old → HasCleanDisk (state_of new) → (world : World) → ShowsProject old world
         → PerformsSteps contents old new out_old out_new (unrolled world steps) end
 
 -- over such a world it is told whether an action that was done was full
 abbrev pub TellsFull : {S : Type 0} {store : Ghosts S} → Project S store → Project S store → Action → Option Fault → Bool → Type 0
 TellsFull old new action end told =
-    end ≡ None → IsSessionOpen old → HasCleanDisk (state_of new) → (world : World) → IsKnownTo old world → GoesOn (state_of old) world
+    end ≡ None → IsSessionOpen old → HasCleanDisk (state_of new) → (world : World) → ShowsProject old world
     → told ≡ is_full world action
 
 -- ---- over a world
@@ -90,13 +89,12 @@ pub record DrivesCommands (world : World) (steps : List Step) (end : Option Line
 -- so a script drives a project of any world over which its session goes on, where the disk does not fail
 abbrev pub DrivesSteps : {S : Type 0} {store : Ghosts S} → Project S store → Project S store → List Step → Option LineFault → Type 0
 DrivesSteps old new steps end =
-    IsSessionOpen old → HasCleanDisk (state_of new) → (world : World) → IsKnownTo old world → GoesOn (state_of old) world
+    IsSessionOpen old → HasCleanDisk (state_of new) → (world : World) → IsOver old world
     → DrivesCommands world (unrolled world steps) end (state_of new)
 
 -- A script lengthens any life that led to that world, as its list of commands does: each world that a stop may leave is
 -- that of the life with one session more, which acknowledged so many of its commands and cut the next one or none.
 abbrev pub LengthensBySteps : {S : Type 0} {store : Ghosts S} → Project S store → Project S store → List Step → Type 0
 LengthensBySteps old new steps =
-    IsSessionOpen old → HasCleanDisk (state_of new) → (start : World) (life : List Lived) → IsKnownTo old (world_of_life start life)
-    → GoesOn (state_of old) (world_of_life start life)
+    IsSessionOpen old → HasCleanDisk (state_of new) → (start : World) (life : List Lived) → IsOver old (world_of_life start life)
     → (count : ℕ) × (is_cut : Bool) × Lengthens start life (session_of (commands_of_steps (unrolled (world_of_life start life) steps)) (so_far count) is_cut) (state_of new)

@@ -23,7 +23,7 @@ use Rattle.wu_schema.proofs.VersionLemmas.{free_lacks}
 use Rattle.wu_schema.specs.Refines.{IsFree}
 use Rattle.wu_passes.specs.declared.project.Project.{Project}
 use Rattle.wu_passes.specs.Adopting.{IsVacant}
-use Rattle.wu_passes.specs.Projects.{IsSessionOpen, IsSessionEnded, has_ended, state_of}
+use Rattle.wu_passes.specs.Projects.{IsOver, IsSessionOpen, IsSessionEnded, has_ended, state_of}
 use Rattle.wu_passes.specs.Standing.{GoesOn, MayEnd}
 use Rattle.wu_store.specs.StandsFor.{KnowsClasses}
 use Rattle.wu_report.specs.Texts.{line_end, view_text}
@@ -31,10 +31,9 @@ use Rattle.wu_report.specs.Views.{Shows}
 use Rattle.wu_report.specs.Writing.{WritesTo}
 use Rattle.wu_drive.specs.declared.runs.Run.{Run}
 use Rattle.wu_drive.specs.Demonstration.{IsDemonstrated, demonstration}
-use Rattle.wu_drive.specs.Driving.{AnswerAll, Drives, DrivesProject, EndsBy, world_after}
+use Rattle.wu_drive.specs.Driving.{AnswerAll, Drives, DrivesFromAny, DrivesProject, EndsBy, world_after}
 use Rattle.wu_drive.specs.Texts.{reply_text}
 use Rattle.wu_drive.specs.Writing.{WritesAnswers, answers_text}
-use Rattle.wu_drive.proofs.DrivingLemmas.{empty_project}
 
 -- ---- what is asked
 
@@ -63,12 +62,12 @@ one_answer command (answer ∷ []) all = (answer, refl, all.0)
 one_answer command (answer ∷ other ∷ answers) all = absurd all.1
 
 module _ {S W : Type 0} {store : Ghosts S} (contents : W → Option (List ℕ)) (fresh mid new : Project S store) (out_old out_mid out_new : W) (command : Command) (run : Run)
-    (asked : request_of command ≡ demonstration) (going : IsSessionOpen fresh) (over_empty : GoesOn (state_of fresh) empty_world)
+    (asked : request_of command ≡ demonstration) (going : IsSessionOpen fresh) (over_empty : IsOver fresh empty_world)
     (mid_clean : HasCleanDisk (state_of mid)) (new_clean : HasCleanDisk (state_of new)) (whole : run.end ≡ None) (all : run.end ≡ None → run.acknowledged ≡ 1)
     (ends : IsSessionOpen fresh → IsSessionEnded mid → EndsBy run MayEnd)
-    (answers : (answers : List Answer) × WritesAnswers (contents out_old) (contents out_mid) answers run × DrivesProject fresh mid (command ∷ []) answers run) where
+    (answers : (answers : List Answer) × WritesAnswers (contents out_old) (contents out_mid) answers run × DrivesProject fresh mid (command ∷ []) answers run × DrivesFromAny fresh mid (command ∷ []) answers run) where
   driven : Drives empty_world (command ∷ []) answers.0 run (has_ended mid) (state_of mid)
-  driven = answers.2 going mid_clean empty_world (inl empty_project.0, empty_project.1) over_empty
+  driven = answers.2 going mid_clean empty_world over_empty
 
   one : run.acknowledged ≡ 1
   one = all whole
@@ -97,7 +96,7 @@ module _ {S W : Type 0} {store : Ghosts S} (contents : W → Option (List ℕ)) 
       (answers.1.whole (λ is. let no = sym whole ∙ is in cc))
 
   pub demonstrated : {T : Type 0} (result : Result T Fault) → Shows contents mid new out_mid out_new Workunits result → OnOk result (IsDemonstrated (contents out_old) (contents out_new))
-  demonstrated {T} result shows = by result (shows still new_clean (step empty_world demonstration) knows goes)
+  demonstrated {T} result shows = by result (shows still new_clean (step empty_world demonstration) knows goes.stands)
     where
       by : (result : Result T Fault) → WritesTo contents out_mid out_new (view_text (step empty_world demonstration) Workunits) result
           → OnOk result (IsDemonstrated (contents out_old) (contents out_new))

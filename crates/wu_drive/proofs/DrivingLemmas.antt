@@ -1,5 +1,5 @@
 -- From command to command of a list.
-use Rattle.std.proofs.Common.{nat_lt, is_some, if◌then◌else◌, IfSome, ◌≡◌, ◌⊎◌, inl, inr, ℕ, ◌+◌, ◌<◌, ◌≤◌, Bool, true, false, List, [], ◌∷◌, ◌++◌, length, get_or, map, take, Option, Some, None, Ok, Err, refl, sym, ap, subst, ◌∙◌, arith}
+use Rattle.std.proofs.Common.{is_some, if◌then◌else◌, IfSome, ◌≡◌, ◌⊎◌, inl, inr, ℕ, ◌+◌, ◌<◌, ◌≤◌, Bool, true, false, List, [], ◌∷◌, ◌++◌, length, get_or, map, take, Option, Some, None, Ok, Err, refl, sym, ap, subst, ◌∙◌, arith}
 use Rattle.std.proofs.lemmas.List.{map-append, take_more}
 use Rattle.std.proofs.lemmas.Option.{slice_get-get_or}
 use Rattle.std.specs.Prelude.{slice_get}
@@ -17,22 +17,19 @@ use Rattle.wu_core.specs.Storable.{AreVerdicts, IsStorable}
 use Rattle.wu_machine.specs.declared.command.Answer.{Answer}
 use Rattle.wu_machine.specs.declared.command.Command.{Command}
 use Rattle.wu_drive.specs.declared.runs.Run.{Run}
-use Rattle.wu_drive.specs.Driving.{AnswerAll, Drives, EndsBy, MakeNothing, NotDone, world_after}
-use Rattle.wu_machine.specs.Machine.{fold_steps, has_right_limits, is_upgrade, IsUpToDate, MakesNothing, present_version, reply, reply_of, step, world_of}
+use Rattle.wu_drive.specs.Driving.{AnswerAll, Drives, DrivesFrom, MakeNothing, NotDone, world_after}
+use Rattle.wu_machine.specs.Machine.{fold_steps, has_right_limits, is_upgrade, MakesNothing, reply, step}
 use Rattle.wu_machine.specs.Commands.{request_of, reply_of_answer}
 use Rattle.wu_plans.specs.Planning.{IsPresentProject}
 use Rattle.wu_store.specs.Loading.{IsStoreFault}
 use Rattle.wu_passes.specs.Adopting.{KeepsAll}
-use Rattle.wu_passes.specs.Projects.{AnswersEnded, Broke, has_ended, IsKnownTo, IsOpen, IsPlanned, IsPresentSession, IsSessionOpen, KeepsVersion, KnowsItsVersion, older_version, RefusesEarly, ServesRight, state_of}
-use Rattle.wu_passes.proofs.SessionLemmas.{some_right}
-use Rattle.wu_machine.proofs.ImportLemmas.{stays_step}
-use Rattle.wu_machine.proofs.Versions.{done_older, done_upgrade, up_to_date}
-use Rattle.std.proofs.lemmas.Bool.Decides.{nat_tests}
+use Rattle.wu_passes.specs.Projects.{AnswersEnded, Broke, has_ended, IsOpen, IsOver, IsPlanned, IsSessionOpen, older_version, RefusesEarly, RunsOver, ServesRight, ShowsProject, state_of}
+use Rattle.wu_passes.proofs.SessionLemmas.{over_shows, some_right}
 use Rattle.wu_machine.specs.Laws.{KeepsProjects}
 use Rattle.wu_passes.specs.declared.project.Project.{Project}
-use Rattle.wu_machine.specs.Requests.{AskBatch, AskCancel, AskClasses, AskPass, AskReported, AskSent, AskUpgrade, Reply, Request}
+use Rattle.wu_machine.specs.Requests.{Request}
 use Rattle.wu_machine.specs.Sound.{IsProject}
-use Rattle.wu_passes.specs.Standing.{GoesOn, Runs, RefinesAfterFault, FailureCause}
+use Rattle.wu_passes.specs.Standing.{RefinesAfterFault, FailureCause}
 
 pub fold_more : (world : World) (requests : List Request) (one : Request) → fold_steps world (requests ++ one ∷ []) ≡ step (fold_steps world requests) one
 fold_more world [] one = refl
@@ -67,29 +64,6 @@ empty_project = (
     classes_in_time = λ low. absurd (omega (arith, low));
   },
 )
-
--- after an upgrade a world is of the present version
-upgraded : (world : World) (request : Request) → is_upgrade request ≡ true → IsUpToDate (step world request)
-upgraded world (AskBatch name template file) up = absurd cc
-upgraded world (AskSent name file) up = absurd cc
-upgraded world (AskReported name file) up = absurd cc
-upgraded world (AskClasses name file) up = absurd cc
-upgraded world (AskPass pass now limit min_age) up = absurd cc
-upgraded world (AskCancel name) up = absurd cc
-upgraded world AskUpgrade up = ap (λ d. (world_of world d).version) (done_upgrade world)
-
--- so it is after any request that was answered
-answered_present : (world : World) (request : Request) (answer : Reply) → IsProject (step world request) → reply world request ≡ Ok answer → IsUpToDate (step world request)
-answered_present world request answer still is = elim (cases_Bool (nat_lt world.version present_version)) [
-  | inr younger ↦ up_to_date (step world request) still ((stays_step world request).version younger)
-  | inl older ↦ elim (cases_Bool (is_upgrade request)) [
-    | inl up ↦ upgraded world request up
-    | inr other ↦
-        let low : world.version < present_version = grind (arith, nat_tests, older) in
-        let refused : reply world request ≡ Err (OldSchema world.version) = ap reply_of (done_older world request low other) in
-        absurd (let no = sym is ∙ refused in cc)
-  ]
-]
 
 pub one_fault : (a b : Fault) → ◌≡◌ {A = Option Fault} (Some a) (Some b) → a ≡ b
 one_fault a b same = cc
@@ -134,63 +108,94 @@ not_done Before After from world commands i command d low there run count fault 
 pub record IsDriving {S : Type 0} {g : Ghosts S} (world : World) (commands : List Command) (answers : List Answer) (count : ℕ) (new : Project S g) : Type 0 where
   pub going : IsSessionOpen new
   pub answered : AnswerAll world (take count commands) answers
-  pub goes : GoesOn (state_of new) (world_after world commands count)
-  pub known : IsKnownTo new (world_after world commands count)
+  pub over : IsOver new (world_after world commands count)
 
-pub driving_none : {S : Type 0} {g : Ghosts S} (world : World) (commands : List Command) (new : Project S g) → IsSessionOpen new → IsKnownTo new world → GoesOn (state_of new) world → IsDriving world commands [] 0 new
-driving_none world commands new going known goes = record { going = going; answered = tt; goes = goes; known = known }
+-- and so whatever a stop could leave before
+pub record IsDrivingFrom {S : Type 0} {g : Ghosts S} (world : World) (commands : List Command) (answers : List Answer) (count : ℕ) (new : Project S g) : Type 0 where
+  pub going : IsSessionOpen new
+  pub answered : AnswerAll world (take count commands) answers
+  pub shows : ShowsProject new (world_after world commands count)
 
-module _ {S : Type 0} {g : Ghosts S} (world : World) (commands : List Command) (answers : List Answer) (i : ℕ) (old new : Project S g) (driving : IsDriving world commands answers i old)
-    (command d : Command) (low : i < length commands) (there : get_or commands i d ≡ command) (keeps : KeepsProjects (request_of command)) where
-  still : IsProject (step (world_after world commands i) (request_of command))
-  still = keeps (world_after world commands i) driving.known.1
+pub driving_none : {S : Type 0} {g : Ghosts S} (world : World) (commands : List Command) (new : Project S g) → IsSessionOpen new → IsOver new world → IsDriving world commands [] 0 new
+driving_none world commands new going over = record { going = going; answered = tt; over = over }
 
-  pub driving_more : (answer : Answer) → Runs (world_after world commands i) (request_of command) (has_ended new) (state_of new) (Ok answer) → IsDriving world commands (answers ++ answer ∷ []) (i + 1) new
-  driving_more answer (answered, going, goes) =
-      let next = next_world world commands i command d low there in
-      record {
-        going = going;
-        answered = subst (λ cs. AnswerAll world cs (answers ++ answer ∷ [])) (sym (take_more commands i d low ∙ ap (λ c. take i commands ++ c ∷ []) there))
-            (answer_more world (take i commands) answers command answer driving.answered answered);
-        goes = subst (λ w. GoesOn (state_of new) w) (sym next) goes;
-        known = subst (λ w. IsKnownTo new w) (sym next) (inl (answered_present (world_after world commands i) (request_of command) (reply_of_answer answer) still answered), still);
-      }
+pub driving_from_none : {S : Type 0} {g : Ghosts S} (world : World) (commands : List Command) (new : Project S g) → IsSessionOpen new → ShowsProject new world → IsDrivingFrom world commands [] 0 new
+driving_from_none world commands new going shows = record { going = going; answered = tt; shows = shows }
 
-  pub drives_cut : (fault : Fault) (run : Run) → run.acknowledged ≡ i → run.end ≡ Some fault → Runs (world_after world commands i) (request_of command) (has_ended new) (state_of new) (Err fault)
-      → Drives world commands answers run (has_ended new) (state_of new)
-  drives_cut fault run count end (told, stands) = subst (λ k. Drives world commands answers (record run { acknowledged = k }) (has_ended new) (state_of new)) (sym count) (record {
-    within = omega (arith, low);
-    answered = driving.answered;
-    end = λ other told_so.
-        let same : fault ≡ other = one_fault fault other (sym end ∙ told_so) in
-        inl (command, there_is commands i command d low there, subst (λ f. (reply (world_after world commands i) (request_of command) ≡ Err f) ⊎ IsStoreFault f) same told);
-    goes = λ going. subst (λ b. RefinesAfterFault b (state_of new) (world_after world commands i) (request_of command)) going stands;
-    ended = λ ended. (command, there_is commands i command d low there, subst (λ b. RefinesAfterFault b (state_of new) (world_after world commands i) (request_of command)) ended stands);
-    project = driving.known.1;
-    cut_project = λ ended cut cut_there. subst (λ c. IsProject (step (world_after world commands i) (request_of c))) (same_command command cut (sym (there_is commands i command d low there) ∙ cut_there)) still;
-  })
+module _ {S : Type 0} {g : Ghosts S} (world : World) (commands : List Command) (answers : List Answer) (i : ℕ) (old new : Project S g) (command d : Command) (low : i < length commands) (there : get_or commands i d ≡ command)
+    (clean : HasCleanDisk (state_of new)) where
+  more_answered : (answer : Answer) → AnswerAll world (take i commands) answers → reply (world_after world commands i) (request_of command) ≡ Ok (reply_of_answer answer) → AnswerAll world (take (i + 1) commands) (answers ++ answer ∷ [])
+  more_answered answer so_far answered =
+      subst (λ cs. AnswerAll world cs (answers ++ answer ∷ [])) (sym (take_more commands i d low ∙ ap (λ c. take i commands ++ c ∷ []) there))
+      (answer_more world (take i commands) answers command answer so_far answered)
 
-  -- the version is still known, but for want of memory
-  pub knows_cut : (fault : Fault) (run : Run) → run.acknowledged ≡ i → run.end ≡ Some fault → KeepsVersion old new ⊎ ((fault ≡ Memory) × IsPresentSession new)
-      → EndsBy run (λ f. f ≡ Memory) ⊎ KnowsItsVersion new (world_after world commands run.acknowledged)
-  knows_cut fault run count end (inr (wanted, none)) = inl (fault, end, wanted)
-  knows_cut fault run count end (inl kept) = inr (subst (λ k. KnowsItsVersion new (world_after world commands k)) (sym count) (elim driving.known.0 [ inl is ↦ inl is | inr some ↦ inr (ap is_some kept ∙ some) ]))
+  module _ (driving : IsDrivingFrom world commands answers i old) where
+    -- one more was done
+    pub driving_from_more : (answer : Answer) → RunsOver old new command (Ok answer) → IsSessionOpen new → IsDrivingFrom world commands (answers ++ answer ∷ []) (i + 1) new
+    driving_from_more answer runs going = record {
+      going = going;
+      answered = more_answered answer driving.answered (runs.from clean (world_after world commands i) driving.shows).0;
+      shows = subst (λ w. ShowsProject new w) (sym (next_world world commands i command d low there)) (runs.stays clean (world_after world commands i) driving.shows);
+    }
+
+    -- it was refused, or cut
+    pub drives_from_cut : (fault : Fault) (run : Run) → run.acknowledged ≡ i → run.end ≡ Some fault → RunsOver old new command (Err fault) → DrivesFrom world commands answers run new
+    drives_from_cut fault run count end runs = subst (λ k. DrivesFrom world commands answers (record run { acknowledged = k }) new) (sym count) (record {
+      answered = driving.answered;
+      end = λ other told_so.
+          let same : fault ≡ other = one_fault fault other (sym end ∙ told_so) in
+          let told = (runs.from clean (world_after world commands i) driving.shows).0 in
+          inl (command, there_is commands i command d low there, subst (λ f. (reply (world_after world commands i) (request_of command) ≡ Err f) ⊎ IsStoreFault f) same told);
+      shows = runs.stays clean (world_after world commands i) driving.shows;
+    })
+
+  module _ (driving : IsDriving world commands answers i old) where
+    pub driving_more : (answer : Answer) → RunsOver old new command (Ok answer) → IsDriving world commands (answers ++ answer ∷ []) (i + 1) new
+    driving_more answer runs =
+        let (answered, going, goes) = runs.goes clean (world_after world commands i) driving.over in
+        let stays = runs.stays clean (world_after world commands i) (over_shows old (world_after world commands i) driving.over) in
+        record {
+          going = going;
+          answered = more_answered answer driving.answered answered;
+          over = subst (λ w. IsOver new w) (sym (next_world world commands i command d low there)) (record { is_project = stays.is_project; version = stays.version; goes = goes });
+        }
+
+    pub drives_cut : KeepsProjects (request_of command) → (fault : Fault) (run : Run) → run.acknowledged ≡ i → run.end ≡ Some fault → RunsOver old new command (Err fault)
+        → Drives world commands answers run (has_ended new) (state_of new)
+    drives_cut keeps fault run count end runs =
+        let (told, stands) = runs.goes clean (world_after world commands i) driving.over in
+        let still : IsProject (step (world_after world commands i) (request_of command)) = keeps (world_after world commands i) driving.over.is_project in
+        subst (λ k. Drives world commands answers (record run { acknowledged = k }) (has_ended new) (state_of new)) (sym count) (record {
+          within = omega (arith, low);
+          answered = driving.answered;
+          end = λ other told_so.
+              let same : fault ≡ other = one_fault fault other (sym end ∙ told_so) in
+              inl (command, there_is commands i command d low there, subst (λ f. (reply (world_after world commands i) (request_of command) ≡ Err f) ⊎ IsStoreFault f) same told);
+          goes = λ going. subst (λ b. RefinesAfterFault b (state_of new) (world_after world commands i) (request_of command)) going stands;
+          ended = λ ended. (command, there_is commands i command d low there, subst (λ b. RefinesAfterFault b (state_of new) (world_after world commands i) (request_of command)) ended stands);
+          project = driving.over.is_project;
+          cut_project = λ ended cut cut_there. subst (λ c. IsProject (step (world_after world commands i) (request_of c))) (same_command command cut (sym (there_is commands i command d low there) ∙ cut_there)) still;
+        })
 
 -- between two commands: the list has ended, or a text was not written
-module _ {S : Type 0} {g : Ghosts S} (world : World) (commands : List Command) (answers : List Answer) (i : ℕ) (new : Project S g) (run : Run) (count : run.acknowledged ≡ i) (driving : IsDriving world commands answers i new) where
-  pub drives_so_far : i ≤ length commands → ((fault : Fault) → run.end ≡ Some fault → (fault ≡ Output) × (1 ≤ i)) → Drives world commands answers run (has_ended new) (state_of new)
-  drives_so_far within end = subst (λ k. Drives world commands answers (record run { acknowledged = k }) (has_ended new) (state_of new)) (sym count) (record {
+module _ {S : Type 0} {g : Ghosts S} (world : World) (commands : List Command) (answers : List Answer) (i : ℕ) (new : Project S g) (run : Run) (count : run.acknowledged ≡ i) where
+  pub drives_so_far : IsDriving world commands answers i new → i ≤ length commands → ((fault : Fault) → run.end ≡ Some fault → (fault ≡ Output) × (1 ≤ i)) → Drives world commands answers run (has_ended new) (state_of new)
+  drives_so_far driving within end = subst (λ k. Drives world commands answers (record run { acknowledged = k }) (has_ended new) (state_of new)) (sym count) (record {
     within = within;
     answered = driving.answered;
     end = λ fault told. inr (end fault told);
-    goes = λ going. driving.goes;
+    goes = λ going. driving.over.goes;
     ended = λ ended. absurd (let no : false ≡ true = sym driving.going ∙ ended in cc);
-    project = driving.known.1;
+    project = driving.over.is_project;
     cut_project = λ ended. absurd (let no : false ≡ true = sym driving.going ∙ ended in cc);
   })
 
-  pub knows_so_far : KnowsItsVersion new (world_after world commands run.acknowledged)
-  knows_so_far = subst (λ k. KnowsItsVersion new (world_after world commands k)) (sym count) driving.known.0
+  pub drives_from_so_far : IsDrivingFrom world commands answers i new → ((fault : Fault) → run.end ≡ Some fault → (fault ≡ Output) × (1 ≤ i)) → DrivesFrom world commands answers run new
+  drives_from_so_far driving end = subst (λ k. DrivesFrom world commands answers (record run { acknowledged = k }) new) (sym count) (record {
+    answered = driving.answered;
+    end = λ fault told. inr (end fault told);
+    shows = driving.shows;
+  })
 
 -- ---- whether the connection is open
 

@@ -9,8 +9,7 @@ use Rattle.wu_machine.specs.Commands.{request_of}
 use Rattle.wu_machine.specs.Machine.{reply, step}
 use Rattle.wu_machine.specs.Requests.{Passed, Reply}
 use Rattle.wu_passes.specs.declared.project.Project.{Project}
-use Rattle.wu_passes.specs.Projects.{IsKnownTo, IsSessionOpen, state_of}
-use Rattle.wu_passes.specs.Standing.{GoesOn}
+use Rattle.wu_passes.specs.Projects.{IsSessionOpen, ShowsProject, state_of}
 use Rattle.wu_drive.specs.declared.runs.Run.{Run}
 
 -- how many workunits a pass handled, by the machine's reply; nothing where that is of no pass
@@ -24,9 +23,8 @@ last_handled world [] = None
 last_handled world (command ∷ []) = handled_by (reply world (request_of command))
 last_handled world (command ∷ next ∷ commands) = last_handled (step world (request_of command)) (next ∷ commands)
 
--- over a world that its session goes on over, where the disk does not fail, a run tells that of the last one that was
--- done
+-- over a world that the tables stand for, where the disk does not fail, a run tells that of the last one that was done
 abbrev pub CountsLast : {S : Type 0} {store : Ghosts S} → Project S store → Project S store → List Command → Run → Option ℕ → Type 0
 CountsLast old new commands run handled =
-    IsSessionOpen old → HasCleanDisk (state_of new) → (world : World) → IsKnownTo old world → GoesOn (state_of old) world
+    IsSessionOpen old → HasCleanDisk (state_of new) → (world : World) → ShowsProject old world
     → handled ≡ last_handled world (take run.acknowledged commands)

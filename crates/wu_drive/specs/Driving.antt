@@ -9,7 +9,7 @@ use Rattle.wu_passes.specs.Committing.{FoundAs}
 use Rattle.wu_machine.specs.Sessions.{Lived, Session, world_of_life}
 use Rattle.wu_core.specs.World.{World}
 use Rattle.wu_core.specs.declared.fault.Fault.{Fault}
-use Rattle.wu_core.specs.declared.fault.Fault.TheVariants.{Ended, Memory, Output}
+use Rattle.wu_core.specs.declared.fault.Fault.TheVariants.{Ended, Output}
 use Rattle.wu_machine.specs.Machine.{fold_steps, MakesNothing, reply, step}
 use Rattle.wu_machine.specs.Commands.{request_of, reply_of_answer}
 use Rattle.wu_machine.specs.Sound.{IsProject}
@@ -18,7 +18,7 @@ use Rattle.wu_passes.specs.Standing.{GoesOn, HasEnded, FailureCause}
 use Rattle.wu_machine.specs.declared.command.Answer.{Answer}
 use Rattle.wu_machine.specs.declared.command.Command.{Command}
 use Rattle.wu_passes.specs.declared.project.Project.{Project}
-use Rattle.wu_passes.specs.Projects.{Broke, IsKnownTo, IsSessionOpen, has_ended, IsSessionEnded, IsUnlimited, KnowsItsVersion, state_of}
+use Rattle.wu_passes.specs.Projects.{Broke, IsOver, IsSessionOpen, has_ended, IsSessionEnded, IsUnlimited, ShowsProject, state_of}
 use Rattle.wu_drive.specs.declared.runs.Run.{Run}
 
 -- the answers are the machine's replies, one after another
@@ -68,12 +68,23 @@ abbrev pub Lengthens : World → List Lived → Session → State → Type 0
 Lengthens start life session new =
     (db : Trees) → new.may_leave db → (is_cut_in : Bool) × FoundAs db (world_of_life start (life ++ record { session = session; is_cut_in = is_cut_in } ∷ []))
 
--- so a run drives a project of any world over which its session goes on and whose version that knows, where the disk
--- does not fail
+-- so a run drives a project of any world over which its session goes on, where the disk does not fail
 abbrev pub DrivesProject : {S : Type 0} {store : Ghosts S} → Project S store → Project S store → List Command → List Answer → Run → Type 0
 DrivesProject old new commands answers run =
-    IsSessionOpen old → HasCleanDisk (state_of new) → (world : World) → IsKnownTo old world → GoesOn (state_of old) world
+    IsSessionOpen old → HasCleanDisk (state_of new) → (world : World) → IsOver old world
     → Drives world commands answers run (has_ended new) (state_of new)
+
+-- Whatever a stop could leave before it: each acknowledged command has the machine's reply, and the tables then stand
+-- for the world after that beginning, also where the session ended and the next command was cut.
+pub record DrivesFrom {S : Type 0} {store : Ghosts S} (world : World) (commands : List Command) (answers : List Answer) (run : Run) (new : Project S store) : Type 0 where
+  pub answered : AnswerAll world (take run.acknowledged commands) answers
+  pub end : EndsEarly world commands run
+  pub shows : ShowsProject new (world_after world commands run.acknowledged)
+
+-- so it drives one of any world that the tables stand for
+abbrev pub DrivesFromAny : {S : Type 0} {store : Ghosts S} → Project S store → Project S store → List Command → List Answer → Run → Type 0
+DrivesFromAny old new commands answers run =
+    IsSessionOpen old → HasCleanDisk (state_of new) → (world : World) → ShowsProject old world → DrivesFrom world commands answers run new
 
 -- why the next command was not done
 abbrev pub NotDone : Type 0 → World → List Command → Run → Bool → Fault → Type 0
@@ -88,14 +99,13 @@ NotWritten run has_ended fault = (fault ≡ Output) × (1 ≤ run.acknowledged) 
 -- over an adopted project a run that ended early tells why
 abbrev pub DrivesWhy : {S : Type 0} {store : Ghosts S} → Project S store → Project S store → List Command → Run → Type 0
 DrivesWhy old new commands run =
-    IsSessionOpen old → HasCleanDisk (state_of new) → IsUnlimited old → (world : World) → IsKnownTo old world → GoesOn (state_of old) world
+    IsSessionOpen old → HasCleanDisk (state_of new) → IsUnlimited old → (world : World) → ShowsProject old world
     → (fault : Fault) → run.end ≡ Some fault → NotDone (Broke old new) world commands run (has_ended new) fault ⊎ NotWritten run (has_ended new) fault
 
 -- and lengthens any life that led to that world
 abbrev pub LengthensLife : {S : Type 0} {store : Ghosts S} → Project S store → Project S store → List Command → Run → Type 0
 LengthensLife old new commands run =
-    IsSessionOpen old → HasCleanDisk (state_of new) → (start : World) (life : List Lived) → IsKnownTo old (world_of_life start life)
-    → GoesOn (state_of old) (world_of_life start life)
+    IsSessionOpen old → HasCleanDisk (state_of new) → (start : World) (life : List Lived) → IsOver old (world_of_life start life)
     → Lengthens start life (session_of commands run (has_ended new)) (state_of new)
 
 -- over a session that had ended nothing is done or written, and that is why the run ended, unless there was no command
@@ -114,12 +124,6 @@ LeavesAll old new run =
 abbrev pub EndsBy : Run → (Fault → Type 0) → Type 0
 EndsBy run Is = (fault : Fault) × (run.end ≡ Some fault) × Is fault
 
--- the session still knows the version of the world that the run left, but where it ended for want of memory
-abbrev pub StillKnows : {S : Type 0} {store : Ghosts S} → Project S store → Project S store → List Command → Run → Type 0
-StillKnows old new commands run =
-    IsSessionOpen old → HasCleanDisk (state_of new) → (world : World) → IsKnownTo old world → GoesOn (state_of old) world
-    → EndsBy run (λ fault. fault ≡ Memory) ⊎ KnowsItsVersion new (world_after world commands run.acknowledged)
-
 -- the machine makes nothing of the world by any of these commands, one after another
 abbrev pub MakeNothing : World → List Command → Type 0
 MakeNothing world [] = ⊤
@@ -129,7 +133,7 @@ MakeNothing world (command ∷ commands) =
 -- so it is where it makes nothing by all that were done
 abbrev pub LeavesAllIdle : {S : Type 0} {store : Ghosts S} → Project S store → Project S store → List Command → Run → Type 0
 LeavesAllIdle old new commands run =
-    IsSessionOpen old → HasCleanDisk (state_of new) → (world : World) → IsKnownTo old world → GoesOn (state_of old) world
+    IsSessionOpen old → HasCleanDisk (state_of new) → (world : World) → ShowsProject old world
     → MakeNothing world (take run.acknowledged commands) → EndsBy run IsFailure ⊎ KeepsAll (state_of old) (state_of new)
 
 -- over a session that went on an open connection stays so, but where the run ended for want of memory or of the disk

@@ -5,20 +5,23 @@ use Rattle.wu_core.specs.declared.fault.Fault.TheVariants.{Broken}
 use Rattle.wu_machine.specs.declared.command.Answer.{Answer}
 use Rattle.wu_machine.specs.declared.command.Command.{Command}
 use Rattle.wu_passes.specs.declared.project.Project.{Project}
-use Rattle.wu_passes.specs.Projects.{IsSessionOpen, IsSessionEnded, KeepsLimit, state_of}
+use Rattle.wu_passes.specs.Projects.{IsSessionOpen, IsSessionEnded, KeepsLimit, StaysOpen, StaysShut, state_of}
 use Rattle.wu_passes.specs.Standing.{FaultsOnlyGrow, MayEnd}
 use Rattle.wu_drive.specs.declared.runs.Run.{Run}
-use Rattle.wu_drive.specs.Driving.{DrivesNothing, DrivesProject, DrivesWhy, EndsBy, LeavesAll, LeavesAllIdle, LengthensLife, ServesUnlessEnded, StillKnows}
+use Rattle.wu_drive.specs.Driving.{DrivesFromAny, DrivesNothing, DrivesProject, DrivesWhy, EndsBy, LeavesAll, LeavesAllIdle, LengthensLife, ServesUnlessEnded}
 use Rattle.wu_drive.specs.Writing.{WritesAnswers}
 
 -- The commands are run in order, up to the first fault.
 pub record RunsList {S W : Type 0} {store : Ghosts S} (contents : W → Option (List ℕ)) (old new : Project S store) (out_old out_new : W) (commands : List Command) (run : Run) : Type 0 where
   -- what was answered and written, and what the tables then stand for
-  pub answers : (answers : List Answer) × WritesAnswers (contents out_old) (contents out_new) answers run × DrivesProject old new commands answers run
+  pub answers : (answers : List Answer) × WritesAnswers (contents out_old) (contents out_new) answers run
+      × DrivesProject old new commands answers run × DrivesFromAny old new commands answers run
   pub why : DrivesWhy old new commands run
   pub opens : ServesUnlessEnded old new run
+  -- only a disk that fails in this call shuts an open connection, and nothing opens one that is shut
+  pub stays : StaysOpen old new
+  pub shut : StaysShut old new
   pub lives : LengthensLife old new commands run
-  pub knows : StillKnows old new commands run
   pub ended : DrivesNothing old new out_old out_new run
   -- what was not changed
   pub untouched : LeavesAll old new run

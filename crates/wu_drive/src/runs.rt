@@ -72,12 +72,12 @@ pub fn drive_and_count<S: Alter, W: Write>(
 ///
 /// An acknowledged command is one that was answered, also where its text could not be written. The run ends early with
 /// the refusal of the next command, with a fault of the store, or with `Output` for the text of the last one done. It
-/// ends the session with `Broken`, and else only with `Memory`; after any end but these a connection that was open is
-/// open. Over a session that had ended it answers `Ended` at once. Where the first command was not done, or the machine
-/// makes nothing by all that were, every table is as it was, but for want of memory or of the disk. Where a stop before
-/// it could leave one world alone, the worlds that a stop may leave after it are those of the acknowledged commands,
-/// with the cut one or without. Over a project of an older version the run ends with `OldSchema` at a first command that
-/// is no upgrade. The session still knows the version behind it, but where it ended with `Memory`.
+/// ends the session with `Broken`, and else only with `Memory`. A connection that was open is open after any end but
+/// `Broken`, unless the disk failed meanwhile. Over a session that had ended it answers `Ended` at once. Where the first
+/// command was not done, or the machine makes nothing by all that were, every table is as it was, but for want of memory
+/// or of the disk. Behind it the tables stand for the world of the acknowledged commands. Where a stop before it could
+/// leave one world alone, the worlds that a stop may leave after it are that one, and that of the cut command with it.
+/// Over a project of an older version the run ends with `OldSchema` at a first command that is no upgrade.
 pub fn drive<S: Alter, W: Write>(
     alloc: Global,
     project: &mut Project<S>,

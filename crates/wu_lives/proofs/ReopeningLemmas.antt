@@ -12,7 +12,7 @@ use Rattle.wu_drive.specs.Driving.{AnswerAll, Drives, EndsBy, world_after}
 use Rattle.wu_machine.specs.Machine.{fold_steps, step}
 use Rattle.wu_machine.specs.Commands.{request_of}
 use Rattle.wu_machine.specs.Sound.{IsProject}
-use Rattle.wu_passes.specs.Projects.{IsKnownTo, KnowsItsVersion, state_of}
+use Rattle.wu_passes.specs.Projects.{IsOfItsVersion, IsOver, state_of}
 use Rattle.wu_passes.specs.declared.project.Project.{Project}
 use Rattle.sqlite_trees.specs.declared.store.Store as Store
 use Rattle.wu_passes.specs.Standing.{GoesOn, MayEnd}
@@ -95,8 +95,8 @@ sessions_more world [] (l ∷ life) next lived all it = absurd all
 sessions_more world (t ∷ told) [] next lived all it = absurd all
 sessions_more world (t ∷ told) (l ∷ life) next lived (first, all) it = (first, sessions_more (world_lived world l) told life next lived all it)
 
-pub lived_none : {S : Type 0} {g : Store.Ghosts S} (world : World) (session : Project S g) → IsKnownTo session world → GoesOn (state_of session) world → HasLived world [] session
-lived_none world session known goes = record { life = []; sessions = tt; goes = goes; known = known }
+pub lived_none : {S : Type 0} {g : Store.Ghosts S} (world : World) (session : Project S g) → IsOver session world → HasLived world [] session
+lived_none world session over = record { life = []; sessions = tt; over = over }
 
 -- a beginning of its commands is found, so it is lived
 record IsFoundAs (world : World) (told : Transcript) (after : World) : Type 0 where
@@ -132,7 +132,7 @@ found_as world told count kept answered = elim (nat_cases count told.run.acknowl
     at_place (command ∷ more) (suc i) low = at_place more i (omega (arith, low))
 
 pub lived_more : {S T : Type 0} {g : Store.Ghosts S} {h : Store.Ghosts T} (world : World) (told : List Transcript) (next : Transcript) (old : Project S g) (new : Project T h) → (lived : HasLived world told old)
-    → (holds : HoldsBeginning (world_of_life world lived.life) next.commands next.run (state_of new)) → KnowsItsVersion new (world_after (world_of_life world lived.life) next.commands holds.count)
+    → (holds : HoldsBeginning (world_of_life world lived.life) next.commands next.run (state_of new)) → IsOfItsVersion new (world_after (world_of_life world lived.life) next.commands holds.count)
     → AnswerAll (world_of_life world lived.life) (take next.run.acknowledged next.commands) next.answers → HasLived world (told ++ next ∷ []) new
 lived_more world told next old new lived holds knows answered =
     let it = found_as (world_of_life world lived.life) next holds.count holds.kept answered in
@@ -140,8 +140,7 @@ lived_more world told next old new lived holds knows answered =
     record {
       life = lived.life ++ it.lived ∷ [];
       sessions = sessions_more world told lived.life next it.lived lived.sessions it.is;
-      goes = subst (λ w. GoesOn (state_of new) w) (sym left) holds.goes;
-      known = subst (λ w. IsKnownTo new w) (sym left) (knows, holds.project);
+      over = subst (λ w. IsOver new w) (sym left) (record { is_project = holds.project; version = knows; goes = holds.goes });
     }
 
 pub written_more : (old mid new : Option (List ℕ)) (told : List Transcript) (next : Transcript) → WritesTold old mid told → WritesAnswers mid new next.answers next.run → WritesTold old new (told ++ next ∷ [])

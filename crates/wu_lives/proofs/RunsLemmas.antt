@@ -30,7 +30,7 @@ use Rattle.wu_machine.specs.declared.command.Answer.{Answer}
 use Rattle.wu_machine.specs.declared.command.Command.{Command}
 use Rattle.wu_passes.specs.Adopting.{IsVacant}
 use Rattle.wu_passes.specs.Committing.{FoundAs}
-use Rattle.wu_passes.specs.Projects.{IsKnownTo, IsSessionOpen, IsSessionEnded, KnowsTables, state_of}
+use Rattle.wu_passes.specs.Projects.{IsOver, IsSessionOpen, IsSessionEnded, KnowsTables, state_of}
 use Rattle.wu_passes.specs.Standing.{GoesOn, MayEnd}
 use Rattle.wu_passes.specs.declared.project.Project.{Project}
 use Rattle.wu_lives.specs.Runs.{BeginsOver, HoldsBeginningIn, HoldsWorld, LeavesBeginnings, LivesOn, TellsFirst, told_by}
@@ -74,19 +74,19 @@ beginning_copied old files stays copied world commands run each image may =
 
 -- what a run left of its session stands for the world after a beginning of its list
 module _ {D : Type 0} {g : Ghosts D} (old mid : Project (FileStore D g) over_files) (commands : List Command) (answers : List Answer) (run : Run) (counted : length answers ≡ run.acknowledged)
-    (drives : DrivesProject old mid commands answers run) (ends : IsSessionOpen old → IsSessionEnded mid → EndsBy run MayEnd) (ended : IsSessionEnded old → (mid ≡ old) × (run.acknowledged ≡ 0)) (clean : HasCleanDisk (state_of mid)) (world : World) (known : IsKnownTo old world) (goes : GoesOn (state_of old) world) where
+    (drives : DrivesProject old mid commands answers run) (ends : IsSessionOpen old → IsSessionEnded mid → EndsBy run MayEnd) (ended : IsSessionEnded old → (mid ≡ old) × (run.acknowledged ≡ 0)) (clean : HasCleanDisk (state_of mid)) (world : World) (over : IsOver old world) where
   pub begins_at : (db : Trees) → (state_of mid).may_leave db → IsBeginning world commands run db
   begins_at db may = elim (cases_Bool old.has_ended) [
     | inl was ↦
         let (same, none) = ended was in
-        beginning_none world commands (state_of mid) known.1 db may run none (subst (λ (p : Project (FileStore D g) over_files). GoesOn (state_of p) world) (sym same) goes)
-    | inr going ↦ beginning_of world commands (state_of mid) known.1 db may answers run mid.has_ended (ends going) (drives going clean world known goes)
+        beginning_none world commands (state_of mid) over.is_project db may run none (subst (λ (p : Project (FileStore D g) over_files). GoesOn (state_of p) world) (sym same) over.goes)
+    | inr going ↦ beginning_of world commands (state_of mid) over.is_project db may answers run mid.has_ended (ends going) (drives going clean world over)
   ]
 
   pub answered_at : AnswerAll world (take run.acknowledged commands) answers
   answered_at = elim (cases_Bool old.has_ended) [
     | inl was ↦ answers_none world commands answers run (ended was).1 counted
-    | inr going ↦ (drives going clean world known goes).answered
+    | inr going ↦ (drives going clean world over).answered
   ]
 
 -- the second run opened such an image
@@ -102,8 +102,8 @@ pub lives_on : {D T : Type 0} {g : Ghosts D} {h : Store.Ghosts T} (old : Project
     → TellsFirst old commands run before after answers files → LeavesBeginnings old commands run files → BeginsOver image (state_of new) → KnowsTables new → LivesOn old commands run answers files image new
 lives_on old commands run before after answers files image new tells leaves begins knows honest may clean world told lived =
     let start : World = world_of_life world lived.life in
-    ∥∥₁_map (leaves honest start lived.known lived.goes image may) (λ it.
+    ∥∥₁_map (leaves honest start lived.over image may) (λ it.
     let first : 1 ≤ (world_after start commands it.count).version = it.project.first in
     let goes : GoesOn (state_of new) (world_after start commands it.count) = (begins (world_after start commands it.count) first it.held clean).0 in
     lived_more world told (told_by commands answers run) old new lived (record { count = it.count; kept = it.kept; goes = goes; project = it.project })
-    (knows clean (world_after start commands it.count) goes) (tells.1 honest start lived.known lived.goes))
+    (knows clean (world_after start commands it.count) goes.stands) (tells.1 honest start lived.over))

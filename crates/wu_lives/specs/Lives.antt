@@ -9,9 +9,9 @@ use Rattle.wu_drive.specs.Writing.{WritesAnswers}
 use Rattle.wu_machine.specs.declared.command.Answer.{Answer}
 use Rattle.wu_machine.specs.declared.command.Command.{Command}
 use Rattle.wu_passes.specs.declared.project.Project.{Project}
-use Rattle.wu_passes.specs.Projects.{IsKnownTo, IsSessionOpen, state_of}
+use Rattle.wu_passes.specs.Projects.{IsOver, IsSessionOpen, state_of}
 use Rattle.wu_machine.specs.Sessions.{Lived, world_lived, world_of_life}
-use Rattle.wu_passes.specs.Standing.{GoesOn, MayEnd}
+use Rattle.wu_passes.specs.Standing.{MayEnd}
 use Rattle.wu_lives.specs.Reopening.{OfEachWorld}
 
 -- what a session told: the commands that it was given, its answers, and how far it went
@@ -36,12 +36,11 @@ AreSessionsOf world [] (lived ∷ life) = ⊥
 AreSessionsOf world (told ∷ more) [] = ⊥
 AreSessionsOf world (told ∷ more) (lived ∷ life) = IsSessionOf world told lived × AreSessionsOf (world_lived world lived) more life
 
--- the session goes on over the world after a life of these sessions, and knows its version
+-- the session goes on over the world after a life of these sessions
 pub record HasLived {S : Type 0} {g : Store.Ghosts S} (world : World) (told : List Transcript) (found : Project S g) : Type 0 where
   pub life : List Lived
   pub sessions : AreSessionsOf world told life
-  pub goes : GoesOn (state_of found) (world_of_life world life)
-  pub known : IsKnownTo found (world_of_life world life)
+  pub over : IsOver found (world_of_life world life)
 
 -- the texts of the answers of each session, one after another
 abbrev pub WritesTold : Option (List ℕ) → Option (List ℕ) → List Transcript → Type 0

@@ -12,7 +12,7 @@ use Rattle.wu_stops.specs.Stopping.{FindsAgain}
 use Rattle.wu_drive.specs.Driving.{AnswerAll, EndsBy, EndsEarly, LengthensLife, world_after}
 use Rattle.wu_machine.specs.Sound.{IsProject}
 use Rattle.wu_passes.specs.Adopting.{Adopts}
-use Rattle.wu_passes.specs.Projects.{connection_of, IsKnownTo, IsSessionOpen, IsSessionEnded, KnowsTables, state_of}
+use Rattle.wu_passes.specs.Projects.{connection_of, IsOver, IsSessionOpen, IsSessionEnded, KnowsTables, state_of}
 use Rattle.wu_passes.specs.Standing.{GoesOn, MayEnd}
 use Rattle.wu_drive.specs.Running.{RunsList}
 use Rattle.wu_drive.specs.Writing.{WritesAnswers}
@@ -21,12 +21,11 @@ use Rattle.wu_machine.specs.declared.command.Command.{Command}
 use Rattle.wu_passes.specs.declared.project.Project.{Project}
 use Rattle.wu_drive.specs.declared.runs.Run.{Run}
 
--- This holds of each world that the old session went on over and whose version it knew, over a disk that had no fault
--- by the new state.
+-- This holds of each world that the old session went on over, over a disk that had no fault by the new state.
 abbrev pub OfEachWorld : {S : Type 0} {g : Store.Ghosts S} → Project S g → State → (World → Type 0) → Type 0
-OfEachWorld old new holds = HasCleanDisk new → (world : World) → IsKnownTo old world → GoesOn (state_of old) world → holds world
+OfEachWorld old new holds = HasCleanDisk new → (world : World) → IsOver old world → holds world
 
--- a session goes on, and knows the version of its tables
+-- a session goes on, over the version of its tables
 abbrev pub IsBegun : {S : Type 0} {g : Store.Ghosts S} → Project S g → Type 0
 IsBegun project = IsSessionOpen project × KnowsTables project
 

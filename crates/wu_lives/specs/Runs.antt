@@ -22,7 +22,7 @@ use Rattle.wu_plans.specs.Planning.{IsPresentProject}
 use Rattle.wu_machine.specs.declared.command.Answer.{Answer}
 use Rattle.wu_machine.specs.declared.command.Command.{Command}
 use Rattle.wu_passes.specs.Committing.{FoundAs}
-use Rattle.wu_passes.specs.Projects.{connection_of, IsKnownTo, IsSessionOpen, state_of}
+use Rattle.wu_passes.specs.Projects.{connection_of, IsOver, IsSessionOpen, state_of}
 use Rattle.wu_passes.specs.Standing.{GoesOn}
 use Rattle.wu_passes.specs.declared.project.Project.{Project}
 use Rattle.wu_stops.specs.Closing.{IsNumbered}
@@ -66,9 +66,9 @@ module _ {D : Type 0} {g : Ghosts D} (old : Project (FileStore D g) over_files) 
     pub quiet : IsQuiet view faults recovers is_shielded (connection_of left).store store
     pub files_are : (files.log, files.db) ≡ store_files store
 
-  -- this holds of each world that it began with and whose version it knew, over a disk that had no fault by its end
+  -- this holds of each world that it began with, over a disk that had no fault by its end
   abbrev pub OfFirst : Files D → (World → Type 0) → Type 0
-  OfFirst files holds = AreClean g files.log files.db → (world : World) → IsKnownTo old world → GoesOn (state_of old) world → holds world
+  OfFirst files holds = AreClean g files.log files.db → (world : World) → IsOver old world → holds world
 
   -- the texts of these answers are written, which are the machine's replies to the commands that it acknowledged
   abbrev pub TellsFirst : Option (List ℕ) → Option (List ℕ) → List Answer → Files D → Type 0

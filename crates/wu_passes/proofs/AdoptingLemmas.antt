@@ -16,15 +16,14 @@ use Rattle.wu_schema.specs.Faults.{IsFailure}
 use Rattle.wu_schema.specs.Fresh.{IsTakenFault, MakesProject}
 use Rattle.wu_schema.specs.Refines.{Refines}
 use Rattle.wu_schema.specs.Versions.{AnswersVersion, HasProject, HasVersion}
-use Rattle.wu_machine.specs.Machine.{IsUpToDate, present_version}
+use Rattle.wu_machine.specs.Machine.{present_version}
 use Rattle.wu_machine.specs.Requests.{Request}
 use Rattle.wu_machine.specs.Sound.{IsProject}
 use Rattle.wu_store.specs.Loading.{IsStoreFault}
 use Rattle.wu_store.specs.StandsFor.{StandsFor}
 use Rattle.wu_store.proofs.SameWorld.{one_world}
-use Rattle.wu_passes.specs.Standing.{GoesOn, HasEnded, TellsLater}
+use Rattle.wu_passes.specs.Standing.{GoesOn, HasEnded, ShowsWorld, TellsLater}
 use Rattle.wu_passes.specs.Adopting.{Adopts, BreaksBetween, FindsProject, IsAdoptionFault, IsRefusalOf, IsVacant, KeepsAll, KnowsVersion, LeavesFresh, LeavesNoMore, older_than_present, RefusesAdoption}
-use Rattle.wu_passes.specs.Older.{IsOfVersion}
 use Rattle.wu_passes.specs.declared.project.Project.{Project}
 use Rattle.wu_passes.specs.Projects.{connection_of, FailsAgain, GoesOnAgain, state_of}
 use Rattle.wu_passes.proofs.StandingLemmas.{goes_read}
@@ -384,38 +383,26 @@ module _ (old new : State) (version : ℕ) (adopts : Adopts old new) (knows : Kn
       let of : HasVersion old.now has version = knows.found clean has in
       one_version old.now has world.version version (subst (λ n. 1 ≤ n) (let same = sym of.1.1 ∙ (project_row old.now world was).1 in cc) of.0, project_row old.now world was) of
 
-  older_known : version < present_version → (world : World) → Refines new.now world → world.version ≡ version
-  older_known low = found_known (λ vacant. let same = knows.fresh clean vacant in absurd (omega (arith, same, low)))
-
   -- and that of one that was made is the present one
-  fresh_known : IsVacant old → (world : World) → Refines new.now world → IsUpToDate world
+  fresh_known : IsVacant old → (world : World) → Refines new.now world → world.version ≡ version
   fresh_known vacant world stands =
-      (one_world new.now world empty_world stands ((adopts.fresh clean vacant).goes.stands (adopts.is_open clean)).0.refines).version
+      (one_world new.now world empty_world stands ((adopts.fresh clean vacant).goes.stands (adopts.is_open clean)).0.refines).version ∙ sym (knows.fresh clean vacant)
 
-  present_known : present_version ≤ version → (world : World) → Refines new.now world → IsUpToDate world
-  present_known young world stands = elim (cases_Bool (world.version == present_version)) [
-    | inl is ↦ grind (arith, nat_tests, is)
-    | inr other ↦
-        let there : ¬ IsVacant old = λ vacant. let is = fresh_known vacant world stands in absurd (grind (arith, nat_tests, is, other)) in
-        let same = found_known there world stands in
-        omega (arith, same, young, knows.known)
-  ]
+  -- no project is there, or one was found
+  vacant_or_not : ¬ ¬ (IsVacant old ⊎ ¬ IsVacant old)
+  vacant_or_not neither = neither (inr (λ vacant. neither (inl vacant)))
 
-  -- so a session that begins knows the version of each
-  pub begins_knowing : (world : World) → GoesOn new world → IsUpToDate world ⊎ IsSome (older_than_present version)
-  begins_knowing world goes = elim (cases_Bool (nat_lt version present_version)) [
-    | inl older ↦ inr (subst (λ b. IsSome (if b then Some version else None)) (sym older) refl)
-    | inr none ↦ inl (present_known (grind (arith, nat_tests, none)) world (goes.stands (adopts.is_open clean)).0.refines)
-  ]
-
-pub starts_known : (old new : State) (version : ℕ) → Adopts old new → KnowsVersion old new version → (v : ℕ) → older_than_present version ≡ Some v → (v < present_version) × (false ≡ false → HasCleanDisk new → IsOfVersion new v)
-starts_known old new version adopts knows v is = elim (cases_Bool (nat_lt version present_version)) [
-  | inl older ↦
-      let low : version < present_version = grind (arith, nat_tests, older) in
-      let same : version ≡ v = let e : Some version ≡ Some v = subst (λ b. (if b then Some version else None) ≡ Some v) older is in cc in
-      subst (λ n. (n < present_version) × (false ≡ false → HasCleanDisk new → IsOfVersion new n)) same (low, λ going clean. (adopts.is_open clean, older_known old new version adopts knows clean low))
-  | inr none ↦ absurd (let e : None ≡ Some v = subst (λ b. (if b then Some version else None) ≡ Some v) none is in cc)
-]
+  -- so a session that begins is over the version of each
+  pub begins_knowing : (world : World) → ShowsWorld new world → older_than_present version ≡ older_than_present world.version
+  begins_knowing world shows =
+      let stands = (shows (adopts.is_open clean)).0.refines in
+      elim (cases_Bool (world.version == version)) [
+        | inl is ↦ let same : world.version ≡ version = grind (arith, nat_tests, is) in ap older_than_present (sym same)
+        | inr other ↦ absurd (vacant_or_not (λ either. elim either [
+          | inl vacant ↦ let same = fresh_known vacant world stands in absurd (grind (arith, nat_tests, same, other))
+          | inr there ↦ let same = found_known there world stands in absurd (grind (arith, nat_tests, same, other))
+        ]))
+      ]
 
 -- ---- a new session over the connection of one that a fault ended
 

@@ -1,7 +1,9 @@
 -- What stands of a session after each exit of a command.
-use Rattle.std.proofs.Common.{refl, ◌≡◌, ◌≢◌, ◌⊎◌, ℕ, Bool, true, false, List, [], Result, Ok, Err, IfErr, IsTrue, OnOk, sym, ap, subst, ◌∙◌, inl, inr}
+use Rattle.std.proofs.Common.{arith, refl, ◌≡◌, ◌≢◌, ◌≤◌, ◌⊎◌, ℕ, Bool, true, false, List, [], Result, Ok, Err, IfErr, IsTrue, OnOk, sym, ap, subst, ◌∙◌, inl, inr}
 use Rattle.sqlite.specs.Effect.{Database}
 use Rattle.sqlite.specs.State.{State, HasCleanDisk, Survives}
+use Rattle.sqlite.specs.Tree.{Trees}
+use Rattle.sqlite_trees.specs.View.{doubt}
 use Rattle.wu_core.specs.declared.fault.Fault.{Fault}
 use Rattle.wu_core.specs.declared.fault.Fault.TheVariants.{Broken, Memory, NotAProject}
 use Rattle.wu_schema.specs.Faults.{IsFailure}
@@ -12,8 +14,6 @@ use Rattle.wu_schema.specs.Asking.{IsAsBefore}
 use Rattle.wu_schema.specs.Calls.{LeavesOnly, IsBack, IsDone, IsMade, IsRefused, IsUndone}
 use Rattle.wu_passes.specs.Adopting.{KeepsAll, LeavesNoMore}
 use Rattle.wu_store.specs.Changing.{AreRight, made_all, MakesWorlds}
-use Rattle.wu_schema.specs.Refines.{Refines}
-use Rattle.wu_passes.specs.Older.{IsOfVersion}
 use Rattle.wu_passes.specs.Committing.{FoundAs}
 use Rattle.wu_machine.specs.Machine.{done, reply, reply_of, step, world_of}
 use Rattle.wu_plans.specs.Planning.{IsPlan, Plans}
@@ -22,7 +22,7 @@ use Rattle.wu_store.specs.Loading.{IsReadOnly, IsStoreFault}
 use Rattle.wu_store.specs.StandsFor.{StandsFor}
 use Rattle.wu_machine.specs.Requests.{Request}
 use Rattle.wu_passes.specs.Leaving.{LeavesAtMost, RunsFrom}
-use Rattle.wu_passes.specs.Standing.{GoesOn, HasEnded, IsCutBy, MakesSome, ShowsWorld, RefinesAfterFault, FailureCause}
+use Rattle.wu_passes.specs.Standing.{GoesOn, HasEnded, IsCutBy, KeepsOpen, KeepsShut, MakesSome, ShowsWorld, RefinesAfterFault, FailureCause}
 use Rattle.wu_plans.specs.declared.plan.Plan.{Plan}
 use Rattle.wu_machine.specs.declared.command.Answer.{Answer}
 use Rattle.wu_store.specs.declared.changes.Change.{Change}
@@ -236,19 +236,22 @@ from_then old mid new world request ended (Ok answer) kept runs = (
 )
 from_then old mid new world request ended (Err fault) kept runs = (runs.0, runs.1, most_then ended old mid new world request kept.left runs.2)
 
--- ---- the older version of a session
+-- ---- whether the connection is open
 
--- after a call that reads
-pub older_back : (old new : State) (version : ℕ) → IsOfVersion old version → old.now ≡ old.committed → IsBack old new → IsTrue new.is_open → IsOfVersion new version
-older_back old new version of settled back is_open =
-    (is_open, λ world stands. of.1 world (subst (λ (d : Database). Refines d world) (elim (back.now is_open) [ inl same ↦ same | inr last ↦ last ∙ sym settled ]) stands))
+-- a call that asks shuts none but where the disk fails in it
+pub survives_open : (old new : State) (Makes : Trees → Type 0) → Survives old new Makes → KeepsOpen old new
+survives_open old new Makes survives clean is_open = survives.closes clean is_open
 
--- after changes that were refused
-pub older_refused : (old new : State) (version : ℕ) → IsOfVersion old version → old.now ≡ old.committed → IsRefused old new → IsOfVersion new version
-older_refused old new version of settled refused = (refused.is_open, λ world stands. of.1 world (subst (λ (d : Database). Refines d world) (refused.now ∙ sym settled) stands))
+pub open_self : (s : State) → KeepsOpen s s
+open_self s clean is_open = inl is_open
 
--- a fault that is none of memory or of the disk leaves the connection open
-pub open_unless : (s : State) (fault : Fault) → IsFailure fault ⊎ IsTrue s.is_open → fault ≢ Memory → fault ≢ Broken → IsTrue s.is_open
-open_unless s fault (inl (inl memory)) other whole = absurd (other memory)
-open_unless s fault (inl (inr broken)) other whole = absurd (whole broken)
-open_unless s fault (inr is_open) other whole = is_open
+pub open_then : (a b c : State) → doubt b.is_clean ≤ doubt c.is_clean → a.faults ≤ b.faults → b.faults ≤ c.faults → KeepsOpen a b → KeepsOpen b c → KeepsOpen a c
+open_then a b c kept rises more one two clean is_open =
+    let before : HasCleanDisk b = omega (arith, kept, clean) in
+    elim (one before is_open) [
+      | inl mid ↦ elim (two clean mid) [ inl still ↦ inl still | inr failed ↦ inr (omega (arith, failed, rises)) ]
+      | inr failed ↦ inr (omega (arith, failed, more))
+    ]
+
+pub shut_then : (a b c : State) → doubt b.is_clean ≤ doubt c.is_clean → KeepsShut a b → KeepsShut b c → KeepsShut a c
+shut_then a b c kept one two clean is_open = one (omega (arith, kept, clean)) (two clean is_open)

@@ -4,4 +4,3 @@ pub mod Adopting
 pub mod Leaving
 pub mod Projects
 pub mod Walks
-pub mod Older

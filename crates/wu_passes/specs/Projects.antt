@@ -13,7 +13,7 @@ use Rattle.wu_store.specs.declared.changes.Change.{Change}
 use Rattle.wu_machine.specs.declared.command.Answer.{Answer}
 use Rattle.wu_machine.specs.declared.command.Command.{Command}
 use Rattle.wu_passes.specs.declared.project.Project.{Project}
-use Rattle.wu_machine.specs.Machine.{has_right_limits, is_upgrade, IsUpToDate, MakesNothing}
+use Rattle.wu_machine.specs.Machine.{has_right_limits, is_upgrade, MakesNothing, step}
 use Rattle.wu_plans.specs.declared.plan.Plan.{Plan}
 use Rattle.wu_plans.specs.Planning.{ForEachProject, NeverEnded, NotRefusedOver, Plans, PlansFor}
 use Rattle.wu_machine.specs.Commands.{request_of}
@@ -25,9 +25,9 @@ use Rattle.wu_store.specs.StandsFor.{StandsFor}
 use Rattle.wu_pages.specs.Summaries.{FindsAt, IsCountable}
 use Rattle.wu_pages.specs.declared.lines.Summary.{Summary}
 use Rattle.wu_machine.specs.Requests.{Request}
-use Rattle.wu_passes.specs.Adopting.{KeepsAll}
+use Rattle.wu_passes.specs.Adopting.{KeepsAll, older_than_present}
 use Rattle.wu_passes.specs.Leaving.{RunsFrom}
-use Rattle.wu_passes.specs.Standing.{GoesOn, HasEnded, FaultsOnlyGrow, MayEnd, Runs, ShowsWorld, FailureCause}
+use Rattle.wu_passes.specs.Standing.{GoesOn, HasEnded, FaultsOnlyGrow, KeepsOpen, KeepsShut, MayEnd, Runs, ShowsWorld, FailureCause}
 
 -- the connection that a release gives back
 abbrev pub connection_of : {S : Type 0} {g : Ghosts S} → Project S g → Held S
@@ -47,7 +47,7 @@ IsSessionEnded project = has_ended project ≡ true
 abbrev pub IsSessionOpen : {S : Type 0} {g : Ghosts S} → Project S g → Type 0
 IsSessionOpen project = has_ended project ≡ false
 
--- the older version than the present one that it is over, where it is over one and knows it
+-- the older version than the present one that it is over, where it is over one
 abbrev pub older_version : {S : Type 0} {g : Ghosts S} → Project S g → Option ℕ
 older_version project = project.older
 
@@ -55,7 +55,7 @@ older_version project = project.older
 abbrev pub refused_for : Request → Option ℕ → Option ℕ
 refused_for request older = if is_upgrade request then None else older
 
--- it is over none, or does not know it
+-- it is over none
 abbrev pub IsPresentSession : {S : Type 0} {g : Ghosts S} → Project S g → Type 0
 IsPresentSession project = older_version project ≡ None
 
@@ -91,10 +91,16 @@ KeepsLimit old new = (state_of new).step_limit ≡ (state_of old).step_limit
 abbrev pub KeepsVersion : {S : Type 0} {g : Ghosts S} → Project S g → Project S g → Type 0
 KeepsVersion old new = older_version new ≡ older_version old
 
--- after an answer it is over no older version, and after a fault over the one that it was; want of memory may leave
--- that unknown
+-- after an answer it is over no older version, and after a fault over the one that it was
 abbrev pub ReachesPresent : {S T : Type 0} {g : Ghosts S} → Project S g → Project S g → Result T Fault → Type 0
-ReachesPresent old new result = MatchResult result (λ _. IsPresentSession new) (λ fault. KeepsVersion old new ⊎ ((fault ≡ Memory) × IsPresentSession new))
+ReachesPresent old new result = MatchResult result (λ _. IsPresentSession new) (λ _. KeepsVersion old new)
+
+-- its connection is open if it was, but where the disk failed in this call; and one that was shut stays shut
+abbrev pub StaysOpen : {S : Type 0} {g : Ghosts S} → Project S g → Project S g → Type 0
+StaysOpen old new = KeepsOpen (state_of old) (state_of new)
+
+abbrev pub StaysShut : {S : Type 0} {g : Ghosts S} → Project S g → Project S g → Type 0
+StaysShut old new = KeepsShut (state_of old) (state_of new)
 
 -- What a call keeps of a session, whatever it answers.
 pub record KeepsSession {S T : Type 0} {g : Ghosts S} (old new : Project S g) (result : Result T Fault) : Type 0 where
@@ -108,6 +114,9 @@ pub record KeepsSession {S T : Type 0} {g : Ghosts S} (old new : Project S g) (r
   pub counts : (state_of old).faults ≤ (state_of new).faults
   pub limit : KeepsLimit old new
   pub version : ReachesPresent old new result
+  -- want of memory never shuts a connection: only a disk that fails in this call does, and nothing opens it again
+  pub opens : StaysOpen old new
+  pub shut : StaysShut old new
 
 -- the disk failed in this call, or the connection was not open
 abbrev pub Broke : {S : Type 0} {g : Ghosts S} → Project S g → Project S g → Type 0
@@ -125,28 +134,42 @@ AnswersEnded old new result = (result ≡ Err Ended) × (new ≡ old)
 abbrev pub AnswersOlder : {S T : Type 0} {g : Ghosts S} → Project S g → Project S g → Result T Fault → Type 0
 AnswersOlder old new result = IfSome (older_version old) (λ version. (result ≡ Err (OldSchema version)) × (new ≡ old))
 
--- the world is of the present version, or the session knows that it is over an older one
-abbrev pub KnowsItsVersion : {S : Type 0} {g : Ghosts S} → Project S g → World → Type 0
-KnowsItsVersion project world = IsUpToDate world ⊎ IsSome (older_version project)
+-- it is over the version of this world: over no older one, or over the world's
+abbrev pub IsOfItsVersion : {S : Type 0} {g : Ghosts S} → Project S g → World → Type 0
+IsOfItsVersion project world = older_version project ≡ older_than_present world.version
 
--- a project whose version the session knows
-abbrev pub IsKnownTo : {S : Type 0} {g : Ghosts S} → Project S g → World → Type 0
-IsKnownTo project world = KnowsItsVersion project world × IsProject world
+-- The session is over this world: a project of its version, for which its tables stand.
+pub record ShowsProject {S : Type 0} {g : Ghosts S} (project : Project S g) (world : World) : Type 0 where
+  pub is_project : IsProject world
+  pub version : IsOfItsVersion project world
+  pub shows : ShowsWorld (state_of project) world
 
--- of whatever world its tables stand for it knows the version
+-- The session goes on over this world: so it is, and a stop leaves nothing else.
+pub record IsOver {S : Type 0} {g : Ghosts S} (project : Project S g) (world : World) : Type 0 where
+  pub is_project : IsProject world
+  pub version : IsOfItsVersion project world
+  pub goes : GoesOn (state_of project) world
+
+-- whatever world its tables stand for, it is over the version of that
 abbrev pub KnowsTables : {S : Type 0} {g : Ghosts S} → Project S g → Type 0
-KnowsTables project = HasCleanDisk (state_of project) → (world : World) → GoesOn (state_of project) world → KnowsItsVersion project world
+KnowsTables project = HasCleanDisk (state_of project) → (world : World) → ShowsWorld (state_of project) world → IsOfItsVersion project world
 
--- whatever project the tables stood for, the command runs over it: over an older version all but an upgrade is refused
+-- over whatever world the session goes on, the command runs: over an older version all but an upgrade is refused
 abbrev pub RunsOn : {S : Type 0} {g : Ghosts S} → Project S g → Project S g → Command → Result Answer Fault → Type 0
 RunsOn old new command result =
-    HasCleanDisk (state_of new) → (world : World) → IsKnownTo old world → GoesOn (state_of old) world → Runs world (request_of command) (has_ended new) (state_of new) result
+    HasCleanDisk (state_of new) → (world : World) → IsOver old world → Runs world (request_of command) (has_ended new) (state_of new) result
 
 -- so it does whatever a stop could leave before it
 abbrev pub RunsFromAny : {S : Type 0} {g : Ghosts S} → Project S g → Project S g → Command → Result Answer Fault → Type 0
 RunsFromAny old new command result =
-    HasCleanDisk (state_of new) → (world : World) → IsKnownTo old world → ShowsWorld (state_of old) world
+    HasCleanDisk (state_of new) → (world : World) → ShowsProject old world
     → RunsFrom (state_of old) world (request_of command) (has_ended new) (state_of new) result
+
+-- behind it the session is over the machine's step, and over the world that it was where the command was not done
+abbrev pub StaysOver : {S : Type 0} {g : Ghosts S} → Project S g → Project S g → Command → Result Answer Fault → Type 0
+StaysOver old new command result =
+    HasCleanDisk (state_of new) → (world : World) → ShowsProject old world
+    → MatchResult result (λ _. ShowsProject new (step world (request_of command))) (λ _. ShowsProject new world)
 
 -- What a command makes of the world that the tables stand for.
 pub record RunsOver {S : Type 0} {g : Ghosts S} (old new : Project S g) (command : Command) (result : Result Answer Fault) : Type 0 where
@@ -154,6 +177,7 @@ pub record RunsOver {S : Type 0} {g : Ghosts S} (old new : Project S g) (command
   pub goes : RunsOn old new command result
   -- and whatever it could leave
   pub from : RunsFromAny old new command result
+  pub stays : StaysOver old new command result
 
 -- what its questions do to its connection
 abbrev pub AsksOn : {S T : Type 0} {g : Ghosts S} → Project S g → Project S g → Result T Fault → Type 0
@@ -163,8 +187,8 @@ AsksOn {S} {T} {g} old new result = Asks g (connection_of old) (connection_of ne
 pub record KeepsAsking {S T : Type 0} {g : Ghosts S} (old new : Project S g) (result : Result T Fault) : Type 0 where
   pub ends : IsSessionOpen old → IsSessionEnded new → result ≡ Err Broken
   pub broken : result ≡ Err Broken → IsSessionEnded new
-  -- it stays over its version, but for want of memory, which may leave it unknown
-  pub version : KeepsVersion old new ⊎ ((result ≡ Err Memory) × IsPresentSession new)
+  -- it stays over its version
+  pub version : KeepsVersion old new
 
 -- over an adopted project no read is refused
 abbrev pub ReadsUnrefused : {S T : Type 0} {g : Ghosts S} → Project S g → Project S g → Result T Fault → Type 0
@@ -190,6 +214,10 @@ CarriesOutFrom old new answer changes result =
 abbrev pub ServesOn : {S T : Type 0} {g : Ghosts S} → Project S g → Result T Fault → Type 0
 ServesOn {S} {T} {g} new result = ServesUnlessFailed g (connection_of new) result
 
+-- so it is over the present version, or from an open connection
+abbrev pub ServesShown : {S T : Type 0} {g : Ghosts S} → Project S g → Project S g → Result T Fault → Type 0
+ServesShown old new result = IsPresentSession old ⊎ IsTrue (state_of old).is_open → ServesOn new result
+
 -- the command is planned, since the session is over the present version or it is an upgrade, and its limits are right
 pub record IsPlanned {S : Type 0} {g : Ghosts S} (old : Project S g) (command : Command) : Type 0 where
   pub present : IsSome (older_version old) → is_upgrade (request_of command) ≡ true
@@ -214,13 +242,13 @@ LeavesUntouched old new result = HasCleanDisk (state_of new) → IfErr result (�
 -- nothing
 abbrev pub LeavesIdle : {S T : Type 0} {g : Ghosts S} → Project S g → Project S g → Command → Result T Fault → Type 0
 LeavesIdle old new command result =
-    HasCleanDisk (state_of new) → (world : World) → IsKnownTo old world → GoesOn (state_of old) world → MakesNothing world (request_of command)
+    HasCleanDisk (state_of new) → (world : World) → ShowsProject old world → MakesNothing world (request_of command)
     → OnOk result (KeepsAll (state_of old) (state_of new))
 
 -- over an adopted project it is told why a command was not done
 abbrev pub TellsWhy : {S T : Type 0} {g : Ghosts S} → Project S g → Project S g → Command → Result T Fault → Type 0
 TellsWhy old new command result =
-    HasCleanDisk (state_of new) → IsUnlimited old → (world : World) → IsKnownTo old world → GoesOn (state_of old) world
+    HasCleanDisk (state_of new) → IsUnlimited old → (world : World) → ShowsProject old world
     → IfErr result (FailureCause (Broke old new) (has_ended new) world (request_of command))
 
 -- ---- a question

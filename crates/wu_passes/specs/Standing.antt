@@ -1,7 +1,8 @@
 -- A session over its tables: what they stand for, and what a stop may leave.
 use Rattle.std.specs.Prelude.{◌≡◌, ◌⊎◌, ◌<◌, ◌≤◌, ℕ, Bool, true, false, IsTrue, Result, Ok, Err, MatchResult}
+use Rattle.sqlite_disk.specs.Disk.{MoreFaults}
 use Rattle.sqlite_trees.specs.View.{doubt}
-use Rattle.sqlite.specs.State.{State}
+use Rattle.sqlite.specs.State.{HasCleanDisk, State}
 use Rattle.sqlite.specs.Tree.{Trees}
 use Rattle.wu_core.specs.declared.fault.Fault.{Fault}
 use Rattle.wu_core.specs.declared.fault.Fault.TheVariants.{Memory, Broken, NewSchema, NotAProject}
@@ -70,6 +71,14 @@ IsCutBy false fault = fault ≡ NotAProject
 -- what is doubted of the disk stays doubted
 abbrev pub FaultsOnlyGrow : State → State → Type 0
 FaultsOnlyGrow old new = doubt old.is_clean ≤ doubt new.is_clean
+
+-- only a disk that fails in this call shuts an open connection
+abbrev pub KeepsOpen : State → State → Type 0
+KeepsOpen old new = HasCleanDisk new → IsTrue old.is_open → IsTrue new.is_open ⊎ MoreFaults old.faults new.faults
+
+-- and nothing opens one that is shut
+abbrev pub KeepsShut : State → State → Type 0
+KeepsShut old new = HasCleanDisk new → IsTrue new.is_open → IsTrue old.is_open
 
 -- the fault tells a later version than this program knows
 abbrev pub TellsLater : ℕ → Fault → Type 0

@@ -1,7 +1,6 @@
 //! A project: a session over its database.
 
 ghost use Rattle.std.specs.Prelude.{◌≡◌, false};
-ghost use Rattle.wu_passes.specs.Older.{KnowsOlder};
 
 mod session;
 mod summary;
@@ -15,8 +14,7 @@ pub use walk::{
 /// A session over the database of a project, from its adoption to its release.
 ///
 /// Over an older version than the present one only an upgrade is done: each other command answers `OldSchema`, and so
-/// does each walk, and the summary. Want of memory in an upgrade may leave the version unknown. From then on a command
-/// asks it anew, and answers `OldSchema` behind a wrong limit; a walk and the summary read what is there.
+/// does each walk, and the summary. It stays over that version until an upgrade is done, whatever fault comes between.
 ///
 /// It ends at `Broken` (the disk failed, or something is too big for the store), and at want of memory within a
 /// transaction: from then on each call answers `Ended` and changes nothing, since what the database holds is known
@@ -25,8 +23,7 @@ pub use walk::{
 pub struct Project<S: Alter> {
     conn: Connection<S>,
     has_ended: bool,
-    /// The older version than the present one that its tables have, where it is known.
+    /// The version that its tables have, where that is older than the present one.
     older: Option<u64>,
     ghost idle: { conn.in_transaction ≡ false },
-    ghost knows: { KnowsOlder S.Store conn has_ended older },
 }

@@ -72,10 +72,10 @@ use Rattle.sqlite_wal.specs.Files.{image_at}
 use Rattle.wu_stops.specs.Closing.{IsNumbered}
 use Rattle.wu_lives.specs.Runs.{HoldsWorld}
 use Rattle.wu_program.specs.Opening.{IsOpenedAt}
-use Rattle.wu_program.specs.Running.{RunsWords, TellsTrouble}
+use Rattle.wu_program.specs.Running.{TellsTrouble}
 use Rattle.wu_program.specs.declared.End.{End}
 use Rattle.wu_program.specs.declared.database.Left.TheVariants as left
-use Rattle.wu_program_laws.specs.Runs.{BeginsWhereOneEnded, BeginsWhereOneStopped, HoldAfter, HoldAfterOneMore, Holds, LeavesAsItWas, LeavesDone, LeavesItsDone, LeavesItsDoneOrMore, LeavesItsWork, LeavesItsWorkUnclosed, OfEachImage, ImageRefines, TellsDone}
+use Rattle.wu_program_laws.specs.Runs.{BeginsWhereOneEnded, BeginsWhereOneStopped, done_by, done_by_unclosed, HoldAfter, HoldAfterOneMore, Holds, LeavesAsItWas, LeavesDone, LeavesItsDone, LeavesItsDoneOrMore, LeavesItsWork, LeavesItsWorkUnclosed, OfEachImage, ImageRefines, TellsDone}
 
 -- ---- statuses
 
@@ -162,11 +162,11 @@ module _ {D W : Type 0} {g : Ghosts D} (contents : W → Option (List ℕ)) (con
       → BeginsFrom (file_state conn) world → ToldWork world (work.Line (Commands commands))
   line_told commands does clean world project begun =
       let (end, (run, runs, is), told) = does.does in
-      let (answers, written, driven) = runs.answers in
+      let (answers, written, driven, driven_from) = runs.answers in
       let after : HasCleanDisk (state_of does.new) = subst (λ c. HasCleanDisk (file_state c)) does.released clean in
       let before : HasCleanDisk (state_of does.old) = let kept = runs.clean in omega (arith, kept, after) in
-      let (known, goes) = begins over_files contents conn again old new _ done does before world project begun in
-      let drives = driven does.begins after world known goes in
+      let over = begins over_files contents conn again old new _ done does before world project begun in
+      let drives = driven does.begins after world over in
       let it : Drives world commands answers (so_far run.acknowledged) (has_ended does.new) (state_of does.new) = record {
         within = drives.within;
         answered = drives.answered;
@@ -370,35 +370,25 @@ module _ {S W E : Type 0} {c : calls.Ghosts Host} {s : start.Ghosts S} {g : Ghos
 
   pub leaves_its_work : (end : End (Modelled Host S c s) g) → LeavesItsWork contents told_of end
   leaves_its_work end run =
-      let runs : RunsWords {g = g} contents run.words run.old run.new run.obeys.done (Some (left.Closed run.files)) = subst (λ l. RunsWords {g = g} contents run.words run.old run.new run.obeys.done l) run.closed run.obeys.runs in
+      let runs = done_by contents told_of end run in
       let conn = runs.runs.conn in
       let it = runs.runs.does in
-      record {
-        order = runs.order;
-        work = runs.work;
-        asked = runs.asked;
-        left = λ honest.
-            let copied : IsCopied it.again run.files = it.closed.copied honest in
-            let each = copied_each it.again run.files stays copied in
-            opened_leaves HoldAfter conn it.again _ runs.work run.old run.new run.err_old run.err_new run.obeys.done end.status end.is_told run.files runs.runs.opened it.does it.drives run.obeys.tells copied.was_clean each
-            (λ world works. hold_after it.again run.files each copied.was_open world (commands_of_work world runs.work) works.answers works.count works.is_cut works.drives);
-      }
+      λ honest.
+          let copied : IsCopied it.again run.files = it.closed.copied honest in
+          let each = copied_each it.again run.files stays copied in
+          opened_leaves HoldAfter conn it.again _ runs.work run.old run.new run.err_old run.err_new run.obeys.done end.status end.is_told run.files runs.runs.opened it.does it.drives run.obeys.tells copied.was_clean each
+          (λ world works. hold_after it.again run.files each copied.was_open world (commands_of_work world runs.work) works.answers works.count works.is_cut works.drives)
 
   pub leaves_its_work_unclosed : (end : End (Modelled Host S c s) g) → LeavesItsWorkUnclosed contents told_of end
   leaves_its_work_unclosed end run =
-      let runs : RunsWords {g = g} contents run.words run.old run.new run.obeys.done (Some (left.Unclosed run.error run.store)) = subst (λ l. RunsWords {g = g} contents run.words run.old run.new run.obeys.done l) run.unclosed run.obeys.runs in
+      let runs = done_by_unclosed contents told_of end run in
       let conn = runs.runs.conn in
       let it = runs.runs.does in
-      record {
-        order = runs.order;
-        work = runs.work;
-        asked = runs.asked;
-        left = λ honest.
-            let each = unclosed_each it.again run.store it.closed.quiet run.numbered run.files run.files_are honest in
-            opened_leaves HoldAfterOneMore conn it.again _ runs.work run.old run.new run.err_old run.err_new run.obeys.done end.status end.is_told run.files runs.runs.opened it.does it.drives run.obeys.tells
-            (unclosed_clean it.again run.store it.closed.quiet run.numbered run.files run.files_are honest) each
-            (λ world works. hold_one_more it.again run.files each world (commands_of_work world runs.work) works.answers works.count works.is_cut works.drives);
-      }
+      λ honest.
+          let each = unclosed_each it.again run.store it.closed.quiet run.numbered run.files run.files_are honest in
+          opened_leaves HoldAfterOneMore conn it.again _ runs.work run.old run.new run.err_old run.err_new run.obeys.done end.status end.is_told run.files runs.runs.opened it.does it.drives run.obeys.tells
+          (unclosed_clean it.again run.store it.closed.quiet run.numbered run.files run.files_are honest) each
+          (λ world works. hold_one_more it.again run.files each world (commands_of_work world runs.work) works.answers works.count works.is_cut works.drives)
 
 -- ---- one after another
 
@@ -411,8 +401,8 @@ module _ {S T W E : Type 0} {c d : calls.Ghosts Host} {s : start.Ghosts S} {t : 
       record {
         left = left;
         next = next;
-        done = λ honest world it. ∥∥₁_map (it.held (image_at t) may) (λ after. next.left honest _ after.project (inl after.held));
-        kept = λ honest world project held it. ∥∥₁_map (it.held held (image_at t) may) (λ still_held. next.left honest world project (inl still_held));
+        done = λ honest world it. ∥∥₁_map (it.held (image_at t) may) (λ after. next honest _ after.project (inl after.held));
+        kept = λ honest world project held it. ∥∥₁_map (it.held held (image_at t) may) (λ still_held. next honest world project (inl still_held));
       }
 
   pub begins_where_one_stopped : (first : End (Modelled Host S c s) g) (second : End (Modelled Host T d t) h) → BeginsWhereOneStopped contents told_of first second
@@ -427,7 +417,7 @@ module _ {S T W E : Type 0} {c d : calls.Ghosts Host} {s : start.Ghosts S} {t : 
           within = found.within;
           has_done = found.has_done;
           at_most_one_more = found.at_most_one_more;
-          next = next.left honest _ found.after.project (inl found.after.held);
+          next = next honest _ found.after.project (inl found.after.held);
         });
-        kept = λ honest world project held it. ∥∥₁_map (it.held held (image_at t) may) (λ still_held. next.left honest world project (inl still_held));
+        kept = λ honest world project held it. ∥∥₁_map (it.held held (image_at t) may) (λ still_held. next honest world project (inl still_held));
       }

@@ -1,4 +1,5 @@
 -- What a run of the program leaves of its database, and where the next run begins.
+use Rattle.std.proofs.Common.{subst}
 use Rattle.std.specs.Prelude.{◌≡◌, ◌⊎◌, ◌+◌, ◌≤◌, ℕ, List, [], length, take, Option, Some, ⊤}
 use Rattle.sqlite.specs.declared.error.Error.{Error}
 use Rattle.sqlite_disk.specs.declared.Disk.{Ghosts}
@@ -22,14 +23,12 @@ use Rattle.wu_machine.specs.declared.command.Command.{Command}
 use Rattle.wu_passes.specs.Adopting.{IsAdoptionFault}
 use Rattle.wu_words.specs.Statuses.{fault_status}
 use Rattle.wu_words.specs.declared.action.Action.TheVariants.{Commands}
-use Rattle.wu_words.specs.declared.order.Order.{Order}
 use Rattle.wu_cli.specs.Working.{commands_of_work}
 use Rattle.wu_cli.specs.declared.work.Work.{Work}
 use Rattle.wu_cli.specs.declared.work.Work.TheVariants as work
 use Rattle.wu_stops.specs.Closing.{IsNumbered}
 use Rattle.wu_lives.specs.Runs.{HoldsWorld}
-use Rattle.wu_program.specs.Asking.{AsksFor}
-use Rattle.wu_program.specs.Running.{Obeys}
+use Rattle.wu_program.specs.Running.{Obeys, RunsAsked, RunsWords}
 use Rattle.wu_program.specs.declared.End.{End}
 use Rattle.wu_program.specs.declared.database.Left.TheVariants as left
 
@@ -91,13 +90,6 @@ module _ {D : Type 0} (g : Ghosts D) (files : Files D) (says : Holds) (before af
       AreClean g files.log files.db → (world : World) → IsProject world → ImageRefines first world
       → LeavesDone world asked status ⊎ LeavesAsItWas g files first world status
 
-  -- the words ask for work, and a beginning of that is left
-  pub record AreLeftByRun (first : Image) (words : List (List ℕ)) (status : ℕ) : Type 0 where
-    pub order : Order
-    pub work : Work
-    pub asked : AsksFor words order work
-    pub left : LeavesBeginning first work status
-
 -- ---- one run
 
 module _ {S W E : Type 0} {c : calls.Ghosts Host} {s : start.Ghosts S} {g : Ghosts (Modelled Host S c s)} (contents : W → Option (List ℕ)) (told_of : E → Option (List ℕ)) where
@@ -128,25 +120,26 @@ module _ {S W E : Type 0} {c : calls.Ghosts Host} {s : start.Ghosts S} {g : Ghos
     pub files : Files (Modelled Host S c s)
     pub files_are : (files.log, files.db) ≡ store_files store
 
-  -- its files hold what was done, and no more
+  -- how it opened its database and did what its words ask for
+  abbrev pub done_by : (end : End (Modelled Host S c s) g) → (run : ClosedRun end) → RunsAsked {g = g} contents run.words run.old run.new run.obeys.done (left.Closed run.files)
+  done_by end run = subst (λ l. RunsWords {g = g} contents run.words run.old run.new run.obeys.done l) run.closed run.obeys.runs
+
+  abbrev pub done_by_unclosed : (end : End (Modelled Host S c s) g) → (run : UnclosedRun end) → RunsAsked {g = g} contents run.words run.old run.new run.obeys.done (left.Unclosed run.error run.store)
+  done_by_unclosed end run = subst (λ l. RunsWords {g = g} contents run.words run.old run.new run.obeys.done l) run.unclosed run.obeys.runs
+
+  -- its files hold a beginning of the work that it did, and no more
   abbrev pub LeavesItsDone : (end : End (Modelled Host S c s) g) → ClosedRun end → Type 0
-  LeavesItsDone end run = AreLeftByRun g run.files HoldAfter (contents run.old) (contents run.new) (image_at s) run.words end.status
+  LeavesItsDone end run = LeavesBeginning g run.files HoldAfter (contents run.old) (contents run.new) (image_at s) (done_by end run).work end.status
 
   abbrev pub LeavesItsWork : End (Modelled Host S c s) g → Type 0
   LeavesItsWork end = (run : ClosedRun end) → LeavesItsDone end run
 
   -- they hold what was done, and at most the one command that was cut
   abbrev pub LeavesItsDoneOrMore : (end : End (Modelled Host S c s) g) → UnclosedRun end → Type 0
-  LeavesItsDoneOrMore end run = AreLeftByRun g run.files HoldAfterOneMore (contents run.old) (contents run.new) (image_at s) run.words end.status
+  LeavesItsDoneOrMore end run = LeavesBeginning g run.files HoldAfterOneMore (contents run.old) (contents run.new) (image_at s) (done_by_unclosed end run).work end.status
 
   abbrev pub LeavesItsWorkUnclosed : End (Modelled Host S c s) g → Type 0
   LeavesItsWorkUnclosed end = (run : UnclosedRun end) → LeavesItsDoneOrMore end run
-
-module _ {S : Type 0} {c : calls.Ghosts Host} {s : start.Ghosts S} {g : Ghosts (Modelled Host S c s)} where
-  -- a run with these words and outputs that ended so: where it closed its database, its files hold what was done
-  abbrev pub LeavesWhereClosed : List (List ℕ) → Option (List ℕ) → Option (List ℕ) → End (Modelled Host S c s) g → Type 0
-  LeavesWhereClosed words before after end =
-      (files : Files (Modelled Host S c s)) → end.left ≡ Some (left.Closed files) → AreLeftByRun g files HoldAfter before after (image_at s) words end.status
 
 -- ---- one after another
 
@@ -170,22 +163,22 @@ module _ {S T W E : Type 0} {c d : calls.Ghosts Host} {s : start.Ghosts S} {t : 
     pub left : LeavesItsDone contents told_of first one
     pub next : LeavesItsDone contents told_of second two
     pub done :
-        AreClean h two.files.log two.files.db → (world : World) (it : LeavesDone g one.files HoldAfter (contents one.old) (contents one.new) world left.work first.status)
-        → ∥ DoesNext two next.work (world_after world (commands_of_work world left.work) it.count) ∥₁
+        AreClean h two.files.log two.files.db → (world : World) (it : LeavesDone g one.files HoldAfter (contents one.old) (contents one.new) world (done_by contents told_of first one).work first.status)
+        → ∥ DoesNext two (done_by contents told_of second two).work (world_after world (commands_of_work world (done_by contents told_of first one).work) it.count) ∥₁
     pub kept :
         AreClean h two.files.log two.files.db → (world : World) → IsProject world → HoldsWorld (image_at s) world → LeavesAsItWas g one.files (image_at s) world first.status
-        → ∥ DoesNext two next.work world ∥₁
+        → ∥ DoesNext two (done_by contents told_of second two).work world ∥₁
 
   -- so it did after one whose close failed, where the command that was cut may be in that world
   pub record GoAfterStop (one : UnclosedRun contents told_of first) (two : ClosedRun contents told_of second) : Type 0 where
     pub left : LeavesItsDoneOrMore contents told_of first one
     pub next : LeavesItsDone contents told_of second two
     pub done :
-        AreClean h two.files.log two.files.db → (world : World) (it : LeavesDone g one.files HoldAfterOneMore (contents one.old) (contents one.new) world left.work first.status)
-        → ∥ DoesNextAfter two next.work world (commands_of_work world left.work) it.count ∥₁
+        AreClean h two.files.log two.files.db → (world : World) (it : LeavesDone g one.files HoldAfterOneMore (contents one.old) (contents one.new) world (done_by_unclosed contents told_of first one).work first.status)
+        → ∥ DoesNextAfter two (done_by contents told_of second two).work world (commands_of_work world (done_by_unclosed contents told_of first one).work) it.count ∥₁
     pub kept :
         AreClean h two.files.log two.files.db → (world : World) → IsProject world → HoldsWorld (image_at s) world → LeavesAsItWas g one.files (image_at s) world first.status
-        → ∥ DoesNext two next.work world ∥₁
+        → ∥ DoesNext two (done_by contents told_of second two).work world ∥₁
 
   -- whatever two runs did that ended so, where the second began with what a stop left of the first
   abbrev pub BeginsWhereOneEnded : Type 0

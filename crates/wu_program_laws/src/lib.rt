@@ -2,8 +2,9 @@
 #![tactic(auto)]
 
 ghost use Rattle.std.specs.Prelude.{map, string_bytes};
+ghost use Rattle.wu_program.specs.Running.{Obeys};
 ghost use Rattle.wu_program_laws.specs.Checked.{EachCheckIsTrue};
-ghost use Rattle.wu_program_laws.specs.Runs.{BeginsWhereOneEnded, BeginsWhereOneStopped, LeavesItsWork, LeavesItsWorkUnclosed, LeavesWhereClosed};
+ghost use Rattle.wu_program_laws.specs.Runs.{BeginsWhereOneEnded, BeginsWhereOneStopped, LeavesItsWork, LeavesItsWorkUnclosed};
 
 use sqlite::{FileFrom, Start};
 use std::io::Write;
@@ -36,7 +37,7 @@ pub fn a_run_begins_where_one_stopped<S: Start, T: Start, O: Write, E: Write>(
 {}
 
 /// Does what the words ask for, as `obey`. Where it closed its database, that holds the world after a beginning of the
-/// work.
+/// work that it did.
 pub fn obey_and_leave<S: Start, O: Write, E: Write>(
     rt: &HostRuntime,
     words: &[String],
@@ -44,8 +45,9 @@ pub fn obey_and_leave<S: Start, O: Write, E: Write>(
     out: &mut O,
     err: &mut E,
 ) -> End<FileFrom<S>>
-    ensures left { LeavesWhereClosed (map string_bytes words.now)
-        (O.contents out.old) (O.contents out.new) result }
+    ensures obeys { Obeys O.contents E.contents (map string_bytes words.now)
+        out.old out.new err.old err.new result }
+    ensures left { LeavesItsWork O.contents E.contents result }
 {
     let end = obey(rt, words, start, out, err);
     a_run_leaves_a_beginning::<S, O, E>(&end);

@@ -133,7 +133,7 @@ handed_broken (Err other) fault same is = let broke : other ≡ Broken = cc in s
 
 -- what only reads ends no session
 pub reads_session : {S T : Type 0} {g : Ghosts S} (old new : Project S g) (r : Result T Fault) → OnlyReads old new → ReadsSession old new r
-reads_session old new r it = record { read = it.read; limit = it.limit; ends = λ going ended. absurd (true≢false (sym ended ∙ it.session ∙ going)) }
+reads_session old new r it = record { read = it.read; limit = it.limit; version = it.version; ends = λ going ended. absurd (true≢false (sym ended ∙ it.session ∙ going)) }
 
 -- ---- what is cut
 

@@ -8,8 +8,8 @@ use Rattle.wu_core.specs.declared.fault.Fault.{Fault}
 use Rattle.wu_core.specs.declared.fault.Fault.TheVariants.{Broken, Ended, NotAProject, OldSchema, Output}
 use Rattle.wu_core.specs.World.{World}
 use Rattle.wu_passes.specs.declared.project.Project.{Project}
-use Rattle.wu_passes.specs.Projects.{AnswersFirst, has_ended, IsPresentSession, IsSessionOpen, older_version, ServesOn, state_of}
-use Rattle.wu_passes.specs.Standing.{GoesOn}
+use Rattle.wu_passes.specs.Projects.{AnswersFirst, has_ended, IsPresentSession, IsSessionOpen, older_version, ServesShown, state_of}
+use Rattle.wu_passes.specs.Standing.{ShowsWorld}
 use Rattle.wu_passes.specs.Walks.{RefusesFirst, ShowsTables}
 
 module _ {S : Type 0} {g : Ghosts S} (old new : Project S g) where
@@ -66,10 +66,13 @@ module _ {S T : Type 0} {g : Ghosts S} (old : Project S g) (fault : Fault) (earl
     | inr going ↦ let it = old_alone going in inr (it.0, it.2)
   ]
 
-  -- an older version is known of an open connection
-  pub still_serves : {U : Type 0} (r : Result U Fault) → IsErrAnd r (λ other. other ≡ fault) → IsSessionOpen old → ServesOn old r
+  -- an open connection stays so
+  pub still_serves : {U : Type 0} (r : Result U Fault) → IsErrAnd r (λ other. other ≡ fault) → IsSessionOpen old → ServesShown old old r
   still_serves (Ok y) same going = absurd same
-  still_serves (Err other) same going = λ clean. let it = old_alone going in inr ((old.knows it.0 it.1).1 going clean).0
+  still_serves (Err other) same going = λ either clean. elim either [
+    | inl present ↦ absurd (let no = sym present ∙ (old_alone going).1 in cc)
+    | inr is_open ↦ inr is_open
+  ]
 
 pub never_refused_so : (fault : Fault) → IsRefusal fault → fault ≢ NotAProject
 never_refused_so fault (inl ended) is = absurd (let no = sym ended ∙ is in cc)
@@ -83,9 +86,9 @@ pub never_broken_so : (fault : Fault) → IsRefusal fault → fault ≢ Broken
 never_broken_so fault (inl ended) is = absurd (let no = sym ended ∙ is in cc)
 never_broken_so fault (inr (version, older)) is = absurd (let no = sym older ∙ is in cc)
 
--- while the connection is open, the tables of a session that goes on stand for its world
-pub tables_shown : {S : Type 0} {g : Ghosts S} (old : Project S g) (world : World) → GoesOn (state_of old) world → ShowsTables (state_of old) world
-tables_shown old world goes is_open = (goes.stands is_open).0.refines
+-- while the connection is open, the tables stand for the world that it shows
+pub tables_shown : {S : Type 0} {g : Ghosts S} (old : Project S g) (world : World) → ShowsWorld (state_of old) world → ShowsTables (state_of old) world
+tables_shown old world shows is_open = (shows is_open).0.refines
 
 -- where no walk begins, nothing is touched
 pub untouched : {S U : Type 0} {g : Ghosts S} (old new : Project S g) (r : Result U Fault) (fault : Fault) → r ≡ Err fault → OnErr r (new ≡ old) → new ≡ old

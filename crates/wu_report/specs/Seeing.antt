@@ -6,7 +6,7 @@ use Rattle.wu_core.specs.declared.fault.Fault.TheVariants.{Broken}
 use Rattle.wu_machine.specs.declared.view.View.{View}
 use Rattle.wu_store.specs.Loading.{IsReadOnly}
 use Rattle.wu_passes.specs.declared.project.Project.{Project}
-use Rattle.wu_passes.specs.Projects.{BreaksOn, IsSessionOpen, IsSessionEnded, KeepsLimit, ServesOn, state_of}
+use Rattle.wu_passes.specs.Projects.{BreaksOn, IsSessionOpen, IsSessionEnded, KeepsLimit, KeepsVersion, ServesShown, state_of}
 use Rattle.wu_passes.specs.Standing.{FaultsOnlyGrow}
 use Rattle.wu_report.specs.Projects.{EndsAsBroken, StillGoesOn}
 use Rattle.wu_report.specs.Views.{RefusesView, Shows, ShowsOrFails, ShowsUnrefused}
@@ -28,4 +28,5 @@ pub record Sees {S W T : Type 0} {store : Ghosts S} (contents : W → Option (Li
   pub fault : ShowsOrFails old result
   pub unrefused : ShowsUnrefused old new view result
   pub broke : BreaksOn old new result
-  pub opens : IsSessionOpen old → ServesOn new result
+  pub opens : IsSessionOpen old → ServesShown old new result
+  pub version : KeepsVersion old new

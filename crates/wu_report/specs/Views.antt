@@ -12,7 +12,7 @@ use Rattle.wu_store.specs.Loading.{IsStoreFault}
 use Rattle.wu_core.specs.Storable.{AreStorable, IsArchiveStorable}
 use Rattle.wu_store.specs.StandsFor.{KnowsClasses}
 use Rattle.wu_pages.specs.Summaries.{IsCountable}
-use Rattle.wu_passes.specs.Standing.{GoesOn}
+use Rattle.wu_passes.specs.Standing.{ShowsWorld}
 use Rattle.wu_passes.specs.declared.project.Project.{Project}
 use Rattle.wu_passes.specs.declared.project.walk.LineWalk.{LineWalk}
 use Rattle.wu_passes.specs.declared.project.walk.LinesLeft.{LinesLeft}
@@ -47,16 +47,16 @@ CutsLeft {S} {P} {T} p text contents old new out_old out_new result =
 
 -- ---- a view
 
--- where a session goes on over a world with classes and the disk does not fail, this text of that world is written
+-- where the tables stand for a world with classes and the disk does not fail, this text of that world is written
 abbrev pub ShowsText : {S W T : Type 0} {store : Ghosts S} → (W → Option (List ℕ)) → Project S store → Project S store → W → W → (World → List ℕ) → Result T Fault → Type 0
 ShowsText contents old new out_old out_new text_of result =
-    IsSessionOpen old → HasCleanDisk (state_of new) → (world : World) → KnowsClasses world → GoesOn (state_of old) world
+    IsSessionOpen old → HasCleanDisk (state_of new) → (world : World) → KnowsClasses world → ShowsWorld (state_of old) world
     → WritesTo contents out_old out_new (text_of world) result
 
 -- and it is cut where the output took no more
 abbrev pub CutsShown : {S W T : Type 0} {store : Ghosts S} → (W → Option (List ℕ)) → Project S store → Project S store → W → W → (World → List ℕ) → Result T Fault → Type 0
 CutsShown contents old new out_old out_new text_of result =
-    IsSessionOpen old → HasCleanDisk (state_of new) → (world : World) → KnowsClasses world → GoesOn (state_of old) world
+    IsSessionOpen old → HasCleanDisk (state_of new) → (world : World) → KnowsClasses world → ShowsWorld (state_of old) world
     → CutsOutput (contents out_old) (contents out_new) (text_of world) result
 
 -- a view's text is
@@ -76,7 +76,7 @@ CanBeShown world view.Classes = AreClassed world.classes
 abbrev pub UnrefusedWhere : {S T : Type 0} {store : Ghosts S} → (World → Type 0) → Project S store → Project S store → Result T Fault → Type 0
 UnrefusedWhere IsReadable old new result =
     IsSessionOpen old → HasCleanDisk (state_of new) → IsUnlimited old → (world : World) → KnowsClasses world → IsReadable world
-    → GoesOn (state_of old) world
+    → ShowsWorld (state_of old) world
     → IfErr result (λ fault. fault ≢ NotAProject)
 
 -- where they can, the view is not refused

@@ -5,7 +5,7 @@ ghost use Rattle.wu_report.specs.Projects.{ReadsSession};
 ghost use Rattle.wu_report.specs.Seeing.{Sees};
 ghost use Rattle.wu_report.specs.Texts.{view_text};
 ghost use Rattle.wu_report.specs.Views.{CutsLeft, CutsShown, IsViewFault, RefusesView, Shows, ShowsOrFails, ShowsText, ShowsUnrefused, UnrefusedWhere, WritesLeft};
-ghost use Rattle.wu_passes.specs.Projects.{BreaksOn, IsPresentSession, IsSessionOpen, ServesOn};
+ghost use Rattle.wu_passes.specs.Projects.{BreaksOn, IsPresentSession, IsSessionOpen, ServesShown};
 ghost use Rattle.wu_passes.specs.Walks.{HandsUnrefused, OnlyReads, ReadsOn, StaysServing, walked};
 
 use crate::lines::{Line, write_summary};
@@ -53,7 +53,7 @@ where
     P::Line: Line,
     ensures early { RefusesView W.contents project.old project.new out.old out.new result }
     ensures reads { OnlyReads project.old project.new }
-    ensures opens { IsSessionOpen project.old → ServesOn project.new result }
+    ensures opens { IsSessionOpen project.old → ServesShown project.old project.new result }
     ensures text { ShowsText W.contents project.old project.new out.old out.new
         (λ world. flat_map P.Line.text (P.Pages.rest pages world)) result }
     ensures cut { CutsShown W.contents project.old project.new out.old out.new
@@ -70,7 +70,7 @@ where
 fn write_counts<S: Alter, W: Write>(project: &mut Project<S>, out: &mut W) -> Result<(), Fault>
     ensures early { RefusesView W.contents project.old project.new out.old out.new result }
     ensures reads { ReadsSession project.old project.new result }
-    ensures opens { IsSessionOpen project.old → ServesOn project.new result }
+    ensures opens { IsSessionOpen project.old → ServesShown project.old project.new result }
     ensures text { Shows W.contents project.old project.new out.old out.new View.Summary result }
     ensures cut { CutsShown W.contents project.old project.new out.old out.new
         (λ world. view_text world View.Summary) result }
@@ -91,7 +91,7 @@ fn write_view<S: Alter, W: Write>(
 ) -> Result<(), Fault>
     ensures early { RefusesView W.contents project.old project.new out.old out.new result }
     ensures reads { ReadsSession project.old project.new result }
-    ensures opens { IsSessionOpen project.old → ServesOn project.new result }
+    ensures opens { IsSessionOpen project.old → ServesShown project.old project.new result }
     ensures text { Shows W.contents project.old project.new out.old out.new view result }
     ensures cut { CutsShown W.contents project.old project.new out.old out.new
         (λ world. view_text world view) result }

@@ -9,7 +9,7 @@ ghost use Rattle.wu_machine.specs.Sound.{IsProject};
 ghost use Rattle.wu_store.specs.Loading.{Asks, ServesUnlessFailed, StaysUnlessFailed};
 ghost use Rattle.wu_passes.specs.Standing.{IsCutBy};
 ghost use Rattle.wu_passes.specs.Adopting.{Adopts, KnowsVersion, older_than_present, RefusesAdoption, StartsOver};
-ghost use Rattle.wu_passes.specs.Projects.{AnswersEnded, AsksOn, CarriesOut, CarriesOutFrom, connection_of, FailsAgain, GoesOnAgain, IsSessionOpen, has_ended, IsSessionEnded, KeepsAsking, KeepsSession, KnowsTables, LeavesIdle, LeavesUntouched, PlansOn, ReadsUnrefused, RefusesEarly, RunsOver, refused_for, ServesOn, ServesRight, older_version, state_of, TellsWhy};
+ghost use Rattle.wu_passes.specs.Projects.{AnswersEnded, AsksOn, CarriesOut, CarriesOutFrom, connection_of, FailsAgain, GoesOnAgain, IsSessionOpen, has_ended, IsSessionEnded, KeepsAsking, KeepsSession, KeepsVersion, KnowsTables, LeavesIdle, LeavesUntouched, PlansOn, ReadsUnrefused, RefusesEarly, RunsOver, refused_for, ServesOn, ServesRight, older_version, state_of, TellsWhy};
 
 use crate::commit::change_all;
 use crate::project::Project;
@@ -17,6 +17,7 @@ use crate::version::known_version;
 use sqlite::{Alter, Connection};
 use std::alloc::Global;
 use wu_core::Fault;
+use wu_machine::laws::commands_keep_projects;
 use wu_machine::{Answer, Command};
 use wu_plans::{
     Ask, Plan, plan_batch, plan_cancel, plan_classes, plan_pass, plan_reported, plan_sent,
@@ -220,15 +221,13 @@ impl<S: Alter> Project<S> {
 
     /// Runs a command: its changes in one transaction, then its answer.
     ///
-    /// Over an older version that the session knows each command but an upgrade is `OldSchema`, whatever its limits.
-    /// Then a pass whose limit or least age is out of range is `BadLimit`. Nothing is touched for either. All else is
-    /// computed before the transaction begins; a fault before it leaves the project as it was, and only `Broken` ends
-    /// the session there. A statement that is refused within it is `NotAProject`, and is rolled back; `Memory` and
-    /// `Broken` from within end the session. For a command that neither refusal meets, the connection is open after Ok
-    /// and after each fault but `Memory` and `Broken`; after a `Memory` that leaves the session on it may be closed. A
-    /// command that the machine makes nothing of, such as an import that comes again, begins no transaction. What is
-    /// done leaves the session over no older version; a fault leaves it over the one that it was, which want of memory
-    /// in an upgrade may leave unknown.
+    /// Over an older version each command but an upgrade is `OldSchema`, whatever its limits. Then a pass whose limit or
+    /// least age is out of range is `BadLimit`. Nothing is touched for either. All else is computed before the
+    /// transaction begins; a fault before it leaves the project as it was, and only `Broken` ends the session there. A
+    /// statement that is refused within it is `NotAProject`, and is rolled back; `Memory` and `Broken` from within end
+    /// the session. An open connection stays open, but where the disk fails in this call. A command that the machine
+    /// makes nothing of, such as an import that comes again, begins no transaction. What is done leaves the session over
+    /// no older version; a fault leaves it over the one that it was.
     pub fn run(&mut self, alloc: Global, command: &Command) -> Result<Answer, Fault>
         ensures ended { IsSessionEnded self.old → AnswersEnded self.old self.new result }
         ensures session { KeepsSession self.old self.new result }
@@ -249,6 +248,8 @@ impl<S: Alter> Project<S> {
         if !has_right_limits(command) {
             return Err(Fault::BadLimit);
         }
+        // a law, for the proof alone: what the command makes of a project is one
+        commands_keep_projects(command);
         match self.prepare(alloc, command) {
             Ok(Plan { answer, changes }) => self.carry_out(answer, changes.as_slice()),
             Err(refusal) => Err(refusal),
@@ -285,15 +286,9 @@ impl<S: Alter> Project<S> {
         match plan(&mut self.conn, alloc, command) {
             Ok(plan) => Ok(plan),
             Err(fault) => {
-                if fault == Fault::Memory {
-                    // the connection may be closed: what is asked next asks the version anew
-                    self.older = None;
-                    return Err(fault);
+                if fault == Fault::Broken {
+                    self.has_ended = true;
                 }
-                if fault != Fault::Broken {
-                    return Err(fault);
-                }
-                self.has_ended = true;
                 Err(fault)
             }
         }
@@ -341,6 +336,7 @@ impl<S: Alter> Project<S> {
     pub fn end_session(&mut self)
         ensures over { IsSessionEnded self.new }
         ensures same { connection_of self.new ≡ connection_of self.old }
+        ensures version { KeepsVersion self.old self.new }
     {
         self.has_ended = true;
     }

@@ -22,20 +22,20 @@ returns-in-Some g c =
       answers = (
         answers,
         written,
-        λ clean world known goes. elim (cases_Bool c.args.project.has_ended) [
+        λ clean world over. elim (cases_Bool c.args.project.has_ended) [
           | inl was ↦ answers_none world c.args.commands.now answers run (it.ended was).2 written.counted
-          | inr going ↦ (drives going (early clean) world known goes).answered
+          | inr going ↦ (drives going (early clean) world over).answered
         ],
       );
-      found = λ clean world known goes. elim (cases_Bool c.args.project.has_ended) [
+      found = λ clean world over. elim (cases_Bool c.args.project.has_ended) [
         | inl was ↦
             let ended = it.ended was in
-            holds_none world c.args.commands.now _ _ (again clean) known.1 run ended.2 (subst (λ p. GoesOn (file_state p.conn) world) (sym ended.0) goes)
-        | inr going ↦ holds_beginning world c.args.commands.now _ _ (again clean) known.1 answers run mid.has_ended (it.ends going) (drives going (early clean) world known goes)
+            holds_none world c.args.commands.now _ _ (again clean) over.is_project run ended.2 (subst (λ p. GoesOn (file_state p.conn) world) (sym ended.0) over.goes)
+        | inr going ↦ holds_beginning world c.args.commands.now _ _ (again clean) over.is_project answers run mid.has_ended (it.ends going) (drives going (early clean) world over)
       ];
       all = (it.count, it.all);
       ended = λ was. let (unchanged, unwritten, none, why) = it.ended was in (unwritten, none, why);
-      ends = λ going clean world known goes. (drives going (early clean) world known goes).end;
+      ends = λ going clean world over. (drives going (early clean) world over).end;
       reopened = (
         mid,
         record {

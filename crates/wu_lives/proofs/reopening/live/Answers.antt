@@ -10,8 +10,8 @@ pub returns-in-Some-begin-clause-begins : goal.returns-in-Some-begin-clause-begi
 returns-in-Some-begin-clause-begins g c = (c.in-Some-begin.ensures.begins, c.in-Some-begin.ensures.knows)
 
 pub returns-in-Some-begin-clause-found : goal.returns-in-Some-begin-clause-found
-returns-in-Some-begin-clause-found g c clean world known goes =
-    ∥∥₁_map (c.in-Some.ensures.found (omega (arith, clean, c.in-Some-begin.ensures.adopted.clean)) world known goes) (λ holds.
+returns-in-Some-begin-clause-found g c clean world over =
+    ∥∥₁_map (c.in-Some.ensures.found (omega (arith, clean, c.in-Some-begin.ensures.adopted.clean)) world over) (λ holds.
     let first : 1 ≤ (world_after world c.args.commands.now holds.count).version = holds.project.first in
     record {
       count = holds.count;
@@ -23,7 +23,7 @@ returns-in-Some-begin-clause-found g c clean world known goes =
 pub returns-in-Some-begin-clause-answers : goal.returns-in-Some-begin-clause-answers
 returns-in-Some-begin-clause-answers g c =
     let (answers, written, told) = c.in-Some.ensures.answers in
-    (answers, written, λ clean world known goes. told (omega (arith, clean, c.in-Some-begin.ensures.adopted.clean)) world known goes)
+    (answers, written, λ clean world over. told (omega (arith, clean, c.in-Some-begin.ensures.adopted.clean)) world over)
 
 pub returns-in-Some-begin-clause-ends : goal.returns-in-Some-begin-clause-ends
 returns-in-Some-begin-clause-ends g c going clean = c.in-Some.ensures.ends going (omega (arith, clean, c.in-Some-begin.ensures.adopted.clean))

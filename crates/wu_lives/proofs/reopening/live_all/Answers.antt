@@ -10,7 +10,7 @@ use Rattle.wu_lives.proofs.reopening.live_all.Goals as goal
 
 pub loop-commands-init : goal.loop-commands-init
 loop-commands-init g c = (
-  ([], record { their_commands = refl; their_runs = sym c.new-runs.ensures.items }, refl, λ clean world known goes. ∣ lived_none world _ known goes ∣₁),
+  ([], record { their_commands = refl; their_runs = sym c.new-runs.ensures.items }, refl, λ clean world over. ∣ lived_none world _ over ∣₁),
   λ clean. clean,
   λ on. elim on [
     | inl going ↦ going
@@ -29,10 +29,10 @@ loop-commands-preserved g c =
         of_more c.args.lives.now c.loop-commands.commands-index c.commands-item.result c.commands-item.result c.loop-commands.runs.items _ told next c.loop-commands-test.true (sym c.commands-item.is) c.as_slice.ensures.value
             c.in-Ok.ensures.items are,
         written_more _ _ _ told next written texts,
-        λ clean world known goes.
-            ∥∥₁_elim (found (c.in-Some.ensures.clean clean) world known goes) squash₁ (λ lived.
-            ∥∥₁_map (c.in-Some.ensures.found clean (world_of_life world lived.life) lived.known lived.goes) (λ holds.
-            lived_more world told next _ _ lived holds (c.in-Some.ensures.begins.1 clean _ holds.goes) (replied clean (world_of_life world lived.life) lived.known lived.goes))),
+        λ clean world over.
+            ∥∥₁_elim (found (c.in-Some.ensures.clean clean) world over) squash₁ (λ lived.
+            ∥∥₁_map (c.in-Some.ensures.found clean (world_of_life world lived.life) lived.over) (λ holds.
+            lived_more world told next _ _ lived holds (c.in-Some.ensures.begins.1 clean _ holds.goes.stands) (replied clean (world_of_life world lived.life) lived.over))),
       ),
       λ clean. was (c.in-Some.ensures.clean clean),
       λ on. c.in-Some.ensures.begins.0,

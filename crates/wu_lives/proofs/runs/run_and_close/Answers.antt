@@ -24,26 +24,26 @@ returns-in-Ok-clause-answers g c =
       answers,
       (
         written,
-        λ honest world known goes.
+        λ honest world over.
             let copied : IsCopied c.drive_and_release-conn.ensures.left.conn c.in-Ok.files = subst (λ h. IsCopied h c.in-Ok.files) c.drive_and_release-conn.ensures.released (c.in-Ok.ensures.copied honest) in
-            answered_at c.args.project c.drive_and_release-conn.ensures.left c.args.commands.now answers c.drive_and_release-conn.result.0 written.counted drives it.ends (λ was. ((it.ended was).0, (it.ended was).2)) copied.was_clean world known goes,
+            answered_at c.args.project c.drive_and_release-conn.ensures.left c.args.commands.now answers c.drive_and_release-conn.result.0 written.counted drives it.ends (λ was. ((it.ended was).0, (it.ended was).2)) copied.was_clean world over,
       ),
     )
 
 pub returns-in-Ok-clause-left : goal.returns-in-Ok-clause-left
-returns-in-Ok-clause-left g c honest world known goes =
+returns-in-Ok-clause-left g c honest world over =
     let it = c.drive_and_release-conn.ensures.runs in
     let mid = c.drive_and_release-conn.ensures.left in
     let (answers, written, drives) = it.answers in
     let copied : IsCopied mid.conn c.in-Ok.files = subst (λ h. IsCopied h c.in-Ok.files) c.drive_and_release-conn.ensures.released (c.in-Ok.ensures.copied honest) in
     beginning_copied mid.conn c.in-Ok.files g.met.D.Disk.seen_may_stay copied world c.args.commands.now c.drive_and_release-conn.result.0
-    (begins_at c.args.project mid c.args.commands.now answers c.drive_and_release-conn.result.0 written.counted drives it.ends (λ was. ((it.ended was).0, (it.ended was).2)) copied.was_clean world known goes)
+    (begins_at c.args.project mid c.args.commands.now answers c.drive_and_release-conn.result.0 written.counted drives it.ends (λ was. ((it.ended was).0, (it.ended was).2)) copied.was_clean world over)
 
 pub returns-in-Ok-clause-ended : goal.returns-in-Ok-clause-ended
 returns-in-Ok-clause-ended g c was = let (same, unwritten, none, why) = c.drive_and_release-conn.ensures.runs.ended was in (unwritten, none, why)
 
 pub returns-in-Err-clause-unclosed : goal.returns-in-Err-clause-unclosed
-returns-in-Err-clause-unclosed g c numbered files is honest world known goes =
+returns-in-Err-clause-unclosed g c numbered files is honest world over =
     let it = c.drive_and_release-conn.ensures.runs in
     let mid = c.drive_and_release-conn.ensures.left in
     let store = c.in-Err.store in
@@ -51,7 +51,7 @@ returns-in-Err-clause-unclosed g c numbered files is honest world known goes =
     let closed : IsClosed mid.conn store = subst (λ h. IsClosed h store) c.drive_and_release-conn.ensures.released c.in-Err.ensures.err.0 in
     beginning_in mid.conn store files (λ clean. numbered) closed.sound closed.quiet is honest world c.args.commands.now c.drive_and_release-conn.result.0
     (begins_at c.args.project mid c.args.commands.now answers c.drive_and_release-conn.result.0 written.counted drives it.ends (λ was. ((it.ended was).0, (it.ended was).2))
-    (was_clean mid.conn store files (λ clean. numbered) closed.sound closed.quiet is honest) world known goes)
+    (was_clean mid.conn store files (λ clean. numbered) closed.sound closed.quiet is honest) world over)
 
 pub returns-in-Err-clause-ended : goal.returns-in-Err-clause-ended
 returns-in-Err-clause-ended g c was = let (same, unwritten, none, why) = c.drive_and_release-conn.ensures.runs.ended was in (unwritten, none, why)

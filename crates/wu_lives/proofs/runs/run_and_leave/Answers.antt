@@ -31,14 +31,14 @@ returns g c =
         answers,
         (
           written,
-          λ honest world known goes.
-              answered_at old mid list answers run written.counted drives it.ends (λ was. ((it.ended was).0, (it.ended was).2)) (early honest) world known goes,
+          λ honest world over.
+              answered_at old mid list answers run written.counted drives it.ends (λ was. ((it.ended was).0, (it.ended was).2)) (early honest) world over,
         ),
       );
-      left = λ honest world known goes.
+      left = λ honest world over.
           beginning_in mid.conn store files c.store_of.ensures.numbered c.store_of.ensures.sound quiet c.close.ensures honest world list run
-          (begins_at old mid list answers run written.counted drives it.ends (λ was. ((it.ended was).0, (it.ended was).2)) (early honest) world known goes);
+          (begins_at old mid list answers run written.counted drives it.ends (λ was. ((it.ended was).0, (it.ended was).2)) (early honest) world over);
       all = (it.count, it.all);
       ended = λ was. let (same, unwritten, none, why) = it.ended was in (unwritten, none, why);
-      ends = λ going honest world known goes. (drives going (early honest) world known goes).end;
+      ends = λ going honest world over. (drives going (early honest) world over).end;
     }

@@ -8,7 +8,7 @@ use Rattle.wu_report.proofs.views.show.Goals as goal
 -- all lines were written, and then it was flushed
 pub returns-in-Ok : goal.returns-in-Ok
 returns-in-Ok g c = record {
-  text = λ going clean world knows goes. Writes-kept _ _ _ (view_text world c.args.view) c.flush.result (c.in-Ok.ensures.text going clean world knows goes) c.flush.ensures.bytes;
+  text = λ going clean world knows shows. Writes-kept _ _ _ (view_text world c.args.view) c.flush.result (c.in-Ok.ensures.text going clean world knows shows) c.flush.ensures.bytes;
   goes = λ clean world goes. goes_on (state_of c.args.project.now) _ world clean c.write_view.ensures.reads.read goes;
   reads = c.write_view.ensures.reads.read;
   clean = c.write_view.ensures.reads.read.survives.clean;
@@ -21,6 +21,7 @@ returns-in-Ok g c = record {
   unrefused = search rules;
   broke = search rules;
   opens = search rules;
+  version = c.write_view.ensures.reads.version;
 }
 
 -- a line was not, and the session goes on
@@ -39,4 +40,5 @@ returns-else-eq g c = record {
   unrefused = c.in-Err.ensures.unrefused;
   broke = c.in-Err.ensures.broke;
   opens = c.in-Err.ensures.opens;
+  version = c.write_view.ensures.reads.version;
 }
