@@ -30,7 +30,7 @@ loop-command-init g c = (
   λ going clean world shows none. keeps_self _,
   λ going clean world shows. refl,
   ([], refl, search rules, λ going clean world over. driving_none world c.args.commands.now _ going over, λ going clean world shows. driving_from_none world c.args.commands.now _ going shows),
-  open_self _,
+  open_self (state_of c.args.project.now),
   λ clean is_open. is_open,
 )
 
@@ -73,8 +73,8 @@ loop-command-preserved g c =
             let so_far = driving_from going (before clean) world shows in
             driving_from_more world c.args.commands.now answers c.loop-command.command-index _ _ c.command-item.result c.command-item.result c.loop-command-test.true (sym c.command-item.is) clean so_far answer (c.in-Ok.ensures.runs so_far.going) (going_on going),
       ),
-      open_then _ _ _ c.run.ensures.session.clean rises c.run.ensures.session.counts stays c.run.ensures.session.opens,
-      shut_then _ _ _ c.run.ensures.session.clean shut c.run.ensures.session.shut,
+      open_then (state_of c.args.project.now) (state_of c.loop-command.project) (state_of c.run.new.self) c.run.ensures.session.clean rises c.run.ensures.session.counts stays c.run.ensures.session.opens,
+      shut_then (state_of c.args.project.now) (state_of c.loop-command.project) (state_of c.run.new.self) c.run.ensures.session.clean shut c.run.ensures.session.shut,
     )
 
 -- a command was not done
@@ -100,8 +100,8 @@ returns-in-Err-clause-runs g c =
         | inl failed ↦ inl (c.in-Err.fault, refl, failed)
         | inr still ↦ inr still
       ];
-      stays = open_then _ _ _ c.run.ensures.session.clean rises c.run.ensures.session.counts stays c.run.ensures.session.opens;
-      shut = shut_then _ _ _ c.run.ensures.session.clean shut c.run.ensures.session.shut;
+      stays = open_then (state_of c.args.project.now) (state_of c.loop-command.project) (state_of c.run.new.self) c.run.ensures.session.clean rises c.run.ensures.session.counts stays c.run.ensures.session.opens;
+      shut = shut_then (state_of c.args.project.now) (state_of c.loop-command.project) (state_of c.run.new.self) c.run.ensures.session.clean shut c.run.ensures.session.shut;
       lives = λ going clean start life over. lengthens start life c.args.commands.now answers _ _ _ (drives going clean (world_of_life start life) over);
       ended = λ was.
           let first = was_ended was in
@@ -148,8 +148,8 @@ returns-in-Err-write_answer-clause-runs g c =
       why = λ going clean unlimited world shows fault told.
           inr (one_fault fault Output (sym told ∙ ap Some c.in-Err-write_answer.ensures.fault), omega arith, going_on going);
       opens = λ going was clean. inr (serves_done c.loop-command.project c.run.new.self c.command-item.result c.run.result (c.run.ensures.opens (goes_still going)) (c.run.ensures.refused (goes_still going)) c.in-Ok.answer c.in-Ok.is clean);
-      stays = open_then _ _ _ c.run.ensures.session.clean rises c.run.ensures.session.counts stays c.run.ensures.session.opens;
-      shut = shut_then _ _ _ c.run.ensures.session.clean shut c.run.ensures.session.shut;
+      stays = open_then (state_of c.args.project.now) (state_of c.loop-command.project) (state_of c.run.new.self) c.run.ensures.session.clean rises c.run.ensures.session.counts stays c.run.ensures.session.opens;
+      shut = shut_then (state_of c.args.project.now) (state_of c.loop-command.project) (state_of c.run.new.self) c.run.ensures.session.clean shut c.run.ensures.session.shut;
       lives = λ going clean start life over. lengthens start life c.args.commands.now (answers ++ answer ∷ []) _ _ _ (drives going clean (world_of_life start life) over);
       ended = λ was.
           let first = was_ended was in

@@ -16,7 +16,7 @@ returns-in-Some g c =
     let run = c.drive_and_release-conn.result.0 in
     let again : HasCleanDisk (file_state here) → IsReopened (file_state mid.conn) (file_state here) = λ clean. subst (λ h. IsReopened (file_state h) (file_state here)) same (c.in-Some.ensures.reopened clean) in
     let early : HasCleanDisk (file_state here) → HasCleanDisk (file_state mid.conn) = λ clean. subst (λ h. HasCleanDisk (file_state h)) same (c.in-Some.ensures.clean clean) in
-    let (answers, written, drives) = it.answers in
+    let (answers, written, drives, drives_from) = it.answers in
     record {
       clean = λ clean. let now = early clean in omega (arith, now, it.clean);
       answers = (

@@ -20,7 +20,7 @@ returns-in-Ok-clause-files g c =
 pub returns-in-Ok-clause-answers : goal.returns-in-Ok-clause-answers
 returns-in-Ok-clause-answers g c =
     let it = c.drive_and_release-conn.ensures.runs in
-    let (answers, written, drives) = it.answers in (
+    let (answers, written, drives, drives_from) = it.answers in (
       answers,
       (
         written,
@@ -34,7 +34,7 @@ pub returns-in-Ok-clause-left : goal.returns-in-Ok-clause-left
 returns-in-Ok-clause-left g c honest world over =
     let it = c.drive_and_release-conn.ensures.runs in
     let mid = c.drive_and_release-conn.ensures.left in
-    let (answers, written, drives) = it.answers in
+    let (answers, written, drives, drives_from) = it.answers in
     let copied : IsCopied mid.conn c.in-Ok.files = subst (λ h. IsCopied h c.in-Ok.files) c.drive_and_release-conn.ensures.released (c.in-Ok.ensures.copied honest) in
     beginning_copied mid.conn c.in-Ok.files g.met.D.Disk.seen_may_stay copied world c.args.commands.now c.drive_and_release-conn.result.0
     (begins_at c.args.project mid c.args.commands.now answers c.drive_and_release-conn.result.0 written.counted drives it.ends (λ was. ((it.ended was).0, (it.ended was).2)) copied.was_clean world over)
@@ -47,7 +47,7 @@ returns-in-Err-clause-unclosed g c numbered files is honest world over =
     let it = c.drive_and_release-conn.ensures.runs in
     let mid = c.drive_and_release-conn.ensures.left in
     let store = c.in-Err.store in
-    let (answers, written, drives) = it.answers in
+    let (answers, written, drives, drives_from) = it.answers in
     let closed : IsClosed mid.conn store = subst (λ h. IsClosed h store) c.drive_and_release-conn.ensures.released c.in-Err.ensures.err.0 in
     beginning_in mid.conn store files (λ clean. numbered) closed.sound closed.quiet is honest world c.args.commands.now c.drive_and_release-conn.result.0
     (begins_at c.args.project mid c.args.commands.now answers c.drive_and_release-conn.result.0 written.counted drives it.ends (λ was. ((it.ended was).0, (it.ended was).2))

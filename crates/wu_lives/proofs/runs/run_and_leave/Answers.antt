@@ -18,7 +18,7 @@ returns g c =
     let it = c.drive_and_release-conn.ensures.runs in
     let quiet : IsQuiet view faults recovers is_shielded mid.conn.store store = subst (λ h. IsQuiet view faults recovers is_shielded h.store store) c.drive_and_release-conn.ensures.released c.store_of.ensures.quiet in
     let early : AreClean g.D.Disk files.log files.db → HasCleanDisk (file_state mid.conn) = was_clean mid.conn store files c.store_of.ensures.numbered c.store_of.ensures.sound quiet c.close.ensures in
-    let (answers, written, drives) = it.answers in
+    let (answers, written, drives, drives_from) = it.answers in
     record {
       files = record {
         left = mid;
