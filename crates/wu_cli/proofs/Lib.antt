@@ -1,5 +1,6 @@
 mod TextLemmas
-mod ScriptLemmas
+pub mod ScriptLemmas
 mod RepeatLemmas
+pub mod PrintLemmas
+pub mod TellingLemmas
 pub mod WorkLemmas
-mod PrintLemmas

@@ -1,4 +1,4 @@
--- What goes out for an action, for the steps of a script and for work over an open database.
+-- What goes out for an action and for the steps of a script.
 use Rattle.std.proofs.Common.{◌≡◌, ◌∙◌, ◌⊎◌, ◌++◌, ◌∷◌, [], ℕ, List, Option, Some, None, IfSome, IsSome, Result, refl, sym, ap, subst, arith, inl, inr, append_assoc, take, drop, take-append-drop}
 use Rattle.std.proofs.KnownBytes.{Appends-nil, Appends-trans}
 use Rattle.std.proofs.Math.Seq.{take-length}
@@ -37,7 +37,6 @@ use Rattle.wu_cli.specs.declared.trouble.Trouble.{Trouble}
 use Rattle.wu_cli.specs.declared.work.Work.{Work}
 use Rattle.wu_cli.specs.declared.work.Work.TheVariants as work
 use Rattle.wu_cli.proofs.ScriptLemmas.{each_clean, each_done, each_goes, one_clean, one_done, one_goes, shown_present, world_both, world_of}
-use Rattle.wu_cli.proofs.WorkLemmas.{begins, work_clean}
 
 -- ---- texts of answers
 
@@ -117,7 +116,7 @@ module _ {S W : Type 0} {store : Ghosts S} (contents : W → Option (List ℕ)) 
 -- ---- all steps
 
 module _ {S W : Type 0} {store : Ghosts S} (contents : W → Option (List ℕ)) where
-  each_prints : (old new : Project S store) (out_old out_new : W) (steps : List Step) → PerformsEach contents old new out_old out_new steps
+  pub each_prints : (old new : Project S store) (out_old out_new : W) (steps : List Step) → PerformsEach contents old new out_old out_new steps
       → IsSessionOpen old → HasCleanDisk (state_of new) → (world : World) → ShowsProject old world
       → Appends (contents out_old) (contents out_new) (printed_steps world steps)
   unfolding PerformsEach
@@ -157,28 +156,3 @@ module _ {S W : Type 0} {store : Ghosts S} (contents : W → Option (List ℕ)) 
       → PrintsSteps contents old new out_old out_new steps end
   script_prints old new out_old out_new steps end it going clean world shows =
       steps_print old new out_old out_new (unrolled world steps) end (it.over going clean world shows) going clean world shows
-
--- ---- over an open database
-
-module _ {S W : Type 0} {store : Ghosts S} (contents : W → Option (List ℕ)) (old new : Project S store) (out_old out_new : W) where
-  work_prints : (asked : Work) (done : Result (Unit {0}) Trouble) → PerformsWork contents old new out_old out_new asked done
-      → IsSessionOpen old → HasCleanDisk (state_of new) → (world : World) → ShowsProject old world
-      → WritesTo contents out_old out_new (printed_work world asked) done
-  work_prints (work.Line action) done (end, does, is) going clean world shows =
-      subst (λ d. WritesTo contents out_old out_new (printed_action world action) d) (sym is)
-      (one_prints contents old new out_old out_new action end does going clean world shows)
-  work_prints (work.Script steps) done (end, does, is) going clean world shows =
-      subst (λ d. WritesTo contents out_old out_new (printed_steps world (unrolled world steps)) d) (sym is)
-      (script_prints contents old new out_old out_new steps end does going clean world shows)
-
-module _ {S W : Type 0} (g : Ghosts S) (contents : W → Option (List ℕ)) (conn again : Held S) (out_old out_new : W) (asked : Work) (done : Result (Unit {0}) Trouble) where
-  pub prints_over : DoesOver g contents conn again out_old out_new asked done → PrintsOver g contents conn again out_old out_new asked done
-  prints_over (inl does) clean world project begun =
-      let after : HasCleanDisk (state_of does.new) = subst (λ c. HasCleanDisk (state g c)) does.released clean in
-      let kept = work_clean contents does.old does.new out_old out_new asked done does.does in
-      let before : HasCleanDisk (state_of does.old) = omega (arith, kept, after) in
-      let shows = over_shows does.old world (begins g contents conn again out_old out_new asked done does before world project begun) in
-      work_prints contents does.old does.new out_old out_new asked done does.does does.begins after world shows
-  prints_over (inr none) clean world project begun =
-      subst (λ d. WritesTo contents out_old out_new (printed_work world asked) d) (sym none.told)
-      (0, subst (λ o. Appends (contents out_old) (contents o) []) (sym none.unwritten) (Appends-nil (contents out_old)))

@@ -31,7 +31,7 @@ use Rattle.wu_machine.specs.Sessions.{world_of_life}
 use Rattle.wu_passes.specs.Standing.{GoesOn, HasEnded, FaultsOnlyGrow}
 use Rattle.wu_cli.specs.Performing.{as_result, Performs}
 use Rattle.wu_cli.specs.Repeating.{commands_of_action, commands_of_steps, unrolled}
-use Rattle.wu_cli.specs.Scripting.{DrivesCommands, DrivesSteps, LengthensBySteps, PerformsEach, PerformsScript, PerformsSteps, PerformsUntil, so_far}
+use Rattle.wu_cli.specs.Scripting.{PerformsEach, PerformsScript, PerformsSteps, PerformsUntil, so_far}
 use Rattle.wu_words.specs.declared.action.Action.{Action}
 use Rattle.wu_words.specs.declared.action.Action.TheVariants.{Commands, Look}
 use Rattle.wu_words.specs.declared.step.LineFault.{LineFault}
@@ -142,7 +142,7 @@ module _ (world : World) (before xs after : List Command) (done answers : List A
   }
 
 -- the commands of steps with one among them
-commands_around : (before : List Step) (one : Step) (after : List Step)
+pub commands_around : (before : List Step) (one : Step) (after : List Step)
     → commands_of_steps (before ++ one ∷ after) ≡ commands_of_steps before ++ (commands_of_action one.action ++ commands_of_steps after)
 commands_around before one after = flat_map-append (λ (s : Step). commands_of_action s.action) before (one ∷ after)
 
@@ -164,27 +164,6 @@ module _ {S W : Type 0} {store : Ghosts S} (contents : W → Option (List ℕ)) 
   pub one_clean : (action : Action) (end : Option Fault) → Performs contents old new out_old out_new action end → FaultsOnlyGrow (state_of old) (state_of new)
   one_clean (Commands commands) end (run, runs, is) = runs.clean
   one_clean (Look view) end sees = sees.clean
-
-  -- what a step does of its commands
-  pub one_drives : (action : Action) (end : Option Fault) → Performs contents old new out_old out_new action end
-      → IsSessionOpen old → HasCleanDisk (state_of new) → (world : World) → IsOver old world
-      → (answers : List Answer) × (run : Run) × (is_cut : Bool) × Drives world (commands_of_action action) answers run is_cut (state_of new)
-  one_drives (Commands commands) end (run, runs, is) going clean world over =
-      (runs.answers.0, run, has_ended new, runs.answers.2 going clean world over)
-  one_drives (Look view) end sees going clean world over = (
-    [],
-    so_far 0,
-    false,
-    record {
-      within = omega arith;
-      answered = tt;
-      end = λ fault told. absurd (cc);
-      goes = λ still. sees.goes clean world over.goes;
-      ended = λ ended. absurd (cc);
-      project = over.is_project;
-      cut_project = λ ended cut there. absurd (cc);
-    },
-  )
 
   shown_none : (older : Option ℕ) → older_version old ≡ older → IfSome older (λ version. RefusesWith contents old new out_old out_new (as_result None) (OldSchema version)) → older_version old ≡ None
   shown_none None is refused = is
@@ -277,57 +256,6 @@ module _ {S W : Type 0} {store : Ghosts S} (contents : W → Option (List ℕ)) 
       let last = one_clean contents until.mid new until.out_mid out_new until.last.action (Some end.fault) until.ends in
       omega (arith, first, last)
 
-  pub drives_steps : (old new : Project S store) (out_old out_new : W) (steps : List Step) (end : Option LineFault) → PerformsSteps contents old new out_old out_new steps end
-      → IsSessionOpen old → HasCleanDisk (state_of new) → (world : World) → IsOver old world
-      → DrivesCommands world steps end (state_of new)
-  drives_steps old new out_old out_new steps None each going clean world over =
-      let done = each_done old new out_old out_new steps each going clean world (over_shows old world over) in
-      let behind = each_over old new out_old out_new steps each going clean world over in
-      let commands = commands_of_steps steps in
-      let whole : take (length commands) commands ≡ commands = take-length commands in
-      record {
-        count = length commands;
-        answers = done.0;
-        is_cut = false;
-        drives = record {
-          within = omega arith;
-          answered = subst (λ cs. AnswerAll world cs done.0) (sym whole) done.1;
-          end = λ fault told. absurd (cc);
-          goes = λ still. subst (λ cs. GoesOn (state_of new) (world_of world cs)) (sym whole) behind.goes;
-          ended = λ ended. absurd (cc);
-          project = subst (λ cs. IsProject (world_of world cs)) (sym whole) behind.is_project;
-          cut_project = λ ended cut there. absurd (cc);
-        };
-        whole = λ none. refl;
-      }
-  drives_steps old new out_old out_new steps (Some end) until going clean world over =
-      let last_clean = one_clean contents until.mid new until.out_mid out_new until.last.action (Some end.fault) until.ends in
-      let before : HasCleanDisk (state_of until.mid) = omega (arith, last_clean, clean) in
-      let done = each_done old until.mid out_old until.out_mid until.before until.each going before world (over_shows old world over) in
-      let here = each_over old until.mid out_old until.out_mid until.before until.each going before world over in
-      let still = each_goes old until.mid out_old until.out_mid until.before until.each going in
-      let firsts = commands_of_steps until.before in
-      let last = one_drives contents until.mid new until.out_mid out_new until.last.action (Some end.fault) until.ends still clean (world_of world firsts) here in
-      let all = ap commands_of_steps until.order ∙ commands_around until.before until.last until.after in
-      record {
-        count = length firsts + last.1.acknowledged;
-        answers = done.0 ++ last.0;
-        is_cut = last.2;
-        drives = subst (λ cs. Drives world cs (done.0 ++ last.0) (so_far (length firsts + last.1.acknowledged)) last.2 (state_of new)) (sym all)
-            (drives_within world firsts (commands_of_action until.last.action) (commands_of_steps until.after) done.0 last.0 last.1 last.2 (state_of new) done.1 last.3);
-        whole = λ none. absurd (cc);
-      }
-
   -- so is a script, over the steps that it comes to
   pub script_clean : (old new : Project S store) (out_old out_new : W) (steps : List Step) (end : Option LineFault) → PerformsScript contents old new out_old out_new steps end → FaultsOnlyGrow (state_of old) (state_of new)
   script_clean old new out_old out_new steps end it = steps_clean old new out_old out_new it.ran end it.does
-
-  pub drives_script : (old new : Project S store) (out_old out_new : W) (steps : List Step) (end : Option LineFault) → PerformsScript contents old new out_old out_new steps end → DrivesSteps old new steps end
-  drives_script old new out_old out_new steps end it going clean world over =
-      drives_steps old new out_old out_new (unrolled world steps) end (it.over going clean world (over_shows old world over)) going clean world over
-
-  pub lengthens_script : (old new : Project S store) (out_old out_new : W) (steps : List Step) (end : Option LineFault) → PerformsScript contents old new out_old out_new steps end → LengthensBySteps old new steps
-  lengthens_script old new out_old out_new steps end it going clean start life over =
-      let world = world_of_life start life in
-      let driven = drives_script old new out_old out_new steps end it going clean world over in
-      (driven.count, driven.is_cut, lengthens start life (commands_of_steps (unrolled world steps)) driven.answers (so_far driven.count) driven.is_cut (state_of new) driven.drives)

@@ -1,6 +1,8 @@
--- What is done for a line or a script, over an open database.
+-- What is done for a line or a script over an open database, and what goes out.
 use Rattle.std.proofs.Common.{◌≡◌, ◌∙◌, inl, inr, ℕ, List, Option, Some, None, Result, Err, refl, sym, ap, subst, arith, false, []}
 use Rattle.std.specs.Prelude.{OnOk}
+use Rattle.std.specs.Io.KnownBytes.{Appends}
+use Rattle.std.proofs.KnownBytes.{Appends-nil}
 use Rattle.sqlite.specs.Held.{Held, state}
 use Rattle.sqlite.specs.State.{HasCleanDisk}
 use Rattle.sqlite.specs.Store.{Ghosts}
@@ -8,17 +10,23 @@ use Rattle.wu_core.specs.declared.fault.Fault.{Fault}
 use Rattle.wu_core.specs.World.{World}
 use Rattle.wu_machine.specs.Sound.{IsProject}
 use Rattle.wu_passes.specs.declared.project.Project.{Project}
-use Rattle.wu_passes.specs.Projects.{IsOver, IsSessionOpen, has_ended, state_of}
+use Rattle.wu_passes.proofs.SessionLemmas.{over_shows}
+use Rattle.wu_passes.specs.Projects.{IsOver, IsSessionOpen, has_ended, ShowsProject, state_of}
 use Rattle.wu_passes.specs.Standing.{GoesOn, FaultsOnlyGrow}
 use Rattle.wu_words.specs.declared.action.Action.{Action}
 use Rattle.wu_words.specs.declared.action.Action.TheVariants.{Commands, Look}
 use Rattle.wu_words.specs.declared.step.LineFault.{LineFault}
+use Rattle.wu_report.specs.Writing.{WritesTo}
 use Rattle.wu_cli.specs.Performing.{Performs}
+use Rattle.wu_cli.specs.Printing.{printed_action, printed_steps, printed_work, PrintsOver}
+use Rattle.wu_cli.specs.Repeating.{unrolled}
 use Rattle.wu_cli.specs.Working.{BeginsFrom, DoesAdopted, DoesNothing, DoesOver, DrivesOver, DrivesWork, line_outcome, PerformsWork, script_outcome}
 use Rattle.wu_cli.specs.declared.trouble.Trouble.{Trouble}
 use Rattle.wu_cli.specs.declared.work.Work.{Work}
 use Rattle.wu_cli.specs.declared.work.Work.TheVariants as work
-use Rattle.wu_cli.proofs.ScriptLemmas.{drives_script, one_clean, script_clean}
+use Rattle.wu_cli.proofs.PrintLemmas.{one_prints, script_prints}
+use Rattle.wu_cli.proofs.ScriptLemmas.{one_clean, script_clean}
+use Rattle.wu_cli.proofs.TellingLemmas.{drives_script}
 
 -- what is refused in one way is refused with the same
 pub same_refusal : {T A B : Type 0} (x y : A) (f g : B) → ◌≡◌ {A = Result T (A × B)} (Err (x, f)) (Err (y, g)) → (x ≡ y) × (f ≡ g)
@@ -31,7 +39,7 @@ pub line_whole : (end : Option Fault) (whole : Type 0) → (end ≡ None → who
 line_whole None whole of_none = of_none refl
 line_whole (Some fault) whole of_none = tt
 
-script_whole : (end : Option LineFault) (whole : Type 0) → (end ≡ None → whole) → OnOk (script_outcome end) whole
+pub script_whole : (end : Option LineFault) (whole : Type 0) → (end ≡ None → whole) → OnOk (script_outcome end) whole
 script_whole None whole of_none = of_none refl
 script_whole (Some fault) whole of_none = tt
 
@@ -126,3 +134,28 @@ module _ {S W : Type 0} (g : Ghosts S) (contents : W → Option (List ℕ)) (con
     why = none.refused.told;
     stands = stands none clean world;
   })
+
+-- ---- what goes out
+
+module _ {S W : Type 0} {store : Ghosts S} (contents : W → Option (List ℕ)) (old new : Project S store) (out_old out_new : W) where
+  work_prints : (asked : Work) (done : Result (Unit {0}) Trouble) → PerformsWork contents old new out_old out_new asked done
+      → IsSessionOpen old → HasCleanDisk (state_of new) → (world : World) → ShowsProject old world
+      → WritesTo contents out_old out_new (printed_work world asked) done
+  work_prints (work.Line action) done (end, does, is) going clean world shows =
+      subst (λ d. WritesTo contents out_old out_new (printed_action world action) d) (sym is)
+      (one_prints contents old new out_old out_new action end does going clean world shows)
+  work_prints (work.Script steps) done (end, does, is) going clean world shows =
+      subst (λ d. WritesTo contents out_old out_new (printed_steps world (unrolled world steps)) d) (sym is)
+      (script_prints contents old new out_old out_new steps end does going clean world shows)
+
+module _ {S W : Type 0} (g : Ghosts S) (contents : W → Option (List ℕ)) (conn again : Held S) (out_old out_new : W) (asked : Work) (done : Result (Unit {0}) Trouble) where
+  pub prints_over : DoesOver g contents conn again out_old out_new asked done → PrintsOver g contents conn again out_old out_new asked done
+  prints_over (inl does) clean world project begun =
+      let after : HasCleanDisk (state_of does.new) = subst (λ c. HasCleanDisk (state g c)) does.released clean in
+      let kept = work_clean contents does.old does.new out_old out_new asked done does.does in
+      let before : HasCleanDisk (state_of does.old) = omega (arith, kept, after) in
+      let shows = over_shows does.old world (begins g contents conn again out_old out_new asked done does before world project begun) in
+      work_prints contents does.old does.new out_old out_new asked done does.does does.begins after world shows
+  prints_over (inr none) clean world project begun =
+      subst (λ d. WritesTo contents out_old out_new (printed_work world asked) d) (sym none.told)
+      (0, subst (λ o. Appends (contents out_old) (contents o) []) (sym none.unwritten) (Appends-nil (contents out_old)))

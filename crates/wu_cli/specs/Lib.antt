@@ -9,3 +9,4 @@ pub mod Starting
 pub mod Troubles
 pub mod Working
 pub mod Printing
+pub mod Telling

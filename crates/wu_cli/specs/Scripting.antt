@@ -1,17 +1,14 @@
 -- What is done for the steps of a script over a project.
-use Rattle.std.specs.Prelude.{◌≡◌, ℕ, Bool, false, List, [], ◌∷◌, ◌++◌, length, replicate, Option, Some, None}
-use Rattle.sqlite.specs.State.{State, HasCleanDisk}
+use Rattle.std.specs.Prelude.{◌≡◌, ℕ, Bool, false, List, [], ◌∷◌, ◌++◌, replicate, Option, Some, None}
+use Rattle.sqlite.specs.State.{HasCleanDisk}
 use Rattle.sqlite_trees.specs.declared.store.Store.{Ghosts}
 use Rattle.wu_core.specs.World.{World}
 use Rattle.wu_core.specs.declared.fault.Fault.{Fault}
 use Rattle.wu_drive.specs.declared.runs.Run.{Run}
-use Rattle.wu_drive.specs.Driving.{Drives, Lengthens, session_of}
-use Rattle.wu_machine.specs.declared.command.Answer.{Answer}
 use Rattle.wu_passes.specs.declared.project.Project.{Project}
-use Rattle.wu_passes.specs.Projects.{IsOver, IsSessionOpen, ShowsProject, state_of}
-use Rattle.wu_machine.specs.Sessions.{Lived, world_of_life}
+use Rattle.wu_passes.specs.Projects.{IsSessionOpen, ShowsProject, state_of}
 use Rattle.wu_cli.specs.Performing.{Performs}
-use Rattle.wu_cli.specs.Repeating.{AreRepeated, commands_of_steps, is_full, rounds, unrolled}
+use Rattle.wu_cli.specs.Repeating.{AreRepeated, is_full, rounds, unrolled}
 use Rattle.wu_words.specs.declared.action.Action.{Action}
 use Rattle.wu_words.specs.declared.step.LineFault.{LineFault}
 use Rattle.wu_words.specs.declared.step.Step.{Step}
@@ -70,31 +67,6 @@ TellsFull old new action end told =
     end ≡ None → IsSessionOpen old → HasCleanDisk (state_of new) → (world : World) → ShowsProject old world
     → told ≡ is_full world action
 
--- ---- over a world
-
 -- a list of commands that got so far
 abbrev pub so_far : ℕ → Run
 so_far count = record { acknowledged = count; end = None }
-
--- So many commands of these steps were done, each with the machine's reply, and the tables stand for the world after them;
--- where the session ended within the next one, a stop may also leave the world after that. Without a fault all were
--- done.
-pub record DrivesCommands (world : World) (steps : List Step) (end : Option LineFault) (new : State) : Type 0 where
-  pub count : ℕ
-  pub answers : List Answer
-  pub is_cut : Bool
-  pub drives : Drives world (commands_of_steps steps) answers (so_far count) is_cut new
-  pub whole : end ≡ None → count ≡ length (commands_of_steps steps)
-
--- so a script drives a project of any world over which its session goes on, where the disk does not fail
-abbrev pub DrivesSteps : {S : Type 0} {store : Ghosts S} → Project S store → Project S store → List Step → Option LineFault → Type 0
-DrivesSteps old new steps end =
-    IsSessionOpen old → HasCleanDisk (state_of new) → (world : World) → IsOver old world
-    → DrivesCommands world (unrolled world steps) end (state_of new)
-
--- A script lengthens any life that led to that world, as its list of commands does: each world that a stop may leave is
--- that of the life with one session more, which acknowledged so many of its commands and cut the next one or none.
-abbrev pub LengthensBySteps : {S : Type 0} {store : Ghosts S} → Project S store → Project S store → List Step → Type 0
-LengthensBySteps old new steps =
-    IsSessionOpen old → HasCleanDisk (state_of new) → (start : World) (life : List Lived) → IsOver old (world_of_life start life)
-    → (count : ℕ) × (is_cut : Bool) × Lengthens start life (session_of (commands_of_steps (unrolled (world_of_life start life) steps)) (so_far count) is_cut) (state_of new)

@@ -3,7 +3,8 @@
 ghost use Rattle.std.specs.Prelude.{◌≡◌};
 ghost use Rattle.wu_cli.specs.Performing.{Performs};
 ghost use Rattle.wu_cli.specs.Printing.{PrintsAction, PrintsSteps};
-ghost use Rattle.wu_cli.specs.Scripting.{DrivesSteps, LengthensBySteps, PerformsScript};
+ghost use Rattle.wu_cli.specs.Scripting.{PerformsScript};
+ghost use Rattle.wu_cli.specs.Telling.{DrivesSteps, LengthensBySteps};
 ghost use Rattle.wu_words.specs.Statuses.{exit_status, status_of_line};
 
 use crate::repeating::{act, perform_step};
@@ -46,8 +47,10 @@ pub fn perform_script<S: Alter, W: Write>(
     ensures does { PerformsScript W.contents project.old project.new out.old out.new
         steps.now result.1 }
     ensures status { result.0 ≡ status_of_line result.1 }
-    ensures drives { DrivesSteps project.old project.new steps.now result.1 }
-    ensures lives { LengthensBySteps project.old project.new steps.now }
+    ensures drives { DrivesSteps W.contents project.old project.new out.old out.new
+        steps.now result.1 }
+    ensures lives { LengthensBySteps W.contents project.old project.new out.old out.new
+        steps.now result.1 }
     ensures prints { PrintsSteps W.contents project.old project.new out.old out.new
         steps.now result.1 }
 {

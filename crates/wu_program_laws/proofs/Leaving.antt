@@ -1,5 +1,5 @@
 -- From what a run found to what it left.
-use Rattle.std.proofs.Common.{◌≡◌, ◌⊎◌, ℕ, ◌+◌, true, false, Bool, List, [], ◌∷◌, ◌++◌, length, filter, codes, map, take, Option, Some, Result, Ok, Err, inl, inr, refl, sym, ap, subst, ◌∙◌, arith, IsTrue}
+use Rattle.std.proofs.Common.{◌≡◌, ◌⊎◌, ℕ, ◌+◌, true, false, Bool, List, [], ◌∷◌, ◌++◌, length, filter, codes, map, take, None, Option, Some, Result, Ok, Err, inl, inr, refl, sym, ap, subst, ◌∙◌, arith, IsTrue}
 use Rattle.std.proofs.Math.Logic.{∥∥₁_map}
 use Rattle.std.specs.List.{AllZip}
 use Rattle.std.proofs.lemmas.List.{map-append, take_more}
@@ -55,8 +55,18 @@ use Rattle.wu_words.specs.declared.usage.Usage.{Usage}
 use Rattle.wu_words.specs.declared.usage.Usage.TheVariants as usage
 use Rattle.wu_cli.specs.Scripting.{so_far}
 use Rattle.wu_cli.specs.Troubles.{trouble_status}
-use Rattle.wu_cli.specs.Working.{BeginsFrom, commands_of_work, DoesAdopted, DoesNothing, DoesOver, DrivesOver, DrivesWork, RefusesWork}
-use Rattle.wu_cli.proofs.WorkLemmas.{begins, line_whole, work_clean}
+use Rattle.wu_cli.specs.Working.{BeginsFrom, commands_of_work, DoesAdopted, DoesNothing, DoesOver, DrivesOver, DrivesWork, line_outcome, RefusesWork}
+use Rattle.wu_cli.proofs.PrintLemmas.{one_prints}
+use Rattle.wu_cli.proofs.ScriptLemmas.{script_clean}
+use Rattle.wu_cli.proofs.TellingLemmas.{drives_script}
+use Rattle.wu_cli.proofs.WorkLemmas.{begins, line_whole, script_whole, work_clean}
+use Rattle.wu_passes.proofs.SessionLemmas.{over_shows}
+use Rattle.wu_machine.specs.declared.view.View.{View}
+use Rattle.wu_report.specs.Texts.{view_text}
+use Rattle.wu_report.specs.Writing.{AppendsFront, WritesTo}
+use Rattle.wu_words.specs.declared.step.Step.{Step}
+use Rattle.std.proofs.Math.Seq.{take-length}
+use Rattle.std.specs.Io.KnownBytes.{Appends}
 use Rattle.wu_cli.specs.Checks.{reason_status}
 use Rattle.wu_cli.specs.declared.reason.Reason.{Reason}
 use Rattle.wu_cli.specs.declared.reason.Reason.TheVariants as reason
@@ -155,7 +165,7 @@ was_clean contents conn again old new asked done (inr none) clean = omega (arith
 
 module _ {D W : Type 0} {g : Ghosts D} (contents : W → Option (List ℕ)) (conn again : Held (FileStore D g)) (old new : W) (done : Result (Unit {0}) Trouble) where
   abbrev ToldWork : World → Work → Type 0
-  ToldWork world asked = (it : DrivesWork world asked done (file_state again)) × TellsDone (contents old) (contents new) asked it.answers it.count
+  ToldWork world asked = (it : DrivesWork world asked done (file_state again)) × TellsDone (contents old) (contents new) world asked it.answers it.count
 
   -- a line of commands was done over an adopted project
   line_told : (commands : List Command) (does : DoesAdopted over_files contents conn again old new (work.Line (Commands commands)) done) → HasCleanDisk (file_state again) → (world : World) → IsProject world
@@ -187,6 +197,41 @@ module _ {D W : Type 0} {g : Ghosts D} (contents : W → Option (List ℕ)) (con
         (run.end, written),
       )
 
+  -- a script was
+  script_told : (steps : List Step) (does : DoesAdopted over_files contents conn again old new (work.Script steps) done) → HasCleanDisk (file_state again) → (world : World) → IsProject world
+      → BeginsFrom (file_state conn) world → ToldWork world (work.Script steps)
+  script_told steps does clean world project begun =
+      let (end, performs, told) = does.does in
+      let after : HasCleanDisk (state_of does.new) = subst (λ c. HasCleanDisk (file_state c)) does.released clean in
+      let before : HasCleanDisk (state_of does.old) = let kept = script_clean contents does.old does.new old new steps end performs in omega (arith, kept, after) in
+      let over = begins over_files contents conn again old new _ done does before world project begun in
+      let driven = drives_script contents does.old does.new old new steps end performs does.begins after world over in
+      let commands = commands_of_work world (work.Script steps) in
+      let whole : OnOk done (driven.count ≡ length commands) = subst (λ (d : Result (Unit {0}) Trouble). OnOk d (driven.count ≡ length commands)) (sym told) (script_whole end _ driven.whole) in (
+        record {
+          count = driven.count;
+          answers = driven.answers;
+          is_cut = driven.is_cut;
+          drives = subst (λ c. Drives world commands driven.answers (so_far driven.count) driven.is_cut (file_state c)) (sym does.released) driven.drives;
+          whole = whole;
+        },
+        (end, driven.told),
+      )
+
+  -- a view was shown
+  view_told : (view : View) (does : DoesAdopted over_files contents conn again old new (work.Line (Look view)) done) → HasCleanDisk (file_state again) → (world : World) → IsProject world
+      → BeginsFrom (file_state conn) world → AppendsFront (contents old) (contents new) (view_text world view)
+  view_told view does clean world project begun =
+      let (end, sees, told) = does.does in
+      let after : HasCleanDisk (state_of does.new) = subst (λ c. HasCleanDisk (file_state c)) does.released clean in
+      let before : HasCleanDisk (state_of does.old) = let kept = sees.clean in omega (arith, kept, after) in
+      let over = begins over_files contents conn again old new _ done does before world project begun in
+      front end (one_prints contents does.old does.new old new (Look view) end sees does.begins after world (over_shows does.old world over))
+    where
+      front : (end : Option Fault) → WritesTo contents old new (view_text world view) (line_outcome end) → AppendsFront (contents old) (contents new) (view_text world view)
+      front None whole = (length (view_text world view), subst (Appends (contents old) (contents new)) (sym (take-length (view_text world view))) whole)
+      front (Some fault) part = part
+
   nothing_told : (asked : Work) → DoesNothing over_files contents conn again old new asked done → HasCleanDisk (file_state again) → (world : World) → RefusesWork (file_state conn) (file_state again) world done
   nothing_told asked none clean world = record {
     fault = none.fault;
@@ -199,8 +244,10 @@ module _ {D W : Type 0} {g : Ghosts D} (contents : W → Option (List ℕ)) (con
       → BeginsFrom (file_state conn) world → ToldWork world asked ⊎ RefusesWork (file_state conn) (file_state again) world done
   work_told (work.Line (Commands commands)) (inl does) drives clean world project begun = inl (line_told commands does clean world project begun)
   work_told (work.Line (Commands commands)) (inr none) drives clean world project begun = inr (nothing_told _ none clean world)
-  work_told (work.Line (Look view)) does drives clean world project begun = elim (drives clean world project begun) [ inl works ↦ inl (works, tt) | inr refuses ↦ inr refuses ]
-  work_told (work.Script steps) does drives clean world project begun = elim (drives clean world project begun) [ inl works ↦ inl (works, tt) | inr refuses ↦ inr refuses ]
+  work_told (work.Line (Look view)) (inl does) drives clean world project begun = elim (drives clean world project begun) [ inl works ↦ inl (works, view_told view does clean world project begun) | inr refuses ↦ inr refuses ]
+  work_told (work.Line (Look view)) (inr none) drives clean world project begun = inr (nothing_told _ none clean world)
+  work_told (work.Script steps) (inl does) drives clean world project begun = inl (script_told steps does clean world project begun)
+  work_told (work.Script steps) (inr none) drives clean world project begun = inr (nothing_told _ none clean world)
 
 -- ---- what a run begins with
 
@@ -307,7 +354,7 @@ module _ {D : Type 0} {g : Ghosts D} (again : Held (FileStore D g)) (files : Fil
           ]
 
   module _ {E : Type 0} (told_of : E → Option (List ℕ)) (err_old err_new : E) (done : Result (Unit {0}) Trouble) (status : ℕ) (is_told : Bool) (tells : TellsTrouble told_of err_old err_new done status is_told) where
-    leaves_done : (says : Holds) (before after : Option (List ℕ)) (world : World) (asked : Work) (it : DrivesWork world asked done (file_state again)) → TellsDone before after asked it.answers it.count
+    leaves_done : (says : Holds) (before after : Option (List ℕ)) (world : World) (asked : Work) (it : DrivesWork world asked done (file_state again)) → TellsDone before after world asked it.answers it.count
         → OfEachImage g files (says world (commands_of_work world asked) it.count) → LeavesDone g files says before after world asked status
     leaves_done says before after world asked it told held = record {
       count = it.count;
@@ -374,10 +421,10 @@ module _ {S W E : Type 0} {c : calls.Ghosts Host} {s : start.Ghosts S} {g : Ghos
       let conn = runs.runs.conn in
       let it = runs.runs.does in
       λ honest.
-          let copied : IsCopied it.again run.files = it.closed.copied honest in
-          let each = copied_each it.again run.files stays copied in
-          opened_leaves HoldAfter conn it.again _ runs.work run.old run.new run.err_old run.err_new run.obeys.done end.status end.is_told run.files runs.runs.opened it.does it.drives run.obeys.tells copied.was_clean each
-          (λ world works. hold_after it.again run.files each copied.was_open world (commands_of_work world runs.work) works.answers works.count works.is_cut works.drives)
+      let copied : IsCopied it.again run.files = it.closed.copied honest in
+      let each = copied_each it.again run.files stays copied in
+      opened_leaves HoldAfter conn it.again _ runs.work run.old run.new run.err_old run.err_new run.obeys.done end.status end.is_told run.files runs.runs.opened it.does it.drives run.obeys.tells copied.was_clean each
+      (λ world works. hold_after it.again run.files each copied.was_open world (commands_of_work world runs.work) works.answers works.count works.is_cut works.drives)
 
   pub leaves_its_work_unclosed : (end : End (Modelled Host S c s) g) → LeavesItsWorkUnclosed contents told_of end
   leaves_its_work_unclosed end run =
@@ -385,10 +432,10 @@ module _ {S W E : Type 0} {c : calls.Ghosts Host} {s : start.Ghosts S} {g : Ghos
       let conn = runs.runs.conn in
       let it = runs.runs.does in
       λ honest.
-          let each = unclosed_each it.again run.store it.closed.quiet run.numbered run.files run.files_are honest in
-          opened_leaves HoldAfterOneMore conn it.again _ runs.work run.old run.new run.err_old run.err_new run.obeys.done end.status end.is_told run.files runs.runs.opened it.does it.drives run.obeys.tells
-          (unclosed_clean it.again run.store it.closed.quiet run.numbered run.files run.files_are honest) each
-          (λ world works. hold_one_more it.again run.files each world (commands_of_work world runs.work) works.answers works.count works.is_cut works.drives)
+      let each = unclosed_each it.again run.store it.closed.quiet run.numbered run.files run.files_are honest in
+      opened_leaves HoldAfterOneMore conn it.again _ runs.work run.old run.new run.err_old run.err_new run.obeys.done end.status end.is_told run.files runs.runs.opened it.does it.drives run.obeys.tells
+      (unclosed_clean it.again run.store it.closed.quiet run.numbered run.files run.files_are honest) each
+      (λ world works. hold_one_more it.again run.files each world (commands_of_work world runs.work) works.answers works.count works.is_cut works.drives)
 
 -- ---- one after another
 

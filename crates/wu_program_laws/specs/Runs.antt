@@ -1,6 +1,6 @@
 -- What a run of the program leaves of its database, and where the next run begins.
 use Rattle.std.proofs.Common.{subst}
-use Rattle.std.specs.Prelude.{◌≡◌, ◌⊎◌, ◌+◌, ◌≤◌, ℕ, List, [], length, take, Option, Some, ⊤}
+use Rattle.std.specs.Prelude.{◌≡◌, ◌⊎◌, ◌+◌, ◌≤◌, ℕ, List, [], length, take, Option, Some}
 use Rattle.sqlite.specs.declared.error.Error.{Error}
 use Rattle.sqlite_disk.specs.declared.Disk.{Ghosts}
 use Rattle.sqlite_disk.specs.declared.Files.{Files}
@@ -22,7 +22,12 @@ use Rattle.wu_machine.specs.declared.command.Answer.{Answer}
 use Rattle.wu_machine.specs.declared.command.Command.{Command}
 use Rattle.wu_passes.specs.Adopting.{IsAdoptionFault}
 use Rattle.wu_words.specs.Statuses.{fault_status}
-use Rattle.wu_words.specs.declared.action.Action.TheVariants.{Commands}
+use Rattle.wu_words.specs.declared.action.Action.TheVariants.{Commands, Look}
+use Rattle.wu_words.specs.declared.step.LineFault.{LineFault}
+use Rattle.wu_report.specs.Texts.{view_text}
+use Rattle.wu_report.specs.Writing.{AppendsFront}
+use Rattle.wu_cli.specs.Repeating.{unrolled}
+use Rattle.wu_cli.specs.Telling.{TellsSteps}
 use Rattle.wu_cli.specs.Working.{commands_of_work}
 use Rattle.wu_cli.specs.declared.work.Work.{Work}
 use Rattle.wu_cli.specs.declared.work.Work.TheVariants as work
@@ -66,11 +71,13 @@ module _ {D : Type 0} (g : Ghosts D) (files : Files D) where
     pub why : IsAdoptionFault fault
     pub held : HoldsWorld first world → OfEachImage (λ image. HoldsWorld image world)
 
--- Of a line of commands: the texts of the answers to those that were done went out, and only with `Output` the last one
--- was cut. So no command that was told is lost. Of the texts of a script's steps nothing is said here.
-abbrev pub TellsDone : Option (List ℕ) → Option (List ℕ) → Work → List Answer → ℕ → Type 0
-TellsDone before after (work.Line (Commands commands)) answers count = (end : Option Fault) × WritesAnswers before after answers (record { acknowledged = count; end = end })
-TellsDone before after _ answers count = ⊤
+-- What went out tells of as many commands as were done, so that none that was told is lost. Of a line these are the
+-- texts of the answers, the last of them cut only with `Output`; of a script what its steps print, up to the one that
+-- ended it. Of a view it is a beginning.
+abbrev pub TellsDone : Option (List ℕ) → Option (List ℕ) → World → Work → List Answer → ℕ → Type 0
+TellsDone before after world (work.Line (Commands commands)) answers count = (end : Option Fault) × WritesAnswers before after answers (record { acknowledged = count; end = end })
+TellsDone before after world (work.Line (Look view)) answers count = AppendsFront before after (view_text world view)
+TellsDone before after world (work.Script steps) answers count = (end : Option LineFault) × TellsSteps before after world (unrolled world steps) count end
 
 module _ {D : Type 0} (g : Ghosts D) (files : Files D) (says : Holds) (before after : Option (List ℕ)) where
   -- So many commands of the work were done, in order, each with the machine's reply; with status 0 all were. What is
@@ -80,7 +87,7 @@ module _ {D : Type 0} (g : Ghosts D) (files : Files D) (says : Holds) (before af
     pub within : count ≤ length (commands_of_work world asked)
     pub answers : List Answer
     pub answered : AnswerAll world (take count (commands_of_work world asked)) answers
-    pub told : TellsDone before after asked answers count
+    pub told : TellsDone before after world asked answers count
     pub whole : status ≡ 0 → count ≡ length (commands_of_work world asked)
     pub held : OfEachImage g files (says world (commands_of_work world asked) count)
 

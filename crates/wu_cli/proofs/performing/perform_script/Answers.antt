@@ -2,7 +2,7 @@ use Rattle.std.proofs.Common.{◌≡◌, ◌∙◌, ◌+◌, ◌++◌, ◌∷◌
 use Rattle.std.proofs.lemmas.List.{drop_more, take_all, take_more}
 use Rattle.wu_cli.specs.Scripting.{PerformsScript, PerformsStep}
 use Rattle.wu_cli.proofs.RepeatLemmas.{script_cut, script_more, script_none}
-use Rattle.wu_cli.proofs.ScriptLemmas.{drives_script, lengthens_script}
+use Rattle.wu_cli.proofs.TellingLemmas.{drives_script, lengthens_script}
 use Rattle.wu_cli.proofs.PrintLemmas.{script_prints}
 use Rattle.wu_cli.proofs.performing.perform_script.Goals as goal
 

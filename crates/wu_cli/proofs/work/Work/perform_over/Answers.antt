@@ -1,7 +1,6 @@
 use Rattle.std.proofs.Common.{inl, inr, refl, Err}
 use Rattle.std.proofs.lemmas.Bool.{cases_Bool}
-use Rattle.wu_cli.proofs.WorkLemmas.{drives_over, same_refusal}
-use Rattle.wu_cli.proofs.PrintLemmas.{prints_over}
+use Rattle.wu_cli.proofs.WorkLemmas.{drives_over, prints_over, same_refusal}
 use Rattle.wu_cli.specs.declared.trouble.Trouble.TheVariants.{Fault}
 use Rattle.wu_cli.proofs.work.Work.perform_over.Goals as goal
 

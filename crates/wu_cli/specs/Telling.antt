@@ -1,0 +1,75 @@
+-- How many commands of a script were done over a world, and what it put out of them.
+use Rattle.std.specs.Prelude.{◌≡◌, ℕ, ◌+◌, Bool, List, ◌∷◌, ◌++◌, length, take, Option, Some, None}
+use Rattle.std.specs.Io.KnownBytes.{Appends}
+use Rattle.sqlite.specs.State.{State, HasCleanDisk}
+use Rattle.sqlite_trees.specs.declared.store.Store.{Ghosts}
+use Rattle.wu_core.specs.World.{World}
+use Rattle.wu_core.specs.declared.fault.Fault.{Fault}
+use Rattle.wu_drive.specs.Driving.{AnswerAll, Drives, Lengthens, session_of}
+use Rattle.wu_drive.specs.Writing.{WritesAnswers}
+use Rattle.wu_machine.specs.declared.command.Answer.{Answer}
+use Rattle.wu_machine.specs.Sessions.{Lived, world_of_life}
+use Rattle.wu_passes.specs.declared.project.Project.{Project}
+use Rattle.wu_passes.specs.Projects.{IsOver, IsSessionOpen, state_of}
+use Rattle.wu_report.specs.Texts.{view_text}
+use Rattle.wu_report.specs.Writing.{AppendsFront}
+use Rattle.wu_words.specs.declared.action.Action.{Action}
+use Rattle.wu_words.specs.declared.action.Action.TheVariants.{Commands, Look}
+use Rattle.wu_words.specs.declared.step.LineFault.{LineFault}
+use Rattle.wu_words.specs.declared.step.Step.{Step}
+use Rattle.wu_cli.specs.Printing.{printed_steps}
+use Rattle.wu_cli.specs.Repeating.{commands_of_steps, unrolled, world_behind_steps}
+use Rattle.wu_cli.specs.Scripting.{so_far}
+
+-- What an action put out that ended with a fault. Of its commands, so many of which were done, the texts of the
+-- machine's answers, the last of them cut only with `Output`; of a view a beginning.
+abbrev pub TellsAction : Option (List ℕ) → Option (List ℕ) → World → Action → ℕ → Fault → Type 0
+TellsAction before after world (Commands commands) count fault =
+    (answers : List Answer) × AnswerAll world (take count commands) answers
+    × WritesAnswers before after answers (record { acknowledged = count; end = Some fault })
+TellsAction before after world (Look view) count fault = (count ≡ 0) × AppendsFront before after (view_text world view)
+
+-- So many commands of the steps were done. Each step before the one that ended with a fault put out all that it prints;
+-- that one put out what tells of those that it did.
+pub record TellsUntil (before after : Option (List ℕ)) (world : World) (steps : List Step) (count : ℕ) (fault : Fault) : Type 0 where
+  pub front : List Step
+  pub last : Step
+  pub behind : List Step
+  pub order : steps ≡ front ++ last ∷ behind
+  pub mid : Option (List ℕ)
+  pub whole : Appends before mid (printed_steps world front)
+  pub done : ℕ
+  pub counted : count ≡ length (commands_of_steps front) + done
+  pub part : TellsAction mid after (world_behind_steps world front) last.action done fault
+
+-- without a fault every step did
+abbrev pub TellsSteps : Option (List ℕ) → Option (List ℕ) → World → List Step → ℕ → Option LineFault → Type 0
+TellsSteps before after world steps count None = Appends before after (printed_steps world steps)
+TellsSteps before after world steps count (Some end) = TellsUntil before after world steps count end.fault
+
+-- So many commands of these steps were done, each with the machine's reply, and the tables stand for the world after them;
+-- where the session ended within the next one, a stop may also leave the world after that. What went out tells of as
+-- many. Without a fault all were done.
+pub record DrivesCommands (world : World) (steps : List Step) (end : Option LineFault) (before after : Option (List ℕ)) (new : State) : Type 0 where
+  pub count : ℕ
+  pub answers : List Answer
+  pub is_cut : Bool
+  pub drives : Drives world (commands_of_steps steps) answers (so_far count) is_cut new
+  pub told : TellsSteps before after world steps count end
+  pub whole : end ≡ None → count ≡ length (commands_of_steps steps)
+
+module _ {S W : Type 0} {store : Ghosts S} (contents : W → Option (List ℕ)) where
+  -- so a script drives a project of any world over which its session goes on, where the disk does not fail
+  abbrev pub DrivesSteps : Project S store → Project S store → W → W → List Step → Option LineFault → Type 0
+  DrivesSteps old new out_old out_new steps end =
+      IsSessionOpen old → HasCleanDisk (state_of new) → (world : World) → IsOver old world
+      → DrivesCommands world (unrolled world steps) end (contents out_old) (contents out_new) (state_of new)
+
+  -- A script lengthens any life that led to that world, as its list of commands does: each world that a stop may leave
+  -- is that of the life with one session more, which acknowledged the commands that were done and cut the next one or
+  -- none.
+  abbrev pub LengthensBySteps : Project S store → Project S store → W → W → List Step → Option LineFault → Type 0
+  LengthensBySteps old new out_old out_new steps end =
+      IsSessionOpen old → HasCleanDisk (state_of new) → (start : World) (life : List Lived) → IsOver old (world_of_life start life)
+      → (it : DrivesCommands (world_of_life start life) (unrolled (world_of_life start life) steps) end (contents out_old) (contents out_new) (state_of new))
+      × Lengthens start life (session_of (commands_of_steps (unrolled (world_of_life start life) steps)) (so_far it.count) it.is_cut) (state_of new)
