@@ -2,3 +2,4 @@ pub mod StandingLemmas
 pub mod AdoptingLemmas
 pub mod WalkLemmas
 pub mod SessionLemmas
+pub mod UpgradeLemmas

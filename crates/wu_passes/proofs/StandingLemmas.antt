@@ -224,7 +224,7 @@ pub from_unplanned : (old new : State) (world : World) (request : Request) (ende
 from_unplanned old new world request true fault clean shows back survives told = (told, shows_back old new world back shows, λ db may. inl (leaves_read old new clean survives db may))
 from_unplanned old new world request false fault clean shows back survives told = (told, shows_back old new world back shows, leaves_read old new clean survives)
 
-most_then : (ended : Bool) (old mid new : State) (world : World) (request : Request) → LeavesNoMore old mid → LeavesAtMost ended mid new world request → LeavesAtMost ended old new world request
+pub most_then : (ended : Bool) (old mid new : State) (world : World) (request : Request) → LeavesNoMore old mid → LeavesAtMost ended mid new world request → LeavesAtMost ended old new world request
 most_then true old mid new world request kept most = λ db may. elim (most db may) [ inl before ↦ inl (kept db before) | inr after ↦ inr after ]
 most_then false old mid new world request kept most = λ db may. kept db (most db may)
 

@@ -4,3 +4,4 @@ pub mod Adopting
 pub mod Leaving
 pub mod Projects
 pub mod Walks
+pub mod Upgrading

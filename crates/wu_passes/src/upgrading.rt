@@ -1,0 +1,82 @@
+//! The upgrade of a project on a connection, with no session.
+
+ghost use Rattle.std.specs.Prelude.{◌≡◌, false, true, [], IfErr, OnErr};
+ghost use Rattle.wu_machine.specs.Requests.{AskUpgrade};
+ghost use Rattle.wu_machine.specs.Sound.{IsProject};
+ghost use Rattle.wu_plans.specs.Planning.{ForEachProject, NeverEnded, NotRefusedOver, PlansFor};
+ghost use Rattle.wu_schema.specs.Calls.{CommitsNothing, CrashAllows, GoesBack};
+ghost use Rattle.wu_store.specs.Changing.{MakesWorlds};
+ghost use Rattle.wu_store.specs.Loading.{Asks, ServesUnlessFailed};
+ghost use Rattle.wu_passes.specs.Upgrading.{KeepsPresent, MakesUpgrade, OpensUnlessFailed, ReadsProject, UpgradesEach};
+
+use crate::commit::change_all;
+use crate::version::known_version;
+use sqlite::{Alter, Connection};
+use std::alloc::Global;
+use wu_core::Fault;
+use wu_plans::{Plan, plan_upgrade};
+use wu_store::Change;
+
+/// What the upgrade of the project changes, or its first refusal.
+fn plan_present<'a, S: Alter>(conn: &mut Connection<S>, alloc: Global) -> Result<Plan<'a>, Fault>
+    ensures asks { Asks S.Store conn.old conn.new result }
+    ensures opens { ServesUnlessFailed S.Store conn.new result }
+    ensures never { NeverEnded result }
+    ensures unrefused { NotRefusedOver S.Store conn.old conn.new result IsProject }
+    ensures plan { ForEachProject S.Store conn.old conn.new (PlansFor AskUpgrade result) }
+{
+    let version = known_version(conn)?;
+    plan_upgrade(conn, alloc, version)
+}
+
+/// Makes the changes of the upgrade in one transaction, if there are any.
+fn make_changes<S: Alter>(
+    conn: &mut Connection<S>,
+    changes: &[Change<'_>],
+) -> Result<(), (Fault, bool)>
+    requires { conn.old.in_transaction ≡ false }
+    ensures mode { conn.new.in_transaction ≡ false }
+    ensures made { MakesUpgrade S.Store conn.old conn.new changes.now result }
+    ensures back { OnErr result (GoesBack S.Store conn.old conn.new) }
+    ensures crash { CrashAllows S.Store conn.old conn.new (MakesWorlds changes.now) }
+    ensures opens { OpensUnlessFailed S.Store conn.new result }
+    ensures begun { IfErr result (λ refusal. refusal.1 ≡ true) }
+    ensures none { changes.now ≡ [] → conn.new ≡ conn.old }
+{
+    if changes.is_empty() {
+        return Ok(());
+    }
+    match change_all(conn, changes) {
+        Ok(()) => Ok(()),
+        Err(fault) => Err((fault, true)),
+    }
+}
+
+/// Upgrades the project in a database to the present version, in one transaction.
+///
+/// It does what `Project::run` does for the command, with no session over the connection. At the present version nothing
+/// changes. With a fault the tables are as they were, while the connection is open, as it is but after `Memory` and
+/// `Broken`. Beside the fault it tells whether its transaction had begun: where it had, an open may find the tables as
+/// they were, or the upgraded ones.
+pub fn upgrade<S: Alter>(conn: &mut Connection<S>, alloc: Global) -> Result<(), (Fault, bool)>
+    requires { conn.old.in_transaction ≡ false }
+    ensures mode { conn.new.in_transaction ≡ false }
+    ensures upgrades { UpgradesEach S.Store conn.old conn.new result }
+    ensures present { KeepsPresent S.Store conn.old conn.new result }
+    ensures back { OnErr result (GoesBack S.Store conn.old conn.new) }
+    ensures opens { OpensUnlessFailed S.Store conn.new result }
+    ensures unbegun { IfErr result (λ refusal. refusal.1 ≡ false
+        → CommitsNothing S.Store conn.old conn.new) }
+    ensures unrefused { ReadsProject S.Store conn.old conn.new result }
+{
+    // outside a transaction what is shown is what is committed
+    let is_idle = conn.is_autocommit();
+    prove!(is_idle);
+    match plan_present(conn, alloc) {
+        Ok(Plan { answer, changes }) => {
+            drop(answer);
+            make_changes(conn, changes.as_slice())
+        }
+        Err(fault) => Err((fault, false)),
+    }
+}
