@@ -1,7 +1,8 @@
 //! The course of a script over two files that do not stop.
 
-use crate::runs::{Reach, run_over, views_of};
+use crate::runs::{Reach, run_over, seen_of};
 use crate::scripts::steps;
+use crate::seen::Seen;
 use anyhow::{Context, Result, bail, ensure};
 use std::alloc::{AllocError, Global};
 use wu_cli::Action;
@@ -14,10 +15,10 @@ pub enum Found {
     After,
 }
 
-/// What files hold, and all views of it, no text where there is no project.
+/// What files hold, and the project in them.
 pub struct Stage {
     pub files: Saved,
-    pub views: Vec<u8>,
+    pub seen: Seen,
 }
 
 // It is written out, so that a caller does not prove again how each part is dropped.
@@ -25,7 +26,7 @@ impl Drop for Stage {
     fn drop(self) {
         let Stage {
             files: _files,
-            views: _views,
+            seen: _seen,
         } = self;
     }
 }
@@ -33,15 +34,15 @@ impl Drop for Stage {
 impl Stage {
     /// The stage of these files.
     fn of(alloc: Global, files: Saved) -> Result<Stage> {
-        let views = views_of(alloc, &files)?;
-        Ok(Stage { files, views })
+        let seen = seen_of(alloc, &files)?;
+        Ok(Stage { files, seen })
     }
 
     /// The stage of blank files.
     fn blank(alloc: Global) -> Stage {
         Stage {
             files: Saved::empty(alloc),
-            views: Vec::new(alloc),
+            seen: Seen::blank(alloc),
         }
     }
 }
@@ -53,8 +54,8 @@ pub struct Act {
     /// What is asked for, nothing for the adoption.
     pub action: Option<Action>,
     pub before: Stage,
-    /// All views after it.
-    pub after: Vec<u8>,
+    /// The project after it.
+    pub after: Seen,
 }
 
 // It is written out, so that a caller does not prove again how each part is dropped.
@@ -70,14 +71,14 @@ impl Drop for Act {
 }
 
 impl Act {
-    /// What these views are, which were found after the act was answered or not. After an answer nothing but what it
+    /// What this project is, which was found after the act was answered or not. After an answer nothing but what it
     /// leaves may be found.
-    pub fn found(&self, views: &[u8], reach: Reach) -> Result<Found> {
-        let is_before = views == self.before.views.as_slice();
+    pub fn found(&self, seen: &Seen, reach: Reach) -> Result<Found> {
+        let is_before = seen.is_same(&self.before.seen);
         if is_before && !reach.is_done() {
             return Ok(Found::Before);
         }
-        if views == self.after.as_slice() {
+        if seen.is_same(&self.after) {
             return Ok(Found::After);
         }
         let why = if is_before {
@@ -146,11 +147,10 @@ fn stage_after(
     Stage::of(alloc, files)
 }
 
-/// Copies of a title and of views.
-fn copied(alloc: Global, title: &str, views: &[u8]) -> Result<(String, Vec<u8>), AllocError> {
+/// Copies of a title and of what is seen.
+fn copied(alloc: Global, title: &str, seen: &Seen) -> Result<(String, Seen), AllocError> {
     let title = String::from_str(alloc, title)?;
-    let views = Vec::from_slice(alloc, views)?;
-    Ok((title, views))
+    Ok((title, seen.copy(alloc)?))
 }
 
 /// An act from a stage, and the stage that it leads to.
@@ -162,7 +162,7 @@ fn act_from(
     between: Between,
 ) -> Result<(Act, Stage)> {
     let next = stage_after(alloc, &stage.files, action.as_ref(), between).context(title)?;
-    let (title, after) = copied(alloc, title, next.views.as_slice())?;
+    let (title, after) = copied(alloc, title, &next.seen)?;
     let act = Act {
         title,
         action,

@@ -3,12 +3,15 @@
 #![tactic(auto)]
 
 mod course;
+mod driven;
 mod lives;
 mod memory;
 mod outputs;
 mod runs;
 mod scripts;
+mod seen;
 mod sessions;
+mod shown;
 mod stops;
 mod tables;
 mod tally;

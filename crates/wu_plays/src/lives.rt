@@ -2,24 +2,39 @@
 //! after it, and done again before the rest.
 
 use crate::course::{Act, Between, Found, course};
-use crate::runs::{Reach, run_over, views_of};
+use crate::runs::{Left, Reach, run_over, seen_of};
 use anyhow::{Result, bail, ensure};
 use std::alloc::Global;
-use std::io::Write;
+use std::io::{self, Write};
 use wu_core::Fault;
 use wu_play_files::{MOST_CALLS, Pages, Saved, Side};
 
 /// How an act ends that a stop cuts.
 const CUT: Reach = Reach::Cut(Fault::Broken);
 
+/// What the files hold behind a stop, by which an act that was not answered is to be found so: undone by what was synced
+/// alone, done by all that was written.
+fn held(alloc: Global, left: Left, wanted: Found) -> io::Result<Saved> {
+    match wanted {
+        Found::Before => left.after_stop(alloc),
+        Found::After => left.files.saved(alloc),
+    }
+}
+
 /// Stops an act after so many calls on the log: what the files hold then, None where the session did not begin or the
 /// act was answered, and whether the calls stopped.
-fn cut_after(alloc: Global, files: &Saved, act: &Act, calls: u64) -> Result<(Option<Saved>, bool)> {
+fn cut_after(
+    alloc: Global,
+    files: &Saved,
+    act: &Act,
+    wanted: Found,
+    calls: u64,
+) -> Result<(Option<Saved>, bool)> {
     let files = files.stopping(alloc, Side::Log, calls)?;
     let mut left = run_over(alloc, files, act.action.as_ref(), Pages::All)?;
     let is_stopped = left.files.are_stopped();
     let files = if left.end.reach == CUT {
-        Some(left.after_stop(alloc)?)
+        Some(held(alloc, left, wanted)?)
     } else {
         None
     };
@@ -35,12 +50,11 @@ fn stop_after(
     wanted: Found,
     calls: u64,
 ) -> Result<(Option<Saved>, bool)> {
-    let (cut, is_stopped) = cut_after(alloc, files, act, calls)?;
+    let (cut, is_stopped) = cut_after(alloc, files, act, wanted, calls)?;
     let Some(files) = cut else {
         return Ok((None, is_stopped));
     };
-    let seen = views_of(alloc, &files)?;
-    if act.found(seen.as_slice(), CUT)? == wanted {
+    if act.found(&seen_of(alloc, &files)?, CUT)? == wanted {
         Ok((Some(files), is_stopped))
     } else {
         Ok((None, is_stopped))
@@ -78,14 +92,14 @@ fn cut(
     writeln!(transcript, "> {}", act.title)?;
     let word = match wanted {
         Found::Before => "before",
-        Found::After => "after",
+        Found::After => "after, with all that was written",
     };
     match first_stop(alloc, files, act, wanted)? {
         Some((left, calls)) => {
             *files = left;
             writeln!(transcript, "stopped after {calls} calls on the log: {word}")?;
         }
-        None => writeln!(transcript, "no stop leaves it so: {word}")?,
+        None => bail!("no stop leaves it so: {word}"),
     }
     Ok(())
 }
@@ -95,12 +109,8 @@ fn go_on(alloc: Global, files: &Saved, act: &Act) -> Result<Saved> {
     let left = run_over(alloc, files.files(alloc)?, act.action.as_ref(), Pages::All)?;
     ensure!(left.end.reach.is_done(), "{} ends with a fault", act.title);
     let files = left.files.saved(alloc)?;
-    let seen = views_of(alloc, &files)?;
-    ensure!(
-        seen.as_slice() == act.after.as_slice(),
-        "{} ends otherwise",
-        act.title
-    );
+    let seen = seen_of(alloc, &files)?;
+    ensure!(seen.is_same(&act.after), "{} ends otherwise", act.title);
     Ok(files)
 }
 

@@ -46,7 +46,7 @@ fn is_cut(status: u8, end: Option<LineFault>) -> Result<()> {
 
 /// Sees that the beginning of the whole output with so many bytes went out, and that no call came behind one that
 /// failed.
-fn went_out(out: &Narrow, whole: &[u8], count: usize) -> Result<()> {
+pub fn went_out(out: &Narrow, whole: &[u8], count: usize) -> Result<()> {
     let is_same = Some(out.taken.as_slice()) == whole.get(..count);
     ensure!(is_same, "other bytes");
     ensure!(!out.is_called_again, "a call behind the fault");

@@ -1,5 +1,6 @@
 //! Runs of one act over two files: the adoption, or a line of a script.
 
+use crate::seen::{Seen, look, see};
 use crate::sessions::{adopt, do_action, views};
 use anyhow::{Result, bail};
 use sqlite::{Alter, Connection};
@@ -31,8 +32,8 @@ impl Reach {
 /// How an act ended.
 pub struct End {
     pub reach: Reach,
-    /// All views of a session that was begun again over the same database, behind a fault that ended the first.
-    pub again: Option<Vec<u8>>,
+    /// The project of a session that was begun again over the same database, behind a fault that ended the first.
+    pub again: Option<Seen>,
 }
 
 // It is written out, so that a caller does not prove again how each part is dropped.
@@ -80,11 +81,11 @@ impl Left {
 fn begin_again<S: Alter + Drop>(
     alloc: Global,
     project: Project<S>,
-) -> (Connection<S>, Option<Vec<u8>>) {
+) -> (Connection<S>, Option<Seen>) {
     match project.begin_again() {
-        Ok(mut project) => {
-            let seen = views(alloc, &mut project).ok();
-            (project.release(), seen)
+        Ok(project) => {
+            let (conn, seen) = see(alloc, project);
+            (conn, seen.ok())
         }
         Err((conn, _)) => (conn, None),
     }
@@ -157,7 +158,16 @@ pub fn run_over(
     })
 }
 
-/// A look at all views of a project.
+/// What a visitor tells over files that do not stop.
+pub fn told_over<V: Visit>(alloc: Global, saved: &Saved, visitor: V) -> Result<V::Told> {
+    let left = visit_play(alloc, saved.files(alloc)?, options(2, Pages::All), visitor)?;
+    match left.into_told() {
+        Some(told) => Ok(told),
+        None => bail!("the files can't be opened"),
+    }
+}
+
+/// A look at all views of a project, which is begun where there is none.
 #[derive(Drop)]
 struct Looking;
 
@@ -175,16 +185,28 @@ impl Visit for Looking {
     }
 }
 
-/// What a visitor tells over files that do not stop.
-pub fn told_over<V: Visit>(alloc: Global, saved: &Saved, visitor: V) -> Result<V::Told> {
-    let left = visit_play(alloc, saved.files(alloc)?, options(2, Pages::All), visitor)?;
-    match left.into_told() {
-        Some(told) => Ok(told),
-        None => bail!("the files can't be opened"),
+/// All views of the project in files, which is begun where there is none.
+pub fn views_of(alloc: Global, saved: &Saved) -> Result<Vec<u8>> {
+    told_over(alloc, saved, Looking)
+}
+
+/// A look at the project in a database.
+#[derive(Drop)]
+struct Seeing;
+
+impl Visit for Seeing {
+    type Told = Seen;
+
+    fn visit<S: Alter + Drop>(
+        self,
+        alloc: Global,
+        conn: Connection<S>,
+    ) -> Result<(Connection<S>, Seen)> {
+        look(alloc, conn)
     }
 }
 
-/// All views of the project in files.
-pub fn views_of(alloc: Global, saved: &Saved) -> Result<Vec<u8>> {
-    told_over(alloc, saved, Looking)
+/// The project in files.
+pub fn seen_of(alloc: Global, saved: &Saved) -> Result<Seen> {
+    told_over(alloc, saved, Seeing)
 }

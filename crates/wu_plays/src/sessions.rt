@@ -60,10 +60,3 @@ pub fn do_action<S: Alter>(
         None => None,
     }
 }
-
-/// Whether a database has no table.
-pub fn is_blank<S: Alter>(conn: &mut Connection<S>) -> Result<bool> {
-    let row = conn.query_row("SELECT count(*) FROM sqlite_schema", &[])?;
-    let count: i64 = row.get(0)?;
-    Ok(count == 0)
-}

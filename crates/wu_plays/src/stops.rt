@@ -1,9 +1,10 @@
 //! A play over two files, where the calls on one of them stop after each number of calls in turn. What is left is
-//! opened again, looked at in every view, and the rest of the script is played on.
+//! opened again, looked at in every view and table, and the rest of the script is played on.
 
 use crate::course::{Act, Between, Found, course};
 use crate::runs::{Left, Reach, run_over, told_over};
-use crate::sessions::{adopt, do_action, is_blank, views};
+use crate::seen::{look, see};
+use crate::sessions::{adopt, do_action};
 use crate::tally::{Find, Finds, Tally};
 use anyhow::{Context, Result, bail, ensure};
 use sqlite::{Alter, Connection};
@@ -37,41 +38,35 @@ struct Case<'a> {
     pages: Pages,
 }
 
-/// Does an act again, which was done or not, and those after it, and sees that the end is that of the course.
+/// Does an act again, which was done or not, and those after it.
 fn go_on<S: Alter>(
     alloc: Global,
     project: &mut Project<S>,
-    act: &Act,
-    rest: &[Act],
+    case: Case<'_>,
     was_done: bool,
 ) -> Result<()> {
-    do_act(alloc, project, act, was_done)?;
-    for act in rest {
+    do_act(alloc, project, case.act, was_done)?;
+    for act in case.rest {
         do_act(alloc, project, act, false)?;
     }
-    let end = views(alloc, project)?;
-    let last = rest.last().unwrap_or(act);
-    ensure!(end.as_slice() == last.after.as_slice(), "another end");
     Ok(())
 }
 
-/// Looks at what is left of an act that came so far, and goes on. Where there was no table, there are no views.
-fn find<S: Alter>(
+/// Looks at what is left of an act that came so far, goes on, and sees that the end is that of the course.
+fn find<S: Alter + Drop>(
     alloc: Global,
-    project: &mut Project<S>,
-    was_blank: bool,
+    conn: Connection<S>,
     case: Case<'_>,
     reach: Reach,
-) -> Result<Found> {
-    let seen = if was_blank {
-        Vec::new(alloc)
-    } else {
-        views(alloc, project)?
-    };
-    let found = case.act.found(seen.as_slice(), reach)?;
-    let was_done = matches!(found, Found::After);
-    go_on(alloc, project, case.act, case.rest, was_done)?;
-    Ok(found)
+) -> Result<(Connection<S>, Found)> {
+    let (conn, left) = look(alloc, conn)?;
+    let found = case.act.found(&left, reach)?;
+    let mut project = adopt(conn)?;
+    go_on(alloc, &mut project, case, matches!(found, Found::After))?;
+    let (conn, end) = see(alloc, project);
+    let last = case.rest.last().unwrap_or(case.act);
+    ensure!(end?.is_same(&last.after), "another end");
+    Ok((conn, found))
 }
 
 /// A session that goes on so.
@@ -87,12 +82,9 @@ impl<'a> Visit for GoingOn<'a> {
     fn visit<S: Alter + Drop>(
         self,
         alloc: Global,
-        mut conn: Connection<S>,
+        conn: Connection<S>,
     ) -> Result<(Connection<S>, Found)> {
-        let was_blank = is_blank(&mut conn)?;
-        let mut project = adopt(conn)?;
-        let found = find(alloc, &mut project, was_blank, self.case, self.reach)?;
-        Ok((project.release(), found))
+        find(alloc, conn, self.case, self.reach)
     }
 }
 
@@ -125,7 +117,7 @@ fn is_right(case: Case<'_>, left: &Left, is_stopped: bool) -> Result<()> {
     }
     if let Some(seen) = &left.end.again {
         ensure!(
-            seen.as_slice() == case.act.before.views.as_slice(),
+            seen.is_same(&case.act.before.seen),
             "a session begins again over another state"
         );
     }
@@ -216,7 +208,7 @@ fn play_case(alloc: Global, case: Case<'_>, transcript: &mut Vec<u8>) -> Result<
     Ok(())
 }
 
-/// Plays the stops of an act.
+/// Tells what an act changes, and plays its stops.
 fn play_act(
     alloc: Global,
     act: &Act,
@@ -225,6 +217,7 @@ fn play_act(
     transcript: &mut Vec<u8>,
 ) -> Result<()> {
     writeln!(transcript, "> {}", act.title)?;
+    act.before.seen.write_changes(&act.after, transcript)?;
     let log = Case {
         act,
         rest,

@@ -134,7 +134,7 @@ impl Tally {
             ", {} answered; {} before, {} after; with all that was written {} before, {} after",
             ends.answered, lost.before, lost.after, kept.before, kept.after
         )?;
-        if act.before.views.as_slice() == act.after.as_slice() {
+        if act.before.seen.is_same(&act.after) {
             return writeln!(transcript, "; {} with the same database file", ends.same);
         }
         writeln!(transcript)

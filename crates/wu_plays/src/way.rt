@@ -1,7 +1,7 @@
 //! How a script is played.
 
 use crate::course::Between;
-use crate::{lives, memory, outputs, stops, tables};
+use crate::{driven, lives, memory, outputs, shown, stops, tables};
 use anyhow::{Result, bail};
 use std::alloc::Global;
 use wu_play_files::Pages;
@@ -20,6 +20,10 @@ pub enum Way {
     Lives(Vec<usize>),
     /// Into writers that fail after each byte.
     Outputs,
+    /// The view of the last line, into writers that take a few bytes a call and fail after each.
+    Shown,
+    /// From the line of this number on as one list, into a writer that takes so many bytes.
+    Driven(u64, usize),
 }
 
 /// The numbers that the words write.
@@ -29,6 +33,14 @@ fn numbers<'a>(alloc: Global, words: &[&'a str]) -> Result<Vec<usize>> {
         numbers.push(word.parse::<usize>()?)?;
     }
     Ok(numbers)
+}
+
+/// The way of lines that are driven: from which on, and how many bytes the writer takes.
+fn driven<'a>(words: &[&'a str]) -> Result<Way> {
+    let [first, room] = words else {
+        bail!("the number of a line and of bytes");
+    };
+    Ok(Way::Driven(first.parse()?, room.parse()?))
 }
 
 /// The file that a word names, if there is one.
@@ -50,6 +62,8 @@ impl Way {
             "unclosed" => Way::Stops(Between::Unclosed, Pages::All, None),
             "lives" => Way::Lives(numbers(alloc, rest)?),
             "outputs" => Way::Outputs,
+            "shown" => Way::Shown,
+            "driven" => driven(rest)?,
             _ => bail!("no way to play"),
         };
         Ok(way)
@@ -70,6 +84,8 @@ impl Way {
             ),
             Way::Lives(numbers) => lives::play(rt, text, numbers.as_slice(), transcript),
             Way::Outputs => outputs::play(rt, text, transcript),
+            Way::Shown => shown::play(rt, text, transcript),
+            Way::Driven(first, room) => driven::play(rt, text, *first, *room, transcript),
         }
     }
 }

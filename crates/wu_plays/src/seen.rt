@@ -1,0 +1,141 @@
+//! What a project is: all views of it, and every row of every table.
+
+use crate::sessions::{adopt, views};
+use anyhow::Result;
+use sqlite::{Alter, Connection};
+use std::alloc::{AllocError, Global};
+use std::io::{self, Write};
+use std::str;
+use wu_drive::Project;
+
+/// What a project is, no text where there is none.
+pub struct Seen {
+    /// All views.
+    pub views: Vec<u8>,
+    /// Every row of every table, with what no view shows: imports with their contents, and the queue.
+    tables: Vec<u8>,
+}
+
+// It is written out, so that a caller does not prove again how each part is dropped.
+impl Drop for Seen {
+    fn drop(self) {
+        let Seen {
+            views: _views,
+            tables: _tables,
+        } = self;
+    }
+}
+
+impl Seen {
+    /// What is seen where there is no project.
+    pub fn blank(alloc: Global) -> Seen {
+        Seen {
+            views: Vec::new(alloc),
+            tables: Vec::new(alloc),
+        }
+    }
+
+    pub fn copy(&self, alloc: Global) -> Result<Seen, AllocError> {
+        Ok(Seen {
+            views: Vec::from_slice(alloc, self.views.as_slice())?,
+            tables: Vec::from_slice(alloc, self.tables.as_slice())?,
+        })
+    }
+
+    pub fn is_same(&self, other: &Seen) -> bool {
+        self.views.as_slice() == other.views.as_slice()
+            && self.tables.as_slice() == other.tables.as_slice()
+    }
+
+    /// Writes the lines of views that are gone after an act, and those that are new.
+    pub fn write_changes(&self, after: &Seen, transcript: &mut Vec<u8>) -> Result<()> {
+        let before = str::from_utf8(self.views.as_slice())?;
+        let after = str::from_utf8(after.views.as_slice())?;
+        write_missing('-', before, after, transcript)?;
+        write_missing('+', after, before, transcript)?;
+        Ok(())
+    }
+}
+
+/// Whether a text has this line.
+fn has_line(text: &str, wanted: &str) -> bool {
+    for line in text.lines() {
+        if line == wanted {
+            return true;
+        }
+    }
+    false
+}
+
+/// Writes the lines of a text that another has not, each behind a sign.
+fn write_missing(sign: char, text: &str, other: &str, transcript: &mut Vec<u8>) -> io::Result<()> {
+    for line in text.lines() {
+        if !has_line(other, line) {
+            writeln!(transcript, "{sign} {line}")?;
+        }
+    }
+    Ok(())
+}
+
+/// Writes every row of a table, in the order of its first two columns.
+fn write_table<S: Alter>(
+    alloc: Global,
+    conn: &mut Connection<S>,
+    name: &str,
+    out: &mut Vec<u8>,
+) -> Result<()> {
+    let sql = format!(in alloc; "SELECT * FROM {name} ORDER BY 1, 2")?;
+    for row in conn.query_all(sql.as_str(), &[])? {
+        write!(out, "{name}")?;
+        for at in 0..row.column_count() {
+            write!(out, " {:?}", row.get_ref(at)?)?;
+        }
+        writeln!(out)?;
+    }
+    Ok(())
+}
+
+/// Every row of every table.
+fn tables<S: Alter>(alloc: Global, conn: &mut Connection<S>) -> Result<Vec<u8>> {
+    let mut out = Vec::new(alloc);
+    let sql = "SELECT name FROM sqlite_schema WHERE type = 'table' ORDER BY name";
+    for row in conn.query_all(sql, &[])? {
+        let name: String = row.get(0)?;
+        write_table(alloc, conn, name.as_str(), &mut out)?;
+    }
+    Ok(out)
+}
+
+/// What a project is, and the database that it lies in.
+pub fn see<S: Alter + Drop>(
+    alloc: Global,
+    mut project: Project<S>,
+) -> (Connection<S>, Result<Seen>) {
+    let views = views(alloc, &mut project);
+    let mut conn = project.release();
+    let tables = tables(alloc, &mut conn);
+    let seen = match (views, tables) {
+        (Ok(views), Ok(tables)) => Ok(Seen { views, tables }),
+        (Err(error), _) | (_, Err(error)) => Err(error),
+    };
+    (conn, seen)
+}
+
+/// Whether a database has no table.
+fn is_blank<S: Alter>(conn: &mut Connection<S>) -> Result<bool> {
+    let row = conn.query_row("SELECT count(*) FROM sqlite_schema", &[])?;
+    let count: i64 = row.get(0)?;
+    Ok(count == 0)
+}
+
+/// What the project in a database is. Where there is no table, none is begun.
+pub fn look<S: Alter + Drop>(
+    alloc: Global,
+    mut conn: Connection<S>,
+) -> Result<(Connection<S>, Seen)> {
+    if is_blank(&mut conn)? {
+        return Ok((conn, Seen::blank(alloc)));
+    }
+    let (conn, seen) = see(alloc, adopt(conn)?);
+    Ok((conn, seen?))
+}
