@@ -5,7 +5,7 @@ use Rattle.sqlite_schema.specs.Rules.{are_typed}
 use Rattle.sqlite_schema.specs.declared.schema.Constraint.TheVariants.{Datatype}
 use Rattle.sqlite_sql.specs.Ops.{is_null}
 use Rattle.sqlite.specs.declared.types.Value.TheVariants.{Int, Real, Text, Blob}
-use Rattle.wu_store.proofs.ReadingLemmas.{as_columns}
+use Rattle.wu_schema.proofs.ReadingLemmas.{as_columns}
 use Rattle.wu_loader.specs.Shown.{behind_key, keyed, unkeyed}
 
 -- ---- a row and its columns

@@ -8,9 +8,9 @@ use Rattle.wu_core.specs.Storable.{AreVerdicts, IsHost, IsName, IsOutput, IsPlac
 use Rattle.wu_core.specs.declared.import.ImportKind.TheVariants as kind
 use Rattle.wu_core.proofs.MaskLemmas.{flags_of}
 use Rattle.wu_schema.specs.Restoring.{Restores}
-use Rattle.wu_store.specs.Reading.{columns, mask_cell, verdicts_cell}
+use Rattle.wu_schema.specs.Reading.{columns, mask_cell, verdicts_cell}
 use Rattle.wu_core.specs.Formed.{IsInstance}
-use Rattle.wu_store.proofs.ReadingLemmas.{as_columns, not_ok, same_verdicts}
+use Rattle.wu_schema.proofs.ReadingLemmas.{as_columns, not_ok, same_verdicts}
 use Rattle.wu_store.proofs.SameWorld.{mask_again, maybe_again, read_blob, read_maybe, read_number, read_text, same_instances}
 use Rattle.wu_loader.specs.Cells.{kind_cell, moment_cells, state_cells, HasMoments}
 use Rattle.wu_loader.specs.declared.rows.Moments.{Moments}

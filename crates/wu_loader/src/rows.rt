@@ -5,7 +5,7 @@ ghost use Rattle.sqlite.specs.Order.{Row, column};
 ghost use Rattle.wu_core.specs.Storable.{IsClass, IsStoredArchived, IsStoredWorkunit, MayBeInstance};
 ghost use Rattle.wu_schema.specs.Restoring.{Restores};
 ghost use Rattle.wu_schema.specs.Stored.{class_cells, import_cells, instance_row, number, workunit_row};
-ghost use Rattle.wu_store.specs.Reading.{columns};
+ghost use Rattle.wu_schema.specs.Reading.{columns};
 ghost use Rattle.wu_loader.specs.Cells.{moment_cells, state_cells, HasMoments};
 ghost use Rattle.wu_loader.specs.Rows.{archived_row, classed_row, grant_row, host_row, placed_row, project_row, IsStoredClass, IsStoredGrant, IsStoredHost, IsStoredHostClass, IsStoredImport, IsStoredPlaced, IsStoredProject};
 
@@ -17,12 +17,12 @@ use wu_core::{
     Archived, Deadline, Fault, FileDelete, Grant, HIGHEST_CLASS, HostClass, Instance,
     MOST_WORKUNITS, Moment, Name, Outcome, ServerState, ValidateState, Workunit,
 };
-use wu_schema::{number_at, read_column};
-use wu_store::rows::{
+use wu_schema::rows::{
     bytes_at, deadline_at, file_delete_at, host_at, instance_number_at, is_formed, mask_at,
     moment_at, name_at, outcome_at, output_at, place_at, server_state_at, stamp_at,
     validate_state_at, verdicts_at, workunit_from,
 };
+use wu_schema::{number_at, read_column};
 
 /// What a row of a table stands for.
 pub trait FromRow: Sized {

@@ -1,5 +1,5 @@
 -- What an adoption gives, from what its question for the version and its creation give.
-use Rattle.std.proofs.Common.{refl, ◌≡◌, ◌⊎◌, true, false, nat_lt, if◌then◌else◌, ◌==◌, IsSome, ◌<◌, ◌≤◌, ℕ, Option, None, Some, Result, Ok, Err, IfErr, IfOk, IsTrue, sym, ap, subst, ◌∙◌, inl, inr, arith}
+use Rattle.std.proofs.Common.{refl, ◌≡◌, ◌⊎◌, true, false, ◌==◌, ◌<◌, ◌≤◌, ℕ, Option, None, Some, Result, Ok, Err, IfErr, IfOk, IsTrue, sym, ap, subst, ◌∙◌, inl, inr, arith}
 use Rattle.std.proofs.lemmas.Bool.{cases_Bool}
 use Rattle.std.proofs.lemmas.Bool.Decides.{nat_tests}
 use Rattle.sqlite.specs.Effect.{Database}

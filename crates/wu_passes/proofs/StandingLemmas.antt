@@ -1,11 +1,11 @@
 -- What stands of a session after each exit of a command.
-use Rattle.std.proofs.Common.{arith, refl, ◌≡◌, ◌≢◌, ◌≤◌, ◌⊎◌, ℕ, Bool, true, false, List, [], Result, Ok, Err, IfErr, IsTrue, OnOk, sym, ap, subst, ◌∙◌, inl, inr}
+use Rattle.std.proofs.Common.{arith, refl, ◌≡◌, ◌≢◌, ◌≤◌, ◌⊎◌, Bool, true, false, List, [], ◌∷◌, length, Result, Ok, Err, IfErr, IsTrue, OnOk, sym, ap, subst, ◌∙◌, inl, inr}
 use Rattle.sqlite.specs.Effect.{Database}
 use Rattle.sqlite.specs.State.{State, HasCleanDisk, Survives}
 use Rattle.sqlite.specs.Tree.{Trees}
 use Rattle.sqlite_trees.specs.View.{doubt}
 use Rattle.wu_core.specs.declared.fault.Fault.{Fault}
-use Rattle.wu_core.specs.declared.fault.Fault.TheVariants.{Broken, Memory, NotAProject}
+use Rattle.wu_core.specs.declared.fault.Fault.TheVariants.{Broken, NotAProject}
 use Rattle.wu_schema.specs.Faults.{IsFailure}
 use Rattle.wu_core.specs.World.{World}
 use Rattle.sqlite.specs.Held.{Held, state}
@@ -26,6 +26,11 @@ use Rattle.wu_passes.specs.Standing.{GoesOn, HasEnded, IsCutBy, KeepsOpen, Keeps
 use Rattle.wu_plans.specs.declared.plan.Plan.{Plan}
 use Rattle.wu_machine.specs.declared.command.Answer.{Answer}
 use Rattle.wu_store.specs.declared.changes.Change.{Change}
+
+-- a list of none
+pub no_changes : {X : Type 0} (xs : List X) → length xs ≡ 0 → xs ≡ []
+no_changes [] none = refl
+no_changes (x ∷ xs) none = absurd (omega (arith, none))
 
 -- a call that reads
 pub shows_back : (old new : State) (world : World) → IsBack old new → ShowsWorld old world → ShowsWorld new world

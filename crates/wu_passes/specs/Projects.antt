@@ -5,7 +5,7 @@ use Rattle.sqlite.specs.Held.{Held, state}
 use Rattle.sqlite.specs.State.{State, HasCleanDisk}
 use Rattle.sqlite.specs.Store.{Ghosts}
 use Rattle.wu_core.specs.declared.fault.Fault.{Fault}
-use Rattle.wu_core.specs.declared.fault.Fault.TheVariants.{BadLimit, Broken, Ended, Memory, OldSchema}
+use Rattle.wu_core.specs.declared.fault.Fault.TheVariants.{BadLimit, Broken, Ended, OldSchema}
 use Rattle.wu_core.specs.World.{World}
 use Rattle.wu_schema.specs.Calls.{HasBroken}
 use Rattle.wu_schema.specs.Faults.{IsFailure}
@@ -20,10 +20,10 @@ use Rattle.wu_machine.specs.Commands.{request_of}
 use Rattle.wu_machine.specs.Sound.{IsProject}
 use Rattle.wu_store.specs.Loading.{Asks, ServesUnlessFailed}
 use Rattle.wu_store.specs.Classes.{ForEachClassed, NotRefusedClass}
-use Rattle.wu_pages.specs.Lines.{summary_of}
+use Rattle.wu_views.specs.Lines.{summary_of}
 use Rattle.wu_store.specs.StandsFor.{StandsFor}
-use Rattle.wu_pages.specs.Summaries.{FindsAt, IsCountable}
-use Rattle.wu_pages.specs.declared.lines.Summary.{Summary}
+use Rattle.wu_views.specs.Summaries.{CountsSummary, FindsAt, IsCountable, SumsSummary}
+use Rattle.wu_views.specs.declared.lines.Summary.{Summary}
 use Rattle.wu_machine.specs.Requests.{Request}
 use Rattle.wu_passes.specs.Adopting.{KeepsAll, older_than_present}
 use Rattle.wu_passes.specs.Leaving.{RunsFrom}
@@ -264,6 +264,11 @@ WasOpenBefore old new result = HasCleanDisk (state_of new) → OnOk result (IsTr
 -- it is the summary of each world with classes that the tables stand for
 abbrev pub Summarizes : {S : Type 0} {g : Ghosts S} → Project S g → Project S g → Result Summary Fault → Type 0
 Summarizes {S} {g} old new result = ForEachClassed g (connection_of old) (connection_of new) (FindsAt summary_of result)
+
+-- Its numbers count each row of instances, and of grants, whatever the tables stand for.
+pub record CountsRows {S : Type 0} {g : Ghosts S} (old new : Project S g) (result : Result Summary Fault) : Type 0 where
+  pub states : CountsSummary g (connection_of old) (connection_of new) result
+  pub credit : SumsSummary g (connection_of old) (connection_of new) result
 
 -- over such a world whose numbers can be read none is refused
 abbrev pub SummarizesUnrefused : {S T : Type 0} {g : Ghosts S} → Project S g → Project S g → Result T Fault → Type 0

@@ -6,10 +6,8 @@ mod project;
 mod upgrading;
 mod version;
 
-pub use project::{
-    ArchiveWalk, ClassWalk, HostWalk, LineWalk, LinesLeft, Project, ResultWalk, Walk, WorkunitWalk,
-};
+pub use project::Project;
 pub use upgrading::upgrade;
 pub use wu_machine::{Answer, Batch, Command, RowsFile};
-pub use wu_pages::{HostLine, ResultLine, Summary, WorkunitLine};
 pub use wu_rules::Pass;
+pub use wu_views::{HostLine, ResultLine, Summary, Takes, WorkunitLine};

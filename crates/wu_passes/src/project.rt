@@ -7,9 +7,6 @@ mod summary;
 mod walk;
 
 use sqlite::{Alter, Connection};
-pub use walk::{
-    ArchiveWalk, ClassWalk, HostWalk, LineWalk, LinesLeft, ResultWalk, Walk, WorkunitWalk,
-};
 
 /// A session over the database of a project, from its adoption to its release.
 ///

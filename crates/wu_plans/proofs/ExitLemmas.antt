@@ -5,7 +5,7 @@ use Rattle.wu_core.specs.declared.fault.Fault.{Fault}
 use Rattle.wu_core.specs.declared.fault.Fault.TheVariants.{Broken, Ended, Memory, NameUsed, NotAProject}
 use Rattle.wu_machine.specs.Imports.{Given}
 use Rattle.wu_schema.specs.Faults.{IsFailure, IsStoreFault}
-use Rattle.wu_store.specs.declared.rows.StoredImport.{StoredImport}
+use Rattle.wu_schema.specs.declared.rows.StoredImport.{StoredImport}
 use Rattle.wu_plans.specs.Planning.{RefusesRepeat}
 
 -- what `?` hands on is another fault where the first one was

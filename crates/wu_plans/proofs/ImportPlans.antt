@@ -15,7 +15,7 @@ use Rattle.wu_store.specs.Changes.{with_import}
 use Rattle.wu_store.specs.Changing.{AreRight, import_of_change, made_all}
 use Rattle.wu_store.specs.Loading.{IsEarlier, IsStoreFault}
 use Rattle.wu_store.specs.StandsFor.{KnowsClasses}
-use Rattle.wu_store.specs.declared.rows.StoredImport.{StoredImport}
+use Rattle.wu_schema.specs.declared.rows.StoredImport.{StoredImport}
 use Rattle.wu_store.specs.declared.changes.Change.TheVariants.{Keep}
 use Rattle.wu_store.proofs.WorldOnce.{once_named, once_number}
 use Rattle.wu_plans.specs.declared.files.Left.{Left}

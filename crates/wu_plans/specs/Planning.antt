@@ -21,7 +21,7 @@ use Rattle.wu_feed.specs.Templates.{template_of}
 use Rattle.wu_store.specs.Changes.{with_import}
 use Rattle.wu_store.specs.Loading.{IsStoreFault}
 use Rattle.wu_store.specs.StandsFor.{KnowsClasses, StandsFor}
-use Rattle.wu_store.specs.declared.rows.StoredImport.{StoredImport}
+use Rattle.wu_schema.specs.declared.rows.StoredImport.{StoredImport}
 use Rattle.wu_schema.specs.Refines.{Refines}
 use Rattle.wu_plans.specs.declared.plan.Plan.{Plan}
 use Rattle.wu_plans.specs.declared.imports.Source.{Source}

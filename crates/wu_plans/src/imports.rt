@@ -10,7 +10,8 @@ use crate::plan::Plan;
 use std::alloc::Global;
 use wu_core::{Bytes, Fault, ImportKind, Name};
 use wu_machine::{Answer, Batch, RowsFile};
-use wu_store::{Import, StoredImport, Verdicts};
+use wu_schema::rows::StoredImport;
+use wu_store::{Import, Verdicts};
 
 /// What is imported: its name and its bytes, which the command lends.
 #[derive(Clone, Copy)]

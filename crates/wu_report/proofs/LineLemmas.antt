@@ -5,10 +5,10 @@ use Rattle.wu_core.specs.Mask.{error_mask_code}
 use Rattle.wu_core.specs.Words.{server_state_word, outcome_word, validate_state_word, assimilate_word, file_delete_word}
 use Rattle.wu_core.specs.declared.workunit.Archived.{Archived}
 use Rattle.wu_core.specs.declared.workunit.HostClass.{HostClass}
-use Rattle.wu_pages.specs.declared.lines.ResultLine.{ResultLine}
-use Rattle.wu_pages.specs.declared.lines.HostLine.{HostLine}
-use Rattle.wu_pages.specs.declared.lines.Summary.{Summary}
-use Rattle.wu_pages.specs.declared.lines.WorkunitLine.{WorkunitLine}
+use Rattle.wu_views.specs.declared.lines.ResultLine.{ResultLine}
+use Rattle.wu_views.specs.declared.lines.HostLine.{HostLine}
+use Rattle.wu_views.specs.declared.lines.Summary.{Summary}
+use Rattle.wu_views.specs.declared.lines.WorkunitLine.{WorkunitLine}
 use Rattle.wu_report.specs.Texts.{archived_line, bytes_text, class_line, counted, host_line, line_end, moment_text, or_dash, result_line, summary_lines, workunit_line}
 
 -- the pieces of a workunit's line

@@ -1,5 +1,6 @@
 pub mod Texts
 pub mod Writing
+pub mod Writers
 pub mod Projects
 pub mod Views
 pub mod Examples

@@ -4,12 +4,13 @@ use Rattle.sqlite_trees.specs.declared.store.Store.{Ghosts}
 use Rattle.wu_core.specs.declared.fault.Fault.{Fault}
 use Rattle.wu_core.specs.declared.fault.Fault.TheVariants.{Broken}
 use Rattle.wu_machine.specs.declared.view.View.{View}
+use Rattle.wu_machine.specs.declared.view.View.TheVariants.{Summary}
 use Rattle.wu_store.specs.Loading.{IsReadOnly}
 use Rattle.wu_passes.specs.declared.project.Project.{Project}
 use Rattle.wu_passes.specs.Projects.{BreaksOn, IsSessionOpen, IsSessionEnded, KeepsLimit, KeepsVersion, ServesShown, state_of}
 use Rattle.wu_passes.specs.Standing.{FaultsOnlyGrow}
 use Rattle.wu_report.specs.Projects.{EndsAsBroken, StillGoesOn}
-use Rattle.wu_report.specs.Views.{RefusesView, Shows, ShowsOrFails, ShowsUnrefused}
+use Rattle.wu_report.specs.Views.{CountsShown, RefusesView, Shows, ShowsOrFails, ShowsUnrefused}
 
 -- The lines of the view are written, up to the first fault.
 pub record Sees {S W T : Type 0} {store : Ghosts S} (contents : W → Option (List ℕ)) (old new : Project S store) (out_old out_new : W) (view : View) (result : Result T Fault) : Type 0 where
@@ -30,3 +31,5 @@ pub record Sees {S W T : Type 0} {store : Ghosts S} (contents : W → Option (Li
   pub broke : BreaksOn old new result
   pub opens : IsSessionOpen old → ServesShown old new result
   pub version : KeepsVersion old new
+  -- a summary counts each row, whatever the tables stand for
+  pub counted : view ≡ Summary → CountsShown contents old new out_old out_new result

@@ -9,11 +9,11 @@ use Rattle.wu_core.specs.declared.workunit.HostClass.{HostClass}
 use Rattle.wu_core.specs.Mask.{error_mask_code}
 use Rattle.wu_core.specs.Words.{server_state_word, outcome_word, validate_state_word, assimilate_word, file_delete_word}
 use Rattle.wu_core.specs.World.{World}
-use Rattle.wu_pages.specs.declared.lines.HostLine.{HostLine}
-use Rattle.wu_pages.specs.declared.lines.ResultLine.{ResultLine}
-use Rattle.wu_pages.specs.declared.lines.Summary.{Summary}
-use Rattle.wu_pages.specs.declared.lines.WorkunitLine.{WorkunitLine}
-use Rattle.wu_pages.specs.Lines.{archived_lines, class_lines, host_lines, result_lines, summary_of, workunit_lines}
+use Rattle.wu_views.specs.declared.lines.HostLine.{HostLine}
+use Rattle.wu_views.specs.declared.lines.ResultLine.{ResultLine}
+use Rattle.wu_views.specs.declared.lines.Summary.{Summary}
+use Rattle.wu_views.specs.declared.lines.WorkunitLine.{WorkunitLine}
+use Rattle.wu_views.specs.Lines.{archived_lines, class_lines, host_lines, result_lines, summary_of, workunit_lines}
 use Rattle.wu_machine.specs.declared.view.View.{View}
 use Rattle.wu_machine.specs.declared.view.View.TheVariants as view
 

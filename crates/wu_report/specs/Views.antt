@@ -1,49 +1,34 @@
 -- What is shown of a project.
-use Rattle.std.specs.Prelude.{◌≡◌, ◌≢◌, ◌⊎◌, ℕ, List, flat_map, Option, Result, Err, IfErr, IfSome}
+use Rattle.std.specs.Prelude.{◌≡◌, ◌≢◌, ◌⊎◌, ℕ, List, Option, Result, Err, IfErr, IfSome, OnOk}
+use Rattle.std.specs.Io.KnownBytes.{Appends}
 use Rattle.sqlite.specs.State.{HasCleanDisk}
 use Rattle.sqlite_trees.specs.declared.store.Store.{Ghosts}
 use Rattle.wu_core.specs.declared.fault.Fault.{Fault}
 use Rattle.wu_core.specs.declared.fault.Fault.TheVariants.{Ended, NotAProject, OldSchema, Output}
 use Rattle.wu_core.specs.Classes.{AreClassed}
 use Rattle.wu_core.specs.World.{World}
-use Rattle.wu_pages.specs.declared.pages.Pages.{Ghosts as PageGhosts}
-use Rattle.wu_pages.specs.Lines.{AreHostsNamed}
+use Rattle.wu_views.specs.Lines.{AreHostsNamed}
 use Rattle.wu_store.specs.Loading.{IsStoreFault}
 use Rattle.wu_core.specs.Storable.{AreStorable, IsArchiveStorable}
 use Rattle.wu_store.specs.StandsFor.{KnowsClasses}
-use Rattle.wu_pages.specs.Summaries.{IsCountable}
+use Rattle.wu_views.specs.Summaries.{CountsCredit, CountsStates, granted_in, IsCountable, results_in}
+use Rattle.wu_views.specs.declared.lines.Summary.{Summary}
 use Rattle.wu_passes.specs.Standing.{ShowsWorld}
 use Rattle.wu_passes.specs.declared.project.Project.{Project}
-use Rattle.wu_passes.specs.declared.project.walk.LineWalk.{LineWalk}
-use Rattle.wu_passes.specs.declared.project.walk.LinesLeft.{LinesLeft}
-use Rattle.wu_passes.specs.Projects.{IsPresentSession, IsSessionOpen, IsSessionEnded, IsUnlimited, older_version, state_of}
-use Rattle.wu_passes.specs.Walks.{HasLeft, walked}
+use Rattle.wu_passes.specs.Projects.{BreaksOn, IsPresentSession, IsSessionOpen, IsSessionEnded, IsUnlimited, older_version, ServesShown, state_of}
+use Rattle.wu_report.specs.Projects.{ReadsSession}
 use Rattle.wu_machine.specs.declared.view.View.{View}
 use Rattle.wu_machine.specs.declared.view.View.TheVariants as view
-use Rattle.wu_report.specs.Texts.{view_text}
+use Rattle.wu_report.specs.Texts.{summary_lines, view_text}
 use Rattle.wu_report.specs.Writing.{IsCut, WritesTo}
 
 -- the text can't be written, or the store can't be read
 abbrev pub IsViewFault : Fault → Type 0
 IsViewFault fault = (fault ≡ Output) ⊎ IsStoreFault fault
 
--- ---- the lines of a walk
-
--- those that it had left are written, each by its text, up to the first fault
-abbrev pub WritesLeft : {S P T W R : Type 0} {store : Ghosts S} → PageGhosts P T → (T → List ℕ) → (W → Option (List ℕ)) → LineWalk S (LinesLeft P) store → LineWalk S (LinesLeft P) store → W → W → Result R Fault → Type 0
-WritesLeft {S} {P} {T} p text contents old new out_old out_new result =
-    HasCleanDisk (state_of (walked new)) → (world : World) (lines : List T) → HasLeft p world old lines
-    → WritesTo contents out_old out_new (flat_map text lines) result
-
 -- where the output took no more, the text is cut: one that went out whole is never told as failed
 abbrev pub CutsOutput : {T : Type 0} → Option (List ℕ) → Option (List ℕ) → List ℕ → Result T Fault → Type 0
 CutsOutput before after text result = IfErr result (λ fault. fault ≡ Output → IsCut before after text)
-
--- so it is with the lines that a walk had left
-abbrev pub CutsLeft : {S P T W R : Type 0} {store : Ghosts S} → PageGhosts P T → (T → List ℕ) → (W → Option (List ℕ)) → LineWalk S (LinesLeft P) store → LineWalk S (LinesLeft P) store → W → W → Result R Fault → Type 0
-CutsLeft {S} {P} {T} p text contents old new out_old out_new result =
-    HasCleanDisk (state_of (walked new)) → (world : World) (lines : List T) → HasLeft p world old lines
-    → CutsOutput (contents out_old) (contents out_new) (flat_map text lines) result
 
 -- ---- a view
 
@@ -97,3 +82,25 @@ pub record RefusesView {S W T : Type 0} {store : Ghosts S} (contents : W → Opt
   pub ended : IsSessionEnded old → RefusesWith contents old new out_old out_new result Ended
   -- and over an older version of a project
   pub older : IsSessionOpen old → IfSome (older_version old) (λ version. RefusesWith contents old new out_old out_new result (OldSchema version))
+
+-- the summary that is written counts each row of instances, and of grants, whatever the tables stand for
+pub record WritesCounts {S W : Type 0} {store : Ghosts S} (contents : W → Option (List ℕ)) (old new : Project S store) (out_old out_new : W) : Type 0 where
+  pub summary : Summary
+  pub states : CountsStates (state_of old) (state_of new) (results_in summary)
+  pub credit : CountsCredit (state_of old) (state_of new) (granted_in summary)
+  pub text : Appends (contents out_old) (contents out_new) (summary_lines summary)
+
+-- so it is with success
+abbrev pub CountsShown : {S W T : Type 0} {store : Ghosts S} → (W → Option (List ℕ)) → Project S store → Project S store → W → W → Result T Fault → Type 0
+CountsShown contents old new out_old out_new result = HasCleanDisk (state_of new) → OnOk result (WritesCounts contents old new out_old out_new)
+
+-- All that is known of the lines of a view that were written.
+pub record WritesView {S W T : Type 0} {store : Ghosts S} (contents : W → Option (List ℕ)) (old new : Project S store) (out_old out_new : W) (text_of : World → List ℕ) (IsReadable : World → Type 0) (result : Result T Fault) : Type 0 where
+  pub early : RefusesView contents old new out_old out_new result
+  pub reads : ReadsSession old new result
+  pub opens : IsSessionOpen old → ServesShown old new result
+  pub text : ShowsText contents old new out_old out_new text_of result
+  pub cut : CutsShown contents old new out_old out_new text_of result
+  pub fault : ShowsOrFails old result
+  pub unrefused : UnrefusedWhere IsReadable old new result
+  pub broke : BreaksOn old new result

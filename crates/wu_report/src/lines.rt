@@ -8,7 +8,7 @@ ghost use Rattle.wu_report.specs.Writing.{CutsWhatFails, piece_text, WritesTo};
 use crate::output::{Piece, write_pieces};
 use std::io::Write;
 use wu_core::{Archived, Bytes, Fault, HostClass, Name};
-use wu_pages::{HostLine, ResultLine, Summary, WorkunitLine};
+use wu_views::{HostLine, ResultLine, Summary, WorkunitLine};
 
 /// What a view shows on a line of its own.
 pub trait Line: Drop {

@@ -1,12 +1,9 @@
 //! The views of a project, as text.
 
-ghost use Rattle.std.specs.Prelude.{◌≡◌, IfErr, flat_map};
-ghost use Rattle.wu_report.specs.Projects.{ReadsSession};
+ghost use Rattle.std.specs.Prelude.{◌≡◌, flat_map};
 ghost use Rattle.wu_report.specs.Seeing.{Sees};
 ghost use Rattle.wu_report.specs.Texts.{view_text};
-ghost use Rattle.wu_report.specs.Views.{CutsLeft, CutsShown, IsViewFault, RefusesView, Shows, ShowsOrFails, ShowsText, ShowsUnrefused, UnrefusedWhere, WritesLeft};
-ghost use Rattle.wu_passes.specs.Projects.{BreaksOn, IsPresentSession, IsSessionOpen, ServesShown};
-ghost use Rattle.wu_passes.specs.Walks.{HandsUnrefused, OnlyReads, ReadsOn, StaysServing, walked};
+ghost use Rattle.wu_report.specs.Views.{CanBeShown, CountsShown, WritesView};
 
 use crate::lines::{Line, write_summary};
 use crate::output::flush;
@@ -15,68 +12,49 @@ use std::alloc::Global;
 use std::io::Write;
 use wu_core::Fault;
 use wu_machine::View;
-use wu_pages::{ArchivePages, ClassPages, HostPages, Pages, ResultPages, WorkunitPages};
-use wu_passes::{Project, Walk};
+use wu_passes::{Project, Takes};
+use wu_views::{
+    ArchiveListing, ClassListing, HostListing, Listing, ResultListing, WorkunitListing,
+};
 
-/// Writes the lines that a walk has left. A fault of the walk comes after the lines before it.
-fn write_lines<S: Alter, P: Pages, W: Write>(
-    walk: &mut Walk<'_, S, P>,
-    out: &mut W,
-) -> Result<(), Fault>
-where
-    P::Line: Line,
-    requires { IsPresentSession (walked walk.old) }
-    ensures same_reference { walk.new.project.ghost_name ≡ walk.old.project.ghost_name }
-    ensures reads { ReadsOn (walked walk.old) (walked walk.new) result }
-    ensures opens { StaysServing walk.old walk.new result }
-    ensures text { WritesLeft P.Pages P.Line.text W.contents walk.old walk.new out.old out.new
-        result }
-    ensures cut { CutsLeft P.Pages P.Line.text W.contents walk.old walk.new out.old out.new
-        result }
-    ensures fault { IfErr result IsViewFault }
-    ensures unrefused { HandsUnrefused walk.old walk.new P.Pages result }
-{
-    while let Some(line) = walk.next()? {
-        line.write(out)?;
-    }
-    Ok(())
+/// Writes each line that it takes.
+#[derive(Drop)]
+struct LineWriter<'a, W: Write> {
+    out: &'a mut W,
 }
 
-/// Writes the lines of these pages, from the first one on. It ends no session.
-fn write_pages<S: Alter, P: Pages, W: Write>(
+impl<T: Line, W: Write> Takes<T> for LineWriter<'_, W> {
+    ghost use Rattle.wu_report.specs.Writers.{CutsLine, WritesLine};
+
+    ghost takes = { λ old new line. WritesLine W.Write.contents old new (T.Line.text line) };
+
+    ghost refuses = { λ old new line. CutsLine W.Write.contents old new (T.Line.text line) };
+
+    fn take(&mut self, line: &T) -> Result<(), Fault> {
+        line.write(self.out)
+    }
+}
+
+/// Writes the lines of a listing, each before the next row is asked for. It ends no session.
+fn write_listing<S: Alter, L: Listing, W: Write>(
     alloc: Global,
     project: &mut Project<S>,
-    pages: P,
     out: &mut W,
 ) -> Result<(), Fault>
 where
-    P::Line: Line,
-    ensures early { RefusesView W.contents project.old project.new out.old out.new result }
-    ensures reads { OnlyReads project.old project.new }
-    ensures opens { IsSessionOpen project.old → ServesShown project.old project.new result }
-    ensures text { ShowsText W.contents project.old project.new out.old out.new
-        (λ world. flat_map P.Line.text (P.Pages.rest pages world)) result }
-    ensures cut { CutsShown W.contents project.old project.new out.old out.new
-        (λ world. flat_map P.Line.text (P.Pages.rest pages world)) result }
-    ensures fault { ShowsOrFails project.old result }
-    ensures unrefused { UnrefusedWhere P.Pages.is_readable project.old project.new result }
-    ensures broke { BreaksOn project.old project.new result }
+    L::Line: Line,
+    ensures { WritesView W.Write.contents project.old project.new out.old out.new
+        (λ world. flat_map L.Line.Line.text (L.Listing.lines world)) L.Listing.is_readable result }
 {
-    let mut walk = project.walk_pages(alloc, pages)?;
-    write_lines(&mut walk, out)
+    let mut writer = LineWriter { out };
+    project.walk::<L, LineWriter<'_, W>>(alloc, &mut writer)
 }
 
 /// Writes the lines of the summary. Only `Broken` ends the session.
 fn write_counts<S: Alter, W: Write>(project: &mut Project<S>, out: &mut W) -> Result<(), Fault>
-    ensures early { RefusesView W.contents project.old project.new out.old out.new result }
-    ensures reads { ReadsSession project.old project.new result }
-    ensures opens { IsSessionOpen project.old → ServesShown project.old project.new result }
-    ensures text { Shows W.contents project.old project.new out.old out.new View.Summary result }
-    ensures cut { CutsShown W.contents project.old project.new out.old out.new
-        (λ world. view_text world View.Summary) result }
-    ensures fault { ShowsOrFails project.old result }
-    ensures unrefused { ShowsUnrefused project.old project.new View.Summary result }
-    ensures broke { BreaksOn project.old project.new result }
+    ensures written { WritesView W.Write.contents project.old project.new out.old out.new
+        (λ world. view_text world View.Summary) (λ world. CanBeShown world View.Summary) result }
+    ensures counted { CountsShown W.Write.contents project.old project.new out.old out.new result }
 {
     let summary = project.summary()?;
     write_summary(out, &summary)
@@ -89,23 +67,18 @@ fn write_view<S: Alter, W: Write>(
     view: View,
     out: &mut W,
 ) -> Result<(), Fault>
-    ensures early { RefusesView W.contents project.old project.new out.old out.new result }
-    ensures reads { ReadsSession project.old project.new result }
-    ensures opens { IsSessionOpen project.old → ServesShown project.old project.new result }
-    ensures text { Shows W.contents project.old project.new out.old out.new view result }
-    ensures cut { CutsShown W.contents project.old project.new out.old out.new
-        (λ world. view_text world view) result }
-    ensures fault { ShowsOrFails project.old result }
-    ensures unrefused { ShowsUnrefused project.old project.new view result }
-    ensures broke { BreaksOn project.old project.new result }
+    ensures written { WritesView W.Write.contents project.old project.new out.old out.new
+        (λ world. view_text world view) (λ world. CanBeShown world view) result }
+    ensures counted { view ≡ View.Summary
+        → CountsShown W.Write.contents project.old project.new out.old out.new result }
 {
     match view {
-        View::Workunits => write_pages(alloc, project, WorkunitPages::new(), out),
-        View::Results => write_pages(alloc, project, ResultPages::new(), out),
-        View::Hosts => write_pages(alloc, project, HostPages::new(), out),
-        View::Archive => write_pages(alloc, project, ArchivePages::new(), out),
+        View::Workunits => write_listing::<S, WorkunitListing, W>(alloc, project, out),
+        View::Results => write_listing::<S, ResultListing, W>(alloc, project, out),
+        View::Hosts => write_listing::<S, HostListing, W>(alloc, project, out),
+        View::Archive => write_listing::<S, ArchiveListing, W>(alloc, project, out),
         View::Summary => write_counts(project, out),
-        View::Classes => write_pages(alloc, project, ClassPages::new(), out),
+        View::Classes => write_listing::<S, ClassListing, W>(alloc, project, out),
     }
 }
 

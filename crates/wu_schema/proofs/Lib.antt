@@ -15,6 +15,7 @@ pub mod CountAnswers
 pub mod GroupLemmas
 pub mod AnswerLemmas
 pub mod ReadLemmas
+pub mod ReadingLemmas
 pub mod ToldLemmas
 pub mod TakenLemmas
 pub mod PutLemmas

@@ -11,6 +11,7 @@ pub mod Made
 pub mod Versions
 pub mod Indexes
 pub mod Restoring
+pub mod Reading
 pub mod Queue
 pub mod Classes
 pub mod Fresh

@@ -9,6 +9,7 @@ mod creation;
 mod fault;
 pub mod laws;
 mod queue;
+pub mod rows;
 mod texts;
 mod transaction;
 mod version;

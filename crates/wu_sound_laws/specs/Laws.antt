@@ -3,7 +3,7 @@ use Rattle.std.specs.Prelude.{◌≡◌, ℕ, ◌≤◌, ◌*◌, Bool, List, Al
 use Rattle.wu_core.specs.Hosts.{credit_of}
 use Rattle.wu_core.specs.Limits.{most_credit, most_instances, most_workunits}
 use Rattle.wu_core.specs.World.{World}
-use Rattle.wu_pages.specs.Summaries.{credit_sum}
+use Rattle.wu_views.specs.Summaries.{credit_sum}
 use Rattle.wu_machine.specs.declared.command.Command.{Command}
 use Rattle.wu_machine.specs.Machine.{HasValues, present_version}
 use Rattle.wu_machine.specs.Commands.{request_of}

@@ -11,7 +11,7 @@ use Rattle.wu_core.specs.declared.fault.Fault.TheVariants.{Broken, Memory}
 pub use Rattle.wu_schema.proofs.AskingLemmas.{asks_fault, asks_made, asks_none, asks_stands, asks_then}
 use Rattle.wu_store.specs.Answers.{ShowsLast}
 use Rattle.wu_store.specs.Loading.{IsStoreFault, NotRefusedIn, StaysUnlessFailed}
-use Rattle.wu_store.specs.Reading.{IsReadFault}
+use Rattle.wu_schema.specs.Reading.{IsReadFault}
 
 -- a failure is no refusal
 pub never_refused : (fault : Fault) → IsFailure fault → fault ≢ NotAProject

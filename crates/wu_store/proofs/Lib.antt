@@ -28,7 +28,6 @@ pub mod SetEffect
 mod SetLemmas
 mod SetInstance
 mod ReplaceLemmas
-pub mod ReadingLemmas
 pub mod DeleteTexts
 pub mod FallLemmas
 pub mod CascadeEffect

@@ -15,15 +15,15 @@ use Rattle.wu_schema.proofs.CallLemmas.{back_none}
 use Rattle.wu_schema.proofs.AskingLemmas.{asks_stands, back_then, survives_none}
 use Rattle.wu_schema.specs.Restoring.{Restores}
 use Rattle.wu_schema.specs.Stored.{kept_cells}
-use Rattle.wu_store.specs.Answers.{instance_rows_of, kept_of, last_of, last_place, numbered}
+use Rattle.wu_store.specs.Answers.{instance_rows_of, kept_of, last_of, last_place, numbered, row_before}
 use Rattle.wu_store.specs.StandsFor.{KnowsClasses}
 use Rattle.wu_store.specs.Classes.{class_numbered, LoadsClass}
 use Rattle.wu_store.specs.Loading.{classless, FindsClassless, IsWholeIfThere, Asks, Finds, FindsIfThere, FindsInstances, LoadsInstances, LoadsImport, IsEarlier, IsLoadable, IsLoadableIfThere, IsReadOnly, IsRowIfThere, IsRowOfPresent, IsStoreFault, NotRefusedIn, ForEachWorld, instances_at}
 pub use Rattle.wu_store.proofs.AskLemmas.{never_refused}
-use Rattle.wu_store.specs.Reading.{IsStoredImport, row_before, stored_import_row}
+use Rattle.wu_schema.specs.Reading.{IsStoredImport, stored_import_row}
 use Rattle.wu_core.specs.Storable.{AreStoredInstances, HasItsInstances, IsNextNumber, IsStoredInstance, IsStorable, IsStoredWorkunit, bare}
-use Rattle.wu_store.specs.declared.rows.StoredImport.{StoredImport}
-use Rattle.wu_store.proofs.ReadingLemmas.{not_ok, same_verdicts}
+use Rattle.wu_schema.specs.declared.rows.StoredImport.{StoredImport}
+use Rattle.wu_schema.proofs.ReadingLemmas.{not_ok, same_verdicts}
 use Rattle.wu_store.proofs.PlacedLemmas.{Rises, world_rises}
 use Rattle.wu_store.proofs.SameWorld.{only_one, same_instances, same_workunit}
 

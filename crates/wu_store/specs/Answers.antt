@@ -1,5 +1,5 @@
 -- What the reads ask of a world.
-use Rattle.std.specs.Prelude.{◌≡◌, ℕ, zero, suc, ◌==◌, ◌<◌, nat_lt, List, [], ◌∷◌, ◌++◌, IfOk, IsSome, length, option_to_list, map, filter, find, bytes_eq, Bool, Option, None, Some, option_map, Result}
+use Rattle.std.specs.Prelude.{◌≡◌, ℕ, ◌-◌, zero, suc, ◌==◌, ◌<◌, nat_lt, List, [], ◌∷◌, ◌++◌, IfOk, IsSome, length, option_to_list, map, filter, find, bytes_eq, Bool, Option, None, Some, option_map, Result}
 use Rattle.std.specs.List.{list_any}
 use Rattle.std.specs.Option.{option_map_or}
 use Rattle.sqlite.specs.Held.{Held, state}
@@ -63,6 +63,10 @@ instance_rows_of number world = option_map_or (λ (w : Workunit). map instance_r
 abbrev pub last_of : ℕ → Option Row
 last_of zero = None
 last_of (suc n) = Some (number (suc n) ∷ [])
+
+-- the row of the last place before this one, or none where this one is the first
+abbrev pub row_before : ℕ → Option Row
+row_before place = last_of (place - 1)
 
 -- that of a list's places
 abbrev pub last_place : {X : Type 0} → List X → Option Row

@@ -1,5 +1,4 @@
 pub mod Verdicts
-pub mod Reading
 pub mod Answers
 pub mod Sums
 pub mod Changes

@@ -1,6 +1,6 @@
 -- What is loaded of a project: the present workunit of a number or a name, or the first one above a number, with its
 -- instances; an import; the next number, and the next place of a grant or of an archived row.
-use Rattle.std.specs.Prelude.{◌≡◌, ◌≢◌, ℕ, ◌<◌, ◌^◌, List, [], Option, Some, None, option_map, Result, find, IfErr, IfOk, IfSome, IsTrue, MatchResult, ⊤}
+use Rattle.std.specs.Prelude.{◌≡◌, ◌≢◌, ℕ, ◌<◌, ◌≤◌, ◌^◌, List, [], Option, Some, None, option_map, Result, find, IfErr, IfOk, IfSome, IsTrue, MatchResult, ⊤}
 use Rattle.std.specs.Option.{option_map_or}
 use Rattle.sqlite.specs.Held.{Held, state}
 use Rattle.sqlite.specs.Order.{Row}
@@ -22,7 +22,7 @@ use Rattle.wu_store.specs.Answers.{first_above, named, numbered}
 use Rattle.wu_store.specs.Changes.{IsNextPlace}
 use Rattle.wu_store.specs.StandsFor.{KnowsClasses}
 use Rattle.wu_core.specs.Storable.{AreStoredInstances, AreVerdicts, IsStorable}
-use Rattle.wu_store.specs.declared.rows.StoredImport.{StoredImport}
+use Rattle.wu_schema.specs.declared.rows.StoredImport.{StoredImport}
 
 -- ---- what a call that reads says of the tables, and of each world that they stand for
 
@@ -153,6 +153,10 @@ LoadsImport kind name world = IfSome (find (is_import kind name) world.imports) 
 -- the next number is found
 abbrev pub KnowsNext : Result ℕ Fault → World → Type 0
 KnowsNext result world = MatchResult result (λ next. next ≡ world.next_number) IsStoreFault
+
+-- a place that one behind all may get: places are counted from 1, and a key is at most 2^63 - 1
+abbrev pub IsPlaceToGive : ℕ → Type 0
+IsPlaceToGive place = (1 ≤ place) × (place ≤ 2 ^ 63)
 
 -- the place behind the world's grants is found
 abbrev pub KnowsGrantPlace : Result ℕ Fault → World → Type 0

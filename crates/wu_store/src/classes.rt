@@ -1,18 +1,15 @@
 //! The statements of classes, and the questions for them, each text in one function.
 
 ghost use Rattle.std.specs.Prelude.{◌≡◌, ◌<◌, ◌^◌, IfErr};
-ghost use Rattle.sqlite.specs.Order.{column};
-ghost use Rattle.wu_core.specs.Storable.{IsClass};
 ghost use Rattle.wu_schema.specs.Calls.{Does, StatementFrame, TransactionFrame};
-ghost use Rattle.wu_schema.specs.Restoring.{Restores};
-ghost use Rattle.wu_schema.specs.Stored.{number};
 ghost use Rattle.wu_store.specs.Classes.{AddsClass, AnswersClass, ChangesClasses, FillsClasses, LoadsClass, LoadsHostClass, NotRefusedClass, PutsClass, UpgradesClasses, class_named, class_numbered, with_host_class, with_set_class};
 ghost use Rattle.wu_store.specs.Loading.{Asks, IsStoreFault, ServesUnlessFailed};
 
 use crate::statements::{ask_row, key_of, set_version, signed};
-use sqlite::{Alter, Connection, Error, Row, Transaction, params};
-use wu_core::{Fault, HIGHEST_CLASS, Marks, Name};
-use wu_schema::{execute, make_classes, read_column};
+use sqlite::{Alter, Connection, Error, Transaction, params};
+use wu_core::{Fault, Marks, Name};
+use wu_schema::rows::class_at;
+use wu_schema::{execute, make_classes};
 
 /// The version of the schema that has classes.
 const CLASS_VERSION: u64 = 3;
@@ -99,17 +96,6 @@ pub fn put_host_class<S: Alter>(
         "INSERT INTO host_class (host, class) VALUES (?1, ?2)",
         params![host.as_str(), class],
     )
-}
-
-/// The class in a column.
-pub fn class_at(row: &Row, at: usize) -> Result<u32, Fault>
-    ensures { Restores number IsClass (column row.now at) result }
-{
-    let class: u32 = read_column(row, at)?;
-    if class > HIGHEST_CLASS {
-        return Err(Fault::NotAProject);
-    }
-    Ok(class)
 }
 
 /// The class of the workunit of this number, or none where it is not there.

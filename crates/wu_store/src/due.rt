@@ -8,7 +8,7 @@ ghost use Rattle.wu_store.specs.Due.{AreEarly, numbers_left, FindsDue, FindsDueN
 ghost use Rattle.wu_store.specs.Queues.{AnswersQueue, first_marked, is_marked, NotRefusedQueue};
 ghost use Rattle.wu_store.specs.StandsFor.{ForEachQueued, NotRefusedQueued};
 ghost use Rattle.wu_store.specs.Loading.{Asks, FindsAbove, IsStoreFault, LoadsAbove, NotRefusedIn, ForEachWorld, ServesUnlessFailed};
-ghost use Rattle.wu_store.specs.Reading.{IsReadFault};
+ghost use Rattle.wu_schema.specs.Reading.{IsReadFault};
 ghost use Rattle.wu_core.specs.Formed.{IsWorkunit};
 ghost use Rattle.wu_core.specs.Storable.{AreStorable};
 

@@ -1,22 +1,35 @@
 //! What is loaded of a project, each by a question of its own: a workunit with its instances, an import, the next
 //! number, and the next places.
 
-ghost use Rattle.std.specs.Prelude.{◌<◌, ◌^◌, ◌↔◌, ⊤, IfErr, IfOk, IsTrue};
-ghost use Rattle.wu_store.specs.Loading.{Asks, FindsAbove, FindsClassless, FindsEarlier, FindsEarly, FindsIfThere, FindsInstances, FindsNamed, FindsNumbered, LoadsInstances, LoadsImport, IsLoadableIfThere, IsStoreFault, IsWholeIfThere, KnowsArchivedPlace, KnowsGrantPlace, KnowsNext, LoadsAbove, LoadsEarly, LoadsFormed, LoadsNamed, LoadsNumbered, NotRefusedIn, ForEachWorld, ServesUnlessFailed};
+ghost use Rattle.std.specs.Prelude.{◌<◌, ◌≤◌, ◌^◌, ◌↔◌, ⊤, map, IfErr, IfOk, IsTrue};
+ghost use Rattle.wu_store.specs.Loading.{Asks, FindsAbove, FindsClassless, FindsEarlier, FindsEarly, FindsIfThere, FindsInstances, FindsNamed, FindsNumbered, LoadsInstances, LoadsImport, IsLoadableIfThere, IsPlaceToGive, IsStoreFault, IsWholeIfThere, KnowsArchivedPlace, KnowsGrantPlace, KnowsNext, LoadsAbove, LoadsEarly, LoadsFormed, LoadsNamed, LoadsNumbered, NotRefusedIn, ForEachWorld, ServesUnlessFailed};
 ghost use Rattle.wu_schema.specs.Calls.{Answers};
-ghost use Rattle.wu_store.specs.Answers.{row_numbered};
-ghost use Rattle.wu_store.specs.Reading.{IsPlaceToGive};
+ghost use Rattle.wu_schema.specs.Restoring.{Restores};
+ghost use Rattle.wu_schema.specs.Stored.{instance_row};
+ghost use Rattle.wu_store.specs.Answers.{row_before, row_numbered};
 ghost use Rattle.wu_core.specs.Storable.{AreStoredInstances, HasItsInstances, IsNextNumber, LoadsNext};
 
 use crate::classes::class_of_workunit;
-use crate::rows::{
-    StoredImport, import_from, instances_from, next_number_from, place_behind, workunit_from,
-};
 use crate::statements::{ask_row, key_of};
 use sqlite::{Alter, Connection, Row, params};
 use std::alloc::Global;
-use wu_core::{Fault, ImportKind, Instances, Name, Workunit};
-use wu_schema::query;
+use wu_core::{Fault, ImportKind, Instances, MOST_INSTANCES, Name, Workunit};
+use wu_schema::rows::{StoredImport, import_from, instance_from, next_number_from, workunit_from};
+use wu_schema::{query, read_column};
+
+/// The instances of such rows of the table `result`, in their order: those of one workunit, which has at most 100.
+fn instances_from(alloc: Global, rows: &[Row]) -> Result<Instances, Fault>
+    ensures { Restores (map instance_row) AreStoredInstances rows.now result }
+{
+    if rows.len() > MOST_INSTANCES as usize {
+        return Err(Fault::NotAProject);
+    }
+    let mut instances = Vec::new(alloc);
+    for row in rows {
+        instances.push(instance_from(alloc, row)?)?;
+    }
+    Ok(Instances::from_vec(instances))
+}
 
 /// The instances of the workunit of this number, in their order; none where it is not there.
 fn instances_of<S: Alter>(
@@ -238,6 +251,25 @@ pub fn next_number<S: Alter>(conn: &mut Connection<S>) -> Result<u64, Fault>
         Some(row) => next_number_from(&row),
         None => Err(Fault::NotAProject),
     }
+}
+
+/// The place behind the last one, whose row this is; where there is none, the first, which is 1.
+/// `NotAProject` where the row has no place.
+fn place_behind(last: Option<Row>) -> Result<u64, Fault>
+    ensures reads { Restores row_before (λ place. 1 ≤ place) last result }
+    ensures within { IfOk result IsPlaceToGive }
+{
+    let Some(row) = last else {
+        return Ok(1);
+    };
+    if row.column_count() != 1 {
+        return Err(Fault::NotAProject);
+    }
+    let place: i64 = read_column(&row, 0)?;
+    if place < 1 {
+        return Err(Fault::NotAProject);
+    }
+    Ok(place as u64 + 1)
 }
 
 /// The place that the next grant gets, from 1. `NotAProject` where the last row's is no place.

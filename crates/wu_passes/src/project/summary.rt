@@ -6,10 +6,10 @@ ghost use Rattle.wu_store.specs.Loading.{IsStoreFault};
 use crate::project::Project;
 use sqlite::Alter;
 use wu_core::Fault;
-use wu_pages::{Summary, summary};
+use wu_views::{Summary, summary};
 
 impl<S: Alter> Project<S> {
-    ghost use Rattle.wu_passes.specs.Projects.{AnswersFirst, AsksOn, IsPresentSession, IsSessionOpen, KeepsAsking, ServesOn, Summarizes, SummarizesUnrefused};
+    ghost use Rattle.wu_passes.specs.Projects.{AnswersFirst, AsksOn, CountsRows, IsPresentSession, IsSessionOpen, KeepsAsking, ServesOn, Summarizes, SummarizesUnrefused};
 
     /// How much the project holds. It changes no table; `Broken` ends the session.
     ///
@@ -25,6 +25,7 @@ impl<S: Alter> Project<S> {
             → IfErr result IsStoreFault }
         ensures unrefused { IsSessionOpen self.old → SummarizesUnrefused self.old self.new result }
         ensures summary { Summarizes self.old self.new result }
+        ensures counted { CountsRows self.old self.new result }
     {
         if self.has_ended {
             return Err(Fault::Ended);

@@ -1,6 +1,6 @@
 use Rattle.wu_schema.proofs.Words.{err_from_is_err_and, refl}
 use Rattle.wu_core.specs.declared.workunit.Instance.{Instance}
-use Rattle.wu_store.specs.Reading.{columns}
+use Rattle.wu_schema.specs.Reading.{columns}
 use Rattle.wu_loader.proofs.RowLemmas.{column_unread, instance_reads, moments_unread, states_unread}
 use Rattle.wu_loader.proofs.rows.instance_from.Goals as goal
 

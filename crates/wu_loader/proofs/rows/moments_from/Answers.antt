@@ -1,5 +1,5 @@
 use Rattle.wu_schema.proofs.Words.{refl}
-use Rattle.wu_store.specs.Reading.{columns}
+use Rattle.wu_schema.specs.Reading.{columns}
 use Rattle.wu_loader.specs.declared.rows.Moments.{Moments}
 use Rattle.wu_loader.proofs.RowLemmas.{column_unread}
 use Rattle.wu_loader.proofs.rows.moments_from.Goals as goal

@@ -3,7 +3,7 @@ use Rattle.std.specs.Prelude.{IfSome}
 use Rattle.wu_core.specs.Storable.{IsClass}
 use Rattle.wu_schema.proofs.Parts.{WorkClasses}
 use Rattle.wu_schema.proofs.InsertEffect.{also, no_more}
-use Rattle.wu_store.specs.Reading.{IsReadFault}
+use Rattle.wu_schema.specs.Reading.{IsReadFault}
 use Rattle.wu_store.proofs.AskLemmas.{asks_handed, asks_made, asks_none, asks_row, fault_handed, fault_read, handed_on, never_broken, never_err, nothing_handed, opens_handed, opens_made, read_handed, read_told}
 use Rattle.wu_store.proofs.ChangeLemmas.{sent_number}
 use Rattle.wu_store.proofs.ClassAnswers.{asked_class, class_asked, class_fits, class_found, no_work, row_classed, shown_work}

@@ -8,7 +8,7 @@ use Rattle.sqlite.specs.Held.{state}
 use Rattle.wu_core.specs.declared.workunit.Workunit.{Workunit}
 use Rattle.wu_core.specs.Formed.{IsWorkunit}
 use Rattle.wu_schema.specs.Refines.{Refines}
-use Rattle.wu_store.specs.Reading.{IsReadFault}
+use Rattle.wu_schema.specs.Reading.{IsReadFault}
 use Rattle.wu_store.proofs.QueuedLemmas.{as_many, number_at, storable_at}
 use Rattle.wu_store.proofs.AskLemmas.{asks_done, asks_handed, asks_made, asks_row, asks_stands, asks_then, fault_handed, handed_on, match_handed, never_err, nothing_handed}
 use Rattle.wu_store.proofs.due.load_all.Goals as goal

@@ -3,7 +3,7 @@ use Rattle.std.specs.Prelude.{Vec, ℕ}
 use Rattle.std.specs.declared.alloc.Global.{Global}
 use Rattle.wu_core.specs.declared.marks.Marks.{Marks}
 use Rattle.wu_core.specs.declared.fault.Fault.TheVariants.{Memory, NotAProject}
-use Rattle.wu_store.specs.Reading.{IsReadFault}
+use Rattle.wu_schema.specs.Reading.{IsReadFault}
 use Rattle.sqlite.specs.State.{HasCleanDisk}
 use Rattle.sqlite.specs.Held.{state}
 use Rattle.wu_core.specs.declared.workunit.Workunit.{Workunit}

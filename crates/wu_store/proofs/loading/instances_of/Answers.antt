@@ -2,7 +2,7 @@ use Rattle.wu_schema.proofs.Words.{Err, Ok, [], arith, inr, number, refl, state,
 use Rattle.wu_schema.proofs.Parts.{Instances}
 use Rattle.wu_schema.proofs.InsertEffect.{also, no_more}
 use Rattle.wu_store.specs.Answers.{instance_rows_of}
-use Rattle.wu_store.specs.Reading.{IsReadFault}
+use Rattle.wu_schema.specs.Reading.{IsReadFault}
 use Rattle.wu_store.proofs.AskLemmas.{asked_all, asks_handed, asks_none, asks_row, fault_handed, fault_read, handed_on, match_handed, never_broken, nothing_handed, question, read_handed, read_told}
 use Rattle.wu_store.proofs.ChangeLemmas.{sent_number}
 use Rattle.wu_store.proofs.SelectTexts.{instances_asked, instances_fits}

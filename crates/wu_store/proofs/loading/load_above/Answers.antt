@@ -2,7 +2,7 @@ use Rattle.wu_schema.proofs.Words.{Err, Ok, Workunit, [], arith, inr, number, re
 use Rattle.wu_schema.proofs.Parts.{Workunits}
 use Rattle.wu_schema.proofs.InsertEffect.{also, no_more}
 use Rattle.wu_store.specs.Answers.{row_above}
-use Rattle.wu_store.specs.Reading.{IsReadFault}
+use Rattle.wu_schema.specs.Reading.{IsReadFault}
 use Rattle.wu_store.proofs.ChangeLemmas.{sent_number}
 use Rattle.wu_store.proofs.SelectTexts.{above_asked, above_fits}
 use Rattle.wu_store.proofs.OrderAnswers.{above_found}

@@ -2,7 +2,7 @@ use Rattle.wu_schema.proofs.Words.{[], arith, inr, number, refl, state, ◌∷�
 use Rattle.wu_schema.proofs.Parts.{Workunits}
 use Rattle.wu_schema.proofs.InsertEffect.{also, no_more}
 use Rattle.wu_store.specs.Answers.{row_numbered}
-use Rattle.wu_store.specs.Reading.{IsReadFault}
+use Rattle.wu_schema.specs.Reading.{IsReadFault}
 use Rattle.wu_store.proofs.ChangeLemmas.{sent_number}
 use Rattle.wu_store.proofs.SelectTexts.{numbered_asked, numbered_fits}
 use Rattle.wu_store.proofs.ReadAnswers.{numbered_found}

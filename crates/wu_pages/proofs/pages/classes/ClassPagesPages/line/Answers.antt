@@ -1,8 +1,0 @@
-use Rattle.wu_pages.proofs.PageHosts.{class_line, class_unrefused}
-use Rattle.wu_pages.proofs.pages.classes.ClassPagesPages.line.Goals as goal
-
-pub returns-clause-line : goal.returns-clause-line
-returns-clause-line c world line is = class_line world c.args.row.now line is c.class_from.result c.class_from.ensures
-
-pub returns-clause-unrefused : goal.returns-clause-unrefused
-returns-clause-unrefused c world line is can = class_unrefused world c.args.row.now line is c.class_from.result c.class_from.ensures can

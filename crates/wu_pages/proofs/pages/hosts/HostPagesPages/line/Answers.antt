@@ -1,8 +1,0 @@
-use Rattle.wu_pages.proofs.PageHosts.{host_line, host_unrefused}
-use Rattle.wu_pages.proofs.pages.hosts.HostPagesPages.line.Goals as goal
-
-pub returns-clause-line : goal.returns-clause-line
-returns-clause-line c world line is = host_line world c.args.row.now line is c.host_from.result c.host_from.ensures
-
-pub returns-clause-unrefused : goal.returns-clause-unrefused
-returns-clause-unrefused c world line is can = host_unrefused world c.args.row.now line is c.host_from.result c.host_from.ensures can

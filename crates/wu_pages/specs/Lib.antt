@@ -1,4 +1,0 @@
-pub mod Counting
-pub mod Lines
-pub mod Pages
-pub mod Summaries

@@ -1,0 +1,478 @@
+//! What a stored row means: a value, or `NotAProject` where it is no value of its type.
+
+ghost use Rattle.std.specs.Prelude.{◌≡◌, ◌⊎◌, ◌<◌, ◌≤◌, ◌^◌, ℕ, ⊤, [], ◌∷◌, ◌-◌, length, map, IfOk, IfErr, SomeIff};
+ghost use Rattle.std.specs.Bool.{Decides};
+ghost use Rattle.sqlite.specs.Order.{column};
+ghost use Rattle.sqlite.specs.declared.types.Value.TheVariants.{Int, Text, Blob};
+ghost use Rattle.wu_core.specs.declared.fault.Fault.TheVariants.{Memory, NotAProject};
+ghost use Rattle.wu_core.specs.Formed.{IsInstance};
+ghost use Rattle.wu_core.specs.Limits.{last_moment};
+ghost use Rattle.wu_core.specs.Parameters.{IsParameters};
+ghost use Rattle.wu_core.specs.World.{last_skip};
+ghost use Rattle.wu_schema.specs.Stored.{archived_cells, instance_row, number, number_or_null, text_or_null, parameter_cells, verdict_digits, workunit_row};
+ghost use Rattle.wu_schema.specs.Restoring.{Restores};
+ghost use Rattle.wu_schema.specs.Reading.{assimilate_cell, bare_instance_row, IsBareInstance, file_delete_cell, mask_cell, outcome_cell, server_state_cell, validate_state_cell, verdicts_cell, columns, progress_cells, IsProgress, IsStoredImport, stored_import_row, moment_cells, state_cells, HasMoments};
+ghost use Rattle.wu_core.specs.Storable.{IsOutput, IsInput, IsMoment, IsName, IsPlace, IsStoredWorkunit, AreVerdicts, IsNextNumber, IsClass, IsDeadline, IsHost, IsStoredArchived, IsStoredInstance};
+
+use crate::columns::{number_at, read_column};
+use sqlite::Row;
+use sqlite::types::ValueRef;
+use std::alloc::Global;
+use wu_core::{
+    Archived, Assimilate, Bytes, Deadline, ErrorMask, Fault, FileDelete, HIGHEST_CLASS, ImportKind,
+    Instance, Instances, LONGEST_INPUT, LONGEST_OUTPUT, MOST_WORKUNITS, Moment, Name, Outcome,
+    Params, ServerState, ValidateState, Workunit,
+};
+
+/// The name in a column.
+pub fn name_at(alloc: Global, row: &Row, at: usize) -> Result<Name, Fault>
+    ensures { Restores Text IsName (column row.now at) result }
+{
+    let Ok(ValueRef::Text(text)) = row.get_ref(at) else {
+        return Err(Fault::NotAProject);
+    };
+    match Name::read(alloc, text) {
+        Ok(name) => Ok(name),
+        Err(Fault::Memory) => Err(Fault::Memory),
+        Err(_) => Err(Fault::NotAProject),
+    }
+}
+
+/// The input in a column: at most 4,096 bytes.
+fn input_at(row: &Row, at: usize) -> Result<Bytes, Fault>
+    ensures { Restores Blob IsInput (column row.now at) result }
+{
+    let input: Vec<u8> = read_column(row, at)?;
+    if input.len() > LONGEST_INPUT {
+        return Err(Fault::NotAProject);
+    }
+    Ok(Bytes::from_vec(input))
+}
+
+/// The mask of errors in a column.
+pub fn mask_at(row: &Row, at: usize) -> Result<ErrorMask, Fault>
+    ensures { Restores mask_cell (λ _. ⊤) (column row.now at) result }
+{
+    let code: u32 = read_column(row, at)?;
+    ErrorMask::from_code(code).ok_or(Fault::NotAProject)
+}
+
+/// Whether a workunit waits for the assimilator, in a column.
+fn assimilate_at(row: &Row, at: usize) -> Result<Assimilate, Fault>
+    ensures { Restores assimilate_cell (λ _. ⊤) (column row.now at) result }
+{
+    let code: u32 = read_column(row, at)?;
+    Assimilate::from_code(code).ok_or(Fault::NotAProject)
+}
+
+/// Whether a file waits to be deleted, in a column.
+pub fn file_delete_at(row: &Row, at: usize) -> Result<FileDelete, Fault>
+    ensures { Restores file_delete_cell (λ _. ⊤) (column row.now at) result }
+{
+    let code: u32 = read_column(row, at)?;
+    FileDelete::from_code(code).ok_or(Fault::NotAProject)
+}
+
+/// The number of an instance in a column, or none where it is empty.
+pub fn place_at(row: &Row, at: usize) -> Result<Option<u32>, Fault>
+    requires { at < length row.now }
+    ensures { Restores number_or_null IsPlace (column row.now at) result }
+{
+    read_column(row, at)
+}
+
+/// The moment in a column, or none where it is empty.
+pub fn moment_at(row: &Row, at: usize) -> Result<Option<Moment>, Fault>
+    requires { at < length row.now }
+    ensures { Restores number_or_null IsMoment (column row.now at) result }
+{
+    let seconds: Result<Option<u64>, Fault> = read_column(row, at);
+    match seconds? {
+        Some(seconds) => match Moment::new(seconds) {
+            Some(moment) => Ok(Some(moment)),
+            None => Err(Fault::NotAProject),
+        },
+        None => Ok(None),
+    }
+}
+
+/// How far a workunit is, but for its instances.
+#[derive(Clone, Copy)]
+pub struct Progress {
+    pub error_mask: ErrorMask,
+    pub canonical: Option<u32>,
+    pub assimilate: Assimilate,
+    pub file_delete: FileDelete,
+    pub done_at: Option<Moment>,
+}
+
+/// The progress in the five columns from the eleventh on: a workunit is assimilated exactly where it has its moment.
+pub fn progress_from(row: &Row) -> Result<Progress, Fault>
+    requires { 15 ≤ length row.now }
+    ensures { Restores progress_cells IsProgress (columns row.now 10 5) result }
+{
+    let progress = Progress {
+        error_mask: mask_at(row, 10)?,
+        canonical: place_at(row, 11)?,
+        assimilate: assimilate_at(row, 12)?,
+        file_delete: file_delete_at(row, 13)?,
+        done_at: moment_at(row, 14)?,
+    };
+    let is_done = progress.assimilate == Assimilate::Done;
+    if is_done != progress.done_at.is_some() {
+        return Err(Fault::NotAProject);
+    }
+    Ok(progress)
+}
+
+/// The whole number in a column.
+pub fn value_at(row: &Row, at: usize) -> Result<i64, Fault>
+    ensures { Restores Int (λ _. ⊤) (column row.now at) result }
+{
+    read_column(row, at)
+}
+
+/// The parameters in the seven columns from the third on.
+pub fn params_from(row: &Row) -> Result<Params, Fault>
+    ensures { Restores parameter_cells IsParameters (columns row.now 2 7) result }
+{
+    Params::from_values([
+        value_at(row, 2)?,
+        value_at(row, 3)?,
+        value_at(row, 4)?,
+        value_at(row, 5)?,
+        value_at(row, 6)?,
+        value_at(row, 7)?,
+        value_at(row, 8)?,
+    ])
+    .ok_or(Fault::NotAProject)
+}
+
+/// The workunit of a row of the table `workunit` with its columns in their order, no class and no instances.
+pub fn workunit_from(alloc: Global, row: &Row) -> Result<Workunit, Fault>
+    ensures { Restores workunit_row IsStoredWorkunit row.now result }
+{
+    if row.column_count() != 15 {
+        return Err(Fault::NotAProject);
+    }
+    let number = number_at(row, 0)?;
+    let params = params_from(row)?;
+    let progress = progress_from(row)?;
+    let input = input_at(row, 9)?;
+    let name = name_at(alloc, row, 1)?;
+    Ok(Workunit {
+        number,
+        name,
+        params,
+        input,
+        error_mask: progress.error_mask,
+        canonical: progress.canonical,
+        assimilate: progress.assimilate,
+        file_delete: progress.file_delete,
+        done_at: progress.done_at,
+        class: 0,
+        instances: Instances::new(alloc),
+    })
+}
+
+/// How an instance stands.
+#[derive(Clone, Copy)]
+struct States {
+    server_state: ServerState,
+    outcome: Outcome,
+    validate_state: ValidateState,
+    file_delete: FileDelete,
+}
+
+/// When an instance was sent, is due and was reported.
+#[derive(Clone, Copy)]
+struct Moments {
+    sent_at: Option<Moment>,
+    deadline: Option<Deadline>,
+    received_at: Option<Moment>,
+}
+
+/// Where an instance is, in a column.
+pub fn server_state_at(row: &Row, at: usize) -> Result<ServerState, Fault>
+    ensures { Restores server_state_cell (λ _. ⊤) (column row.now at) result }
+{
+    let code: u32 = read_column(row, at)?;
+    ServerState::from_code(code).ok_or(Fault::NotAProject)
+}
+
+/// How an instance ended, in a column.
+pub fn outcome_at(row: &Row, at: usize) -> Result<Outcome, Fault>
+    ensures { Restores outcome_cell (λ _. ⊤) (column row.now at) result }
+{
+    let code: u32 = read_column(row, at)?;
+    Outcome::from_code(code).ok_or(Fault::NotAProject)
+}
+
+/// The verdict of an instance in a column.
+pub fn validate_state_at(row: &Row, at: usize) -> Result<ValidateState, Fault>
+    ensures { Restores validate_state_cell (λ _. ⊤) (column row.now at) result }
+{
+    let code: u32 = read_column(row, at)?;
+    ValidateState::from_code(code).ok_or(Fault::NotAProject)
+}
+
+/// The states in the first four columns.
+fn states_from(row: &Row) -> Result<States, Fault>
+    ensures { Restores state_cells (λ _. ⊤) (columns row.now 0 4) result }
+{
+    Ok(States {
+        server_state: server_state_at(row, 0)?,
+        outcome: outcome_at(row, 1)?,
+        validate_state: validate_state_at(row, 2)?,
+        file_delete: file_delete_at(row, 3)?,
+    })
+}
+
+/// The deadline in a column, or none where it is empty.
+pub fn deadline_at(row: &Row, at: usize) -> Result<Option<Deadline>, Fault>
+    requires { at < length row.now }
+    ensures { Restores number_or_null IsDeadline (column row.now at) result }
+{
+    let seconds: Result<Option<u64>, Fault> = read_column(row, at);
+    match seconds? {
+        Some(seconds) => match Deadline::new(seconds) {
+            Some(deadline) => Ok(Some(deadline)),
+            None => Err(Fault::NotAProject),
+        },
+        None => Ok(None),
+    }
+}
+
+/// The moments in the three columns from the sixth on.
+fn moments_from(row: &Row) -> Result<Moments, Fault>
+    requires { 8 ≤ length row.now }
+    ensures { Restores moment_cells HasMoments (columns row.now 5 3) result }
+{
+    Ok(Moments {
+        sent_at: moment_at(row, 5)?,
+        deadline: deadline_at(row, 6)?,
+        received_at: moment_at(row, 7)?,
+    })
+}
+
+/// The host in a column, or none where it is empty.
+pub fn host_at(alloc: Global, row: &Row, at: usize) -> Result<Option<Name>, Fault>
+    requires { at < length row.now }
+    ensures { Restores text_or_null IsHost (column row.now at) result }
+{
+    match row.get_ref(at) {
+        Ok(ValueRef::Null) => Ok(None),
+        _ => Ok(Some(name_at(alloc, row, at)?)),
+    }
+}
+
+/// The output in a column: at most 65,536 bytes.
+pub fn output_at(row: &Row, at: usize) -> Result<Bytes, Fault>
+    ensures { Restores Blob IsOutput (column row.now at) result }
+{
+    let output: Vec<u8> = read_column(row, at)?;
+    if output.len() > LONGEST_OUTPUT {
+        return Err(Fault::NotAProject);
+    }
+    Ok(Bytes::from_vec(output))
+}
+
+/// Whether host, sending and deadline are there together, and as the states want it.
+pub fn is_formed(instance: &Instance) -> bool
+    ensures { Decides result (IsInstance instance.now) }
+{
+    let has_host = instance.host.is_some();
+    let is_unsent = instance.server_state == ServerState::Unsent;
+    let is_in_progress = instance.server_state == ServerState::InProgress;
+    let is_success = instance.server_state == ServerState::Over
+        && instance.outcome == Outcome::Success;
+    instance.sent_at.is_some() == has_host
+        && instance.deadline.is_some() == has_host
+        && !(is_unsent && has_host)
+        && !(is_in_progress && !has_host)
+        && !(is_success && !has_host)
+}
+
+/// The instance in the first eight columns, those of the table `result` from the third on, without its output.
+pub fn bare_instance_from(alloc: Global, row: &Row) -> Result<Instance, Fault>
+    requires { 8 ≤ length row.now }
+    ensures { Restores bare_instance_row IsBareInstance (columns row.now 0 8) result }
+{
+    let states = states_from(row)?;
+    let moments = moments_from(row)?;
+    let host = host_at(alloc, row, 4)?;
+    let instance = Instance {
+        server_state: states.server_state,
+        outcome: states.outcome,
+        validate_state: states.validate_state,
+        file_delete: states.file_delete,
+        host,
+        sent_at: moments.sent_at,
+        deadline: moments.deadline,
+        received_at: moments.received_at,
+        output: Bytes::new(alloc),
+    };
+    if is_formed(&instance) {
+        Ok(instance)
+    } else {
+        Err(Fault::NotAProject)
+    }
+}
+
+/// The instance of a row of the table `result` with its columns from the third on, in their order.
+pub fn instance_from(alloc: Global, row: &Row) -> Result<Instance, Fault>
+    ensures { Restores instance_row IsStoredInstance row.now result }
+{
+    if row.column_count() != 9 {
+        return Err(Fault::NotAProject);
+    }
+    let output = output_at(row, 8)?;
+    let mut instance = bare_instance_from(alloc, row)?;
+    instance.output = output;
+    Ok(instance)
+}
+
+/// The number of an instance.
+pub fn instance_number_at(row: &Row, at: usize) -> Result<u32, Fault>
+    ensures { Restores number (λ n. n < 2 ^ 32) (column row.now at) result }
+{
+    read_column(row, at)
+}
+
+/// The moment in a column, which is not empty.
+pub fn stamp_at(row: &Row, at: usize) -> Result<Moment, Fault>
+    ensures { Restores number (λ seconds. seconds ≤ last_moment) (column row.now at) result }
+{
+    let seconds = number_at(row, at)?;
+    Moment::new(seconds).ok_or(Fault::NotAProject)
+}
+
+/// The archived workunit in the six columns from the second on, behind its place.
+pub fn placed_archived_from(alloc: Global, row: &Row) -> Result<Archived, Fault>
+    requires { length row.now ≡ 7 }
+    ensures { Restores archived_cells IsStoredArchived (columns row.now 1 6) result }
+{
+    let number = number_at(row, 1)?;
+    let error_mask = mask_at(row, 3)?;
+    let canonical = place_at(row, 4)?;
+    let done_at = stamp_at(row, 6)?;
+    let output = output_at(row, 5)?;
+    let name = name_at(alloc, row, 2)?;
+    Ok(Archived {
+        number,
+        name,
+        error_mask,
+        canonical,
+        output,
+        done_at,
+    })
+}
+
+/// The class in a column.
+pub fn class_at(row: &Row, at: usize) -> Result<u32, Fault>
+    ensures { Restores number IsClass (column row.now at) result }
+{
+    let class: u32 = read_column(row, at)?;
+    if class > HIGHEST_CLASS {
+        return Err(Fault::NotAProject);
+    }
+    Ok(class)
+}
+
+/// The bytes in a column.
+pub fn bytes_at(row: &Row, at: usize) -> Result<Bytes, Fault>
+    ensures { Restores Blob (λ _. ⊤) (column row.now at) result }
+{
+    let bytes: Vec<u8> = read_column(row, at)?;
+    Ok(Bytes::from_vec(bytes))
+}
+
+/// The greatest number of a skip of an import of this kind.
+fn last_skip(kind: ImportKind) -> u8
+    ensures { result ≡ last_skip kind }
+{
+    match kind {
+        ImportKind::Batch | ImportKind::Classes => 0,
+        ImportKind::Sent => 4,
+        ImportKind::Reported => 5,
+    }
+}
+
+/// The verdict of a digit, if an import of this kind may have it.
+fn verdict_of(kind: ImportKind, digit: u8) -> Option<u8>
+    ensures { SomeIff result ((48 ≤ digit) × (digit - 48 ≤ last_skip kind)) (digit - 48) }
+{
+    match digit.checked_sub(b'0') {
+        Some(verdict) if verdict <= last_skip(kind) => Some(verdict),
+        _ => None,
+    }
+}
+
+/// The verdicts of a text with one digit for each row.
+fn verdicts_from(alloc: Global, kind: ImportKind, digits: &[u8]) -> Result<Bytes, Fault>
+    ensures { Restores verdict_digits (AreVerdicts kind) digits.now result }
+{
+    let mut verdicts = Vec::new(alloc);
+    for digit in digits {
+        let Some(verdict) = verdict_of(kind, *digit) else {
+            return Err(Fault::NotAProject);
+        };
+        verdicts.push(verdict)?;
+    }
+    Ok(Bytes::from_vec(verdicts))
+}
+
+/// The verdicts of an import's rows in a column, each one of its kind.
+pub fn verdicts_at(alloc: Global, kind: ImportKind, row: &Row, at: usize) -> Result<Bytes, Fault>
+    ensures { Restores verdicts_cell (AreVerdicts kind) (column row.now at) result }
+{
+    let Ok(ValueRef::Text(digits)) = row.get_ref(at) else {
+        return Err(Fault::NotAProject);
+    };
+    verdicts_from(alloc, kind, digits)
+}
+
+/// What is kept of an import: its content, and its first answer.
+#[derive(Drop)]
+pub struct StoredImport {
+    pub template: Bytes,
+    pub content: Bytes,
+    /// The first number of a batch, 0 where it made no workunit.
+    pub first_number: u64,
+    /// One for each row: 0 where it was applied, else the number of the skip.
+    pub verdicts: Bytes,
+}
+
+/// The import of a row with its template, content, first number and verdicts.
+pub fn import_from(alloc: Global, kind: ImportKind, row: &Row) -> Result<StoredImport, Fault>
+    ensures { Restores stored_import_row (IsStoredImport kind) row.now result }
+{
+    if row.column_count() != 4 {
+        return Err(Fault::NotAProject);
+    }
+    let first_number = number_at(row, 2)?;
+    let template = bytes_at(row, 0)?;
+    let content = bytes_at(row, 1)?;
+    let verdicts = verdicts_at(alloc, kind, row, 3)?;
+    Ok(StoredImport {
+        template,
+        content,
+        first_number,
+        verdicts,
+    })
+}
+
+/// The next number of a project's row: from 1 to one more than there may be workunits ever.
+pub fn next_number_from(row: &Row) -> Result<u64, Fault>
+    ensures reads { Restores (λ next. number next ∷ []) IsNextNumber row.now result }
+{
+    if row.column_count() != 1 {
+        return Err(Fault::NotAProject);
+    }
+    let next = number_at(row, 0)?;
+    if 1 <= next && next <= MOST_WORKUNITS + 1 {
+        Ok(next)
+    } else {
+        Err(Fault::NotAProject)
+    }
+}

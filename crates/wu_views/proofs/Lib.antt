@@ -1,0 +1,15 @@
+mod JoinLemmas
+mod JoinTexts
+mod CountQuestions
+mod ClassQuestions
+mod LineLemmas
+mod ViewAnswers
+mod CountLemmas
+mod CountedAnswers
+mod GivenLemmas
+mod JoinAnswers
+mod ListLemmas
+mod ListAnswers
+mod ListLines
+mod WalkLemmas
+mod CountWalks

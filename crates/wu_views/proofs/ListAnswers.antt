@@ -1,0 +1,156 @@
+-- What the SELECTs of the five views answer of the world that the tables stand for.
+use Rattle.wu_schema.proofs.Words.{Database, Int, IsAscending, IsPermutation, IsPermutation-map, Less, List, None, Output, Refines, Row, Shown, Some, State, Term, World, [], AllByRecursion, ap, archived_at, arith, class_cells, codes, col, column, drop, eval_all, everything, false, filter, host_at, host_class_at, hosts_of, lit, map, map-map, nat_le, negsuc, refl, stored_archived, subst, sym, true, ℕ, ◌^◌, ◌∙◌, ◌∷◌, ◌≡◌}
+use Rattle.sqlite.specs.Program.{overlay}
+use Rattle.sqlite.specs.Query.{IsSureAnswer}
+use Rattle.sqlite_value.proofs.OrderLemmas.{value_cmp-Text}
+use Rattle.wu_core.specs.declared.workunit.HostClass.{HostClass}
+use Rattle.wu_core.proofs.HostLemmas.{once, pairs_ascend}
+use Rattle.wu_schema.proofs.Parts.{Archive, HostClasses, Hosts}
+use Rattle.wu_schema.proofs.RowLemmas.{no_test}
+use Rattle.wu_schema.proofs.SelectLemmas.{Asked, Fits}
+use Rattle.wu_schema.specs.Refines.{host_of}
+use Rattle.wu_store.specs.StandsFor.{KnowsClasses}
+use Rattle.wu_store.proofs.ClassAnswers.{Before, rising}
+use Rattle.wu_store.proofs.OrderAnswers.{behind_rowid, by_key, pair, sorted, sure_in_order, sure_sorted}
+use Rattle.wu_store.proofs.ReadAnswers.{asked_answers}
+use Rattle.wu_views.specs.Listings.{all_results_shown, archive_of, placed_archived_row, workunit_shown}
+use Rattle.wu_views.proofs.JoinAnswers as joins
+use Rattle.wu_views.proofs.JoinTexts.{results_here, results_question, results_text, workunits_here, workunits_question, workunits_text}
+use Rattle.wu_views.proofs.ListLemmas.{AnswersAll, answers_all}
+use Rattle.wu_views.proofs.ViewAnswers.{host_pair, host_shows, names_rise, names_shown}
+
+-- no limit
+abbrev no_limit : Term
+no_limit = lit (Int (negsuc 0))
+
+-- a whole table whose rowids SQLite picks, in the order of a column that rises
+module _ {X : Type 0} (tree : ℕ) (shows : List Term) (place : ℕ) (cells : X → Row) (cell_pair : Row → Output) (xs : List X) where
+  abbrev row_pair : Row → Output
+  row_pair = pair tree [] shows place false no_limit []
+
+  abbrev cells_pair : X → Output
+  cells_pair x = cell_pair (cells x)
+
+  pub all_sorted : (db : Database) (rows : List Row) → nat_le (2 ^ 31) tree ≡ false → ((r : Row) → row_pair r ≡ cell_pair (drop 1 r)) → IsAscending (λ a b. by_key a b ≡ Less) (map cells_pair xs) → IsPermutation (map cells xs) (map (drop 1) (db.trees tree))
+      → IsSureAnswer (sorted tree [] shows place false no_limit []) (overlay db.trees []) [] rows → rows ≡ map (λ (o : Output). o.1) (map cells_pair xs)
+  all_sorted db rows low pair_is up same h =
+      let stored = db.trees tree in
+      let those : IsPermutation (map cells_pair xs) (map cell_pair (map (drop 1) stored)) = subst (λ os. IsPermutation os (map cell_pair (map (drop 1) stored))) (map-map cell_pair cells xs) (IsPermutation-map cell_pair _ _ same) in
+      let seen : map row_pair (filter (λ r. true) stored) ≡ map cell_pair (map (drop 1) stored) = behind_rowid (λ r. true) (λ r. true) row_pair cell_pair (λ r. refl) pair_is stored ∙ ap (map cell_pair) (no_test (map (drop 1) stored)) in
+      sure_sorted tree [] shows place false no_limit [] db rows (map cells_pair xs) low up (subst (IsPermutation (map cells_pair xs)) (sym seen) those) h
+
+-- ---- hosts, in order of their names
+
+abbrev pub hosts_asked : Asked
+hosts_asked = record { text = codes "SELECT name, total, grants FROM host ORDER BY name"; parameters = []; shown = 0 ∷ 1 ∷ 2 ∷ []; tests = []; order = Some 0; limit = None; upto = lit (Int (negsuc 0)) }
+
+hosts_fits : (tree : ℕ) → Fits (codes "host") (host_at tree) hosts_asked
+unfolding everything
+hosts_fits tree = record { shown = refl; tests = refl; strict = refl; order = refl; height = (0, tt); few = omega arith; limit = λ schema. refl; read = refl; typed = refl }
+
+abbrev pub hosts_shown : World → List Row
+hosts_shown world = map (host_of world.grants) (hosts_of world.grants)
+
+host_pairs : (tree : ℕ) (r : Row) → row_pair tree host_shows 1 (host_of []) host_pair [] r ≡ host_pair (drop 1 r)
+host_pairs tree [] = refl
+host_pairs tree (v ∷ r) = refl
+
+pub hosts_found : (old new : State) (rows : List Row) → Shown hosts_asked.text [] old new rows → (world : World) → KnowsClasses world → Refines old.now world → rows ≡ hosts_shown world
+hosts_found old new rows h world known s =
+    let grants = world.grants in
+    all_sorted s.trees.host host_shows 1 (host_of grants) host_pair (hosts_of grants) old.now rows s.tables.host.1.low (host_pairs s.trees.host) (names_rise grants (hosts_of grants) (once grants)) s.rows.hosts.same
+    (asked_answers Hosts hosts_asked hosts_fits old new world s tt [] rows h).answer
+    ∙ names_shown grants (hosts_of grants)
+
+pub hosts_answer : AnswersAll hosts_asked.text hosts_shown
+hosts_answer = answers_all Hosts (λ version known. tt) hosts_asked hosts_fits refl (λ tree. refl) hosts_shown hosts_found
+
+-- ---- the archive, in order of archiving
+
+abbrev pub archive_asked : Asked
+archive_asked = record { text = codes "SELECT seq, number, name, error_mask, canonical, output, done_at FROM archived ORDER BY seq"; parameters = []; shown = 0 ∷ 1 ∷ 2 ∷ 3 ∷ 4 ∷ 5 ∷ 6 ∷ []; tests = []; order = Some 0; limit = None; upto = lit (Int (negsuc 0)) }
+
+archive_fits : (tree : ℕ) → Fits (codes "archived") (archived_at tree) archive_asked
+unfolding everything
+archive_fits tree = record { shown = refl; tests = refl; strict = refl; order = refl; height = (0, tt); few = omega arith; limit = λ schema. refl; read = refl; typed = refl }
+
+abbrev archive_shows : List Term
+archive_shows = col 1 0 ∷ col 1 2 ∷ col 1 3 ∷ col 1 4 ∷ col 1 5 ∷ col 1 6 ∷ col 1 7 ∷ []
+
+abbrev pub archive_shown : World → List Row
+archive_shown world = map placed_archived_row (archive_of world)
+
+pub archive_found : (old new : State) (rows : List Row) → Shown archive_asked.text [] old new rows → (world : World) → KnowsClasses world → Refines old.now world → rows ≡ archive_shown world
+archive_found old new rows h world known s =
+    let tree = s.trees.archived in
+    let shown : Row → Row = λ r. eval_all archive_shows ([] ∷ r ∷ []) in
+    sure_in_order tree [] archive_shows no_limit [] old.now rows s.tables.archived.1.low s.rows.archived.shaped.0 (asked_answers Archive archive_asked archive_fits old new world s tt [] rows h).answer
+    ∙ ap (map shown) (no_test (old.now.trees tree) ∙ s.rows.archived.same)
+    ∙ map-map shown stored_archived (archive_of world)
+
+pub archive_answer : AnswersAll archive_asked.text archive_shown
+archive_answer = answers_all Archive (λ version known. tt) archive_asked archive_fits refl (λ tree. refl) archive_shown archive_found
+
+-- ---- the classes of hosts, in order of their names
+
+abbrev pub classes_asked : Asked
+classes_asked = record { text = codes "SELECT host, class FROM host_class ORDER BY host"; parameters = []; shown = 0 ∷ 1 ∷ []; tests = []; order = Some 0; limit = None; upto = lit (Int (negsuc 0)) }
+
+classes_fits : (tree : ℕ) → Fits (codes "host_class") (host_class_at tree) classes_asked
+unfolding everything
+classes_fits tree = record { shown = refl; tests = refl; strict = refl; order = refl; height = (0, tt); few = omega arith; limit = λ schema. refl; read = refl; typed = refl }
+
+abbrev class_shows : List Term
+class_shows = col 1 1 ∷ col 1 2 ∷ []
+
+-- of the cells of a host with a class its name, and what is shown
+abbrev class_pair : Row → Output
+class_pair c = (column c 0 ∷ [], column c 0 ∷ column c 1 ∷ [])
+
+abbrev it_pair : HostClass → Output
+it_pair it = class_pair (class_cells it)
+
+below_all : (it : HostClass) (more : List HostClass) → AllByRecursion (Before it) more → AllByRecursion (λ b. by_key (it_pair it) b ≡ Less) (map it_pair more)
+below_all it [] low = tt
+below_all it (one ∷ more) low = (value_cmp-Text it.host one.host ∙ low.0, below_all it more low.1)
+
+classes_rise : (all : List HostClass) → IsAscending Before all → IsAscending (λ a b. by_key a b ≡ Less) (map it_pair all)
+classes_rise [] up = tt
+classes_rise (it ∷ more) up = (below_all it more up.0, classes_rise more up.1)
+
+class_pairs : (tree : ℕ) (r : Row) → row_pair tree class_shows 1 class_cells class_pair [] r ≡ class_pair (drop 1 r)
+class_pairs tree [] = refl
+class_pairs tree (v ∷ r) = refl
+
+abbrev pub classes_shown : World → List Row
+classes_shown world = map class_cells world.classes
+
+pub classes_found : (old new : State) (rows : List Row) → Shown classes_asked.text [] old new rows → (world : World) → KnowsClasses world → Refines old.now world → rows ≡ classes_shown world
+classes_found old new rows h world known s =
+    all_sorted s.trees.host_class class_shows 1 class_cells class_pair world.classes old.now rows (s.tables.host_class known).1.low (class_pairs s.trees.host_class) (classes_rise world.classes (rising world.classes (pairs_ascend Before world.classes s.rows.classes_in_order)))
+    (s.rows.classes known).hosts.same (asked_answers HostClasses classes_asked classes_fits old new world s known [] rows h).answer
+    ∙ map-map (λ (o : Output). o.1) it_pair world.classes
+
+pub classes_answer : AnswersAll classes_asked.text classes_shown
+classes_answer = answers_all HostClasses (λ version known. known) classes_asked classes_fits refl (λ tree. refl) classes_shown classes_found
+
+-- ---- workunits with their classes, in order of number
+
+abbrev pub workunits_shown : World → List Row
+workunits_shown world = map workunit_shown world.workunits
+
+pub workunits_answer : AnswersAll workunits_text workunits_shown
+workunits_answer = record {
+  question = workunits_question;
+  compiles = λ old world known s. (_, _, _, workunits_here old world known s);
+  found = λ old new rows h world known s. joins.workunits_found old world known s rows _ _ (workunits_here old world known s) new h;
+}
+
+-- ---- instances, in order of their workunits' numbers and their own
+
+pub results_answer : AnswersAll results_text all_results_shown
+results_answer = record {
+  question = results_question;
+  compiles = λ old world known s. (_, _, _, results_here old world known s);
+  found = λ old new rows h world known s. joins.results_found old world known s rows _ _ (results_here old world known s) new h;
+}

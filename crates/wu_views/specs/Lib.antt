@@ -1,0 +1,5 @@
+pub mod Counting
+pub mod Lines
+pub mod Listings
+pub mod Summaries
+pub mod Walking

@@ -1,0 +1,252 @@
+//! The summary of a project: how much it holds.
+
+ghost use Rattle.std.specs.Prelude.{◌≤◌, ⊤, IfErr};
+ghost use Rattle.wu_views.specs.Counting.{class_count, import_count, workunit_count};
+ghost use Rattle.wu_views.specs.Lines.{summary_of};
+ghost use Rattle.wu_views.specs.Summaries.{AddsState, CountsGrants, CountsResults, CountsSummary, FindsAt, granted_of, HasNumbers, HasRoom, IsCountable, IsCreditCountable, others_of, project_numbers, results_of, SumsSummary};
+ghost use Rattle.wu_store.specs.Classes.{ForEachClassed, NotRefusedClass};
+ghost use Rattle.wu_store.specs.Loading.{Asks, IsStoreFault, NotRefusedIn, ForEachWorld, ServesUnlessFailed};
+
+use crate::lines::Summary;
+use crate::questions::ask_count;
+use sqlite::{Alter, Connection};
+use wu_core::{Fault, ServerState};
+use wu_schema::rows::server_state_at;
+use wu_schema::{fault_of, number_at, version_of};
+use wu_store::{next_archived_place, next_number};
+
+/// How many workunits are present.
+fn count_workunits<S: Alter>(conn: &mut Connection<S>) -> Result<u64, Fault>
+    ensures asks { Asks S.Store conn.old conn.new result }
+    ensures opens { ServesUnlessFailed S.Store conn.new result }
+    ensures fault { IfErr result IsStoreFault }
+    ensures found { ForEachWorld S.Store conn.old conn.new (FindsAt workunit_count result) }
+    ensures unrefused { NotRefusedIn S.Store conn.old conn.new result (λ _. ⊤) }
+{
+    ask_count(conn, "SELECT count(*) FROM workunit", &[])
+}
+
+/// How many files were imported, each once.
+fn count_imports<S: Alter>(conn: &mut Connection<S>) -> Result<u64, Fault>
+    ensures asks { Asks S.Store conn.old conn.new result }
+    ensures opens { ServesUnlessFailed S.Store conn.new result }
+    ensures fault { IfErr result IsStoreFault }
+    ensures found { ForEachWorld S.Store conn.old conn.new (FindsAt import_count result) }
+    ensures unrefused { NotRefusedIn S.Store conn.old conn.new result (λ _. ⊤) }
+{
+    ask_count(conn, "SELECT count(*) FROM import", &[])
+}
+
+/// How many hosts have a class.
+fn count_classes<S: Alter>(conn: &mut Connection<S>) -> Result<u64, Fault>
+    ensures asks { Asks S.Store conn.old conn.new result }
+    ensures opens { ServesUnlessFailed S.Store conn.new result }
+    ensures fault { IfErr result IsStoreFault }
+    ensures found { ForEachClassed S.Store conn.old conn.new (FindsAt class_count result) }
+    ensures unrefused { NotRefusedClass S.Store conn.old conn.new result (λ _. ⊤) }
+{
+    ask_count(conn, "SELECT count(*) FROM host_class", &[])
+}
+
+/// How many instances there are, and how many in each state.
+#[derive(Clone, Copy)]
+struct Results {
+    all: u64,
+    unsent: u64,
+    in_progress: u64,
+    over: u64,
+}
+
+/// How many there are with one more, which is in this state.
+fn with_state(so_far: Results, state: ServerState) -> Results
+    requires { HasRoom so_far }
+    ensures { AddsState so_far state result }
+{
+    let all = so_far.all + 1;
+    match state {
+        ServerState::Inactive => Results { all, ..so_far },
+        ServerState::Unsent => Results {
+            all,
+            unsent: so_far.unsent + 1,
+            ..so_far
+        },
+        ServerState::InProgress => Results {
+            all,
+            in_progress: so_far.in_progress + 1,
+            ..so_far
+        },
+        ServerState::Over => Results {
+            all,
+            over: so_far.over + 1,
+            ..so_far
+        },
+    }
+}
+
+/// They are counted while their rows are read, one at a time. `NotAProject` where a row has no state.
+fn count_results<S: Alter>(conn: &mut Connection<S>) -> Result<Results, Fault>
+    ensures asks { Asks S.Store conn.old conn.new result }
+    ensures opens { ServesUnlessFailed S.Store conn.new result }
+    ensures fault { IfErr result IsStoreFault }
+    ensures counted { CountsResults S.Store conn.old conn.new result }
+    ensures found { ForEachWorld S.Store conn.old conn.new (FindsAt results_of result) }
+    ensures unrefused { NotRefusedIn S.Store conn.old conn.new result (λ _. ⊤) }
+{
+    let mut found = Results {
+        all: 0,
+        unsent: 0,
+        in_progress: 0,
+        over: 0,
+    };
+    let mut rows = match conn.query("SELECT server_state FROM result", &[]) {
+        Ok(rows) => rows,
+        Err(error) => return Err(fault_of(&error)),
+    };
+    for _ in 0..u64::MAX {
+        if let Err(error) = rows.advance() {
+            return Err(fault_of(&error));
+        }
+        let Some(row) = rows.get() else {
+            return Ok(found);
+        };
+        let state = server_state_at(row, 0)?;
+        found = with_state(found, state);
+    }
+    Err(Fault::Memory)
+}
+
+/// How many there are of the rest.
+#[derive(Clone, Copy)]
+struct Others {
+    workunits: u64,
+    archived: u64,
+    imports: u64,
+    classes: u64,
+}
+
+fn count_others<S: Alter>(conn: &mut Connection<S>) -> Result<Others, Fault>
+    ensures asks { Asks S.Store conn.old conn.new result }
+    ensures opens { ServesUnlessFailed S.Store conn.new result }
+    ensures fault { IfErr result IsStoreFault }
+    ensures found { ForEachClassed S.Store conn.old conn.new (FindsAt others_of result) }
+    ensures unrefused { NotRefusedClass S.Store conn.old conn.new result (λ _. ⊤) }
+{
+    let workunits = count_workunits(conn)?;
+    let place = next_archived_place(conn)?;
+    let imports = count_imports(conn)?;
+    let classes = count_classes(conn)?;
+    Ok(Others {
+        workunits,
+        archived: place - 1,
+        imports,
+        classes,
+    })
+}
+
+/// How many grants were made, and their credit.
+#[derive(Clone, Copy)]
+struct Granted {
+    grants: u64,
+    credit: u64,
+}
+
+/// They are counted and their credit is summed while their rows are read, one at a time. `NotAProject` where a row has no
+/// credit, or where the sum is not below 2^64.
+fn count_grants<S: Alter>(conn: &mut Connection<S>) -> Result<Granted, Fault>
+    ensures asks { Asks S.Store conn.old conn.new result }
+    ensures opens { ServesUnlessFailed S.Store conn.new result }
+    ensures fault { IfErr result IsStoreFault }
+    ensures counted { CountsGrants S.Store conn.old conn.new result }
+    ensures found { ForEachWorld S.Store conn.old conn.new (FindsAt granted_of result) }
+    ensures unrefused { NotRefusedIn S.Store conn.old conn.new result IsCreditCountable }
+{
+    let mut grants = 0;
+    let mut credit = 0u64;
+    let mut rows = match conn.query("SELECT credit FROM credit_grant", &[]) {
+        Ok(rows) => rows,
+        Err(error) => return Err(fault_of(&error)),
+    };
+    for _ in 0..u64::MAX {
+        if let Err(error) = rows.advance() {
+            return Err(fault_of(&error));
+        }
+        let Some(row) = rows.get() else {
+            return Ok(Granted { grants, credit });
+        };
+        let granted = number_at(row, 0)?;
+        let Some(sum) = credit.checked_add(granted) else {
+            return Err(Fault::NotAProject);
+        };
+        grants += 1;
+        credit = sum;
+    }
+    Err(Fault::Memory)
+}
+
+/// The version of the project's schema. `NotAProject` where no project is.
+fn version<S: Alter>(conn: &mut Connection<S>) -> Result<u64, Fault>
+    ensures asks { Asks S.Store conn.old conn.new result }
+    ensures opens { ServesUnlessFailed S.Store conn.new result }
+    ensures fault { IfErr result IsStoreFault }
+    ensures found { ForEachWorld S.Store conn.old conn.new
+        (FindsAt (λ world. world.version) result) }
+    ensures unrefused { NotRefusedIn S.Store conn.old conn.new result (λ world. 1 ≤ world.version) }
+{
+    match version_of(conn)? {
+        Some(version) => Ok(version),
+        None => Err(Fault::NotAProject),
+    }
+}
+
+/// The numbers of the project's row.
+#[derive(Clone, Copy)]
+struct Numbers {
+    version: u64,
+    next_number: u64,
+}
+
+fn read_numbers<S: Alter>(conn: &mut Connection<S>) -> Result<Numbers, Fault>
+    ensures asks { Asks S.Store conn.old conn.new result }
+    ensures opens { ServesUnlessFailed S.Store conn.new result }
+    ensures fault { IfErr result IsStoreFault }
+    ensures found { ForEachWorld S.Store conn.old conn.new (FindsAt project_numbers result) }
+    ensures unrefused { NotRefusedIn S.Store conn.old conn.new result HasNumbers }
+{
+    let version = version(conn)?;
+    let next_number = next_number(conn)?;
+    Ok(Numbers {
+        version,
+        next_number,
+    })
+}
+
+/// How much a project with classes holds. `NotAProject` where a row is no value, or where the credit of all grants is not below
+/// 2^64.
+pub fn summary<S: Alter>(conn: &mut Connection<S>) -> Result<Summary, Fault>
+    ensures asks { Asks S.Store conn.old conn.new result }
+    ensures opens { ServesUnlessFailed S.Store conn.new result }
+    ensures fault { IfErr result IsStoreFault }
+    ensures counted { CountsSummary S.Store conn.old conn.new result }
+    ensures summed { SumsSummary S.Store conn.old conn.new result }
+    ensures found { ForEachClassed S.Store conn.old conn.new (FindsAt summary_of result) }
+    ensures unrefused { NotRefusedClass S.Store conn.old conn.new result IsCountable }
+{
+    let numbers = read_numbers(conn)?;
+    let results = count_results(conn)?;
+    let others = count_others(conn)?;
+    let granted = count_grants(conn)?;
+    Ok(Summary {
+        version: numbers.version,
+        next_number: numbers.next_number,
+        workunits: others.workunits,
+        results: results.all,
+        unsent: results.unsent,
+        in_progress: results.in_progress,
+        over: results.over,
+        archived: others.archived,
+        grants: granted.grants,
+        credit: granted.credit,
+        imports: others.imports,
+        classes: others.classes,
+    })
+}

@@ -1,0 +1,15 @@
+//! The rows of a project's views, one after another, and the numbers of its summary.
+#![tactic(auto)]
+
+mod counts;
+mod lines;
+mod listings;
+mod questions;
+mod walking;
+
+pub use counts::summary;
+pub use lines::{HostLine, ResultLine, Summary, WorkunitLine};
+pub use listings::{
+    ArchiveListing, ClassListing, HostListing, Listing, ResultListing, WorkunitListing,
+};
+pub use walking::{Takes, walk};

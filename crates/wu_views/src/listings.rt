@@ -1,0 +1,50 @@
+//! What the views list, each by one question.
+
+mod archive;
+mod classes;
+mod hosts;
+mod results;
+mod workunits;
+
+pub use archive::ArchiveListing;
+pub use classes::ClassListing;
+pub use hosts::HostListing;
+pub use results::ResultListing;
+use sqlite::{Alter, Row};
+use std::alloc::Global;
+pub use workunits::WorkunitListing;
+use wu_core::Fault;
+
+/// What a view lists: its question, and how a row of the answer is read as a line.
+pub trait Listing {
+    ghost use Rattle.std.specs.Prelude.{◌≡◌, ◌≢◌, List, IfErr, IfOk};
+    ghost use Rattle.sqlite.specs.Order.{Row as Cells};
+    ghost use Rattle.wu_core.specs.World.{World};
+    ghost use Rattle.wu_core.specs.declared.fault.Fault.TheVariants.{NotAProject};
+    ghost use Rattle.wu_views.specs.Listings.{Lists};
+    ghost use Rattle.wu_schema.specs.Reading.{IsReadFault};
+
+    /// What the view shows on a line of its own.
+    type Line: Drop;
+
+    /// The lines of a world, in order.
+    ghost lines: { World → List Self.Line };
+
+    /// A row of the answer is that of this line of a world.
+    ghost is_row_of: { World → Cells → Self.Line → Type 0 };
+
+    /// The lines of such a world can be read.
+    ghost is_readable: { World → Type 0 };
+
+    /// The question, which has no parameters.
+    fn question<S: Alter>() -> &'static str
+        ensures { Lists S.Store result.now is_row_of lines };
+
+    /// The line of a row of the answer. A row that is that of none is `NotAProject`.
+    fn read(alloc: Global, row: &Row) -> Result<Self::Line, Fault>
+        ensures line { (world : World) (line : Self.Line) → is_row_of world row.now line
+            → IfOk result (λ read. read ≡ line) }
+        ensures unrefused { (world : World) (line : Self.Line) → is_row_of world row.now line
+            → is_readable world → IfErr result (λ fault. fault ≢ NotAProject) }
+        ensures fault { IfErr result IsReadFault };
+}

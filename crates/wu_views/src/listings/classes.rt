@@ -1,0 +1,32 @@
+//! What the view of the classes of hosts lists.
+
+use crate::lines::class_from;
+use crate::listings::Listing;
+use sqlite::{Alter, Row};
+use std::alloc::Global;
+use wu_core::{Fault, HostClass};
+
+/// The hosts that a file named, each with its class, in order of their names' bytes.
+pub struct ClassListing;
+
+impl Listing for ClassListing {
+    ghost use Rattle.wu_core.specs.Classes.{AreClassed};
+    ghost use Rattle.wu_views.specs.Lines.{class_lines};
+    ghost use Rattle.wu_views.specs.Listings.{IsRowOfClass};
+
+    type Line = HostClass;
+
+    ghost lines = { class_lines };
+
+    ghost is_row_of = { IsRowOfClass };
+
+    ghost is_readable = { λ world. AreClassed world.classes };
+
+    fn question<S: Alter>() -> &'static str {
+        "SELECT host, class FROM host_class ORDER BY host"
+    }
+
+    fn read(alloc: Global, row: &Row) -> Result<HostClass, Fault> {
+        class_from(alloc, row)
+    }
+}

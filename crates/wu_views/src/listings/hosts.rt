@@ -1,0 +1,31 @@
+//! What the view of hosts lists.
+
+use crate::lines::{HostLine, host_from};
+use crate::listings::Listing;
+use sqlite::{Alter, Row};
+use std::alloc::Global;
+use wu_core::Fault;
+
+/// The hosts that have grants, in order of their names' bytes.
+pub struct HostListing;
+
+impl Listing for HostListing {
+    ghost use Rattle.wu_views.specs.Lines.{AreHostsNamed, host_lines};
+    ghost use Rattle.wu_views.specs.Listings.{IsRowOfHost};
+
+    type Line = HostLine;
+
+    ghost lines = { host_lines };
+
+    ghost is_row_of = { IsRowOfHost };
+
+    ghost is_readable = { AreHostsNamed };
+
+    fn question<S: Alter>() -> &'static str {
+        "SELECT name, total, grants FROM host ORDER BY name"
+    }
+
+    fn read(alloc: Global, row: &Row) -> Result<HostLine, Fault> {
+        host_from(alloc, row)
+    }
+}

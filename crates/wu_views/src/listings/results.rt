@@ -1,0 +1,32 @@
+//! What the view of results lists.
+
+use crate::lines::ResultLine;
+use crate::listings::Listing;
+use sqlite::{Alter, Row};
+use std::alloc::Global;
+use wu_core::Fault;
+
+/// The instances, in order of their workunits' numbers and their own.
+pub struct ResultListing;
+
+impl Listing for ResultListing {
+    ghost use Rattle.wu_core.specs.Storable.{AreStorable};
+    ghost use Rattle.wu_views.specs.Lines.{result_lines};
+    ghost use Rattle.wu_views.specs.Listings.{IsRowOfResult};
+
+    type Line = ResultLine;
+
+    ghost lines = { result_lines };
+
+    ghost is_row_of = { IsRowOfResult };
+
+    ghost is_readable = { AreStorable };
+
+    fn question<S: Alter>() -> &'static str {
+        "SELECT server_state, outcome, validate_state, result.file_delete, host, sent_at, deadline, received_at, n, name, length(output) FROM result, workunit WHERE number = workunit ORDER BY workunit, n"
+    }
+
+    fn read(alloc: Global, row: &Row) -> Result<ResultLine, Fault> {
+        ResultLine::read(alloc, row)
+    }
+}

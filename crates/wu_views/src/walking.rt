@@ -1,0 +1,56 @@
+//! A walk over what a view lists: each line is handed on before the next row is asked for.
+
+ghost use Rattle.wu_views.specs.Walking.{Walked};
+
+use crate::listings::Listing;
+use sqlite::{Alter, Connection, Rows};
+use std::alloc::Global;
+use wu_core::Fault;
+use wu_schema::fault_of;
+
+/// What takes the lines of a view, one after another.
+pub trait Takes<T> {
+    ghost use Rattle.std.specs.Prelude.{IsOkUnless, MatchResult};
+    ghost use Rattle.wu_core.specs.declared.fault.Fault.TheVariants.{Output};
+
+    /// With this line it comes from one state to the other.
+    ghost takes: { Self → Self → T → Type 0 };
+
+    /// At this line it takes no more.
+    ghost refuses: { Self → Self → T → Type 0 };
+
+    /// Takes a line. `Output` where it takes no more.
+    fn take(&mut self, line: &T) -> Result<(), Fault>
+        ensures taken { MatchResult result (λ _. takes self.old self.new line.now)
+            (λ _. refuses self.old self.new line.now) }
+        ensures fault { IsOkUnless result Output };
+}
+
+/// Hands each line of a view to what takes them, as the database hands out its row: no list of rows is held.
+///
+/// `NotAProject` where a row is no line; `Output` where no more lines are taken.
+pub fn walk<S: Alter, L: Listing, K: Takes<L::Line>>(
+    conn: &mut Connection<S>,
+    alloc: Global,
+    taker: &mut K,
+) -> Result<(), Fault>
+    ensures { Walked S.Store L.Listing.lines L.Listing.is_readable K.Takes.takes K.Takes.refuses
+        conn.old conn.new taker.old taker.new result }
+{
+    let mut rows = match conn.query(L::question::<S>(), &[]) {
+        Ok(rows) => rows,
+        Err(error) => return Err(fault_of(&error)),
+    };
+    // no table has so many rows
+    'rows: for _ in 0..u64::MAX {
+        if let Err(error) = rows.advance() {
+            return Err(fault_of(&error));
+        }
+        let Some(row) = rows.get() else {
+            return Ok(());
+        };
+        let line = L::read(alloc, row)?;
+        taker.take(&line)?;
+    }
+    Err(Fault::Memory)
+}
