@@ -5,6 +5,7 @@
 
 mod laws;
 mod plays;
+mod upgrades;
 mod words;
 
 use anyhow::{Context, Result};

@@ -1,6 +1,6 @@
 //! A play: a script, and how it is played.
 
-use crate::{laws, words};
+use crate::{laws, upgrades, words};
 use anyhow::{Context, Result, bail};
 use std::alloc::Global;
 use std::fs;
@@ -13,6 +13,8 @@ enum Means {
     Words,
     /// By the calls that the laws of stops and of lives speak of, each line a batch and a life.
     Laws,
+    /// By the call that upgrades a project with no session, each line a database.
+    Upgrades,
     Way(Way),
 }
 
@@ -33,6 +35,7 @@ impl<'a> Play<'a> {
         let means = match *name {
             "words" => Means::Words,
             "laws" => Means::Laws,
+            "upgrades" => Means::Upgrades,
             name => Means::Way(Way::read(alloc, name, rest)?),
         };
         Ok(Play {
@@ -48,6 +51,7 @@ impl<'a> Play<'a> {
         match &self.means {
             Means::Words => words::play(rt, text, transcript),
             Means::Laws => laws::play(rt, text, transcript),
+            Means::Upgrades => upgrades::play(rt, text, transcript),
             Means::Way(way) => way.play(rt, text, transcript),
         }
     }

@@ -17,6 +17,7 @@ mod tables;
 mod tally;
 mod way;
 
-pub use runs::views_of;
+pub use runs::{seen_of, told_over, views_of};
 pub use scripts::{write_comment, write_status};
+pub use seen::{Seen, look};
 pub use way::Way;

@@ -37,7 +37,7 @@ fn do_statement<S: Alter>(
     Ok(())
 }
 
-/// Plays a line that is no statement, in a session of its own.
+/// Plays a line that is no statement, in a session of its own, and tells where that has ended.
 fn play_session<S: Alter + Drop>(
     rt: &HostRuntime,
     conn: Connection<S>,
@@ -46,6 +46,9 @@ fn play_session<S: Alter + Drop>(
 ) -> Result<Connection<S>> {
     let mut project = adopt(conn)?;
     play_line(rt, &mut project, line, transcript)?;
+    if project.ended() {
+        writeln!(transcript, "the session has ended")?;
+    }
     Ok(project.release())
 }
 

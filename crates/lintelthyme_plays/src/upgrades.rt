@@ -1,0 +1,331 @@
+//! A play by the call that upgrades a project on a connection, with no session over it.
+
+use anyhow::{Context, Result, bail, ensure};
+use sqlite::{Alter, Connection};
+use std::alloc::Global;
+use std::io::{self, Write};
+use std::{fmt, fs};
+use wu_core::Fault;
+use wu_passes::upgrade;
+use wu_play_files::{MOST_CALLS, Pages, PlayFiles, Saved, Side, Visit, options, visit_play};
+use wu_plays::{Seen, look, seen_of, told_over, write_comment};
+
+/// How an upgrade ended.
+#[derive(Clone, Copy)]
+enum End {
+    /// The files could not be opened.
+    Unopened,
+    /// With this fault, before its transaction.
+    Unbegun(Fault),
+    /// With this fault, where its transaction had begun.
+    Begun(Fault),
+    Done,
+}
+
+impl End {
+    /// The fault that it told.
+    fn fault(self) -> Option<Fault> {
+        match self {
+            End::Unbegun(fault) | End::Begun(fault) => Some(fault),
+            End::Unopened | End::Done => None,
+        }
+    }
+
+    /// Whether the project may be found upgraded behind it, or as it was.
+    fn may_leave(self, is_upgraded: bool) -> bool {
+        match self {
+            End::Unopened | End::Unbegun(_) => !is_upgraded,
+            End::Begun(_) => true,
+            End::Done => is_upgraded,
+        }
+    }
+}
+
+impl fmt::Display for End {
+    fn fmt<W: fmt::Write>(&self, f: &mut fmt::Formatter<W>) -> fmt::Result {
+        match self {
+            End::Unopened => f.write_str("not opened"),
+            End::Unbegun(fault) => write!(f, "{fault} before the transaction"),
+            End::Begun(fault) => write!(f, "{fault} in the transaction"),
+            End::Done => f.write_str("done"),
+        }
+    }
+}
+
+/// Upgrades the project in a database.
+fn upgrade_in<S: Alter>(alloc: Global, conn: &mut Connection<S>) -> Result<End> {
+    ensure!(conn.is_autocommit(), "a transaction is open");
+    let end = match upgrade(conn, alloc) {
+        Ok(()) => End::Done,
+        Err((fault, false)) => End::Unbegun(fault),
+        Err((fault, true)) => End::Begun(fault),
+    };
+    Ok(end)
+}
+
+/// An upgrade of the project in a database.
+#[derive(Drop)]
+struct Upgrading;
+
+impl Visit for Upgrading {
+    type Told = End;
+
+    fn visit<S: Alter + Drop>(
+        self,
+        alloc: Global,
+        mut conn: Connection<S>,
+    ) -> Result<(Connection<S>, End)> {
+        let end = upgrade_in(alloc, &mut conn)?;
+        Ok((conn, end))
+    }
+}
+
+/// Opens files, upgrades the project in them, and closes them, as far as they let it: how it ended, and whether the close
+/// was answered too.
+fn run(alloc: Global, files: PlayFiles) -> Result<(PlayFiles, End, bool)> {
+    let left = visit_play(alloc, files, options(1, Pages::Few), Upgrading)?;
+    let (files, told, is_closed) = left.into_parts();
+    let end = match told {
+        Some(end) => end,
+        None => End::Unopened,
+    };
+    Ok((files, end, is_closed))
+}
+
+/// How the upgrade of a database ends that no call stops, and what it leaves, closed.
+fn run_whole(alloc: Global, saved: &Saved) -> Result<(Saved, End)> {
+    let (files, end, is_closed) = run(alloc, saved.files(alloc)?)?;
+    ensure!(is_closed, "it is not closed");
+    Ok((files.saved(alloc)?, end))
+}
+
+/// A database, the project in it, and that project upgraded.
+#[derive(Clone, Copy)]
+struct Case<'a> {
+    saved: &'a Saved,
+    before: &'a Seen,
+    after: &'a Seen,
+}
+
+impl Case<'_> {
+    /// Whether this is the upgraded project, and not that from before.
+    fn is_upgraded(&self, seen: &Seen) -> Result<bool> {
+        if seen.is_same(self.after) {
+            return Ok(true);
+        }
+        ensure!(
+            seen.is_same(self.before),
+            "neither the project from before nor the upgraded one"
+        );
+        Ok(false)
+    }
+}
+
+/// Adopts the project that is found, upgrades it again, and sees that it is the upgraded one. Whether it was so before.
+fn go_on<S: Alter + Drop>(
+    alloc: Global,
+    conn: Connection<S>,
+    case: Case<'_>,
+) -> Result<(Connection<S>, bool)> {
+    let (mut conn, found) = look(alloc, conn)?;
+    let is_upgraded = case.is_upgraded(&found)?;
+    let end = upgrade_in(alloc, &mut conn)?;
+    ensure!(matches!(end, End::Done), "{end} at the next upgrade");
+    let (conn, found) = look(alloc, conn)?;
+    ensure!(found.is_same(case.after), "another end");
+    Ok((conn, is_upgraded))
+}
+
+/// A session that goes on so.
+#[derive(Drop)]
+struct GoingOn<'a> {
+    case: Case<'a>,
+}
+
+impl<'a> Visit for GoingOn<'a> {
+    type Told = bool;
+
+    fn visit<S: Alter + Drop>(
+        self,
+        alloc: Global,
+        conn: Connection<S>,
+    ) -> Result<(Connection<S>, bool)> {
+        go_on(alloc, conn, self.case)
+    }
+}
+
+/// What was found behind the stops of an upgrade.
+#[derive(Drop)]
+struct Finds {
+    before: u64,
+    after: u64,
+    /// The latest files, and whether the project in them was upgraded. Where the next stop leaves the same, they are not
+    /// opened again.
+    latest: Option<(Saved, bool)>,
+}
+
+impl Finds {
+    fn new() -> Finds {
+        Finds {
+            before: 0,
+            after: 0,
+            latest: None,
+        }
+    }
+
+    /// Whether the project in these files is upgraded.
+    fn is_upgraded(&self, alloc: Global, case: Case<'_>, files: &Saved) -> Result<bool> {
+        match &self.latest {
+            Some((latest, is_upgraded)) if latest.is_same(files) => Ok(*is_upgraded),
+            _ => told_over(alloc, files, GoingOn { case }),
+        }
+    }
+
+    /// Goes on from what an upgrade left that ended so, and counts it.
+    fn find(&mut self, alloc: Global, case: Case<'_>, files: Saved, end: End) -> Result<()> {
+        let is_upgraded = self.is_upgraded(alloc, case, &files)?;
+        ensure!(end.may_leave(is_upgraded), "it tells otherwise");
+        if is_upgraded {
+            self.after = self.after.saturating_add(1);
+        } else {
+            self.before = self.before.saturating_add(1);
+        }
+        self.latest = Some((files, is_upgraded));
+        Ok(())
+    }
+}
+
+/// What is counted over the stops of an upgrade.
+#[derive(Drop)]
+struct Tally {
+    unopened: u64,
+    unbegun: u64,
+    begun: u64,
+    done: u64,
+    /// What was found where a stop lost what was not synced.
+    lost: Finds,
+    /// What was found where it kept all that was written.
+    kept: Finds,
+}
+
+impl Tally {
+    fn new() -> Tally {
+        Tally {
+            unopened: 0,
+            unbegun: 0,
+            begun: 0,
+            done: 0,
+            lost: Finds::new(),
+            kept: Finds::new(),
+        }
+    }
+
+    fn count(&mut self, end: End) {
+        let count = match end {
+            End::Unopened => &mut self.unopened,
+            End::Unbegun(_) => &mut self.unbegun,
+            End::Begun(_) => &mut self.begun,
+            End::Done => &mut self.done,
+        };
+        *count = count.saturating_add(1);
+    }
+
+    /// Writes the counts of the calls on this file. All faults were `Broken`.
+    fn write(&self, side: Side, transcript: &mut Vec<u8>) -> io::Result<()> {
+        let Tally { lost, kept, .. } = self;
+        writeln!(
+            transcript,
+            "{side}: {} not opened, {} Broken before the transaction, {} in it, {} done; {} before, {} after; with all that was written {} before, {} after",
+            self.unopened,
+            self.unbegun,
+            self.begun,
+            self.done,
+            lost.before,
+            lost.after,
+            kept.before,
+            kept.after
+        )
+    }
+}
+
+/// Stops an upgrade after so many calls, and goes on with either loss. Whether the calls stopped.
+fn stop(alloc: Global, case: Case<'_>, side: Side, calls: u64, tally: &mut Tally) -> Result<bool> {
+    let (mut files, end, is_closed) = run(alloc, case.saved.stopping(alloc, side, calls)?)?;
+    if !files.are_stopped() {
+        ensure!(
+            is_closed && matches!(end, End::Done),
+            "a fault without a stop"
+        );
+        return Ok(false);
+    }
+    if let Some(fault) = end.fault() {
+        ensure!(fault == Fault::Broken, "{fault}");
+    }
+    tally.count(end);
+    tally.kept.find(alloc, case, files.saved(alloc)?, end)?;
+    tally.lost.find(alloc, case, files.after_stop(alloc)?, end)?;
+    Ok(true)
+}
+
+/// Stops an upgrade after each number of calls on a file, up to one that it does not reach: what was found.
+fn stop_each(alloc: Global, case: Case<'_>, side: Side) -> Result<Tally> {
+    let mut tally = Tally::new();
+    for calls in 0..MOST_CALLS {
+        let is_stopped = stop(alloc, case, side, calls, &mut tally).context(format_args!(
+            "after {calls} calls on the {side}"
+        ))?;
+        if !is_stopped {
+            return Ok(tally);
+        }
+    }
+    bail!("the calls on the {side} go on")
+}
+
+/// Plays the stops of an upgrade by the calls on each of the two files, and tells of them.
+fn play_stops(alloc: Global, case: Case<'_>, transcript: &mut Vec<u8>) -> Result<()> {
+    for side in [Side::Log, Side::Database] {
+        stop_each(alloc, case, side)?.write(side, transcript)?;
+    }
+    Ok(())
+}
+
+/// Tells what the upgrade of a project changed, and upgrades it again, which changes nothing; then plays the stops.
+fn play_change(alloc: Global, saved: &Saved, left: &Saved, transcript: &mut Vec<u8>) -> Result<()> {
+    let before = seen_of(alloc, saved)?;
+    let after = seen_of(alloc, left)?;
+    before.write_changes(&after, transcript)?;
+    let (again, end) = run_whole(alloc, left)?;
+    ensure!(again.has_database_of(left), "the next upgrade writes");
+    writeln!(transcript, "again: {end}, nothing changes")?;
+    let case = Case {
+        saved,
+        before: &before,
+        after: &after,
+    };
+    play_stops(alloc, case, transcript)
+}
+
+/// Plays the upgrade of the project in a database.
+fn play_database(alloc: Global, saved: &Saved, transcript: &mut Vec<u8>) -> Result<()> {
+    let (left, end) = run_whole(alloc, saved)?;
+    if left.has_database_of(saved) {
+        writeln!(transcript, "{end}, nothing changes")?;
+        return Ok(());
+    }
+    ensure!(matches!(end, End::Done), "{end}, and it writes");
+    play_change(alloc, saved, &left, transcript)
+}
+
+/// Plays the upgrades of the databases that a script names.
+pub fn play(rt: &HostRuntime, text: &str, transcript: &mut Vec<u8>) -> Result<()> {
+    for line in text.lines() {
+        if line.starts_with('#') {
+            write_comment(line, transcript)?;
+            continue;
+        }
+        writeln!(transcript, "> {line}")?;
+        let bytes = fs::read(rt, line).context(line)?;
+        play_database(rt.alloc(), &Saved::database(rt.alloc(), bytes), transcript)?;
+    }
+    Ok(())
+}
