@@ -5,5 +5,5 @@
 use std::process::ExitCode;
 
 fn main(rt: HostRuntime) -> ExitCode {
-    ExitCode::from(wu_program::run(&rt))
+    ExitCode::from(wu_process::run(&rt))
 }

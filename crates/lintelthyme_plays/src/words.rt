@@ -5,7 +5,7 @@ use sqlite_disk::Wary;
 use std::io::Write;
 use wu_feed::{LineCause, Words, read_script};
 use wu_plays::{write_comment, write_status};
-use wu_program::run_with;
+use wu_process::run_with;
 
 /// The words of a process: the program's name, and those of a line.
 fn process_words(rt: &HostRuntime, words: Result<Words, LineCause>) -> Result<Vec<String>> {

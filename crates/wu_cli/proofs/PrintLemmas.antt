@@ -1,9 +1,8 @@
 -- What goes out for an action and for the steps of a script.
-use Rattle.std.proofs.Common.{◌≡◌, ◌∙◌, ◌⊎◌, ◌++◌, ◌∷◌, [], ℕ, List, Option, Some, None, IfSome, IsSome, Result, refl, sym, ap, subst, arith, inl, inr, append_assoc, take, drop, take-append-drop}
+use Rattle.std.proofs.Common.{◌≡◌, ◌∙◌, ◌⊎◌, ◌++◌, ◌∷◌, [], ℕ, List, Option, Some, None, IfSome, IsSome, refl, sym, ap, subst, arith, inl, inr, append_assoc, take, drop, take-append-drop}
 use Rattle.std.proofs.KnownBytes.{Appends-nil, Appends-trans}
 use Rattle.std.proofs.Math.Seq.{take-length}
 use Rattle.std.specs.Io.KnownBytes.{Appends}
-use Rattle.sqlite.specs.Held.{Held, state}
 use Rattle.sqlite.specs.State.{HasCleanDisk}
 use Rattle.sqlite.specs.Store.{Ghosts}
 use Rattle.wu_core.specs.declared.fault.Fault.{Fault}
@@ -15,7 +14,7 @@ use Rattle.wu_machine.specs.Commands.{request_of}
 use Rattle.wu_machine.specs.Machine.{IsUpToDate, reply, step}
 use Rattle.wu_passes.specs.declared.project.Project.{Project}
 use Rattle.wu_machine.proofs.Versions.{up_to_date}
-use Rattle.wu_passes.proofs.SessionLemmas.{none_older, over_shows}
+use Rattle.wu_passes.proofs.SessionLemmas.{none_older}
 use Rattle.wu_passes.specs.Projects.{IsSessionOpen, older_version, ShowsProject, state_of}
 use Rattle.wu_store.specs.StandsFor.{KnowsClasses}
 use Rattle.wu_report.specs.Texts.{view_text}
@@ -24,18 +23,15 @@ use Rattle.wu_report.specs.Writing.{AppendsFront, WritesTo}
 use Rattle.wu_report.proofs.WritingLemmas.{AppendsFront-after, AppendsFront-longer, AppendsFront-nothing}
 use Rattle.wu_drive.specs.Driving.{AnswerAll}
 use Rattle.wu_drive.specs.Writing.{answer_text, answers_text}
-use Rattle.wu_words.specs.declared.action.Action.{Action}
-use Rattle.wu_words.specs.declared.action.Action.TheVariants.{Commands, Look}
-use Rattle.wu_words.specs.declared.step.LineFault.{LineFault}
-use Rattle.wu_words.specs.declared.step.Step.{Step}
+use Rattle.wu_arguments.specs.declared.action.Action.{Action}
+use Rattle.wu_arguments.specs.declared.action.Action.TheVariants.{Commands, Look}
+use Rattle.wu_arguments.specs.declared.step.LineFault.{LineFault}
+use Rattle.wu_arguments.specs.declared.step.Step.{Step}
 use Rattle.wu_cli.specs.Performing.{as_result, Performs}
-use Rattle.wu_cli.specs.Printing.{printed_action, printed_replies, printed_reply, printed_steps, printed_work, PrintsAction, PrintsOver, PrintsSteps}
+use Rattle.wu_cli.specs.Printing.{printed_action, printed_replies, printed_reply, printed_steps, PrintsAction, PrintsSteps}
 use Rattle.wu_cli.specs.Repeating.{commands_of_action, commands_of_steps, unrolled, world_behind}
 use Rattle.wu_cli.specs.Scripting.{PerformsEach, PerformsScript, PerformsSteps}
-use Rattle.wu_cli.specs.Working.{DoesOver, PerformsWork, script_outcome}
-use Rattle.wu_cli.specs.declared.trouble.Trouble.{Trouble}
-use Rattle.wu_cli.specs.declared.work.Work.{Work}
-use Rattle.wu_cli.specs.declared.work.Work.TheVariants as work
+use Rattle.wu_cli.specs.Working.{script_outcome}
 use Rattle.wu_cli.proofs.ScriptLemmas.{each_clean, each_done, each_goes, one_clean, one_done, one_goes, shown_present, world_both, world_of}
 
 -- ---- texts of answers

@@ -11,9 +11,9 @@ use Rattle.wu_drive.specs.declared.runs.Run.{Run}
 use Rattle.wu_machine.specs.declared.command.Command.{Command}
 use Rattle.wu_passes.specs.declared.project.Project.{Project}
 use Rattle.wu_passes.specs.Projects.{IsSessionOpen, ShowsProject, state_of}
-use Rattle.wu_words.specs.declared.action.Action.TheVariants.{Commands}
-use Rattle.wu_words.specs.declared.step.LineFault.{LineFault}
-use Rattle.wu_words.specs.declared.step.Step.{Step}
+use Rattle.wu_arguments.specs.declared.action.Action.TheVariants.{Commands}
+use Rattle.wu_arguments.specs.declared.step.LineFault.{LineFault}
+use Rattle.wu_arguments.specs.declared.step.Step.{Step}
 use Rattle.wu_cli.specs.Performing.{Performs}
 use Rattle.wu_cli.specs.Repeating.{AreRepeated, commands_of_action, commands_of_steps, fill_limit, is_full, most_rounds, rounds, rounds_of, unrolled, world_behind, world_behind_steps}
 use Rattle.wu_cli.specs.Scripting.{PerformsEach, PerformsScript, PerformsStep, PerformsSteps, PerformsUntil, TellsFull}

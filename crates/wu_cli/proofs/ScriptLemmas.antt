@@ -1,5 +1,5 @@
 -- From step to step of a script.
-use Rattle.std.proofs.Common.{◌≡◌, inl, inr, ℕ, zero, suc, ◌+◌, ◌≤◌, Bool, false, IfSome, IsSome, List, [], ◌∷◌, ◌++◌, length, map, take, Option, Some, None, refl, sym, ap, subst, ◌∙◌, arith, append_assoc, length-append}
+use Rattle.std.proofs.Common.{◌≡◌, inl, inr, ℕ, zero, suc, ◌+◌, ◌≤◌, Bool, IfSome, List, [], ◌∷◌, ◌++◌, length, map, take, Option, Some, None, refl, sym, ap, subst, ◌∙◌, arith, append_assoc, length-append}
 use Rattle.std.proofs.Math.Seq.{take-append-add, take-length}
 use Rattle.std.proofs.lemmas.List.{map-append, take-append-le}
 use Rattle.std.proofs.lemmas.List.Concat.{flat_map-append}
@@ -12,7 +12,6 @@ use Rattle.wu_core.specs.declared.fault.Fault.{Fault}
 use Rattle.wu_core.specs.declared.fault.Fault.TheVariants.{OldSchema}
 use Rattle.wu_drive.specs.declared.runs.Run.{Run}
 use Rattle.wu_drive.specs.Driving.{AnswerAll, Drives, world_after}
-use Rattle.wu_drive.proofs.LifeLemmas.{lengthens}
 use Rattle.wu_machine.specs.declared.command.Answer.{Answer}
 use Rattle.wu_machine.specs.declared.command.Command.{Command}
 use Rattle.wu_passes.specs.declared.project.Project.{Project}
@@ -27,15 +26,14 @@ use Rattle.wu_passes.proofs.SessionLemmas.{none_older, over_shows}
 use Rattle.wu_passes.proofs.StandingLemmas.{shows_back}
 use Rattle.wu_passes.specs.Projects.{IsOver, IsSessionOpen, has_ended, older_version, ShowsProject, state_of}
 use Rattle.wu_machine.specs.Requests.{Request}
-use Rattle.wu_machine.specs.Sessions.{world_of_life}
 use Rattle.wu_passes.specs.Standing.{GoesOn, HasEnded, FaultsOnlyGrow}
 use Rattle.wu_cli.specs.Performing.{as_result, Performs}
-use Rattle.wu_cli.specs.Repeating.{commands_of_action, commands_of_steps, unrolled}
+use Rattle.wu_cli.specs.Repeating.{commands_of_action, commands_of_steps}
 use Rattle.wu_cli.specs.Scripting.{PerformsEach, PerformsScript, PerformsSteps, PerformsUntil, so_far}
-use Rattle.wu_words.specs.declared.action.Action.{Action}
-use Rattle.wu_words.specs.declared.action.Action.TheVariants.{Commands, Look}
-use Rattle.wu_words.specs.declared.step.LineFault.{LineFault}
-use Rattle.wu_words.specs.declared.step.Step.{Step}
+use Rattle.wu_arguments.specs.declared.action.Action.{Action}
+use Rattle.wu_arguments.specs.declared.action.Action.TheVariants.{Commands, Look}
+use Rattle.wu_arguments.specs.declared.step.LineFault.{LineFault}
+use Rattle.wu_arguments.specs.declared.step.Step.{Step}
 
 -- ---- one step more
 

@@ -12,7 +12,7 @@ use Rattle.wu_check.specs.declared.finding.Key.{Key}
 use Rattle.wu_tables.specs.declared.project.Misfit.{Misfit}
 use Rattle.wu_cli.specs.Checks.{finding_line, key_text, misfit_line}
 use Rattle.wu_cli.specs.Endings.{cause_text, fault_line, usage_text}
-use Rattle.wu_words.specs.declared.usage.Usage.{Usage}
+use Rattle.wu_arguments.specs.declared.usage.Usage.{Usage}
 
 -- all was written, and the flush wrote nothing
 pub flushed : {T E : Type 0} (a b c : Option (List ℕ)) (text : List ℕ) (r : Result T E) → Appends a b text → Keeps b c → WritesBytes a c text r

@@ -9,12 +9,14 @@ use Rattle.wu_report.specs.Writing.{AppendsFront}
 use Rattle.std.specs.Fmt.{decimal}
 use Rattle.wu_feed.specs.declared.script.LineCause.{LineCause}
 use Rattle.wu_feed.specs.declared.script.LineCause.TheVariants as cause
-use Rattle.wu_words.specs.declared.entry.Refusal.{Refusal}
-use Rattle.wu_words.specs.declared.entry.Refusal.TheVariants as refusal
-use Rattle.wu_words.specs.declared.step.BadLine.{BadLine}
-use Rattle.wu_words.specs.declared.step.LineFault.{LineFault}
-use Rattle.wu_words.specs.declared.usage.Usage.{Usage}
-use Rattle.wu_words.specs.declared.usage.Usage.TheVariants as usage
+use Rattle.wu_arguments.specs.declared.refusal.Outsider.{Outsider}
+use Rattle.wu_arguments.specs.declared.refusal.Outsider.TheVariants as outsider
+use Rattle.wu_arguments.specs.declared.refusal.Refusal.{Refusal}
+use Rattle.wu_arguments.specs.declared.refusal.Refusal.TheVariants as refusal
+use Rattle.wu_arguments.specs.declared.step.BadLine.{BadLine}
+use Rattle.wu_arguments.specs.declared.step.LineFault.{LineFault}
+use Rattle.wu_arguments.specs.declared.usage.Usage.{Usage}
+use Rattle.wu_arguments.specs.declared.usage.Usage.TheVariants as usage
 
 abbrev pub fault_line : Fault → List ℕ
 fault_line fault = fault_text fault ++ line_end
@@ -44,10 +46,16 @@ cause_text cause.OpenQuote = codes "a quote is not closed" ++ line_end
 cause_text cause.NotText = codes "the words are no UTF-8 text" ++ line_end
 cause_text cause.TooManyLines = codes "a script has at most 1000 lines" ++ line_end
 
+-- what stands in no script
+abbrev pub outsider_line : Outsider → List ℕ
+outsider_line outsider.Script = codes "a script cannot stand in a script" ++ line_end
+outsider_line outsider.Check = codes "a check cannot stand in a script" ++ line_end
+outsider_line outsider.Explanation = codes "an explanation cannot stand in a script" ++ line_end
+
 abbrev pub refusal_text : Refusal → List ℕ
 refusal_text (refusal.Text cause) = cause_text cause
 refusal_text (refusal.Words usage) = usage_text usage
-refusal_text refusal.Script = codes "a script cannot stand in a script" ++ line_end
+refusal_text (refusal.Outsider outsider) = outsider_line outsider
 refusal_text refusal.Repeat = codes "only a pass can be repeated" ++ line_end
 refusal_text (refusal.Fault fault) = fault_line fault
 

@@ -3,7 +3,7 @@ use Rattle.std.specs.Prelude.{◌≡◌, ◌≤◌, ◌⊎◌, ◌++◌, ℕ, Li
 use Rattle.wu_core.specs.declared.fault.Fault.TheVariants as fault
 use Rattle.wu_report.specs.Texts.{line_end}
 use Rattle.wu_report.specs.Writing.{WritesTo}
-use Rattle.wu_words.specs.declared.usage.Usage.TheVariants.{Refused}
+use Rattle.wu_arguments.specs.declared.usage.Usage.TheVariants.{Refused}
 use Rattle.wu_cli.specs.declared.trouble.Trouble.{Trouble}
 use Rattle.wu_cli.specs.declared.trouble.Trouble.TheVariants as trouble
 

@@ -5,7 +5,6 @@ pub mod Explaining
 pub mod Performing
 pub mod Repeating
 pub mod Scripting
-pub mod Starting
 pub mod Troubles
 pub mod Working
 pub mod Printing

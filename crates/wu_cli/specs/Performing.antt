@@ -6,8 +6,8 @@ use Rattle.wu_passes.specs.declared.project.Project.{Project}
 use Rattle.wu_drive.specs.declared.runs.Run.{Run}
 use Rattle.wu_drive.specs.Running.{RunsList}
 use Rattle.wu_report.specs.Seeing.{Sees}
-use Rattle.wu_words.specs.declared.action.Action.{Action}
-use Rattle.wu_words.specs.declared.action.Action.TheVariants.{Commands, Look}
+use Rattle.wu_arguments.specs.declared.action.Action.{Action}
+use Rattle.wu_arguments.specs.declared.action.Action.TheVariants.{Commands, Look}
 
 -- a call answered this fault, or none
 abbrev pub as_result : Option Fault → Result (Unit {0}) Fault

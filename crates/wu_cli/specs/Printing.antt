@@ -15,10 +15,10 @@ use Rattle.wu_passes.specs.Projects.{IsSessionOpen, ShowsProject, state_of}
 use Rattle.wu_report.specs.Texts.{view_text}
 use Rattle.wu_report.specs.Writing.{WritesTo}
 use Rattle.wu_drive.specs.Texts.{reply_text}
-use Rattle.wu_words.specs.declared.action.Action.{Action}
-use Rattle.wu_words.specs.declared.action.Action.TheVariants.{Commands, Look}
-use Rattle.wu_words.specs.declared.step.LineFault.{LineFault}
-use Rattle.wu_words.specs.declared.step.Step.{Step}
+use Rattle.wu_arguments.specs.declared.action.Action.{Action}
+use Rattle.wu_arguments.specs.declared.action.Action.TheVariants.{Commands, Look}
+use Rattle.wu_arguments.specs.declared.step.LineFault.{LineFault}
+use Rattle.wu_arguments.specs.declared.step.Step.{Step}
 use Rattle.wu_cli.specs.Repeating.{unrolled, world_behind}
 use Rattle.wu_cli.specs.Working.{BeginsFrom, line_outcome, script_outcome}
 use Rattle.wu_cli.specs.declared.trouble.Trouble.{Trouble}

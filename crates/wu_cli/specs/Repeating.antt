@@ -6,9 +6,9 @@ use Rattle.wu_machine.specs.declared.command.Command.{Command}
 use Rattle.wu_machine.specs.Commands.{request_of}
 use Rattle.wu_machine.specs.Machine.{fold_steps}
 use Rattle.wu_machine.specs.Requests.{AskPass, Request}
-use Rattle.wu_words.specs.declared.action.Action.{Action}
-use Rattle.wu_words.specs.declared.action.Action.TheVariants.{Commands, Look}
-use Rattle.wu_words.specs.declared.step.Step.{Step}
+use Rattle.wu_arguments.specs.declared.action.Action.{Action}
+use Rattle.wu_arguments.specs.declared.action.Action.TheVariants.{Commands, Look}
+use Rattle.wu_arguments.specs.declared.step.Step.{Step}
 
 -- ---- the commands of a script
 

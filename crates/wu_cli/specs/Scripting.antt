@@ -9,9 +9,9 @@ use Rattle.wu_passes.specs.declared.project.Project.{Project}
 use Rattle.wu_passes.specs.Projects.{IsSessionOpen, ShowsProject, state_of}
 use Rattle.wu_cli.specs.Performing.{Performs}
 use Rattle.wu_cli.specs.Repeating.{AreRepeated, is_full, rounds, unrolled}
-use Rattle.wu_words.specs.declared.action.Action.{Action}
-use Rattle.wu_words.specs.declared.step.LineFault.{LineFault}
-use Rattle.wu_words.specs.declared.step.Step.{Step}
+use Rattle.wu_arguments.specs.declared.action.Action.{Action}
+use Rattle.wu_arguments.specs.declared.step.LineFault.{LineFault}
+use Rattle.wu_arguments.specs.declared.step.Step.{Step}
 
 -- ---- step by step
 

@@ -4,8 +4,11 @@ use Rattle.sqlite.specs.Held.{Held, state}
 use Rattle.sqlite.specs.State.{State, HasCleanDisk}
 use Rattle.sqlite.specs.Store.{Ghosts}
 use Rattle.wu_core.specs.declared.fault.Fault.{Fault}
-use Rattle.wu_core.specs.declared.fault.Fault.TheVariants.{NotAProject}
-use Rattle.wu_core.specs.Reads.{IsOrWantsMemory, TellsRefusal}
+use Rattle.wu_core.specs.declared.fault.Fault.TheVariants.{BadFile, Memory, NotAProject}
+use Rattle.wu_core.specs.declared.fault.FileCause.TheVariants.{Unreadable}
+use Rattle.wu_feed.specs.Limits.{longest_file}
+use Rattle.wu_feed.specs.Scripts.{script_of}
+use Rattle.wu_feed.specs.declared.script.ScriptLine.{ScriptLine}
 use Rattle.wu_core.specs.World.{World, empty_world}
 use Rattle.wu_machine.specs.declared.command.Answer.{Answer}
 use Rattle.wu_machine.specs.declared.command.Command.{Command}
@@ -15,14 +18,14 @@ use Rattle.wu_passes.specs.Adopting.{Adopts, IsAdoptionFault, IsVacant, RefusesA
 use Rattle.wu_passes.specs.Projects.{connection_of, IsSessionOpen, KnowsTables, state_of}
 use Rattle.wu_passes.specs.Standing.{GoesOn}
 use Rattle.wu_drive.specs.Driving.{Drives}
-use Rattle.wu_words.specs.Actions.{prepared}
-use Rattle.wu_words.specs.Scripts.{GivesSteps}
-use Rattle.wu_words.specs.declared.action.Action.{Action}
-use Rattle.wu_words.specs.declared.line.Line.{Line}
-use Rattle.wu_words.specs.declared.step.BadLine.{BadLine}
-use Rattle.wu_words.specs.declared.step.FedEntry.{FedEntry}
-use Rattle.wu_words.specs.declared.step.LineFault.{LineFault}
-use Rattle.wu_words.specs.declared.step.Step.{Step}
+use Rattle.wu_arguments.specs.Contents.{Prepares}
+use Rattle.wu_arguments.specs.Steps.{GivesSteps}
+use Rattle.wu_arguments.specs.declared.action.Action.{Action}
+use Rattle.wu_arguments.specs.declared.line.Line.{Line}
+use Rattle.wu_arguments.specs.declared.order.ScriptFile.{ScriptFile}
+use Rattle.wu_arguments.specs.declared.step.BadLine.{BadLine}
+use Rattle.wu_arguments.specs.declared.step.LineFault.{LineFault}
+use Rattle.wu_arguments.specs.declared.step.Step.{Step}
 use Rattle.wu_cli.specs.Performing.{Performs}
 use Rattle.wu_cli.specs.Repeating.{commands_of_action, commands_of_steps, unrolled}
 use Rattle.wu_cli.specs.Scripting.{PerformsScript, so_far}
@@ -41,14 +44,30 @@ abbrev pub work_of_script : Result (List Step) BadLine → Result Work Trouble
 work_of_script (Ok steps) = Ok (work.Script steps)
 work_of_script (Err bad) = Err (trouble.BadLine bad)
 
--- what a line asks for, with the contents of its files, or the fault of it
-abbrev pub AsksOfLine : Line → List (Option (List ℕ)) → Result Work Trouble → Type 0
-AsksOfLine line contents result =
-    (given : Result Action Fault) × IsOrWantsMemory given (prepared line contents) × TellsRefusal given (prepared line contents) × (result ≡ work_of_line given)
+module _ (gives : List ℕ → ℕ → Option (List ℕ) → Type 0) where
+  -- what a line asks for, with what its files hold, or the fault of it
+  abbrev pub AsksOfLine : Line → Result Work Trouble → Type 0
+  AsksOfLine line result = (asked : Result Action Fault) × Prepares gives line.asking asked × (result ≡ work_of_line asked)
 
--- what the lines of a script ask for, or the first that can't be run
-abbrev pub AsksOfScript : List FedEntry → Result Work Trouble → Type 0
-AsksOfScript script result = (given : Result (List Step) BadLine) × GivesSteps given script × (result ≡ work_of_script given)
+  -- what a script's file holds is a script, and so its lines ask for this, or the first that can't be run is told
+  pub record AsksOfText (script : ScriptFile) (result : Result Work Trouble) : Type 0 where
+    pub text : List ℕ
+    pub given : gives script.file longest_file (Some text)
+    pub lines : List ScriptLine
+    pub reads : script_of text ≡ Ok lines
+    pub steps : Result (List Step) BadLine
+    pub asks : GivesSteps gives script.db lines steps
+    pub asked : result ≡ work_of_script steps
+
+  -- the script's file can't be read, or its text is no script; or memory is wanted
+  abbrev pub IsUnreadScript : ScriptFile → Fault → Type 0
+  IsUnreadScript script fault =
+      (fault ≡ Memory)
+      ⊎ (((fault ≡ BadFile 0 Unreadable) × gives script.file longest_file None)
+      ⊎ ((text : List ℕ) × gives script.file longest_file (Some text) × (script_of text ≡ Err fault)))
+
+  abbrev pub AsksOfScript : ScriptFile → Result Work Trouble → Type 0
+  AsksOfScript script result = AsksOfText script result ⊎ ((fault : Fault) × IsUnreadScript script fault × (result ≡ Err (trouble.Fault fault)))
 
 -- ---- over a project
 

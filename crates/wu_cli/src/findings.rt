@@ -5,11 +5,9 @@ ghost use Rattle.std.specs.Fmt.{decimal};
 ghost use Rattle.wu_core.specs.declared.fault.Fault.TheVariants.{Output};
 ghost use Rattle.wu_report.specs.Texts.{line_end};
 ghost use Rattle.wu_report.specs.Writing.{WritesTo};
-ghost use Rattle.wu_cli.specs.Checks.{finding_line, key_text, kind_word, misfit_line, reason_line, row_front, sound_line};
-ghost use Rattle.wu_cli.specs.Endings.{WritesAll};
+ghost use Rattle.wu_cli.specs.Checks.{finding_line, key_text, kind_word, misfit_line, row_front, sound_line};
 
-use crate::reason::Reason;
-use crate::texts::{placed, plain, write_flushed, write_text};
+use crate::texts::{placed, plain, write_flushed};
 use std::io::Write;
 use wu_check::{Finding, Key};
 use wu_core::{Fault, ImportKind};
@@ -121,7 +119,7 @@ fn line_of_row<W: Write>(out: &mut W, key: &Key, what: &str) -> Result<(), Fault
 }
 
 /// Writes what was found.
-fn line_of_finding<W: Write>(out: &mut W, finding: &Finding) -> Result<(), Fault>
+pub(crate) fn line_of_finding<W: Write>(out: &mut W, finding: &Finding) -> Result<(), Fault>
     ensures { WritesTo W.contents out.old out.new (finding_line finding.now) result }
 {
     match finding {
@@ -144,27 +142,6 @@ fn line_of_finding<W: Write>(out: &mut W, finding: &Finding) -> Result<(), Fault
             *place,
             "is missing, or not that of its workunit",
         ),
-    }
-}
-
-/// Writes what was found and flushes, without taking memory. It answers whether all of it went out.
-pub fn write_finding<W: Write>(finding: &Finding, out: &mut W) -> bool
-    ensures { WritesAll (W.contents out.old) (W.contents out.new)
-        (finding_line finding.now) result }
-{
-    match line_of_finding(out, finding) {
-        Ok(()) => true,
-        Err(_) => false,
-    }
-}
-
-/// Writes why a database can't be opened and flushes, without taking memory. It answers whether all of it went out.
-pub fn write_reason<W: Write>(reason: Reason, out: &mut W) -> bool
-    ensures { WritesAll (W.contents out.old) (W.contents out.new) (reason_line reason) result }
-{
-    match write_text(out, reason.line()) {
-        Ok(()) => true,
-        Err(_) => false,
     }
 }
 

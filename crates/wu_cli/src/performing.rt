@@ -5,15 +5,15 @@ ghost use Rattle.wu_cli.specs.Performing.{Performs};
 ghost use Rattle.wu_cli.specs.Printing.{PrintsAction, PrintsSteps};
 ghost use Rattle.wu_cli.specs.Scripting.{PerformsScript};
 ghost use Rattle.wu_cli.specs.Telling.{DrivesSteps, LengthensBySteps};
-ghost use Rattle.wu_words.specs.Statuses.{exit_status, status_of_line};
+ghost use Rattle.wu_arguments.specs.Statuses.{exit_status, status_of_line};
 
 use crate::repeating::{act, perform_step};
 use sqlite::Alter;
 use std::alloc::Global;
 use std::io::Write;
+use wu_arguments::{Action, LineFault, Step, exit_status};
 use wu_core::Fault;
 use wu_drive::Project;
-use wu_words::{Action, LineFault, Step, exit_status};
 
 /// Runs the commands of an action, or shows its view. It answers the status of the program, and the fault that ended
 /// it. Over a world that the session goes on over, the machine's answers to the commands are printed, or the view, and

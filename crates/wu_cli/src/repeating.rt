@@ -5,14 +5,14 @@ ghost use Rattle.wu_cli.specs.Performing.{Performs};
 ghost use Rattle.wu_cli.specs.Repeating.{fill_limit, is_at_limit, limit_of, most_rounds};
 ghost use Rattle.wu_cli.specs.Scripting.{PerformsStep, TellsFull};
 ghost use Rattle.wu_machine.specs.Commands.{request_of};
-ghost use Rattle.wu_words.specs.Statuses.{status_of_line};
+ghost use Rattle.wu_arguments.specs.Statuses.{status_of_line};
 
 use sqlite::Alter;
 use std::alloc::Global;
 use std::io::Write;
+use wu_arguments::{Action, LineFault, Step, fault_status};
 use wu_core::Fault;
 use wu_drive::{Command, Project, drive_and_count, show};
-use wu_words::{Action, LineFault, Step, fault_status};
 
 /// How many workunits a pass may handle; nothing for any other command.
 fn limit_of(command: &Command) -> Option<u64>

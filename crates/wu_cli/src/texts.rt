@@ -1,17 +1,17 @@
 //! The lines that the program writes on its standard error.
 
-ghost use Rattle.std.specs.Prelude.{◌++◌, codes, flat_map, IsOkUnless};
+ghost use Rattle.std.specs.Prelude.{◌≡◌, ◌++◌, codes, flat_map, IsOkUnless};
 ghost use Rattle.std.specs.Fmt.{decimal};
 ghost use Rattle.wu_core.specs.declared.fault.Fault.TheVariants.{Output};
 ghost use Rattle.wu_report.specs.Texts.{line_end};
 ghost use Rattle.wu_report.specs.Writing.{piece_text, WritesTo};
-ghost use Rattle.wu_cli.specs.Endings.{bad_line_text, cause_text, fault_line, line_fault_text, line_front, refusal_text, unopened_line, usage_text, WritesAll};
+ghost use Rattle.wu_cli.specs.Endings.{bad_line_text, cause_text, fault_line, line_fault_text, line_front, outsider_line, refusal_text, usage_text, WritesAll};
 
 use std::io::Write;
+use wu_arguments::{BadLine, LineFault, Outsider, Refusal, Usage};
 use wu_core::Fault;
 use wu_feed::LineCause;
 use wu_report::{Piece, flush, write_pieces};
-use wu_words::{BadLine, LineFault, Refusal, Usage};
 
 /// Writes the pieces in turn, and flushes.
 pub(crate) fn write_flushed<W: Write>(out: &mut W, pieces: &[Piece<'_>]) -> Result<(), Fault>
@@ -81,7 +81,7 @@ pub(crate) fn placed<'a, W: Write>(
 }
 
 /// Writes the line of a fault.
-fn line_of_fault<W: Write>(out: &mut W, fault: Fault) -> Result<(), Fault>
+pub(crate) fn line_of_fault<W: Write>(out: &mut W, fault: Fault) -> Result<(), Fault>
     ensures { WritesTo W.contents out.old out.new (fault_line fault) result }
 {
     match fault {
@@ -108,7 +108,7 @@ fn line_of_fault<W: Write>(out: &mut W, fault: Fault) -> Result<(), Fault>
 }
 
 /// Writes the text of why words are no line.
-fn text_of_usage<W: Write>(out: &mut W, usage: &Usage) -> Result<(), Fault>
+pub(crate) fn text_of_usage<W: Write>(out: &mut W, usage: &Usage) -> Result<(), Fault>
     ensures { WritesTo W.contents out.old out.new (usage_text usage.now) result }
 {
     match usage {
@@ -124,26 +124,6 @@ pub fn write_fault<W: Write>(fault: &Fault, out: &mut W) -> bool
     ensures { WritesAll (W.contents out.old) (W.contents out.new) (fault_line fault.now) result }
 {
     match line_of_fault(out, *fault) {
-        Ok(()) => true,
-        Err(_) => false,
-    }
-}
-
-/// Writes why words are no line and flushes, without taking memory. It answers whether all of it went out.
-pub fn write_usage<W: Write>(usage: &Usage, out: &mut W) -> bool
-    ensures { WritesAll (W.contents out.old) (W.contents out.new) (usage_text usage.now) result }
-{
-    match text_of_usage(out, usage) {
-        Ok(()) => true,
-        Err(_) => false,
-    }
-}
-
-/// Writes that the database could not be opened and flushes. It answers whether all of it went out.
-pub fn write_unopened<W: Write>(out: &mut W) -> bool
-    ensures { WritesAll (W.contents out.old) (W.contents out.new) unopened_line result }
-{
-    match plain(out, "cannot open the database") {
         Ok(()) => true,
         Err(_) => false,
     }
@@ -174,6 +154,17 @@ fn text_of_cause<W: Write>(out: &mut W, cause: LineCause) -> Result<(), Fault>
     }
 }
 
+/// That this stands in no script.
+fn outsider_line(outsider: Outsider) -> &'static str
+    ensures { result.now ≡ outsider_line outsider }
+{
+    match outsider {
+        Outsider::Script => "a script cannot stand in a script\n",
+        Outsider::Check => "a check cannot stand in a script\n",
+        Outsider::Explanation => "an explanation cannot stand in a script\n",
+    }
+}
+
 /// Writes why a line of a script can't be run.
 fn text_of_refusal<W: Write>(out: &mut W, why: &Refusal) -> Result<(), Fault>
     ensures { WritesTo W.contents out.old out.new (refusal_text why.now) result }
@@ -181,14 +172,25 @@ fn text_of_refusal<W: Write>(out: &mut W, why: &Refusal) -> Result<(), Fault>
     match why {
         Refusal::Text(cause) => text_of_cause(out, *cause),
         Refusal::Words(usage) => text_of_usage(out, usage),
-        Refusal::Script => plain(out, "a script cannot stand in a script"),
+        Refusal::Outsider(outsider) => write_text(out, outsider_line(*outsider)),
         Refusal::Repeat => plain(out, "only a pass can be repeated"),
         Refusal::Fault(fault) => line_of_fault(out, *fault),
     }
 }
 
+/// Writes why a line can't be run, as it is told of a line by itself, and flushes, without taking memory. It answers
+/// whether all of it went out.
+pub fn write_refusal<W: Write>(why: &Refusal, out: &mut W) -> bool
+    ensures { WritesAll (W.contents out.old) (W.contents out.new) (refusal_text why.now) result }
+{
+    match text_of_refusal(out, why) {
+        Ok(()) => true,
+        Err(_) => false,
+    }
+}
+
 /// Writes which line of a script can't be run, and why.
-fn line_of_bad_line<W: Write>(out: &mut W, bad: &BadLine) -> Result<(), Fault>
+pub(crate) fn line_of_bad_line<W: Write>(out: &mut W, bad: &BadLine) -> Result<(), Fault>
     ensures { WritesTo W.contents out.old out.new (bad_line_text bad.now) result }
 {
     line_number(out, bad.number)?;
@@ -196,31 +198,9 @@ fn line_of_bad_line<W: Write>(out: &mut W, bad: &BadLine) -> Result<(), Fault>
 }
 
 /// Writes the line of a script whose fault ended it, with the line of the fault.
-fn line_of_line_fault<W: Write>(out: &mut W, end: LineFault) -> Result<(), Fault>
+pub(crate) fn line_of_line_fault<W: Write>(out: &mut W, end: LineFault) -> Result<(), Fault>
     ensures { WritesTo W.contents out.old out.new (line_fault_text end) result }
 {
     line_number(out, end.number)?;
     line_of_fault(out, end.fault)
-}
-
-/// Writes which line of a script can't be run, why, and flushes, without taking memory. It answers whether all of it
-/// went out.
-pub fn write_bad_line<W: Write>(bad: &BadLine, out: &mut W) -> bool
-    ensures { WritesAll (W.contents out.old) (W.contents out.new) (bad_line_text bad.now) result }
-{
-    match line_of_bad_line(out, bad) {
-        Ok(()) => true,
-        Err(_) => false,
-    }
-}
-
-/// Writes the line of a script whose fault ended it, with the line of the fault, and flushes, without taking memory. It
-/// answers whether all of it went out.
-pub fn write_line_fault<W: Write>(end: &LineFault, out: &mut W) -> bool
-    ensures { WritesAll (W.contents out.old) (W.contents out.new) (line_fault_text end.now) result }
-{
-    match line_of_line_fault(out, *end) {
-        Ok(()) => true,
-        Err(_) => false,
-    }
 }

@@ -4,19 +4,23 @@ ghost use Rattle.std.specs.Prelude.{◌≡◌};
 ghost use Rattle.wu_core.specs.declared.fault.Fault.TheVariants as fault;
 ghost use Rattle.wu_cli.specs.declared.trouble.Trouble.TheVariants as trouble;
 ghost use Rattle.wu_cli.specs.Endings.{WritesAll};
-ghost use Rattle.wu_cli.specs.Troubles.{trouble_of_opening, trouble_status, trouble_text};
+ghost use Rattle.wu_cli.specs.Troubles.{IsUnheard, trouble_of_opening, trouble_status, trouble_text};
+ghost use Rattle.wu_report.specs.Writing.{WritesTo};
+ghost use Rattle.std.specs.IoError.{error_kind};
 ghost use Rattle.wu_schema.specs.Faults.{fault_of};
 
-use crate::findings::{write_finding, write_reason};
+use crate::findings::line_of_finding;
 use crate::reason::Reason;
-use crate::texts::{write_bad_line, write_fault, write_line_fault, write_unopened, write_usage};
+use crate::texts::{
+    line_of_bad_line, line_of_fault, line_of_line_fault, plain, text_of_usage, write_text,
+};
 use sqlite::Error;
-use std::alloc::{AllocError, AllocFailed};
-use std::io::Write;
+use std::alloc::{AllocError, AllocFailed, Global};
+use std::io::{self, ErrorKind, Write};
+use wu_arguments::{BadLine, LineFault, UNOPENED, Usage, Word, fault_status};
 use wu_check::Finding;
 use wu_core::Fault;
 use wu_schema::fault_of;
-use wu_words::{BadLine, LineFault, UNOPENED, Usage, fault_status};
 
 /// The status of a check that finds no sound project.
 const UNSOUND: u8 = 1;
@@ -109,15 +113,39 @@ impl Trouble {
         ensures { WritesAll (E.contents err.old) (E.contents err.new)
             (trouble_text self.now) result }
     {
-        match self {
-            Trouble::Usage(usage) => write_usage(usage, err),
-            Trouble::BadLine(bad) => write_bad_line(bad, err),
-            Trouble::Unopened => write_unopened(err),
-            Trouble::Fault(fault) => write_fault(fault, err),
-            Trouble::LineFault(end) => write_line_fault(end, err),
-            Trouble::Unchecked(reason) => write_reason(*reason, err),
-            Trouble::Unsound(finding) => write_finding(finding, err),
+        match write_trouble(self, err) {
+            Ok(()) => true,
+            Err(_) => false,
         }
+    }
+}
+
+/// Writes the text of a trouble, and flushes.
+fn write_trouble<E: Write>(trouble: &Trouble, err: &mut E) -> Result<(), Fault>
+    ensures { WritesTo E.contents err.old err.new (trouble_text trouble.now) result }
+{
+    match trouble {
+        Trouble::Usage(usage) => text_of_usage(err, usage),
+        Trouble::BadLine(bad) => line_of_bad_line(err, bad),
+        Trouble::Unopened => plain(err, "cannot open the database"),
+        Trouble::Fault(fault) => line_of_fault(err, *fault),
+        Trouble::LineFault(end) => line_of_line_fault(err, *end),
+        Trouble::Unchecked(reason) => write_text(err, reason.line()),
+        Trouble::Unsound(finding) => line_of_finding(err, finding),
+    }
+}
+
+/// Why the words of a process could not be had: want of memory, or they are no UTF-8 text, which is refused with status
+/// 2.
+pub fn unheard(alloc: Global, error: &io::Error) -> Trouble
+    ensures { IsUnheard (error_kind error.now) result }
+{
+    if error.kind() == ErrorKind::OutOfMemory {
+        return Trouble::Fault(Fault::Memory);
+    }
+    match Word::from_text(alloc, "the words are no UTF-8 text\n") {
+        Ok(text) => Trouble::Usage(Usage::Refused(text)),
+        Err(_) => Trouble::Fault(Fault::Memory),
     }
 }
 

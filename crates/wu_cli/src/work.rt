@@ -1,7 +1,6 @@
 //! What the words of the command line ask of a project, with all files read, and how it is done over an open database.
 
 ghost use Rattle.std.specs.Prelude.{◌≡◌};
-ghost use Rattle.wu_words.specs.Actions.{bytes_of};
 ghost use Rattle.wu_cli.specs.Printing.{PrintsOver};
 ghost use Rattle.wu_cli.specs.Working.{AsksOfLine, AsksOfScript, DoesOver, DrivesOver, line_outcome, PerformsWork, script_outcome};
 
@@ -10,16 +9,19 @@ use crate::trouble::Trouble;
 use sqlite::{Alter, Connection};
 use std::alloc::Global;
 use std::io::Write;
+use wu_arguments::{
+    Action, Line, LineFault, ReadFile, ScriptFile, Step, read_and_prepare, steps_of, text_of_script,
+};
 use wu_core::Fault;
 use wu_drive::Project;
-use wu_words::{Action, FedEntry, Line, LineFault, Steps, prepare, prepare_script};
+use wu_feed::{LONGEST_FILE, Rows, read_script};
 
 /// What is asked of a project. It holds what the files of the words hold, so that all of them are read before it is
 /// done.
 #[derive(Drop)]
 pub enum Work {
     Line(Action),
-    Script(Steps),
+    Script(Rows<Step>),
 }
 
 /// How a line ended.
@@ -43,28 +45,25 @@ fn script_outcome(end: Option<LineFault>) -> Result<(), Trouble>
 }
 
 impl Work {
-    /// What a line asks for, with the contents of its files, as `prepare`.
-    pub fn of_line(
-        alloc: Global,
-        line: &Line,
-        contents: Vec<Option<Vec<u8>>>,
-    ) -> Result<Work, Trouble>
-        ensures { AsksOfLine line.now (bytes_of contents.items) result }
+    /// What a line asks for, with what its files hold, as `read_and_prepare`.
+    pub fn of_line<F: ReadFile>(alloc: Global, line: &Line, files: &F) -> Result<Work, Trouble>
+        ensures { AsksOfLine (F.ReadFile.gives files.now) line.now result }
     {
-        match prepare(alloc, line, contents) {
-            Ok(action) => Ok(Work::Line(action)),
-            Err(fault) => Err(Trouble::Fault(fault)),
-        }
+        Ok(Work::Line(read_and_prepare(alloc, line, files)?))
     }
 
-    /// What a script asks for, with the contents of the files of its lines, as `prepare_script`.
-    pub fn of_script(alloc: Global, script: Vec<FedEntry>) -> Result<Work, Trouble>
-        ensures { AsksOfScript script.items result }
+    /// What a script asks for, with what the files of its lines hold, as `steps_of`.
+    pub fn of_script<F: ReadFile>(
+        alloc: Global,
+        script: &ScriptFile,
+        files: &F,
+    ) -> Result<Work, Trouble>
+        ensures { AsksOfScript (F.ReadFile.gives files.now) script.now result }
     {
-        match prepare_script(alloc, script) {
-            Ok(steps) => Ok(Work::Script(steps)),
-            Err(bad) => Err(Trouble::BadLine(bad)),
-        }
+        let text = text_of_script(files.read(script.file.as_str(), LONGEST_FILE)?)?;
+        let lines = read_script(alloc, text.as_slice())?;
+        let steps = steps_of(alloc, script.db.as_str(), lines, files)?;
+        Ok(Work::Script(steps))
     }
 
     /// Does what is asked, up to the first fault.

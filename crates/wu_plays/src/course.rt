@@ -5,7 +5,7 @@ use crate::scripts::steps;
 use crate::seen::Seen;
 use anyhow::{Context, Result, bail, ensure};
 use std::alloc::{AllocError, Global};
-use wu_cli::Action;
+use wu_arguments::Action;
 use wu_play_files::{MOST_CALLS, Pages, Saved, Side};
 
 /// What was found after a stop.

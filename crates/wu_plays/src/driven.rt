@@ -8,15 +8,16 @@ use sqlite::{Alter, Connection};
 use std::alloc::Global;
 use std::io::Write;
 use std::mem;
-use wu_cli::{Action, Commands, Step};
+use wu_arguments::{Action, Step};
 use wu_drive::{Command, Project, Run, drive};
+use wu_feed::Rows;
 use wu_play_files::{Full, Narrow};
 
 /// The commands that an action asks for.
 fn commands(alloc: Global, mut action: Action) -> Result<Vec<Command>> {
     match &mut action {
         Action::Commands(commands) => {
-            Ok(mem::replace(commands, Commands::from_vec(Vec::new(alloc))).into_vec())
+            Ok(mem::replace(commands, Rows::from_vec(Vec::new(alloc))).into_vec())
         }
         Action::Look(_) => bail!("a view is not driven"),
     }

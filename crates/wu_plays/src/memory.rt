@@ -1,23 +1,24 @@
 //! A play over a database in memory: each line of the script is a command of its own, and it goes on after a refusal.
 
-use crate::scripts::{DATABASE, action, write_comment, write_refusal, write_status};
+use crate::scripts::{action, write_bad_line, write_comment, write_status};
 use crate::sessions::adopt;
 use anyhow::Result;
 use sqlite::{Alter, Connection};
 use std::io::Write;
-use wu_cli::{BadLine, Entry, perform, read_lines, write_fault};
+use wu_cli::{perform, write_fault};
 use wu_drive::Project;
+use wu_feed::{ScriptLine, read_script};
 
 /// Does what a line asks for, writes what it answers, and answers its status.
 fn answer<S: Alter>(
     rt: &HostRuntime,
     project: &mut Project<S>,
-    entry: Entry,
+    line: ScriptLine,
     transcript: &mut Vec<u8>,
 ) -> u8 {
-    let action = match action(rt, entry) {
+    let action = match action(rt, line) {
         Ok(action) => action,
-        Err(why) => return write_refusal(&BadLine { number: 1, why }, transcript),
+        Err(bad) => return write_bad_line(bad, transcript),
     };
     let (status, end) = perform(rt.alloc(), project, &action, transcript);
     if let Some(fault) = end {
@@ -34,9 +35,9 @@ pub fn play_line<S: Alter>(
     transcript: &mut Vec<u8>,
 ) -> Result<()> {
     write_comment(line, transcript)?;
-    for entry in read_lines(rt.alloc(), DATABASE, line.as_bytes())?.into_vec() {
+    for its in read_script(rt.alloc(), line.as_bytes())?.into_vec() {
         writeln!(transcript, "> {line}")?;
-        let status = answer(rt, project, entry, transcript);
+        let status = answer(rt, project, its, transcript);
         write_status(status, transcript)?;
     }
     Ok(())

@@ -7,7 +7,8 @@ use anyhow::{Context, Result, ensure};
 use sqlite::{Alter, Connection};
 use std::alloc::Global;
 use std::io::Write;
-use wu_cli::{LineFault, Step, fault_status, perform_script};
+use wu_arguments::{LineFault, Step, fault_status};
+use wu_cli::perform_script;
 use wu_core::Fault;
 use wu_play_files::{Full, Narrow};
 

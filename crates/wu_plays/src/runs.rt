@@ -6,7 +6,7 @@ use anyhow::{Result, bail};
 use sqlite::{Alter, Connection};
 use std::alloc::Global;
 use std::io;
-use wu_cli::Action;
+use wu_arguments::Action;
 use wu_core::Fault;
 use wu_drive::Project;
 use wu_play_files::{Pages, PlayFiles, Saved, Visit, options, visit_play};

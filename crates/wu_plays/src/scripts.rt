@@ -1,72 +1,83 @@
 //! The lines of a script, with what their files hold.
 
 use anyhow::{Result, bail};
-use std::alloc::AllocError;
 use std::fs;
 use std::io::{self, Write};
-use wu_cli::{
-    Action, BadLine, Entry, FedEntry, Refusal, Steps, prepare, prepare_script, read_lines,
-    write_bad_line, write_fault, write_usage,
-};
+use wu_arguments::{Action, BadLine, ReadFile, Refusal, Step, steps_of};
+use wu_cli::{Trouble, write_refusal};
+use wu_core::Fault;
+use wu_feed::{Rows, ScriptLine, read_script};
 
 /// The database that the lines of a script are for. Nothing is opened by this name.
-pub const DATABASE: &str = "project.db";
+const DATABASE: &str = "project.db";
 
-/// What the files of a line hold, None for one that can't be read. A template that is left out has no bytes.
-fn contents(rt: &HostRuntime, entry: &Entry) -> Result<Vec<Option<Vec<u8>>>, AllocError> {
-    let files = entry.files(rt.alloc())?;
-    let mut contents = Vec::new(rt.alloc());
-    for file in files.as_slice() {
-        let content = match file.path {
-            Some(path) => fs::read(rt, path).ok(),
-            None => Some(Vec::new(rt.alloc())),
-        };
-        contents.push(content)?;
+/// The files of the folder that the plays run in.
+#[derive(Drop)]
+struct PlayFiles<'a> {
+    rt: &'a HostRuntime,
+}
+
+impl ReadFile for PlayFiles<'_> {
+    ghost use Rattle.std.specs.Prelude.{⊤};
+
+    ghost gives = { λ _ _ _ _. ⊤ };
+
+    fn read(&self, path: &str, _most: usize) -> std::result::Result<Option<Vec<u8>>, Fault> {
+        Ok(fs::read(self.rt, path).ok())
     }
-    Ok(contents)
+}
+
+/// The one step of a line.
+fn step_of(rt: &HostRuntime, line: ScriptLine) -> std::result::Result<Option<Step>, BadLine> {
+    let number = line.number;
+    let why = Refusal::Fault(Fault::Memory);
+    let Ok(lines) = Vec::from_array(rt.alloc(), [line]) else {
+        return Err(BadLine { number, why });
+    };
+    let steps = steps_of(
+        rt.alloc(),
+        DATABASE,
+        Rows::from_vec(lines),
+        &PlayFiles { rt },
+    )?;
+    Ok(steps.into_vec().pop())
 }
 
 /// What a line of a script asks for, or why it can't be run. No line is repeated here.
-pub fn action(rt: &HostRuntime, entry: Entry) -> Result<Action, Refusal> {
-    if entry.repeats {
-        return Err(Refusal::Repeat);
+pub fn action(rt: &HostRuntime, line: ScriptLine) -> std::result::Result<Action, BadLine> {
+    let number = line.number;
+    match step_of(rt, line)? {
+        Some(step) if !step.repeats => Ok(step.into_action()),
+        _ => Err(BadLine {
+            number,
+            why: Refusal::Repeat,
+        }),
     }
-    let contents = contents(rt, &entry)?;
-    let line = entry.into_line()?;
-    prepare(rt.alloc(), &line, contents).map_err(Refusal::Fault)
-}
-
-/// A line of a script with what its files hold.
-fn fed(rt: &HostRuntime, entry: Entry) -> Result<FedEntry, AllocError> {
-    let contents = contents(rt, &entry)?;
-    Ok(FedEntry { entry, contents })
-}
-
-/// The lines of a script with what their files hold.
-fn fed_lines(rt: &HostRuntime, text: &str) -> Result<Vec<FedEntry>> {
-    let mut lines = Vec::new(rt.alloc());
-    for entry in read_lines(rt.alloc(), DATABASE, text.as_bytes())?.into_vec() {
-        lines.push(fed(rt, entry)?)?;
-    }
-    Ok(lines)
 }
 
 /// What the lines of a script ask for. All of them can be run.
-pub fn steps(rt: &HostRuntime, text: &str) -> Result<Steps> {
-    match prepare_script(rt.alloc(), fed_lines(rt, text)?) {
+pub fn steps(rt: &HostRuntime, text: &str) -> Result<Rows<Step>> {
+    let lines = read_script(rt.alloc(), text.as_bytes())?;
+    match steps_of(rt.alloc(), DATABASE, lines, &PlayFiles { rt }) {
         Ok(steps) => Ok(steps),
         Err(bad) => bail!("line {} can't be run", bad.number),
     }
 }
 
-/// Writes why a line can't be run, and answers its status.
-pub fn write_refusal(bad: &BadLine, transcript: &mut Vec<u8>) -> u8 {
-    let _ = match &bad.why {
-        Refusal::Words(usage) => write_usage(usage, transcript),
-        Refusal::Fault(fault) => write_fault(fault, transcript),
-        Refusal::Text(_) | Refusal::Script | Refusal::Repeat => write_bad_line(bad, transcript),
+/// Writes why a line can't be run, and answers its status. What is told of its words or of a fault is told as of a line
+/// of its own.
+pub fn write_bad_line(bad: BadLine, transcript: &mut Vec<u8>) -> u8 {
+    let status = bad.status();
+    let is_alone = match &bad.why {
+        Refusal::Words(_) | Refusal::Fault(_) => true,
+        _ => false,
     };
-    bad.status()
+    if is_alone {
+        write_refusal(&bad.why, transcript);
+    } else {
+        Trouble::BadLine(bad).write(transcript);
+    }
+    status
 }
 
 /// Writes the status that a line ends with, unless it is 0.

@@ -4,7 +4,8 @@ use anyhow::{Result, bail};
 use sqlite::{Alter, Connection};
 use std::alloc::Global;
 use std::io::Write;
-use wu_cli::{Action, perform};
+use wu_arguments::Action;
+use wu_cli::perform;
 use wu_core::Fault;
 use wu_drive::{Project, View, show};
 

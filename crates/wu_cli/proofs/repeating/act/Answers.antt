@@ -2,7 +2,7 @@ use Rattle.std.proofs.Common.{◌≡◌, ◌∙◌, Result, ap, subst, sym, take
 use Rattle.wu_core.specs.declared.fault.Fault.{Fault}
 use Rattle.wu_report.specs.Seeing.{Sees}
 use Rattle.std.proofs.Math.Seq.{take-length}
-use Rattle.wu_words.specs.declared.action.Action.TheVariants.{Commands}
+use Rattle.wu_arguments.specs.declared.action.Action.TheVariants.{Commands}
 use Rattle.wu_cli.specs.Repeating.{fill_limit, is_full}
 use Rattle.wu_cli.proofs.RepeatLemmas.{tells_full}
 use Rattle.wu_cli.proofs.repeating.act.Goals as goal

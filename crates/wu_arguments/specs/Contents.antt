@@ -1,0 +1,46 @@
+-- What the files of a line hold, as whatever reads them gives it.
+use Rattle.std.specs.Prelude.{◌≡◌, ◌⊎◌, ℕ, Bool, true, false, List, [], ◌∷◌, Option, Some, None, Result, Err}
+use Rattle.wu_core.specs.Reads.{IsOrWantsMemory, TellsRefusal}
+use Rattle.wu_core.specs.declared.fault.Fault.{Fault}
+use Rattle.wu_core.specs.declared.fault.Fault.TheVariants.{Memory}
+use Rattle.wu_core.specs.declared.import.ImportKind.{ImportKind}
+use Rattle.wu_core.specs.declared.import.ImportKind.TheVariants.{Batch}
+use Rattle.wu_feed.specs.Limits.{longest_file, longest_template}
+use Rattle.wu_arguments.specs.Actions.{prepared}
+use Rattle.wu_arguments.specs.declared.action.Action.{Action}
+use Rattle.wu_arguments.specs.declared.line.Asking.{Asking}
+use Rattle.wu_arguments.specs.declared.line.Asking.TheVariants as asking
+
+-- only an import names files
+abbrev pub names_files : Asking → Bool
+names_files (asking.Import kind name file template) = true
+names_files _ = false
+
+-- this is given of the file at a path, of which so many bytes are read at most and one more
+module _ (gives : List ℕ → ℕ → Option (List ℕ) → Type 0) where
+  -- of a template that is left out no bytes
+  abbrev pub IsTemplateOf : Option (List ℕ) → Option (List ℕ) → Type 0
+  IsTemplateOf (Some path) content = gives path longest_template content
+  IsTemplateOf None content = content ≡ Some []
+
+  -- of a batch its jobs, and its template; of another import its rows
+  abbrev pub AreContentsOfImport : ImportKind → List ℕ → Option (List ℕ) → List (Option (List ℕ)) → Type 0
+  AreContentsOfImport Batch file template contents =
+      (jobs parameters : Option (List ℕ)) × (contents ≡ jobs ∷ parameters ∷ []) × gives file longest_file jobs × IsTemplateOf template parameters
+  AreContentsOfImport kind file template contents = (rows : Option (List ℕ)) × (contents ≡ rows ∷ []) × gives file longest_file rows
+
+  -- what a line's files hold, in the order of its usage line; only an import has any
+  abbrev pub AreContentsOf : Asking → List (Option (List ℕ)) → Type 0
+  AreContentsOf (asking.Import kind name file template) contents = AreContentsOfImport kind file template contents
+  AreContentsOf asking contents = contents ≡ []
+
+  -- what a line asks of a project, with what its files hold
+  pub record PreparesRead (asking : Asking) (asked : Result Action Fault) : Type 0 where
+    pub contents : List (Option (List ℕ))
+    pub are : AreContentsOf asking contents
+    pub action : IsOrWantsMemory asked (prepared asking contents)
+    pub told : TellsRefusal asked (prepared asking contents)
+
+  -- so it is, or memory was wanted for the reading of files that it names
+  abbrev pub Prepares : Asking → Result Action Fault → Type 0
+  Prepares asking asked = PreparesRead asking asked ⊎ ((asked ≡ Err Memory) × (names_files asking ≡ true))

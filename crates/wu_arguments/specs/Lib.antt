@@ -1,0 +1,9 @@
+pub mod Actions
+pub mod CommandLine
+pub mod Contents
+pub mod Lines
+pub mod Reading
+pub mod Refusals
+pub mod Scripts
+pub mod Statuses
+pub mod Steps

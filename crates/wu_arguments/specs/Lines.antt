@@ -1,0 +1,86 @@
+-- What the words of the command line ask for: a subcommand that clap finds, with the values of its options.
+use Rattle.std.specs.Prelude.{◌≡◌, ℕ, Bool, true, false, if◌then◌else◌, List, codes, bytes_eq, Option, Some, None, ⊤}
+use Rattle.std.specs.Str.Parse.{digits_value, without_leading_plus}
+use Rattle.clap.specs.Words.{Row, first_of, one_of}
+use Rattle.wu_core.specs.declared.import.ImportKind.{ImportKind}
+use Rattle.wu_core.specs.declared.import.ImportKind.TheVariants.{Batch}
+use Rattle.wu_machine.specs.declared.view.View.{View}
+use Rattle.wu_machine.specs.declared.view.View.TheVariants.{Workunits, Results, Hosts, Archive, Summary, Classes}
+use Rattle.wu_arguments.specs.CommandLine.{file_option, option_name, takes_age, takes_moment}
+use Rattle.wu_arguments.specs.declared.option.LineOption.{LineOption}
+use Rattle.wu_arguments.specs.declared.option.LineOption.TheVariants as option
+use Rattle.wu_arguments.specs.declared.subcommand.Subcommand.{Subcommand}
+use Rattle.wu_arguments.specs.declared.subcommand.Subcommand.TheVariants as subcommand
+use Rattle.wu_arguments.specs.declared.line.Asking.{Asking}
+use Rattle.wu_arguments.specs.declared.line.Asking.TheVariants as asking
+use Rattle.wu_arguments.specs.declared.order.Order.{Order}
+use Rattle.wu_arguments.specs.declared.order.Order.TheVariants as order
+
+-- the view of this name
+abbrev pub view_named : List ℕ → Option View
+view_named name =
+    if bytes_eq name (codes "workunits") then Some Workunits
+    else if bytes_eq name (codes "results") then Some Results
+    else if bytes_eq name (codes "hosts") then Some Hosts
+    else if bytes_eq name (codes "archive") then Some Archive
+    else if bytes_eq name (codes "summary") then Some Summary
+    else if bytes_eq name (codes "classes") then Some Classes
+    else None
+
+-- what clap finds of an option: its first value
+abbrev pub value_in : List Row → LineOption → Option (List ℕ)
+value_in found option = first_of (option_name option) found
+
+-- its first value writes this number in decimal
+abbrev pub IsNumberIn : List Row → LineOption → ℕ → Type 0
+IsNumberIn found option n = (text : List ℕ) × (one_of (option_name option) found ≡ Some text) × (n ≡ digits_value 10 (without_leading_plus text))
+
+-- its first value names this view
+abbrev pub IsViewIn : List Row → Option View → Type 0
+IsViewIn found view = (text : List ℕ) × (value_in found option.View ≡ Some text) × (view_named text ≡ view)
+
+abbrev pub IsTextIn : List Row → LineOption → List ℕ → Type 0
+IsTextIn found option text = value_in found option ≡ Some text
+
+-- so it is of an option that a line has, and one that it has not is none
+abbrev pub IsTextIf : Bool → List Row → LineOption → Option (List ℕ) → Type 0
+IsTextIf true found option (Some text) = IsTextIn found option text
+IsTextIf true found option None = ⊥
+IsTextIf false found option text = text ≡ None
+
+abbrev pub IsNumberIf : Bool → List Row → LineOption → Option ℕ → Type 0
+IsNumberIf true found option (Some n) = IsNumberIn found option n
+IsNumberIf true found option None = ⊥
+IsNumberIf false found option n = n ≡ None
+
+-- only a batch may have a template
+abbrev pub IsTemplate : List Row → ImportKind → Option (List ℕ) → Type 0
+IsTemplate found Batch template = value_in found option.Template ≡ template
+IsTemplate found kind template = template ≡ None
+
+-- what a line asks is of this subcommand, and its values are those that clap finds of its options
+abbrev pub HasValues : List Row → Subcommand → Asking → Type 0
+HasValues found (subcommand.Import kind) (asking.Import its name file template) =
+    (its ≡ kind) × IsTextIn found option.Name name × IsTextIn found (file_option kind) file × IsTemplate found kind template
+HasValues found (subcommand.Pass pass) (asking.Pass its now limit min_age) =
+    (its ≡ pass) × IsTextIf (takes_moment pass) found option.Now now × IsNumberIn found option.Limit limit × IsNumberIf (takes_age pass) found option.MinAge min_age
+HasValues found subcommand.Cycle (asking.Cycle now limit min_age) =
+    IsTextIn found option.Now now × IsNumberIn found option.Limit limit × IsNumberIn found option.MinAge min_age
+HasValues found subcommand.Cancel (asking.Cancel workunit) = IsTextIn found option.Workunit workunit
+HasValues found subcommand.Show (asking.Show view) = IsViewIn found (Some view)
+HasValues found subcommand.Upgrade asking.Upgrade = ⊤
+HasValues found _ _ = ⊥
+
+-- a line asks this, of the database that clap finds
+abbrev pub IsLineIn : List Row → Asking → Order → Type 0
+IsLineIn found asking (order.Line line) = IsTextIn found option.Database line.db × (line.asking ≡ asking)
+IsLineIn found asking _ = ⊥
+
+-- what words ask for is of this subcommand, with the values that clap finds of its options
+abbrev pub IsOrder : List Row → Subcommand → Order → Type 0
+IsOrder found asked (order.Line line) = IsTextIn found option.Database line.db × HasValues found asked line.asking
+IsOrder found asked (order.Script script) =
+    (asked ≡ subcommand.Script) × IsTextIn found option.Database script.db × IsTextIn found option.File script.file
+IsOrder found asked (order.Check path) = (asked ≡ subcommand.Check) × IsTextIn found option.Checked path
+IsOrder found asked (order.Explain topic) =
+    (asked ≡ subcommand.Explain) × (value_in found option.Topic ≡ topic.name) × (value_in found option.Detail ≡ topic.detail)

@@ -1,0 +1,123 @@
+-- Why words are no line.
+use Rattle.std.specs.Prelude.{◌≡◌, ◌≢◌, ◌⊎◌, ◌<◌, ◌^◌, ℕ, true, List, [], ◌∷◌, Option, Some, None, Result, IfErr, ⊤}
+use Rattle.std.specs.Str.Parse.{IsNumeral, digits_value, without_leading_plus}
+use Rattle.clap.specs.Words.{App, Row, fault_of, kind_of, one_of, subcommand_of}
+use Rattle.clap.specs.declared.error.Error.{Error}
+use Rattle.clap.specs.declared.error.kind.ErrorKind.TheVariants.{OutOfMemory}
+use Rattle.wu_machine.specs.declared.view.View.{View}
+use Rattle.wu_arguments.specs.CommandLine.{is_required, option_name, options_of, program, subcommand_name, subcommand_named, value_of_option}
+use Rattle.wu_arguments.specs.Lines.{IsOrder, IsViewIn, value_in}
+use Rattle.wu_arguments.specs.declared.line.Line.{Line}
+use Rattle.wu_arguments.specs.declared.order.Order.{Order}
+use Rattle.wu_arguments.specs.declared.order.Order.TheVariants as order
+use Rattle.wu_arguments.specs.declared.option.LineOption.{LineOption}
+use Rattle.wu_arguments.specs.declared.option.LineOption.TheVariants as option
+use Rattle.wu_arguments.specs.declared.option.OptionValue.{OptionValue}
+use Rattle.wu_arguments.specs.declared.option.OptionValue.TheVariants.{Number}
+use Rattle.wu_arguments.specs.declared.subcommand.Subcommand.{Subcommand}
+use Rattle.wu_arguments.specs.declared.subcommand.Subcommand.TheVariants.{Show}
+use Rattle.wu_arguments.specs.declared.usage.Usage.{Usage}
+use Rattle.wu_arguments.specs.declared.usage.Usage.TheVariants.{Refused, UnknownView, Incomplete, Memory}
+
+-- an error of clap is told as a refusal, unless it is want of memory
+abbrev pub IsTold : Error → Usage → Type 0
+IsTold error (Refused text) = kind_of error ≢ OutOfMemory
+IsTold error UnknownView = ⊥
+IsTold error Incomplete = ⊥
+IsTold error Memory = ⊤
+
+-- by a command clap refuses the words, or memory is wanted
+abbrev pub IsRefusalBy : App → List (List ℕ) → Usage → Type 0
+IsRefusalBy app words (Refused text) = fault_of app words ≢ []
+IsRefusalBy app words UnknownView = ⊥
+IsRefusalBy app words Incomplete = ⊥
+IsRefusalBy app words Memory = ⊤
+
+-- so it is by the program's
+abbrev pub IsRefusal : List (List ℕ) → Usage → Type 0
+IsRefusal words usage = IsRefusalBy program words usage
+
+-- the text writes a number of 64 bits in decimal
+abbrev pub IsNumberText : List ℕ → Type 0
+IsNumberText text = IsNumeral 10 (without_leading_plus text) × (digits_value 10 (without_leading_plus text) < 2 ^ 64)
+
+-- clap finds no value of an option, or of one whose value is a number none that writes one
+abbrev pub LacksText : List Row → LineOption → Type 0
+LacksText found option = value_in found option ≡ None
+
+abbrev pub LacksNumberText : List Row → LineOption → Type 0
+LacksNumberText found option = (text : List ℕ) → one_of (option_name option) found ≡ Some text → IsNumberText text → ⊥
+
+abbrev pub LacksValue : OptionValue → List Row → LineOption → Type 0
+LacksValue Number found option = LacksNumberText found option
+LacksValue _ found option = LacksText found option
+
+abbrev pub Lacks : List Row → LineOption → Type 0
+Lacks found option = LacksValue (value_of_option option) found option
+
+-- so of one of these that has to be given
+abbrev pub LacksOne : List Row → List LineOption → Type 0
+LacksOne found [] = ⊥
+LacksOne found (option ∷ more) = ((is_required option ≡ true) × Lacks found option) ⊎ LacksOne found more
+
+-- the option has a value
+abbrev pub HasText : List Row → LineOption → Type 0
+HasText found option = (text : List ℕ) × (value_in found option ≡ Some text)
+
+-- what is to be shown is a view
+abbrev pub IsSeen : List Row → Type 0
+IsSeen found = (view : View) × IsViewIn found (Some view)
+
+-- it is told that a value is lacking, and it is
+abbrev pub TellsLack : Type 0 → Usage → Type 0
+TellsLack Lacking usage = (usage ≡ Incomplete) × Lacking
+
+-- so it is; or memory is wanted
+abbrev pub IsWithout : Type 0 → Usage → Type 0
+IsWithout Lacking usage = TellsLack Lacking usage ⊎ (usage ≡ Memory)
+
+-- memory is wanted only where this holds
+abbrev pub WantsOnly : {T : Type 0} → Result T Usage → Type 0 → Type 0
+WantsOnly result Fact = IfErr result (λ usage. usage ≡ Memory → Fact)
+
+-- of the options of a subcommand one that has to be given has no value, or memory is wanted
+abbrev pub IsLacking : List Row → Subcommand → Usage → Type 0
+IsLacking found subcommand = IsWithout (LacksOne found (options_of subcommand))
+
+-- what is to be shown is no view, or has no value
+abbrev pub IsUnseen : List Row → Usage → Type 0
+IsUnseen found usage = TellsLack (LacksText found option.View) usage ⊎ ((usage ≡ UnknownView) × IsViewIn found None)
+
+-- why there is no line of a subcommand: an option that has to be given has no value, or what is to be shown is no view
+abbrev pub IsUnread : List Row → Subcommand → Usage → Type 0
+IsUnread found subcommand usage = IsLacking found subcommand usage ⊎ ((usage ≡ UnknownView) × (subcommand ≡ Show) × IsViewIn found None)
+
+abbrev pub LacksOfNamed : List Row → Option Subcommand → Type 0
+LacksOfNamed found None = ⊤
+LacksOfNamed found (Some subcommand) = LacksOne found (options_of subcommand)
+
+-- clap finds no subcommand, or none of the program's, or no value of one of its options that have to be given
+abbrev pub IsIncomplete : Option (List ℕ × List Row) → Type 0
+IsIncomplete None = ⊤
+IsIncomplete (Some found) = LacksOfNamed found.1 (subcommand_named found.0)
+
+-- why words are no line: clap refuses them, what they ask to show is no view, or they are incomplete
+abbrev pub Explains : List (List ℕ) → Usage → Type 0
+Explains words (Refused text) = fault_of program words ≢ []
+Explains words UnknownView = (found : List Row) × (subcommand_of program words ≡ Some (subcommand_name Show, found)) × IsViewIn found None
+Explains words Incomplete = (fault_of program words ≡ []) × IsIncomplete (subcommand_of program words)
+Explains words Memory = ⊤
+
+-- clap takes the words, and they ask for this, by the subcommand and the values that it finds
+abbrev pub IsOrderOf : List (List ℕ) → Order → Type 0
+IsOrderOf words order =
+    (fault_of program words ≡ [])
+    × ((subcommand : Subcommand) × (found : List Row) × (subcommand_of program words ≡ Some (subcommand_name subcommand, found)) × IsOrder found subcommand order)
+
+-- they are this line
+abbrev pub IsLineOf : List (List ℕ) → Line → Type 0
+IsLineOf words line = IsOrderOf words (order.Line line)
+
+-- so it is of all words that are taken and in which clap finds this subcommand
+abbrev pub OfTaken : (List (List ℕ) → Type 0) → Option (List ℕ × List Row) → Type 0
+OfTaken Fact found = (words : List (List ℕ)) → fault_of program words ≡ [] → found ≡ subcommand_of program words → Fact words

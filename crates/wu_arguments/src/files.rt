@@ -1,0 +1,79 @@
+//! The files that a line names, and what reads them.
+
+ghost use Rattle.std.specs.Prelude.{◌≡◌, IfErr, IfOk, true};
+ghost use Rattle.wu_core.specs.declared.fault.Fault.TheVariants.{Memory};
+ghost use Rattle.wu_arguments.specs.Actions.{bytes_of, content_bytes};
+ghost use Rattle.wu_arguments.specs.Contents.{AreContentsOf, IsTemplateOf, names_files};
+
+use crate::line::Asking;
+use crate::word::Word;
+use std::alloc::Global;
+use wu_core::{Fault, ImportKind};
+use wu_feed::{LONGEST_FILE, LONGEST_TEMPLATE};
+
+/// What reads the files that words name.
+pub trait ReadFile {
+    ghost use Rattle.std.specs.Prelude.{◌≡◌, ℕ, IfErr, IfOk, List, Option};
+    ghost use Rattle.wu_core.specs.declared.fault.Fault.TheVariants.{Memory};
+    ghost use Rattle.wu_arguments.specs.Actions.{content_bytes};
+
+    /// This may be what a reading of the path gives, of so many bytes at most and one more.
+    ghost gives: { Self → List ℕ → ℕ → Option (List ℕ) → Type 0 };
+
+    /// The bytes of the file at the path, at most so many and one more, by which it is seen to hold too many; None where
+    /// it can't be read. The only fault is `Memory`.
+    fn read(&self, path: &str, most: usize) -> Result<Option<Vec<u8>>, Fault>
+        ensures bytes { IfOk result (λ bytes.
+            gives self.now path.now most (content_bytes bytes)) }
+        ensures fault { IfErr result (λ fault. fault ≡ Memory) };
+}
+
+/// What a template holds. One that is left out has no bytes.
+fn read_template<F: ReadFile>(
+    alloc: Global,
+    files: &F,
+    template: &Option<Word>,
+) -> Result<Option<Vec<u8>>, Fault>
+    ensures content { IfOk result (λ content.
+        IsTemplateOf (F.ReadFile.gives files.now) template.now (content_bytes content)) }
+    ensures fault { IfErr result (λ fault. fault ≡ Memory) }
+{
+    match template {
+        Some(path) => files.read(path.as_str(), LONGEST_TEMPLATE),
+        None => Ok(Some(Vec::new(alloc))),
+    }
+}
+
+impl Asking {
+    /// What its files hold, in the order of its usage line: jobs and template, or the file of sends, of reports or of
+    /// classes, or none. None for one that could not be read. The only fault is `Memory`,
+    /// of an import alone.
+    pub fn read_files<F: ReadFile>(
+        &self,
+        alloc: Global,
+        files: &F,
+    ) -> Result<Vec<Option<Vec<u8>>>, Fault>
+        ensures contents { IfOk result (λ contents.
+            AreContentsOf (F.ReadFile.gives files.now) self.now (bytes_of contents.items)) }
+        ensures fault { IfErr result (λ fault.
+            (fault ≡ Memory) × (names_files self.now ≡ true)) }
+    {
+        let Asking::Import {
+            kind,
+            file,
+            template,
+            ..
+        } = self
+        else {
+            return Ok(Vec::new(alloc));
+        };
+        let content = files.read(file.as_str(), LONGEST_FILE)?;
+        let contents = match kind {
+            ImportKind::Batch => {
+                Vec::from_array(alloc, [content, read_template(alloc, files, template)?])?
+            }
+            _ => Vec::from_array(alloc, [content])?,
+        };
+        Ok(contents)
+    }
+}

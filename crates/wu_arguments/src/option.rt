@@ -1,0 +1,161 @@
+//! The options of the command line.
+
+ghost use Rattle.std.specs.Prelude.{◌≡◌};
+ghost use Rattle.wu_arguments.specs.CommandLine.{is_required_value, option_name, value_of_option};
+
+/// What follows an option on a line.
+#[derive(Clone, Copy)]
+pub enum OptionValue {
+    /// A text, which has to be given.
+    Text,
+    /// A text that may be left out.
+    TextIfAny,
+    /// A whole number of 64 bits, which has to be given.
+    Number,
+    /// A word that stands alone, with no option's name before it, and may be left out.
+    Word,
+}
+
+impl OptionValue {
+    /// Whether it has to be given.
+    pub fn is_required(self) -> bool
+        ensures { result ≡ is_required_value self }
+    {
+        match self {
+            OptionValue::Text | OptionValue::Number => true,
+            OptionValue::TextIfAny | OptionValue::Word => false,
+        }
+    }
+}
+
+/// An option as the command line knows it.
+#[derive(Clone, Copy)]
+pub struct OptionForm {
+    /// Its name, without the two hyphens.
+    pub name: &'static str,
+    pub value: OptionValue,
+    /// What help calls its value.
+    pub value_name: &'static str,
+    /// What help says of it.
+    pub help: &'static str,
+}
+
+/// An option of the command line. Each takes one value.
+#[derive(Clone, Copy)]
+pub enum LineOption {
+    /// The file that holds the project.
+    Database,
+    /// The file that is checked.
+    Checked,
+    /// The name of an import.
+    Name,
+    /// A file of jobs.
+    Jobs,
+    /// A file with the parameters of a batch's jobs.
+    Template,
+    /// A file of sends, of reports, of classes or of commands.
+    File,
+    /// The moment of a pass.
+    Now,
+    /// How many workunits a pass changes at most.
+    Limit,
+    /// How old a workunit is at least that is removed.
+    MinAge,
+    /// The name of a workunit.
+    Workunit,
+    /// What is shown.
+    View,
+    /// What is explained.
+    Topic,
+    /// Which view or file is explained.
+    Detail,
+}
+
+impl LineOption {
+    /// How the command line knows it.
+    pub fn form(self) -> OptionForm
+        ensures name { result.name.now ≡ option_name self }
+        ensures value { result.value ≡ value_of_option self }
+    {
+        match self {
+            LineOption::Database => OptionForm {
+                name: "db",
+                value: OptionValue::Text,
+                value_name: "PATH",
+                help: "The database file of the project; it is made where it is absent",
+            },
+            LineOption::Checked => OptionForm {
+                name: "db",
+                value: OptionValue::Text,
+                value_name: "PATH",
+                help: "The database file that is checked; it is neither made nor changed",
+            },
+            LineOption::Name => OptionForm {
+                name: "name",
+                value: OptionValue::Text,
+                value_name: "NAME",
+                help: "The name of the import: 1 to 64 letters, digits, '_', '.' or '-'. The same name and content again changes nothing",
+            },
+            LineOption::Jobs => OptionForm {
+                name: "jobs",
+                value: OptionValue::Text,
+                value_name: "FILE",
+                help: "CSV file of jobs with the header name,input; at most 1,000 rows and 1,048,576 bytes",
+            },
+            LineOption::Template => OptionForm {
+                name: "template",
+                value: OptionValue::TextIfAny,
+                value_name: "FILE",
+                help: "TOML file of the jobs' parameters, at most 65,536 bytes; each parameter that is absent has its default",
+            },
+            LineOption::File => OptionForm {
+                name: "file",
+                value: OptionValue::Text,
+                value_name: "FILE",
+                help: "CSV file with the header result,host,moment of sends, result,host,moment,status,output of reports, or host,class of classes, at most 1,000 rows and 1,048,576 bytes; of a script a command a line, without the program's name and without --db",
+            },
+            LineOption::Now => OptionForm {
+                name: "now",
+                value: OptionValue::Text,
+                value_name: "MOMENT",
+                help: "The moment in UTC as YYYY-MM-DDTHH:MM:SSZ, from 1970 to 2099; date -u +%FT%TZ prints the present one",
+            },
+            LineOption::Limit => OptionForm {
+                name: "limit",
+                value: OptionValue::Number,
+                value_name: "COUNT",
+                help: "How many workunits are changed at most, the first by number: 1 to 1000",
+            },
+            LineOption::MinAge => OptionForm {
+                name: "min-age",
+                value: OptionValue::Number,
+                value_name: "SECONDS",
+                help: "How many seconds ago a workunit was assimilated at least: 0 to 31536000",
+            },
+            LineOption::Workunit => OptionForm {
+                name: "workunit",
+                value: OptionValue::Text,
+                value_name: "NAME",
+                help: "The name of the workunit",
+            },
+            LineOption::View => OptionForm {
+                name: "view",
+                value: OptionValue::Text,
+                value_name: "VIEW",
+                help: "workunits, results, hosts, archive, summary or classes",
+            },
+            LineOption::Topic => OptionForm {
+                name: "topic",
+                value: OptionValue::Word,
+                value_name: "TOPIC",
+                help: "What is explained; without it, the topics are listed",
+            },
+            LineOption::Detail => OptionForm {
+                name: "which",
+                value: OptionValue::Word,
+                value_name: "WHICH",
+                help: "Which view, or which file",
+            },
+        }
+    }
+}

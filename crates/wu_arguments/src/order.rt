@@ -1,0 +1,33 @@
+//! What the words of the command line ask for.
+
+use crate::line::Line;
+use crate::word::Word;
+
+/// A script: a file with a command a line, over the project in a database.
+#[derive(Drop)]
+pub struct ScriptFile {
+    /// The file that holds the project.
+    pub db: Word,
+    /// Where the script lies.
+    pub file: Word,
+}
+
+/// What is explained: a topic, of views and files with the name of one, or without a topic what topics there are.
+#[derive(Drop)]
+pub struct Topic {
+    pub name: Option<Word>,
+    pub detail: Option<Word>,
+}
+
+/// What words ask for.
+#[derive(Drop)]
+pub enum Order {
+    /// A command or a view.
+    Line(Line),
+    /// The lines of a script.
+    Script(ScriptFile),
+    /// A check of the database at this path.
+    Check(Word),
+    /// An explanation.
+    Explain(Topic),
+}

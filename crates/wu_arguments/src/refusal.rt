@@ -1,0 +1,92 @@
+//! Why a line of a script can't be run.
+
+ghost use Rattle.std.specs.Prelude.{◌≡◌};
+ghost use Rattle.wu_core.specs.declared.fault.Fault.TheVariants as fault;
+ghost use Rattle.wu_arguments.specs.declared.refusal.Refusal.TheVariants as why;
+ghost use Rattle.wu_arguments.specs.Statuses.{refusal_status};
+
+use crate::status::fault_status;
+use crate::usage::Usage;
+use std::alloc::AllocError;
+use wu_core::Fault;
+use wu_feed::LineCause;
+
+/// What stands in no script.
+#[derive(Clone, Copy, PartialEq, Eq)]
+pub enum Outsider {
+    Script,
+    Check,
+    Explanation,
+}
+
+/// Why a line of a script can't be run.
+pub enum Refusal {
+    /// It is not taken apart into words.
+    Text(LineCause),
+    /// Its words are no line of the command line.
+    Words(Usage),
+    /// It asks for what stands in no script.
+    Outsider(Outsider),
+    /// What it repeats is no pass.
+    Repeat,
+    /// A value or a file of it is refused.
+    Fault(Fault),
+}
+
+// It is written out, so that a caller does not prove again how each part is dropped.
+impl Drop for Refusal {
+    fn drop(self) {
+        match self {
+            Refusal::Text(_cause) => {}
+            Refusal::Words(_usage) => {}
+            Refusal::Outsider(_outsider) => {}
+            Refusal::Repeat => {}
+            Refusal::Fault(_fault) => {}
+        }
+    }
+}
+
+impl From<LineCause> for Refusal {
+    ghost from_gives = { λ cause refusal. refusal ≡ why.Text cause };
+
+    fn from(cause: LineCause) -> Refusal {
+        Refusal::Text(cause)
+    }
+}
+
+impl From<Usage> for Refusal {
+    ghost from_gives = { λ usage refusal. refusal ≡ why.Words usage };
+
+    fn from(usage: Usage) -> Refusal {
+        Refusal::Words(usage)
+    }
+}
+
+impl From<Fault> for Refusal {
+    ghost from_gives = { λ its refusal. refusal ≡ why.Fault its };
+
+    fn from(fault: Fault) -> Refusal {
+        Refusal::Fault(fault)
+    }
+}
+
+impl From<AllocError> for Refusal {
+    ghost from_gives = { λ _ refusal. refusal ≡ why.Fault fault.Memory };
+
+    fn from(_error: AllocError) -> Refusal {
+        Refusal::Fault(Fault::Memory)
+    }
+}
+
+impl Refusal {
+    /// The status that the program ends with.
+    pub fn status(&self) -> u8
+        ensures { result ≡ refusal_status self.now }
+    {
+        match self {
+            Refusal::Text(_) | Refusal::Outsider(_) | Refusal::Repeat => 2,
+            Refusal::Words(usage) => usage.status(),
+            Refusal::Fault(fault) => fault_status(*fault),
+        }
+    }
+}

@@ -1,0 +1,96 @@
+//! The lines of a script as lines of the command line.
+
+ghost use Rattle.std.specs.Prelude.{◌≡◌, ◌++◌, ◌∷◌, ◌<◌, codes, drop, IfOk, length, map, string_bytes};
+ghost use Rattle.wu_arguments.specs.Scripts.{asks_to_repeat, command_words, ReadsRepeated, ReadsWords, ReadsWordsOf};
+
+use crate::line::{Asking, Line};
+use crate::order::Order;
+use crate::refusal::{Outsider, Refusal};
+use crate::words::read_words;
+use std::alloc::{AllocError, Global};
+use wu_feed::Words;
+
+/// The word that names the database.
+fn database_word(alloc: Global, db: &str) -> Result<String, AllocError>
+    ensures { IfOk result (λ word. string_bytes word ≡ codes "--db=" ++ db.now) }
+{
+    let mut word = String::from_str(alloc, "--db=")?;
+    word.push_str(db)?;
+    Ok(word)
+}
+
+/// The words of a script's line behind the program's name.
+fn words_behind_name(alloc: Global, words: Words) -> Result<Vec<String>, AllocError>
+    ensures { IfOk result (λ all. map string_bytes all.items ≡ codes "lintelthyme" ∷ words) }
+{
+    let name = String::from_str(alloc, "lintelthyme")?;
+    let mut all = words.into_vec();
+    all.insert(0, name)?;
+    Ok(all)
+}
+
+/// The words of a script's line as words of the command line: behind the program's name, with the database at their
+/// end.
+fn words_of_command(alloc: Global, db: &str, words: Words) -> Result<Vec<String>, AllocError>
+    ensures { IfOk result (λ all. map string_bytes all.items ≡ command_words db.now words) }
+{
+    let mut all = words_behind_name(alloc, words)?;
+    all.push(database_word(alloc, db)?)?;
+    Ok(all)
+}
+
+/// The line that these words of a script ask for.
+fn line_of_words(alloc: Global, db: &str, words: Words) -> Result<Line, Refusal>
+    ensures { ReadsWords (command_words db.now words) result }
+{
+    let words = words_of_command(alloc, db, words)?;
+    match read_words(alloc, words.as_slice())? {
+        Order::Line(line) => Ok(line),
+        Order::Script(_) => Err(Refusal::Outsider(Outsider::Script)),
+        Order::Check(_) => Err(Refusal::Outsider(Outsider::Check)),
+        Order::Explain(_) => Err(Refusal::Outsider(Outsider::Explanation)),
+    }
+}
+
+/// The pass that these words of a script ask for, which stand behind `repeat`.
+fn pass_of_words(alloc: Global, db: &str, words: Words) -> Result<Line, Refusal>
+    ensures { ReadsRepeated (command_words db.now words) result }
+{
+    let line = line_of_words(alloc, db, words)?;
+    match line.asking {
+        Asking::Pass { .. } => Ok(line),
+        _ => Err(Refusal::Repeat),
+    }
+}
+
+/// Whether the first of these words is `repeat`.
+pub fn asks_to_repeat(words: &[String]) -> bool
+    ensures { result ≡ asks_to_repeat (map string_bytes words.now) }
+{
+    match words.first() {
+        Some(word) => word.as_str() == "repeat",
+        None => false,
+    }
+}
+
+/// The words but the first one, of which there is one.
+fn without_first(words: Words) -> Words
+    requires { 0 < length words }
+    ensures { result ≡ drop 1 words }
+{
+    let mut words = words.into_vec();
+    words.remove(0);
+    Words::from_vec(words)
+}
+
+/// The line that a script's words ask for, once or to be repeated.
+pub fn line_of_all(alloc: Global, db: &str, words: Words, repeats: bool) -> Result<Line, Refusal>
+    requires { repeats ≡ asks_to_repeat words }
+    ensures { ReadsWordsOf db.now words repeats result }
+{
+    if repeats {
+        pass_of_words(alloc, db, without_first(words))
+    } else {
+        line_of_words(alloc, db, words)
+    }
+}

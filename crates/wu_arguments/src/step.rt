@@ -1,0 +1,139 @@
+//! The steps of a script: what each of its lines asks of a project, with all files read.
+
+ghost use Rattle.std.specs.Prelude.{◌≡◌};
+ghost use Rattle.wu_arguments.specs.Statuses.{refusal_status};
+ghost use Rattle.wu_arguments.specs.Steps.{GivesStep, GivesSteps, lacks_memory};
+
+use crate::action::{Action, read_and_prepare};
+use crate::files::ReadFile;
+use crate::refusal::Refusal;
+use crate::script::{asks_to_repeat, line_of_all};
+use std::alloc::Global;
+use wu_core::Fault;
+use wu_feed::{Rows, ScriptLine};
+
+/// What a line of a script asks of a project.
+pub struct Step {
+    /// Its place among the lines of the script, from 1.
+    pub number: u64,
+    /// Whether its action, which is one pass, is done until that handles less than its limit.
+    pub repeats: bool,
+    pub action: Action,
+}
+
+// It is written out, so that a caller does not prove again how each part is dropped.
+impl Drop for Step {
+    fn drop(self) {
+        let Step {
+            number: _number,
+            repeats: _repeats,
+            action: _action,
+        } = self;
+    }
+}
+
+impl Step {
+    /// Its action alone.
+    pub fn into_action(self) -> Action
+        ensures { result ≡ self.action }
+    {
+        let Step {
+            number: _number,
+            repeats: _repeats,
+            action,
+        } = self;
+        action
+    }
+}
+
+/// The first line of a script that can't be run, and why.
+pub struct BadLine {
+    /// Its place among the lines of the script, from 1.
+    pub number: u64,
+    pub why: Refusal,
+}
+
+// It is written out, so that a caller does not prove again how each part is dropped.
+impl Drop for BadLine {
+    fn drop(self) {
+        let BadLine {
+            number: _number,
+            why: _why,
+        } = self;
+    }
+}
+
+impl BadLine {
+    /// The status that the program ends with.
+    pub fn status(&self) -> u8
+        ensures { result ≡ refusal_status self.now.why }
+    {
+        self.why.status()
+    }
+}
+
+/// The line of a script whose fault ended it.
+#[derive(Clone, Copy, PartialEq, Eq)]
+pub struct LineFault {
+    /// Its place among the lines of the script, from 1.
+    pub number: u64,
+    pub fault: Fault,
+}
+
+/// The line of this number, where memory was wanted for it.
+fn lacks_memory(number: u64) -> BadLine
+    ensures { result ≡ lacks_memory number }
+{
+    BadLine {
+        number,
+        why: Refusal::Fault(Fault::Memory),
+    }
+}
+
+/// What a line of a script asks of a project, with what its files hold, or why it can't be run.
+fn step_of<F: ReadFile>(
+    alloc: Global,
+    db: &str,
+    line: ScriptLine,
+    files: &F,
+) -> Result<Step, Refusal>
+    ensures { GivesStep (F.ReadFile.gives files.now) db.now line result }
+{
+    let ScriptLine { number, words } = line;
+    let words = words?;
+    let repeats = asks_to_repeat(words.as_slice());
+    let asked = line_of_all(alloc, db, words, repeats)?;
+    let action = read_and_prepare(alloc, &asked, files)?;
+    Ok(Step {
+        number,
+        repeats,
+        action,
+    })
+}
+
+/// What the lines of a script ask of the project in a database, in their order, or the first of them that can't be run.
+/// The files of a line are read where those before it can be run. Each is the line of the command line that its words
+/// are with `--db` and this database behind them. Where the first word is `repeat` it is the line of the others, which
+/// has to be a pass.
+pub fn steps_of<F: ReadFile>(
+    alloc: Global,
+    db: &str,
+    lines: Rows<ScriptLine>,
+    files: &F,
+) -> Result<Rows<Step>, BadLine>
+    ensures { GivesSteps (F.ReadFile.gives files.now) db.now lines result }
+{
+    let mut steps = Vec::new(alloc);
+    for line in lines.into_vec() {
+        let number = line.number;
+        let step = match step_of(alloc, db, line, files) {
+            Ok(step) => step,
+            Err(why) => return Err(BadLine { number, why }),
+        };
+        match steps.push(step) {
+            Ok(()) => {}
+            Err(_) => return Err(lacks_memory(number)),
+        }
+    }
+    Ok(Rows::from_vec(steps))
+}

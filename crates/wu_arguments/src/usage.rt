@@ -1,0 +1,45 @@
+//! Why words are no line.
+
+ghost use Rattle.std.specs.Prelude.{◌≡◌};
+ghost use Rattle.wu_arguments.specs.declared.usage.Usage.TheVariants.{Memory};
+ghost use Rattle.wu_arguments.specs.Refusals.{IsTold};
+
+use crate::word::Word;
+use clap::Error;
+use clap::error::ErrorKind;
+use std::alloc::{AllocError, Global};
+
+/// Why words are no line.
+#[derive(Drop)]
+pub enum Usage {
+    /// `clap` refused the words, or they ask for help: the text of its error, of which no contract of `clap` speaks.
+    Refused(Word),
+    /// What is to be shown is no view.
+    UnknownView,
+    /// `clap` took the words, and found no subcommand, or no value of an option that has to be given, or none that
+    /// writes a number of 64 bits where one is wanted. Tests alone show that this never comes.
+    Incomplete,
+    /// A growth of memory was refused.
+    Memory,
+}
+
+impl From<AllocError> for Usage {
+    ghost from_gives = { λ _ usage. usage ≡ Memory };
+
+    fn from(_error: AllocError) -> Usage {
+        Usage::Memory
+    }
+}
+
+/// The text of an error of `clap`, unless it is want of memory; memory may be wanted for the text too.
+pub fn told(alloc: Global, error: &Error) -> Usage
+    ensures { IsTold error.now result }
+{
+    if error.kind() == ErrorKind::OutOfMemory {
+        return Usage::Memory;
+    }
+    match error.to_string(alloc) {
+        Ok(text) => Usage::Refused(Word::from_string(text)),
+        Err(_) => Usage::Memory,
+    }
+}

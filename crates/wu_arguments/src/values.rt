@@ -1,0 +1,77 @@
+//! The values that `clap` found for the options of a line.
+
+ghost use Rattle.std.specs.Prelude.{◌≡◌, IfErr, IfOk, option_map};
+ghost use Rattle.clap.specs.Words.{found_of, rows_of};
+ghost use Rattle.wu_arguments.specs.Lines.{IsNumberIn, IsTextIn, IsViewIn, value_in};
+ghost use Rattle.wu_arguments.specs.Refusals.{HasText, IsUnseen, IsWithout, LacksNumberText, LacksText, TellsLack, WantsOnly};
+ghost use Rattle.wu_arguments.specs.declared.usage.Usage.TheVariants.{Memory};
+
+use crate::option::LineOption;
+use crate::usage::Usage;
+use crate::view::view_named;
+use crate::word::Word;
+use clap::ArgMatches;
+use std::alloc::Global;
+use wu_machine::View;
+
+/// The first value of an option.
+fn value<'a>(found: &ArgMatches<'a>, option: LineOption) -> Option<&'a str>
+    ensures { option_map (λ text. text.now) result
+        ≡ value_in (rows_of (found_of found.now)) option }
+{
+    found.get_str(option.form().name)
+}
+
+/// The text of an option that has to be given.
+pub fn text(alloc: Global, found: &ArgMatches<'_>, option: LineOption) -> Result<Word, Usage>
+    ensures value { IfOk result (IsTextIn (rows_of (found_of found.now)) option) }
+    ensures refused { IfErr result (IsWithout (LacksText (rows_of (found_of found.now)) option)) }
+    ensures wants { WantsOnly result (HasText (rows_of (found_of found.now)) option) }
+{
+    match value(found, option) {
+        Some(text) => Ok(Word::from_text(alloc, text)?),
+        None => Err(Usage::Incomplete),
+    }
+}
+
+/// The text of an option, if it is given.
+pub fn text_if_any(
+    alloc: Global,
+    found: &ArgMatches<'_>,
+    option: LineOption,
+) -> Result<Option<Word>, Usage>
+    ensures value { IfOk result (λ word. value_in (rows_of (found_of found.now)) option ≡ word) }
+    ensures refused { IfErr result (λ usage. usage ≡ Memory) }
+    ensures wants { WantsOnly result (HasText (rows_of (found_of found.now)) option) }
+{
+    match value(found, option) {
+        Some(text) => Ok(Some(Word::from_text(alloc, text)?)),
+        None => Ok(None),
+    }
+}
+
+/// The number of an option that has to be given. It takes no memory.
+pub fn number(found: &ArgMatches<'_>, option: LineOption) -> Result<u64, Usage>
+    ensures value { IfOk result (IsNumberIn (rows_of (found_of found.now)) option) }
+    ensures refused { IfErr result
+        (TellsLack (LacksNumberText (rows_of (found_of found.now)) option)) }
+{
+    match found.get_one(option.form().name) {
+        Some(number) => Ok(number),
+        None => Err(Usage::Incomplete),
+    }
+}
+
+/// The view that is to be shown. It takes no memory.
+pub fn view(found: &ArgMatches<'_>) -> Result<View, Usage>
+    ensures value { IfOk result (λ view. IsViewIn (rows_of (found_of found.now)) (Some view)) }
+    ensures refused { IfErr result (IsUnseen (rows_of (found_of found.now))) }
+{
+    match value(found, LineOption::View) {
+        Some(name) => match view_named(name) {
+            Some(view) => Ok(view),
+            None => Err(Usage::UnknownView),
+        },
+        None => Err(Usage::Incomplete),
+    }
+}

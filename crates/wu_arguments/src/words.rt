@@ -1,0 +1,213 @@
+//! What the words of the command line ask for.
+
+ghost use Rattle.std.specs.Prelude.{◌≡◌, map, string_bytes, IfErr, IfOk, None};
+ghost use Rattle.clap.specs.Words.{found_of, rows_of, subcommand_rows_of};
+ghost use Rattle.wu_arguments.specs.CommandLine.{file_option, takes_age, takes_moment};
+ghost use Rattle.wu_arguments.specs.Lines.{HasValues, IsLineIn, IsNumberIf, IsOrder, IsTemplate, IsTextIf};
+ghost use Rattle.wu_arguments.specs.Refusals.{Explains, HasText, IsLacking, IsOrderOf, IsSeen, IsUnread, IsWithout, LacksText, OfTaken, WantsOnly};
+
+use crate::line::{Asking, Line};
+use crate::option::LineOption;
+use crate::order::{Order, ScriptFile, Topic};
+use crate::parse::parse;
+use crate::subcommand::Subcommand;
+use crate::usage::Usage;
+use crate::values::{number, text, text_if_any, view};
+use crate::word::Word;
+use clap::ArgMatches;
+use std::alloc::Global;
+use wu_core::ImportKind;
+use wu_rules::Pass;
+
+/// The option that names the file of such an import.
+fn file_option(kind: ImportKind) -> LineOption
+    ensures { result ≡ file_option kind }
+{
+    match kind {
+        ImportKind::Batch => LineOption::Jobs,
+        _ => LineOption::File,
+    }
+}
+
+/// The template of an import: only a batch may have one.
+fn template(alloc: Global, kind: ImportKind, found: &ArgMatches<'_>) -> Result<Option<Word>, Usage>
+    ensures value { IfOk result (IsTemplate (rows_of (found_of found.now)) kind) }
+    ensures refused { IfErr result (λ usage. usage ≡ Usage.Memory) }
+{
+    match kind {
+        ImportKind::Batch => text_if_any(alloc, found, LineOption::Template),
+        _ => Ok(None),
+    }
+}
+
+/// The values of an import.
+fn import(alloc: Global, kind: ImportKind, found: &ArgMatches<'_>) -> Result<Asking, Usage>
+    ensures asking { IfOk result
+        (HasValues (rows_of (found_of found.now)) (Subcommand.Import kind)) }
+    ensures refused { IfErr result
+        (IsLacking (rows_of (found_of found.now)) (Subcommand.Import kind)) }
+{
+    Ok(Asking::Import {
+        kind,
+        name: text(alloc, found, LineOption::Name)?,
+        file: text(alloc, found, file_option(kind))?,
+        template: template(alloc, kind, found)?,
+    })
+}
+
+/// Whether the pass takes a moment.
+fn takes_moment(pass: Pass) -> bool
+    ensures { result ≡ takes_moment pass }
+{
+    match pass {
+        Pass::Transition | Pass::Assimilate | Pass::Purge => true,
+        Pass::Validate | Pass::Delete => false,
+    }
+}
+
+/// The moment of a pass that takes one.
+fn moment(alloc: Global, pass: Pass, found: &ArgMatches<'_>) -> Result<Option<Word>, Usage>
+    ensures value { IfOk result
+        (IsTextIf (takes_moment pass) (rows_of (found_of found.now)) LineOption.Now) }
+    ensures refused { IfErr result (IsLacking (rows_of (found_of found.now)) (Subcommand.Pass pass)) }
+{
+    if takes_moment(pass) {
+        Ok(Some(text(alloc, found, LineOption::Now)?))
+    } else {
+        Ok(None)
+    }
+}
+
+/// The least age of a purge. It takes no memory.
+fn min_age(pass: Pass, found: &ArgMatches<'_>) -> Result<Option<u64>, Usage>
+    ensures value { IfOk result
+        (IsNumberIf (takes_age pass) (rows_of (found_of found.now)) LineOption.MinAge) }
+    ensures refused { IfErr result (IsLacking (rows_of (found_of found.now)) (Subcommand.Pass pass)) }
+{
+    match pass {
+        Pass::Purge => Ok(Some(number(found, LineOption::MinAge)?)),
+        _ => Ok(None),
+    }
+}
+
+/// The values of a pass.
+fn pass(alloc: Global, pass: Pass, found: &ArgMatches<'_>) -> Result<Asking, Usage>
+    ensures asking { IfOk result
+        (HasValues (rows_of (found_of found.now)) (Subcommand.Pass pass)) }
+    ensures refused { IfErr result
+        (IsLacking (rows_of (found_of found.now)) (Subcommand.Pass pass)) }
+{
+    Ok(Asking::Pass {
+        pass,
+        limit: number(found, LineOption::Limit)?,
+        min_age: min_age(pass, found)?,
+        now: moment(alloc, pass, found)?,
+    })
+}
+
+/// The values of a cycle.
+fn cycle(alloc: Global, found: &ArgMatches<'_>) -> Result<Asking, Usage>
+    ensures asking { IfOk result (HasValues (rows_of (found_of found.now)) Subcommand.Cycle) }
+    ensures refused { IfErr result (IsLacking (rows_of (found_of found.now)) Subcommand.Cycle) }
+{
+    Ok(Asking::Cycle {
+        limit: number(found, LineOption::Limit)?,
+        min_age: number(found, LineOption::MinAge)?,
+        now: text(alloc, found, LineOption::Now)?,
+    })
+}
+
+/// The values of a cancel.
+fn cancel(alloc: Global, found: &ArgMatches<'_>) -> Result<Asking, Usage>
+    ensures asking { IfOk result (HasValues (rows_of (found_of found.now)) Subcommand.Cancel) }
+    ensures refused { IfErr result (IsLacking (rows_of (found_of found.now)) Subcommand.Cancel) }
+{
+    Ok(Asking::Cancel {
+        workunit: text(alloc, found, LineOption::Workunit)?,
+    })
+}
+
+/// The line that asks this, of the database that is named.
+fn line(alloc: Global, asking: Asking, found: &ArgMatches<'_>) -> Result<Order, Usage>
+    ensures line { IfOk result (IsLineIn (rows_of (found_of found.now)) asking) }
+    ensures refused { IfErr result
+        (IsWithout (LacksText (rows_of (found_of found.now)) LineOption.Database)) }
+    ensures wants { WantsOnly result
+        (HasText (rows_of (found_of found.now)) LineOption.Database) }
+{
+    Ok(Order::Line(Line {
+        db: text(alloc, found, LineOption::Database)?,
+        asking,
+    }))
+}
+
+/// A script's file, and the database that it is for.
+fn script(alloc: Global, found: &ArgMatches<'_>) -> Result<Order, Usage>
+    ensures order { IfOk result (IsOrder (rows_of (found_of found.now)) Subcommand.Script) }
+    ensures refused { IfErr result (IsLacking (rows_of (found_of found.now)) Subcommand.Script) }
+{
+    Ok(Order::Script(ScriptFile {
+        db: text(alloc, found, LineOption::Database)?,
+        file: text(alloc, found, LineOption::File)?,
+    }))
+}
+
+/// The topic of an explanation.
+fn explain(alloc: Global, found: &ArgMatches<'_>) -> Result<Order, Usage>
+    ensures order { IfOk result (IsOrder (rows_of (found_of found.now)) Subcommand.Explain) }
+    ensures refused { IfErr result (λ usage. usage ≡ Usage.Memory) }
+{
+    Ok(Order::Explain(Topic {
+        name: text_if_any(alloc, found, LineOption::Topic)?,
+        detail: text_if_any(alloc, found, LineOption::Detail)?,
+    }))
+}
+
+/// What a subcommand asks for, with the values that `clap` found. A view is looked at before memory is taken: an unknown
+/// one is never told as want of memory.
+fn order_of(alloc: Global, subcommand: Subcommand, found: &ArgMatches<'_>) -> Result<Order, Usage>
+    ensures order { IfOk result (IsOrder (rows_of (found_of found.now)) subcommand) }
+    ensures refused { IfErr result (IsUnread (rows_of (found_of found.now)) subcommand) }
+    ensures wants { WantsOnly result
+        (subcommand ≡ Subcommand.Show → IsSeen (rows_of (found_of found.now))) }
+{
+    match subcommand {
+        Subcommand::Import(kind) => line(alloc, import(alloc, kind, found)?, found),
+        Subcommand::Pass(its) => line(alloc, pass(alloc, its, found)?, found),
+        Subcommand::Cancel => line(alloc, cancel(alloc, found)?, found),
+        Subcommand::Cycle => line(alloc, cycle(alloc, found)?, found),
+        Subcommand::Show => line(alloc, Asking::Show(view(found)?), found),
+        Subcommand::Upgrade => line(alloc, Asking::Upgrade, found),
+        Subcommand::Script => script(alloc, found),
+        Subcommand::Check => Ok(Order::Check(text(alloc, found, LineOption::Checked)?)),
+        Subcommand::Explain => explain(alloc, found),
+    }
+}
+
+/// What the words ask for that `clap` took apart.
+fn order_in(alloc: Global, matches: &ArgMatches<'_>) -> Result<Order, Usage>
+    ensures order { IfOk result (λ order.
+        OfTaken (λ words. IsOrderOf words order) (subcommand_rows_of matches.now)) }
+    ensures refused { IfErr result (λ usage.
+        OfTaken (λ words. Explains words usage) (subcommand_rows_of matches.now)) }
+{
+    let Some((name, found)) = matches.subcommand() else {
+        return Err(Usage::Incomplete);
+    };
+    match Subcommand::named(name) {
+        Some(subcommand) => order_of(alloc, subcommand, found),
+        None => Err(Usage::Incomplete),
+    }
+}
+
+/// What the words ask for, of which the first is the program's name. `clap` takes them apart: one subcommand, each
+/// option given once, `--db` always but for an explanation; limits and ages are numbers of 64 bits. Other words, and a
+/// request for help, are `Refused`; a view that there is not is `UnknownView`. Memory may be wanted for any words, by
+/// `clap` too.
+pub fn read_words(alloc: Global, words: &[String]) -> Result<Order, Usage>
+    ensures order { IfOk result (IsOrderOf (map string_bytes words.now)) }
+    ensures refused { IfErr result (Explains (map string_bytes words.now)) }
+{
+    let matches = parse(alloc, words)?;
+    order_in(alloc, &matches)
+}

@@ -1,0 +1,2 @@
+pub mod CopyLemmas
+pub mod RunLemmas

@@ -1,0 +1,18 @@
+use Rattle.std.proofs.Common.{◌<◌, ◌≤◌, inl, inr, refl, subst}
+use Rattle.std.specs.Prelude.{vec_len}
+use Rattle.wu_process.proofs.RunLemmas.{obeyed}
+use Rattle.wu_process.proofs.run_with.Goals as goal
+
+pub returns-in-Ok : goal.returns-in-Ok
+returns-in-Ok g c =
+    let short : vec_len c.in-Ok.words ≤ 1 = subst (λ n. n ≤ 1) c.len.ensures c.if-len-le1.true in
+    rw c.in-Ok.is (inl (short, c.demonstrate.ensures, refl))
+
+pub returns-in-Ok-2 : goal.returns-in-Ok-2
+returns-in-Ok-2 g c =
+    let ran = obeyed g.O.Write.contents g.E.Write.contents _ c.args.out.now c.run_words.new.out c.args.err.now c.ended.new.err c.run_words.result.0 c.run_words.result.1 c.ended.result (rw c.as_slice.ensures.value at c.run_words.ensures) c.ended.ensures in
+    let long : 1 < vec_len c.in-Ok.words = subst (λ n. 1 < n) c.len.ensures c.if-len-le1.false in
+    rw c.in-Ok.is (inr (long, ran))
+
+pub returns-in-Err : goal.returns-in-Err
+returns-in-Err g c = rw c.in-Err.is (c.unheard.result, c.unheard.ensures, c.ended-in-Err.ensures.tells, refl)

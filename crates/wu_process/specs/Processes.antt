@@ -1,0 +1,33 @@
+-- What the program does with the words of its process: the demonstration, or what they ask for.
+use Rattle.std.specs.Prelude.{◌≡◌, ◌<◌, ◌≤◌, ◌⊎◌, ℕ, List, map, Option, Result, Ok, Err, String, string_bytes, vec_len}
+use Rattle.std.specs.IoError.{error_kind}
+use Rattle.std.specs.declared.alloc.Global.{Global}
+use Rattle.std.specs.declared.io.Error.{Error}
+use Rattle.std.specs.declared.vec.Vec.{Vec}
+use Rattle.sqlite_disk.specs.declared.Disk.{Ghosts}
+use Rattle.sqlite_disk.specs.declared.calls.Calls as calls
+use Rattle.sqlite_disk.specs.declared.modelled.Modelled.{Modelled}
+use Rattle.sqlite_disk.specs.declared.start.Start as start
+use Rattle.sqlite_std_file.specs.declared.host.Host.{Host}
+use Rattle.wu_drive.specs.Demonstration.{IsDemonstrated}
+use Rattle.wu_cli.specs.Troubles.{IsUnheard}
+use Rattle.wu_cli.specs.declared.trouble.Trouble.{Trouble}
+use Rattle.wu_process.specs.Running.{Obeys, TellsTrouble}
+use Rattle.wu_process.specs.declared.End.{End}
+
+-- with status 0 all that the demonstration prints went out
+abbrev pub Demonstrates : Option (List ℕ) → Option (List ℕ) → ℕ → Type 0
+Demonstrates old new status = status ≡ 0 → IsDemonstrated old new
+
+module _ {S W E : Type 0} {c : calls.Ghosts Host} {s : start.Ghosts S} {g : Ghosts (Modelled Host S c s)} (contents : W → Option (List ℕ)) (told_of : E → Option (List ℕ)) (old new : W) (err_old err_new : E) (end : End (Modelled Host S c s) g) where
+  -- without a word after the program's name it is demonstrated, and nothing is told; else what they ask for is done
+  abbrev pub RunsGiven : Vec (String Global) Global → Type 0
+  RunsGiven words =
+      ((vec_len words ≤ 1) × Demonstrates (contents old) (contents new) end.status × (err_new ≡ err_old))
+      ⊎ ((1 < vec_len words) × Obeys contents told_of (map string_bytes words.items) old new err_old err_new end)
+
+  -- words that could not be had are told as such, and nothing goes out
+  abbrev pub RunsProcess : Result (Vec (String Global) Global) Error → Type 0
+  RunsProcess (Ok words) = RunsGiven words
+  RunsProcess (Err error) =
+      (told : Trouble) × IsUnheard (error_kind error) told × TellsTrouble {T = Unit {0}} told_of err_old err_new (Err told) end.status end.is_told × (new ≡ old)

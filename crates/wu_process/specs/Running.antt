@@ -1,0 +1,109 @@
+-- A whole run of the program, from its words to its status and to what it leaves of the database.
+use Rattle.std.specs.Prelude.{◌≡◌, ◌⊎◌, ℕ, Bool, true, List, Option, Some, None, Result, Ok, Err}
+use Rattle.sqlite_disk.specs.declared.Disk.{Ghosts}
+use Rattle.sqlite_disk.specs.declared.calls.Calls as calls
+use Rattle.sqlite_disk.specs.declared.modelled.Modelled.{Modelled}
+use Rattle.sqlite_disk.specs.declared.start.Start as start
+use Rattle.sqlite_std_file.specs.declared.host.Host.{Host}
+use Rattle.sqlite_store.specs.declared.store.FileStore.{FileStore}
+use Rattle.sqlite_wal.specs.Files.{image_at}
+use Rattle.sqlite.specs.Files.{over_files}
+use Rattle.sqlite.specs.Held.{Held}
+use Rattle.sqlite.specs.declared.error.Error.{Error}
+use Rattle.sqlite.specs.declared.file.Leftover.{Leftover}
+use Rattle.wu_schema.specs.Faults.{fault_of}
+use Rattle.wu_arguments.specs.Refusals.{IsOrderOf}
+use Rattle.wu_arguments.specs.declared.order.Order.{Order}
+use Rattle.wu_arguments.specs.declared.order.Order.TheVariants as order
+use Rattle.wu_arguments.specs.declared.order.Topic.{Topic}
+use Rattle.wu_cli.specs.Endings.{WritesAll}
+use Rattle.wu_cli.specs.Explaining.{ExplainsTopic}
+use Rattle.wu_cli.specs.Printing.{PrintsOver}
+use Rattle.wu_cli.specs.Troubles.{trouble_of_opening, trouble_status, trouble_text}
+use Rattle.wu_cli.specs.Working.{DoesOver, DrivesOver}
+use Rattle.wu_cli.specs.declared.trouble.Trouble.{Trouble}
+use Rattle.wu_cli.specs.declared.work.Work.{Work}
+use Rattle.wu_process.specs.Asking.{AsksFor, database_in, RefusesWords}
+use Rattle.wu_process.specs.Checks.{ChecksPath}
+use Rattle.wu_process.specs.Closing.{IsLeftByClose}
+use Rattle.wu_process.specs.Opening.{IsOpenedAt, IsUnopened}
+use Rattle.wu_process.specs.declared.database.Left.{Left}
+use Rattle.wu_process.specs.declared.database.Left.TheVariants as left
+use Rattle.wu_process.specs.declared.End.{End}
+
+-- without a trouble the status is 0 and nothing is told; else that of the trouble, whose text goes out, or a beginning
+-- of it
+abbrev pub TellsTrouble : {W T : Type 0} → (W → Option (List ℕ)) → W → W → Result T Trouble → ℕ → Bool → Type 0
+TellsTrouble contents old new (Ok done) status is_told = (status ≡ 0) × (new ≡ old) × (is_told ≡ true)
+TellsTrouble contents old new (Err trouble) status is_told =
+    (status ≡ trouble_status trouble) × WritesAll (contents old) (contents new) (trouble_text trouble) is_told
+
+-- a run ends with the status of its trouble, which is told, and with what is left of its database
+pub record EndsSo {D W : Type 0} {g : Ghosts D} (contents : W → Option (List ℕ)) (old new : W) (done : Result (Unit {0}) Trouble) (left : Option (Left D g)) (end : End D g) : Type 0 where
+  pub tells : TellsTrouble contents old new done end.status end.is_told
+  pub same : end.left ≡ left
+
+module _ {D W : Type 0} {g : Ghosts D} (contents : W → Option (List ℕ)) where
+  -- the work is done over an open database, and that is closed
+  pub record DoesAndCloses (conn : Held (FileStore D g)) (work : Work) (old new : W) (done : Result (Unit {0}) Trouble) (left : Left D g) : Type 0 where
+    pub again : Held (FileStore D g)
+    pub does : DoesOver over_files contents conn again old new work done
+    pub drives : DrivesOver over_files conn again work done
+    pub prints : PrintsOver over_files contents conn again old new work done
+    pub closed : IsLeftByClose again left
+
+-- the words ask for no work: the trouble of that is told, and nothing goes out
+pub record RunsNothing {W : Type 0} (words : List (List ℕ)) (old new : W) (done : Result (Unit {0}) Trouble) : Type 0 where
+  pub trouble : Trouble
+  pub refused : RefusesWords words trouble
+  pub told : done ≡ Err trouble
+  pub unwritten : new ≡ old
+
+module _ {W : Type 0} (contents : W → Option (List ℕ)) where
+  -- the words ask for a check, or for an explanation
+  abbrev pub RunsAside : List (List ℕ) → W → W → Result (Unit {0}) Trouble → Type 0
+  RunsAside words old new done =
+      ((path : List ℕ) × IsOrderOf words (order.Check path) × ChecksPath contents path old new done)
+      ⊎ ((topic : Topic) × IsOrderOf words (order.Explain topic) × ExplainsTopic contents old new done)
+
+module _ {S W : Type 0} {c : calls.Ghosts Host} {s : start.Ghosts S} {g : Ghosts (Modelled Host S c s)} (contents : W → Option (List ℕ)) where
+  -- the database of this path is opened, over two files that held what the start says, and the work is done over it
+  pub record DoesOpened (path : List ℕ) (work : Work) (old new : W) (done : Result (Unit {0}) Trouble) (left : Left (Modelled Host S c s) g) : Type 0 where
+    pub conn : Held (FileStore (Modelled Host S c s) g)
+    pub opened : IsOpenedAt path (image_at s) conn
+    pub does : DoesAndCloses contents conn work old new done left
+
+  -- it can't be opened: the trouble of that is told, and nothing goes out
+  pub record DoesUnopened (path : List ℕ) (old new : W) (done : Result (Unit {0}) Trouble) (error : Error) (rest : Option (Leftover (Modelled Host S c s) g)) : Type 0 where
+    pub unopened : IsUnopened path error rest
+    pub told : done ≡ Err (trouble_of_opening (fault_of error))
+    pub unwritten : new ≡ old
+
+  abbrev pub OpensAndDoes : List ℕ → Work → W → W → Result (Unit {0}) Trouble → Left (Modelled Host S c s) g → Type 0
+  OpensAndDoes path work old new done (left.Unopened error rest) = DoesUnopened path old new done error rest
+  OpensAndDoes path work old new done other = DoesOpened path work old new done other
+
+  -- what is asked is done over the database of this path, or it can't be asked, and nothing is done or goes out
+  abbrev pub RunsWork : List ℕ → Result Work Trouble → W → W → Result (Unit {0}) Trouble → Option (Left (Modelled Host S c s) g) → Type 0
+  RunsWork path (Ok work) old new done (Some left) = OpensAndDoes path work old new done left
+  RunsWork path (Ok work) old new done None = ⊥
+  RunsWork path (Err trouble) old new done (Some left) = ⊥
+  RunsWork path (Err trouble) old new done None = (done ≡ Err trouble) × (new ≡ old)
+
+  -- the words ask for this work, and it is done over the database that they name
+  pub record RunsAsked (words : List (List ℕ)) (old new : W) (done : Result (Unit {0}) Trouble) (left : Left (Modelled Host S c s) g) : Type 0 where
+    pub order : Order
+    pub work : Work
+    pub asked : AsksFor words order work
+    pub runs : OpensAndDoes (database_in order) work old new done left
+
+  -- files of a database come back only where its work was asked for
+  abbrev pub RunsWords : List (List ℕ) → W → W → Result (Unit {0}) Trouble → Option (Left (Modelled Host S c s) g) → Type 0
+  RunsWords words old new done (Some left) = RunsAsked words old new done left
+  RunsWords words old new done None = RunsNothing words old new done ⊎ RunsAside contents words old new done
+
+  -- what the words ask for is done up to the first trouble, and that is told with its status
+  pub record Obeys {E : Type 0} (told_of : E → Option (List ℕ)) (words : List (List ℕ)) (old new : W) (err_old err_new : E) (end : End (Modelled Host S c s) g) : Type 0 where
+    pub done : Result (Unit {0}) Trouble
+    pub runs : RunsWords words old new done end.left
+    pub tells : TellsTrouble told_of err_old err_new done end.status end.is_told

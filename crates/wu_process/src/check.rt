@@ -1,0 +1,68 @@
+//! A check of a database: its files are copied into memory, and the copy is opened and looked at.
+
+ghost use Rattle.std.specs.Prelude.{IsTrue};
+ghost use Rattle.wu_cli.specs.Checking.{ChecksOver};
+ghost use Rattle.wu_process.specs.Checks.{ChecksFiles, ChecksPath, DropsChecked};
+
+use crate::copy::{copies_of, read_database};
+use sqlite::{Alter, Connection, Files, Options};
+use sqlite_disk::Disk;
+use std::alloc::Global;
+use std::hash::{BuildHasher, RandomState};
+use std::io::Write;
+use wu_cli::{Reason, Trouble, check_over};
+
+/// Checks an open database, as `check_over`, and lets go of it. Nothing is written to its files.
+///
+/// It stands over any store: what is asked of one over files is proved again at each such call and drop.
+fn check_and_drop<S: Alter + Drop, O: Write>(
+    alloc: Global,
+    conn: Connection<S>,
+    out: &mut O,
+) -> Result<(), Trouble>
+    ensures { DropsChecked S.Store O.contents conn out.old out.new result }
+{
+    let mut conn = conn;
+    check_over(alloc, &mut conn, out)
+}
+
+/// Opens the database in two files, and checks it. Where it can't be opened, why is the trouble, and nothing goes out.
+fn check_files<D: Disk + Drop, O: Write>(
+    alloc: Global,
+    files: Files<D>,
+    options: Options,
+    out: &mut O,
+) -> Result<(), Trouble>
+    requires log { IsTrue (D.Disk.is_usable files.log) }
+    requires db { IsTrue (D.Disk.is_usable files.db) }
+    ensures { ChecksFiles D.Disk O.contents files out.old out.new result }
+{
+    match Connection::open_files(alloc, files, options) {
+        Ok(conn) => check_and_drop(alloc, conn, out),
+        Err((error, _left)) => Err(Trouble::Unchecked(Reason::of(&error))),
+    }
+}
+
+/// Options with a seed of this run.
+fn options(rt: &HostRuntime) -> Options {
+    let seed = match RandomState::new(rt) {
+        Ok(state) => state.hash_one(&0u8),
+        Err(_) => 0,
+    };
+    Options::new(seed)
+}
+
+/// Checks a copy of the database at the path. Where its files can't be read, or not be copied, why is the trouble, and
+/// nothing goes out.
+pub fn check_path<O: Write>(rt: &HostRuntime, path: &str, out: &mut O) -> Result<(), Trouble>
+    ensures { ChecksPath O.contents path.now out.old out.new result }
+{
+    let bytes = match read_database(rt, path) {
+        Ok(bytes) => bytes,
+        Err(reason) => return Err(Trouble::Unchecked(reason)),
+    };
+    match copies_of(rt.alloc(), &bytes) {
+        Ok(files) => check_files(rt.alloc(), files, options(rt), out),
+        Err(reason) => Err(Trouble::Unchecked(reason)),
+    }
+}

@@ -1,0 +1,152 @@
+//! The two files of a database, copied into memory: they are read, and nothing of them is made or changed.
+
+ghost use Rattle.std.specs.Prelude.{◌≡◌, IfErr, IfOk};
+ghost use Rattle.wu_cli.specs.declared.reason.Reason.TheVariants.{Memory as WantsMemory};
+ghost use Rattle.wu_process.specs.Copies.{AreCopiesOf, IsCopyOf};
+
+use sqlite::{FileFrom, Files};
+use sqlite_disk::{Disk, Memory, Wary};
+use sqlite_std_file::OpenError;
+use std::alloc::Global;
+use std::fs;
+use std::io::{self, ErrorKind};
+use std::time::SystemTime;
+use wu_cli::Reason;
+
+/// The bytes of the files of a database.
+#[derive(Drop)]
+pub struct FileBytes<'a> {
+    /// Where the database lies.
+    pub path: &'a str,
+    /// Of the log; none where there is no log.
+    pub log: Vec<u8>,
+    pub db: Vec<u8>,
+}
+
+/// Holds a database that has a log against other programs, as an opening does, which makes a log only where there is none.
+/// Without a log it is open in no such program, and nothing is held.
+fn hold(rt: &HostRuntime, path: &str, log: &str) -> Result<Option<Files<FileFrom<Wary>>>, Reason> {
+    match fs::exists(rt, log) {
+        Ok(true) => {}
+        Ok(false) => return Ok(None),
+        Err(error) => return Err(Reason::of_file(&error)),
+    }
+    match sqlite_std_file::open(rt, path, Wary) {
+        Ok(files) => Ok(Some(files)),
+        Err(OpenError::Busy) => Err(Reason::InUse),
+        Err(OpenError::OutOfMemory) => Err(Reason::Memory),
+        Err(OpenError::Io(error)) => Err(Reason::of_file(&error)),
+        Err(OpenError::HotJournal) => Err(Reason::Refused),
+    }
+}
+
+/// When a file was last written to.
+fn written_at(rt: &HostRuntime, path: &str) -> Result<SystemTime, Reason> {
+    let found = fs::metadata(rt, path).map_err(|error| Reason::of_file(&error))?;
+    if !found.is_file() {
+        return Err(Reason::Refused);
+    }
+    found.modified().map_err(|error| Reason::of_file(&error))
+}
+
+/// The bytes of a file, or none where there is none.
+fn bytes_if_any(rt: &HostRuntime, path: &str) -> io::Result<Vec<u8>> {
+    match fs::read(rt, path) {
+        Err(error) if error.kind() == ErrorKind::NotFound => Ok(Vec::new(rt.alloc())),
+        read => read,
+    }
+}
+
+/// Refuses a database with a rollback journal that begins with anything but a zero: only SQLite plays it back.
+fn refuse_journal(rt: &HostRuntime, path: &str) -> Result<(), Reason> {
+    let journal = format!(in rt.alloc(); "{path}-journal").map_err(|_| Reason::Memory)?;
+    match bytes_if_any(rt, journal.as_str()) {
+        Ok(bytes) if bytes.is_empty() || bytes[0] == 0 => Ok(()),
+        Ok(_) => Err(Reason::Refused),
+        Err(error) => Err(Reason::of_file(&error)),
+    }
+}
+
+/// The bytes of both files, where no journal lies beside them, before and behind.
+fn read_both<'a>(
+    rt: &HostRuntime,
+    path: &'a str,
+    real: &str,
+    log: &str,
+) -> Result<FileBytes<'a>, Reason>
+    ensures { IfOk result (λ bytes. bytes.path.now ≡ path.now) }
+{
+    refuse_journal(rt, real)?;
+    let log = bytes_if_any(rt, log).map_err(|error| Reason::of_reading(&error))?;
+    let db = fs::read(rt, real).map_err(|error| Reason::of_reading(&error))?;
+    refuse_journal(rt, real)?;
+    Ok(FileBytes { path, log, db })
+}
+
+/// The bytes of a database that nothing holds, where it has no log and was not written to since this moment.
+fn read_unheld<'a>(
+    rt: &HostRuntime,
+    path: &'a str,
+    real: &str,
+    log: &str,
+    before: SystemTime,
+) -> Result<FileBytes<'a>, Reason>
+    ensures { IfOk result (λ bytes. bytes.path.now ≡ path.now) }
+{
+    let bytes = read_both(rt, path, real, log)?;
+    if written_at(rt, real)? != before || hold(rt, real, log)?.is_some() {
+        return Err(Reason::InUse);
+    }
+    Ok(bytes)
+}
+
+/// The bytes of both files as they are at one moment: of those that are held, or that nobody wrote to meanwhile.
+fn read_at_once<'a>(
+    rt: &HostRuntime,
+    path: &'a str,
+    real: &str,
+    log: &str,
+) -> Result<FileBytes<'a>, Reason>
+    ensures { IfOk result (λ bytes. bytes.path.now ≡ path.now) }
+{
+    let before = written_at(rt, real)?;
+    match hold(rt, real, log)? {
+        Some(_held) => read_both(rt, path, real, log),
+        None => read_unheld(rt, path, real, log, before),
+    }
+}
+
+/// The bytes of the database at the path and of its log, as they are at one moment: what another program writes to
+/// meanwhile is in use. The log lies beside the file to which a link leads.
+pub fn read_database<'a>(rt: &HostRuntime, path: &'a str) -> Result<FileBytes<'a>, Reason>
+    ensures { IfOk result (λ bytes. bytes.path.now ≡ path.now) }
+{
+    let real = fs::canonicalize(rt, path).map_err(|error| Reason::of_file(&error))?;
+    let log = format!(in rt.alloc(); "{}-wal", real.as_str()).map_err(|_| Reason::Memory)?;
+    read_at_once(rt, path, real.as_str(), log.as_str())
+}
+
+/// A file in memory with these bytes.
+fn copy_of(alloc: Global, bytes: &[u8]) -> Result<Memory, Reason>
+    ensures copy { IfOk result (IsCopyOf bytes.now) }
+    ensures refused { IfErr result (λ reason. reason ≡ WantsMemory) }
+{
+    let mut file = Memory::new(alloc);
+    if bytes.is_empty() {
+        return Ok(file);
+    }
+    match file.write_at(0, bytes) {
+        Ok(()) => Ok(file),
+        Err(_) => Err(Reason::Memory),
+    }
+}
+
+/// The two files in memory, with these bytes.
+pub fn copies_of(alloc: Global, bytes: &FileBytes<'_>) -> Result<Files<Memory>, Reason>
+    ensures copies { IfOk result (AreCopiesOf bytes.now) }
+    ensures refused { IfErr result (λ reason. reason ≡ WantsMemory) }
+{
+    let log = copy_of(alloc, &bytes.log)?;
+    let db = copy_of(alloc, &bytes.db)?;
+    Ok(Files { log, db })
+}

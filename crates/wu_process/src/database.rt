@@ -1,0 +1,66 @@
+//! The database that words name: it is opened, the work done over it, and it is closed.
+
+ghost use Rattle.wu_process.specs.Closing.{IsLeftByClose};
+ghost use Rattle.wu_process.specs.Running.{RunsWork};
+
+use sqlite::{Connection, Error, FileFrom, FileStore, Files, Leftover, Start};
+use sqlite_disk::Disk;
+use std::io::Write;
+use wu_cli::{Trouble, Work, unopened};
+
+/// What is left of the database that words name.
+pub enum Left<D: Disk> {
+    /// It could not be opened: why, and what is left of its files, if they were opened.
+    Unopened(Error, Option<Leftover<D>>),
+    /// It was closed, and these are its files.
+    Closed(Files<D>),
+    /// It could not be closed.
+    Unclosed(Error, FileStore<D>),
+}
+
+// It is written out, so that a caller does not prove again how each part is dropped.
+impl<D: Disk + Drop> Drop for Left<D> {
+    fn drop(self) {
+        match self {
+            Left::Unopened(_error, _left) => {}
+            Left::Closed(_files) => {}
+            Left::Unclosed(_error, _store) => {}
+        }
+    }
+}
+
+/// Closes a database, as far as its files let it.
+fn close<D: Disk + Drop>(conn: Connection<FileStore<D>>) -> Left<D>
+    ensures { IsLeftByClose conn result }
+{
+    match conn.close_files() {
+        Ok(files) => Left::Closed(files),
+        Err((error, store)) => Left::Unclosed(error, store),
+    }
+}
+
+/// Opens the database, does the work that is asked over it, and closes it. The work has what the files hold, so these are
+/// read before. Where it can't be asked, or the database can't be opened, that is the trouble, and nothing is written.
+pub fn open_and_perform<S: Start, O: Write>(
+    rt: &HostRuntime,
+    database: &str,
+    asked: Result<Work, Trouble>,
+    start: S,
+    out: &mut O,
+) -> (Result<(), Trouble>, Option<Left<FileFrom<S>>>)
+    ensures { RunsWork O.contents database.now asked out.old out.new result.0 result.1 }
+{
+    match asked {
+        Ok(work) => match Connection::open_from(rt, database, false, start) {
+            Ok(conn) => {
+                let (conn, done) = work.perform_over(rt.alloc(), conn, out);
+                (done, Some(close(conn)))
+            }
+            Err((error, left)) => {
+                let trouble = unopened(&error);
+                (Err(trouble), Some(Left::Unopened(error, left)))
+            }
+        },
+        Err(trouble) => (Err(trouble), None),
+    }
+}

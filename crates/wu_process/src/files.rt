@@ -1,0 +1,31 @@
+//! The files of the host, as lines and scripts name them. That a file holds what is read of it, no clause can say.
+
+ghost use Rattle.wu_process.specs.Asking.{may_hold};
+
+use std::fs::File;
+use wu_arguments::{ReadFile, read_up_to, unread};
+use wu_core::Fault;
+
+/// What reads the files of the host.
+#[derive(Drop)]
+pub struct HostFiles<'a> {
+    rt: &'a HostRuntime,
+}
+
+impl<'a> HostFiles<'a> {
+    /// Reads them by this runtime.
+    pub fn new(rt: &'a HostRuntime) -> Self {
+        HostFiles { rt }
+    }
+}
+
+impl ReadFile for HostFiles<'_> {
+    ghost gives = { λ _ path most content. may_hold path most content };
+
+    fn read(&self, path: &str, most: usize) -> Result<Option<Vec<u8>>, Fault> {
+        match File::open(self.rt, path) {
+            Ok(file) => read_up_to(self.rt.alloc(), file, most),
+            Err(error) => unread(&error),
+        }
+    }
+}

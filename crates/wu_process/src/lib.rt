@@ -1,0 +1,151 @@
+//! What the program does with a process's words, files and outputs: a line or a script of an operator over a project in
+//! a database file, or with no word after its name the demonstration in memory. What is decided of them, and what is
+//! done over an open database, has its clauses in `wu_arguments` and `wu_cli`; here files are opened and read, and the
+//! clauses hold whatever they are. That they lie where the words say, no clause can say.
+#![tactic(auto)]
+
+ghost use Rattle.std.specs.Prelude.{map, string_bytes};
+ghost use Rattle.wu_process.specs.Running.{EndsSo, RunsWords, TellsTrouble};
+ghost use Rattle.wu_process.specs.Processes.{Demonstrates, RunsProcess};
+
+mod check;
+mod copy;
+mod database;
+mod files;
+mod signs;
+
+use check::check_path;
+pub use database::Left;
+use database::open_and_perform;
+use files::HostFiles;
+use signs::{Cleared, Signs, Watched};
+use sqlite::FileFrom;
+use sqlite_disk::{Disk, Wary};
+use std::alloc::Global;
+use std::env;
+use std::io::{self, BufWriter, IsTerminal, Write};
+use wu_arguments::{Order, read_words};
+use wu_cli::{Trouble, Work, explain, unheard};
+use wu_core::Fault;
+use wu_drive::demo;
+
+/// How a run of the program ended.
+#[derive(Drop)]
+pub struct End<D: Disk> {
+    /// The status to end with.
+    pub status: u8,
+    /// Whether all that there was to tell of a trouble went out.
+    pub is_told: bool,
+    /// What is left of the database that the words name; None where they ask for no work.
+    pub left: Option<Left<D>>,
+}
+
+/// Does what the words ask for, up to the first trouble. All files are read before the database is opened.
+fn run_words<S: sqlite::Start, O: Write>(
+    rt: &HostRuntime,
+    words: &[String],
+    start: S,
+    out: &mut O,
+) -> (Result<(), Trouble>, Option<Left<FileFrom<S>>>)
+    ensures { RunsWords O.contents (map string_bytes words.now)
+        out.old out.new result.0 result.1 }
+{
+    let alloc = rt.alloc();
+    let files = HostFiles::new(rt);
+    match read_words(alloc, words) {
+        Ok(Order::Line(line)) => {
+            let asked = Work::of_line(alloc, &line, &files);
+            open_and_perform(rt, line.db.as_str(), asked, start, out)
+        }
+        Ok(Order::Script(script)) => {
+            let asked = Work::of_script(alloc, &script, &files);
+            open_and_perform(rt, script.db.as_str(), asked, start, out)
+        }
+        Ok(Order::Check(path)) => (check_path(rt, path.as_str(), out), None),
+        Ok(Order::Explain(topic)) => (explain(alloc, &topic, out), None),
+        Err(usage) => (Err(Trouble::Usage(usage)), None),
+    }
+}
+
+/// Tells of the trouble that ended a run, if one did: the status to end with, and whether all of it went out.
+fn tell<E: Write>(done: Result<(), Trouble>, err: &mut E) -> (u8, bool)
+    ensures { TellsTrouble E.contents err.old err.new done result.0 result.1 }
+{
+    match done {
+        Ok(()) => (0, true),
+        Err(trouble) => {
+            let is_told = trouble.write(err);
+            (trouble.status(), is_told)
+        }
+    }
+}
+
+/// Tells of the trouble that ended a run, if one did, and gives how it ended.
+fn ended<D: Disk, E: Write>(run: (Result<(), Trouble>, Option<Left<D>>), err: &mut E) -> End<D>
+    ensures { EndsSo E.contents err.old err.new run.0 run.1 result }
+{
+    let (done, left) = run;
+    let (status, is_told) = tell(done, err);
+    End {
+        status,
+        is_told,
+        left,
+    }
+}
+
+/// The demonstration, and the status to end with: 0, or 1 on a fault, which is not told.
+fn demonstrate<O: Write>(alloc: Global, out: &mut O) -> u8
+    ensures { Demonstrates (O.contents out.old) (O.contents out.new) result }
+{
+    match demo(alloc, out) {
+        None => 0,
+        Some(_) => 1,
+    }
+}
+
+/// Does what the words of a process ask for, of which the first is the program's name, whatever the files of the
+/// database held at first; with no other word it is the demonstration. What is printed goes to the one writer, and the
+/// text of a trouble to the other. Words that could not be had are told as such.
+pub fn run_with<S: sqlite::Start, O: Write, E: Write>(
+    rt: &HostRuntime,
+    words: io::Result<Vec<String>>,
+    start: S,
+    out: &mut O,
+    err: &mut E,
+) -> End<FileFrom<S>>
+    ensures { RunsProcess O.contents E.contents out.old out.new err.old err.new result words }
+{
+    match words {
+        Ok(words) if words.len() <= 1 => End {
+            status: demonstrate(rt.alloc(), out),
+            is_told: true,
+            left: None,
+        },
+        Ok(words) => ended(run_words(rt, words.as_slice(), start, out), err),
+        Err(error) => ended((Err(unheard(rt.alloc(), &error)), None), err),
+    }
+}
+
+/// The words of the command line.
+fn words(rt: &HostRuntime) -> io::Result<Vec<String>> {
+    Ok(env::args(rt)?.collect(rt.alloc())?)
+}
+
+/// Does what the words of the command line ask for, as `run_with`, with the outputs of the process, over a database file of
+/// which nothing is supposed. Where standard error is a terminal, it shows there meanwhile how many answers have gone
+/// out, and the last one. It answers the status to end with.
+pub fn run(rt: &HostRuntime) -> u8 {
+    let is_terminal = rt.stderr().is_terminal();
+    let mut err = Cleared::new(rt.stderr(), is_terminal);
+    match BufWriter::new(rt.alloc(), rt.stdout()) {
+        Ok(out) => {
+            let signs = Signs::new(is_terminal.then_some(rt.stderr()));
+            let mut out = Watched::new(out, signs);
+            out.begin();
+            let status = run_with(rt, words(rt), Wary, &mut out, &mut err).status;
+            out.end();
+            status
+        }
+        Err(_) => tell(Err(Trouble::Fault(Fault::Memory)), &mut err).0,
+    }
+}

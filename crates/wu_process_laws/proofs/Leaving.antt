@@ -1,0 +1,470 @@
+-- From what a run found to what it left.
+use Rattle.std.proofs.Common.{◌≡◌, ◌⊎◌, ℕ, ◌+◌, true, false, Bool, List, [], ◌∷◌, ◌++◌, length, filter, codes, map, take, None, Option, Some, Result, Ok, Err, inl, inr, refl, sym, ap, subst, ◌∙◌, arith, IsTrue}
+use Rattle.std.proofs.Math.Logic.{∥∥₁_map}
+use Rattle.std.specs.List.{AllZip}
+use Rattle.std.proofs.lemmas.List.{map-append, take_more}
+use Rattle.std.proofs.lemmas.Option.{get_or_from_slice_get, slice_get_within}
+use Rattle.std.specs.Prelude.{OnOk, slice_get}
+use Rattle.sqlite_disk.specs.declared.Disk.{Ghosts}
+use Rattle.sqlite_disk.specs.declared.Files.{Files}
+use Rattle.sqlite_wal.proofs.LogLemmas.{SeenMayStay}
+use Rattle.sqlite_wal.specs.Files.{outcomes}
+use Rattle.sqlite_wal.specs.Reads.{AreClean}
+use Rattle.sqlite_wal.specs.Recovery.{Image}
+use Rattle.sqlite_trees.specs.Objects.{catalog_tree}
+use Rattle.sqlite_catalog.specs.Listing.{is_table_row, is_index_row, is_view_row, IsIndexRow, IsTableRow, IsViewRow, Lists}
+use Rattle.sqlite_pool.proofs.StateLemmas.{clean_is, may_leave_is}
+use Rattle.sqlite_trees.proofs.Doubt.{no_doubt}
+use Rattle.sqlite_trees.specs.View.{IsClean}
+use Rattle.sqlite_store.specs.FileStore.{state, view, files as store_files}
+use Rattle.sqlite_store.specs.Laws.{settled_at, stays_at}
+use Rattle.sqlite_store.specs.declared.store.FileStore.{FileStore}
+use Rattle.sqlite.specs.Closing.{IsCopied}
+use Rattle.sqlite.specs.Effect.{Database}
+use Rattle.sqlite.proofs.Theorems.{opens_again}
+use Rattle.sqlite.specs.Files.{AreFoundIn, HoldsDatabase, IsClosed, IsEmpty, IsOpened, file_state, over_files}
+use Rattle.sqlite.specs.Held.{Held}
+use Rattle.sqlite.specs.Order.{Row}
+use Rattle.sqlite.specs.Schema.{Schema}
+use Rattle.sqlite.specs.Start.{FindsIn}
+use Rattle.sqlite.specs.State.{HasCleanDisk}
+use Rattle.sqlite.specs.Tree.{Trees}
+use Rattle.wu_core.specs.World.{World}
+use Rattle.wu_core.specs.declared.fault.Fault.{Fault}
+use Rattle.wu_core.specs.declared.fault.Fault.TheVariants as fault
+use Rattle.wu_drive.proofs.DrivingLemmas.{fold_more}
+use Rattle.wu_drive.specs.Driving.{Drives, world_after}
+use Rattle.wu_machine.specs.Commands.{request_of}
+use Rattle.wu_machine.specs.Machine.{fold_steps, step}
+use Rattle.wu_machine.specs.declared.command.Command.{Command}
+use Rattle.wu_machine.specs.Sound.{IsProject}
+use Rattle.wu_machine.specs.declared.command.Answer.{Answer}
+use Rattle.wu_passes.specs.Adopting.{IsVacant}
+use Rattle.wu_passes.specs.Committing.{FoundAs}
+use Rattle.wu_passes.specs.Projects.{has_ended, state_of}
+use Rattle.wu_passes.specs.Standing.{GoesOn}
+use Rattle.wu_schema.specs.Refines.{IsFree}
+use Rattle.wu_store.specs.StandsFor.{StandsFor}
+use Rattle.wu_stops.proofs.StoppingLemmas.{stands_still}
+use Rattle.wu_schema.proofs.VersionLemmas.{free_lacks}
+use Rattle.wu_arguments.specs.Statuses.{fault_status, refusal_status, usage_status}
+use Rattle.wu_arguments.specs.declared.action.Action.TheVariants.{Commands, Look}
+use Rattle.wu_arguments.specs.declared.refusal.Refusal.{Refusal}
+use Rattle.wu_arguments.specs.declared.refusal.Refusal.TheVariants as refusal
+use Rattle.wu_arguments.specs.declared.usage.Usage.{Usage}
+use Rattle.wu_arguments.specs.declared.usage.Usage.TheVariants as usage
+use Rattle.wu_cli.specs.Scripting.{so_far}
+use Rattle.wu_cli.specs.Troubles.{trouble_status}
+use Rattle.wu_cli.specs.Working.{BeginsFrom, commands_of_work, DoesAdopted, DoesNothing, DoesOver, DrivesOver, DrivesWork, line_outcome, RefusesWork}
+use Rattle.wu_cli.proofs.PrintLemmas.{one_prints}
+use Rattle.wu_cli.proofs.ScriptLemmas.{script_clean}
+use Rattle.wu_cli.proofs.TellingLemmas.{drives_script}
+use Rattle.wu_cli.proofs.WorkLemmas.{begins, line_whole, script_whole, work_clean}
+use Rattle.wu_passes.proofs.SessionLemmas.{over_shows}
+use Rattle.wu_machine.specs.declared.view.View.{View}
+use Rattle.wu_report.specs.Texts.{view_text}
+use Rattle.wu_report.specs.Writing.{AppendsFront, WritesTo}
+use Rattle.wu_arguments.specs.declared.step.Step.{Step}
+use Rattle.std.proofs.Math.Seq.{take-length}
+use Rattle.std.specs.Io.KnownBytes.{Appends}
+use Rattle.wu_cli.specs.Checks.{reason_status}
+use Rattle.wu_cli.specs.declared.reason.Reason.{Reason}
+use Rattle.wu_cli.specs.declared.reason.Reason.TheVariants as reason
+use Rattle.wu_cli.specs.declared.trouble.Trouble.{Trouble}
+use Rattle.wu_cli.specs.declared.trouble.Trouble.TheVariants as trouble
+use Rattle.wu_cli.specs.declared.work.Work.{Work}
+use Rattle.wu_cli.specs.declared.work.Work.TheVariants as work
+use Rattle.sqlite_disk.specs.declared.calls.Calls as calls
+use Rattle.sqlite_disk.specs.declared.modelled.Modelled.{Modelled}
+use Rattle.sqlite_disk.specs.declared.start.Start as start
+use Rattle.sqlite_std_file.specs.declared.host.Host.{Host}
+use Rattle.sqlite_wal.specs.Files.{image_at}
+use Rattle.wu_stops.specs.Closing.{IsNumbered}
+use Rattle.wu_lives.specs.Runs.{HoldsWorld}
+use Rattle.wu_process.specs.Opening.{IsOpenedAt}
+use Rattle.wu_process.specs.Running.{TellsTrouble}
+use Rattle.wu_process.specs.declared.End.{End}
+use Rattle.wu_process.specs.declared.database.Left.TheVariants as left
+use Rattle.wu_process_laws.specs.Runs.{BeginsWhereOneEnded, BeginsWhereOneStopped, done_by, done_by_unclosed, HoldAfter, HoldAfterOneMore, Holds, LeavesAsItWas, LeavesDone, LeavesItsDone, LeavesItsDoneOrMore, LeavesItsWork, LeavesItsWorkUnclosed, OfEachImage, ImageRefines, TellsDone}
+
+-- ---- statuses
+
+fault_told : (f : Fault) → fault_status f ≡ 0 → ⊥
+fault_told fault.BadName none = absurd (omega (arith, none))
+fault_told (fault.BadTemplate key) none = absurd (omega (arith, none))
+fault_told (fault.BadFile row cause) none = absurd (omega (arith, none))
+fault_told fault.NameUsed none = absurd (omega (arith, none))
+fault_told (fault.WorkunitUsed n) none = absurd (omega (arith, none))
+fault_told fault.TooMany none = absurd (omega (arith, none))
+fault_told fault.BadMoment none = absurd (omega (arith, none))
+fault_told fault.BadLimit none = absurd (omega (arith, none))
+fault_told fault.UnknownWorkunit none = absurd (omega (arith, none))
+fault_told fault.NotOpenToCancel none = absurd (omega (arith, none))
+fault_told (fault.OldSchema n) none = absurd (omega (arith, none))
+fault_told (fault.NewSchema n) none = absurd (omega (arith, none))
+fault_told fault.NotAProject none = absurd (omega (arith, none))
+fault_told fault.Memory none = absurd (omega (arith, none))
+fault_told fault.Broken none = absurd (omega (arith, none))
+fault_told fault.Output none = absurd (omega (arith, none))
+fault_told fault.Ended none = absurd (omega (arith, none))
+
+usage_told : (u : Usage) → usage_status u ≡ 0 → ⊥
+usage_told (usage.Refused word) none = absurd (omega (arith, none))
+usage_told usage.UnknownView none = absurd (omega (arith, none))
+usage_told usage.Incomplete none = absurd (omega (arith, none))
+usage_told usage.Memory none = absurd (omega (arith, none))
+
+refusal_told : (r : Refusal) → refusal_status r ≡ 0 → ⊥
+refusal_told (refusal.Text cause) none = absurd (omega (arith, none))
+refusal_told (refusal.Words u) none = usage_told u none
+refusal_told (refusal.Outsider outsider) none = absurd (omega (arith, none))
+refusal_told refusal.Repeat none = absurd (omega (arith, none))
+refusal_told (refusal.Fault f) none = fault_told f none
+
+reason_told : (r : Reason) → reason_status r ≡ 0 → ⊥
+reason_told reason.NoFile none = absurd (omega (arith, none))
+reason_told reason.InUse none = absurd (omega (arith, none))
+reason_told reason.NoDatabase none = absurd (omega (arith, none))
+reason_told reason.Damaged none = absurd (omega (arith, none))
+reason_told reason.FailingDisk none = absurd (omega (arith, none))
+reason_told reason.FullDisk none = absurd (omega (arith, none))
+reason_told reason.Refused none = absurd (omega (arith, none))
+reason_told reason.Memory none = absurd (omega (arith, none))
+
+trouble_told : (t : Trouble) → trouble_status t ≡ 0 → ⊥
+trouble_told (trouble.Usage u) none = usage_told u none
+trouble_told (trouble.BadLine bad) none = refusal_told bad.why none
+trouble_told trouble.Unopened none = absurd (omega (arith, none))
+trouble_told (trouble.Fault f) none = fault_told f none
+trouble_told (trouble.LineFault end) none = fault_told end.fault none
+trouble_told (trouble.Unchecked r) none = reason_told r none
+trouble_told (trouble.Unsound found) none = absurd (omega (arith, none))
+
+-- with status 0 there was no trouble
+whole_at : {W : Type 0} (contents : W → Option (List ℕ)) (old new : W) (done : Result (Unit {0}) Trouble) (status : ℕ) (is_told : Bool) (A : Type 0)
+    → TellsTrouble contents old new done status is_told → OnOk done A → status ≡ 0 → A
+whole_at contents old new (Ok done) status is_told A tells whole none = whole
+whole_at contents old new (Err t) status is_told A tells whole none = absurd (trouble_told t (sym tells.0 ∙ none))
+
+status_at : {W : Type 0} (contents : W → Option (List ℕ)) (old new : W) (done : Result (Unit {0}) Trouble) (status : ℕ) (is_told : Bool) (f : Fault)
+    → TellsTrouble contents old new done status is_told → done ≡ Err (trouble.Fault f) → status ≡ fault_status f
+status_at contents old new done status is_told f tells told =
+    (subst (λ (d : Result (Unit {0}) Trouble). TellsTrouble contents old new d status is_told) told tells).0
+
+-- ---- what is doubted of the disk stays doubted through a run
+
+was_clean : {D W : Type 0} {g : Ghosts D} (contents : W → Option (List ℕ)) (conn again : Held (FileStore D g)) (old new : W) (asked : Work) (done : Result (Unit {0}) Trouble)
+    → DoesOver over_files contents conn again old new asked done → HasCleanDisk (file_state again) → HasCleanDisk (file_state conn)
+was_clean contents conn again old new asked done (inl does) clean =
+    let after : HasCleanDisk (state_of does.new) = subst (λ c. HasCleanDisk (file_state c)) does.released clean in
+    let kept = work_clean contents does.old does.new old new asked done does.does in
+    omega (arith, kept, after, does.adopts.clean)
+was_clean contents conn again old new asked done (inr none) clean = omega (arith, clean, none.refused.clean)
+
+-- ---- what was told of the work
+
+module _ {D W : Type 0} {g : Ghosts D} (contents : W → Option (List ℕ)) (conn again : Held (FileStore D g)) (old new : W) (done : Result (Unit {0}) Trouble) where
+  abbrev ToldWork : World → Work → Type 0
+  ToldWork world asked = (it : DrivesWork world asked done (file_state again)) × TellsDone (contents old) (contents new) world asked it.answers it.count
+
+  -- a line of commands was done over an adopted project
+  line_told : (commands : List Command) (does : DoesAdopted over_files contents conn again old new (work.Line (Commands commands)) done) → HasCleanDisk (file_state again) → (world : World) → IsProject world
+      → BeginsFrom (file_state conn) world → ToldWork world (work.Line (Commands commands))
+  line_told commands does clean world project begun =
+      let (end, (run, runs, is), told) = does.does in
+      let (answers, written, driven, driven_from) = runs.answers in
+      let after : HasCleanDisk (state_of does.new) = subst (λ c. HasCleanDisk (file_state c)) does.released clean in
+      let before : HasCleanDisk (state_of does.old) = let kept = runs.clean in omega (arith, kept, after) in
+      let over = begins over_files contents conn again old new _ done does before world project begun in
+      let drives = driven does.begins after world over in
+      let it : Drives world commands answers (so_far run.acknowledged) (has_ended does.new) (state_of does.new) = record {
+        within = drives.within;
+        answered = drives.answered;
+        end = λ fault told. absurd (cc);
+        goes = drives.goes;
+        ended = drives.ended;
+        project = drives.project;
+        cut_project = drives.cut_project;
+      } in
+      let whole : OnOk done (run.acknowledged ≡ length commands) = subst (λ (d : Result (Unit {0}) Trouble). OnOk d (run.acknowledged ≡ length commands)) (sym told) (line_whole end _ (λ none. runs.all (is ∙ none))) in (
+        record {
+          count = run.acknowledged;
+          answers = answers;
+          is_cut = has_ended does.new;
+          drives = subst (λ c. Drives world commands answers (so_far run.acknowledged) (has_ended does.new) (file_state c)) (sym does.released) it;
+          whole = whole;
+        },
+        (run.end, written),
+      )
+
+  -- a script was
+  script_told : (steps : List Step) (does : DoesAdopted over_files contents conn again old new (work.Script steps) done) → HasCleanDisk (file_state again) → (world : World) → IsProject world
+      → BeginsFrom (file_state conn) world → ToldWork world (work.Script steps)
+  script_told steps does clean world project begun =
+      let (end, performs, told) = does.does in
+      let after : HasCleanDisk (state_of does.new) = subst (λ c. HasCleanDisk (file_state c)) does.released clean in
+      let before : HasCleanDisk (state_of does.old) = let kept = script_clean contents does.old does.new old new steps end performs in omega (arith, kept, after) in
+      let over = begins over_files contents conn again old new _ done does before world project begun in
+      let driven = drives_script contents does.old does.new old new steps end performs does.begins after world over in
+      let commands = commands_of_work world (work.Script steps) in
+      let whole : OnOk done (driven.count ≡ length commands) = subst (λ (d : Result (Unit {0}) Trouble). OnOk d (driven.count ≡ length commands)) (sym told) (script_whole end _ driven.whole) in (
+        record {
+          count = driven.count;
+          answers = driven.answers;
+          is_cut = driven.is_cut;
+          drives = subst (λ c. Drives world commands driven.answers (so_far driven.count) driven.is_cut (file_state c)) (sym does.released) driven.drives;
+          whole = whole;
+        },
+        (end, driven.told),
+      )
+
+  -- a view was shown
+  view_told : (view : View) (does : DoesAdopted over_files contents conn again old new (work.Line (Look view)) done) → HasCleanDisk (file_state again) → (world : World) → IsProject world
+      → BeginsFrom (file_state conn) world → AppendsFront (contents old) (contents new) (view_text world view)
+  view_told view does clean world project begun =
+      let (end, sees, told) = does.does in
+      let after : HasCleanDisk (state_of does.new) = subst (λ c. HasCleanDisk (file_state c)) does.released clean in
+      let before : HasCleanDisk (state_of does.old) = let kept = sees.clean in omega (arith, kept, after) in
+      let over = begins over_files contents conn again old new _ done does before world project begun in
+      front end (one_prints contents does.old does.new old new (Look view) end sees does.begins after world (over_shows does.old world over))
+    where
+      front : (end : Option Fault) → WritesTo contents old new (view_text world view) (line_outcome end) → AppendsFront (contents old) (contents new) (view_text world view)
+      front None whole = (length (view_text world view), subst (Appends (contents old) (contents new)) (sym (take-length (view_text world view))) whole)
+      front (Some fault) part = part
+
+  nothing_told : (asked : Work) → DoesNothing over_files contents conn again old new asked done → HasCleanDisk (file_state again) → (world : World) → RefusesWork (file_state conn) (file_state again) world done
+  nothing_told asked none clean world = record {
+    fault = none.fault;
+    told = none.told;
+    why = none.refused.told;
+    stands = (none.refused.given clean).goes world;
+  }
+
+  work_told : (asked : Work) → DoesOver over_files contents conn again old new asked done → DrivesOver over_files conn again asked done → HasCleanDisk (file_state again) → (world : World) → IsProject world
+      → BeginsFrom (file_state conn) world → ToldWork world asked ⊎ RefusesWork (file_state conn) (file_state again) world done
+  work_told (work.Line (Commands commands)) (inl does) drives clean world project begun = inl (line_told commands does clean world project begun)
+  work_told (work.Line (Commands commands)) (inr none) drives clean world project begun = inr (nothing_told _ none clean world)
+  work_told (work.Line (Look view)) (inl does) drives clean world project begun = elim (drives clean world project begun) [ inl works ↦ inl (works, view_told view does clean world project begun) | inr refuses ↦ inr refuses ]
+  work_told (work.Line (Look view)) (inr none) drives clean world project begun = inr (nothing_told _ none clean world)
+  work_told (work.Script steps) (inl does) drives clean world project begun = inl (script_told steps does clean world project begun)
+  work_told (work.Script steps) (inr none) drives clean world project begun = inr (nothing_told _ none clean world)
+
+-- ---- what a run begins with
+
+pub none_beside : {A B : Type 0} (R : A → B → Type 0) (xs : List A) (ys : List B) → xs ≡ [] → AllZip R xs ys → ys ≡ []
+none_beside R [] [] none all = refl
+none_beside R [] (y ∷ ys) none all = absurd all
+none_beside R (x ∷ xs) ys none all = absurd cc
+
+free_of_none : (schema : Schema) (objects : List Row) (name : List ℕ) → objects ≡ [] → Lists objects schema → IsFree schema name
+free_of_none schema objects name none lists = record {
+  table = rw (none_beside IsTableRow _ schema.tables (ap (λ rs. filter is_table_row rs) none) lists.listed.tables) refl;
+  index = rw (none_beside (IsIndexRow schema.tables) _ schema.indexes (ap (λ rs. filter is_index_row rs) none) lists.listed.indexes) refl;
+  view = rw (none_beside IsViewRow _ schema.views (ap (λ rs. filter is_view_row rs) none) lists.listed.views) refl;
+}
+
+-- a file with no byte holds no database
+no_database : (image : Image) (db : Trees) → image.db ≡ [] → AreFoundIn image db → IsEmpty db
+no_database image db blank (inl (size, pages, wanted, adopts, ours, reads)) = let low = adopts.found.present in absurd (omega (arith, low, ap (λ bytes. length bytes) blank))
+no_database image db blank (inr (nothing, empty)) = empty
+
+module _ {D : Type 0} {g : Ghosts D} (stays : SeenMayStay g) (conn : Held (FileStore D g)) (opened : IsOpened conn) (image : Image) (found : FindsIn image (file_state conn)) where
+  no_project : image.db ≡ [] → IsVacant (file_state conn)
+  no_project blank =
+      let same : (file_state conn).now ≡ (file_state conn).committed = opened.0.clean in
+      let none : (file_state conn).now.trees catalog_tree ≡ [] = ap (λ (d : Database). d.trees catalog_tree) same ∙ (no_database image _ blank found.reads).1 in
+      free_lacks _ (free_of_none _ _ (codes "project") none ((opened.1 opened.0.is_open).0.lists))
+
+  goes_from : (world : World) → HoldsWorld image world → GoesOn (file_state conn) world
+  goes_from world held =
+      let same : (file_state conn).now ≡ (file_state conn).committed = opened.0.clean in
+      let it : FoundAs (file_state conn).committed.trees world = subst (λ (db : Trees). FoundAs db world) (sym (found.holds held.trees held.holds)) held.found in
+      let stands : StandsFor (file_state conn).now world =
+      stands_still it.database (file_state conn).now world it.stands (opened.1 opened.0.is_open).0 (ap (λ (d : Database). d.trees) same ∙ sym it.same) in
+      record {
+        stands = λ is_open. (stands, sym same);
+        left = λ db may. subst (λ (t : Trees). FoundAs t world) (sym (settled_at conn.store stays db opened.0.is_open may)) it;
+      }
+
+  begins_from : (world : World) → ImageRefines image world → BeginsFrom (file_state conn) world
+  begins_from world (inl held) = inl (goes_from world held)
+  begins_from world (inr (blank, same)) = inr (no_project blank, same)
+
+-- ---- what it leaves
+
+next_world : (world : World) (commands : List Command) (i : ℕ) (command : Command) → slice_get commands i ≡ Some command
+    → world_after world commands (i + 1) ≡ step (world_after world commands i) (request_of command)
+next_world world commands i command there =
+    ap (λ cs. fold_steps world (map request_of cs)) (take_more commands i command (slice_get_within commands i command there) ∙ ap (λ c. take i commands ++ c ∷ []) (get_or_from_slice_get commands i command command there))
+    ∙ ap (λ rs. fold_steps world rs) (map-append request_of (take i commands) (command ∷ [])) ∙ fold_more world (map request_of (take i commands)) (request_of command)
+
+-- each image that a stop may leave of the files holds tables that it may leave of the connection
+module _ {D : Type 0} {g : Ghosts D} (again : Held (FileStore D g)) (files : Files D)
+    (each : OfEachImage g files (λ image. (db : Trees) × (file_state again).may_leave db × HoldsDatabase image db)) where
+  all_hold : (world : World) → GoesOn (file_state again) world → OfEachImage g files (λ image. HoldsWorld image world)
+  all_hold world goes image may = ∥∥₁_map (each image may) (λ it.
+      let held : HoldsWorld image world = record { trees = it.0; holds = it.2; found = goes.left it.0 it.1 } in held)
+
+  -- a session that ended within a command left the connection open, so the world of before that is committed
+  hold_after : IsTrue (file_state again).is_open → (world : World) (commands : List Command) (answers : List Answer) (count : ℕ) (is_cut : Bool)
+      → Drives world commands answers (so_far count) is_cut (file_state again) → OfEachImage g files (HoldAfter world commands count)
+  hold_after is_open world commands answers count is_cut drives image may = ∥∥₁_map (all_hold (world_after world commands count) (goes is_cut drives) image may) (λ held.
+      let it : HoldAfter world commands count image = record { held = held; project = drives.project } in it)
+    where
+      goes : (is_cut : Bool) → Drives world commands answers (so_far count) is_cut (file_state again) → GoesOn (file_state again) (world_after world commands count)
+      goes false drives = drives.goes refl
+      goes true drives = (drives.ended refl).2.stands is_open
+
+  -- or that of after it may be
+  hold_one_more : (world : World) (commands : List Command) (answers : List Answer) (count : ℕ) (is_cut : Bool)
+      → Drives world commands answers (so_far count) is_cut (file_state again) → OfEachImage g files (HoldAfterOneMore world commands count)
+  hold_one_more world commands answers count is_cut drives image may = ∥∥₁_map (each image may) (λ it. kept is_cut drives it.0 it.1 it.2)
+    where
+      kept : (is_cut : Bool) → Drives world commands answers (so_far count) is_cut (file_state again) → (db : Trees) → (file_state again).may_leave db → HoldsDatabase image db → HoldAfterOneMore world commands count image
+      kept false drives db left holds = record {
+        kept = count;
+        within = drives.within;
+        has_done = omega arith;
+        at_most_one_more = omega arith;
+        after = record { held = record { trees = db; holds = holds; found = (drives.goes refl).left db left }; project = drives.project };
+      }
+      kept true drives db left holds =
+          let (cut, there, ended) = drives.ended refl in
+          let low = slice_get_within commands count cut there in
+          elim (ended.left db left) [
+            | inl before ↦ record {
+              kept = count;
+              within = drives.within;
+              has_done = omega arith;
+              at_most_one_more = omega arith;
+              after = record { held = record { trees = db; holds = holds; found = before }; project = drives.project };
+            }
+            | inr after ↦
+                let next = next_world world commands count cut there in
+                record {
+                  kept = count + 1;
+                  within = omega (arith, low);
+                  has_done = omega arith;
+                  at_most_one_more = omega arith;
+                  after = record {
+                    held = record { trees = db; holds = holds; found = subst (λ w. FoundAs db w) (sym next) after };
+                    project = subst (λ w. IsProject w) (sym next) (drives.cut_project refl cut there);
+                  };
+                }
+          ]
+
+  module _ {E : Type 0} (told_of : E → Option (List ℕ)) (err_old err_new : E) (done : Result (Unit {0}) Trouble) (status : ℕ) (is_told : Bool) (tells : TellsTrouble told_of err_old err_new done status is_told) where
+    leaves_done : (says : Holds) (before after : Option (List ℕ)) (world : World) (asked : Work) (it : DrivesWork world asked done (file_state again)) → TellsDone before after world asked it.answers it.count
+        → OfEachImage g files (says world (commands_of_work world asked) it.count) → LeavesDone g files says before after world asked status
+    leaves_done says before after world asked it told held = record {
+      count = it.count;
+      within = it.drives.within;
+      answers = it.answers;
+      answered = it.drives.answered;
+      told = told;
+      whole = whole_at told_of err_old err_new done status is_told _ tells it.whole;
+      held = held;
+    }
+
+    leaves_as_it_was : (conn : Held (FileStore D g)) (first : Image) (world : World) → (HoldsWorld first world → GoesOn (file_state conn) world) → RefusesWork (file_state conn) (file_state again) world done → LeavesAsItWas g files first world status
+    leaves_as_it_was conn first world goes it = record {
+      fault = it.fault;
+      told = status_at told_of err_old err_new done status is_told it.fault tells it.told;
+      why = it.why;
+      held = λ held. all_hold world (it.stands (goes held));
+    }
+
+-- ---- what a close leaves
+
+copied_each : {D : Type 0} {g : Ghosts D} (again : Held (FileStore D g)) (files : Files D) → SeenMayStay g → IsCopied again files
+    → OfEachImage g files (λ image. (db : Trees) × (file_state again).may_leave db × HoldsDatabase image db)
+copied_each again files stays copied image may = ∥∥₁_map (copied.left image may).both (λ holds. ((file_state again).committed.trees, stays_at again.store stays copied.was_open, holds))
+
+-- where it failed
+module _ {D : Type 0} {g : Ghosts D} (again : Held (FileStore D g)) (last : FileStore D g) (closed : IsClosed again last) (numbered : IsNumbered last) (files : Files D)
+    (is : (files.log, files.db) ≡ store_files last) (honest : AreClean g files.log files.db) where
+  sure : AreClean g (store_files last).0 (store_files last).1
+  sure = subst (λ (p : D × D). AreClean g p.0 p.1) is honest
+
+  clean : IsClean (view last)
+  clean = no_doubt _ (clean_is last.pool ∙ sure)
+
+  unclosed_clean : HasCleanDisk (file_state again)
+  unclosed_clean = let now = clean in omega (arith, now, closed.quiet.clean)
+
+  unclosed_each : OfEachImage g files (λ image. (db : Trees) × (file_state again).may_leave db × HoldsDatabase image db)
+  unclosed_each image may =
+      let allowed : (state last).may_leave image = may_leave_is last.pool image sure (subst (λ (p : D × D). outcomes g p.0 p.1 image) is may) in
+      ∥∥₁_map (opens_again last numbered (closed.sound clean) image allowed) (λ it. (it.0, closed.quiet.outcomes it.0 it.1, it.2))
+
+-- ---- a run
+
+module _ {S W E : Type 0} {c : calls.Ghosts Host} {s : start.Ghosts S} {g : Ghosts (Modelled Host S c s)} (stays : SeenMayStay g) (contents : W → Option (List ℕ)) (told_of : E → Option (List ℕ)) where
+  -- a database was opened, the work was done over it, and each image holds what is left of that
+  opened_leaves : (says : Holds) (conn again : Held (FileStore (Modelled Host S c s) g)) (path : List ℕ) (asked : Work) (old new : W) (err_old err_new : E) (done : Result (Unit {0}) Trouble) (status : ℕ) (is_told : Bool) (files : Files (Modelled Host S c s))
+      → IsOpenedAt path (image_at s) conn → DoesOver over_files contents conn again old new asked done → DrivesOver over_files conn again asked done → TellsTrouble told_of err_old err_new done status is_told
+      → HasCleanDisk (file_state again) → OfEachImage g files (λ image. (db : Trees) × (file_state again).may_leave db × HoldsDatabase image db)
+      → ((world : World) (it : DrivesWork world asked done (file_state again)) → OfEachImage g files (says world (commands_of_work world asked) it.count))
+      → (world : World) → IsProject world → ImageRefines (image_at s) world → LeavesDone g files says (contents old) (contents new) world asked status ⊎ LeavesAsItWas g files (image_at s) world status
+  opened_leaves says conn again path asked old new err_old err_new done status is_told files at does drives tells clean each hold world project start =
+      let early : HasCleanDisk (file_state conn) = was_clean contents conn again old new asked done does clean in
+      let opened : IsOpened conn = at.opens early in
+      let found : FindsIn (image_at s) (file_state conn) = at.finds early in
+      elim (work_told contents conn again old new done asked does drives clean world project (begins_from stays conn opened (image_at s) found world start)) [
+        | inl works ↦ inl (leaves_done again files each told_of err_old err_new done status is_told tells says (contents old) (contents new) world asked works.0 works.1 (hold world works.0))
+        | inr refuses ↦ inr (leaves_as_it_was again files each told_of err_old err_new done status is_told tells conn (image_at s) world (goes_from stays conn opened (image_at s) found world) refuses)
+      ]
+
+  pub leaves_its_work : (end : End (Modelled Host S c s) g) → LeavesItsWork contents told_of end
+  leaves_its_work end run =
+      let runs = done_by contents told_of end run in
+      let conn = runs.runs.conn in
+      let it = runs.runs.does in
+      λ honest.
+      let copied : IsCopied it.again run.files = it.closed.copied honest in
+      let each = copied_each it.again run.files stays copied in
+      opened_leaves HoldAfter conn it.again _ runs.work run.old run.new run.err_old run.err_new run.obeys.done end.status end.is_told run.files runs.runs.opened it.does it.drives run.obeys.tells copied.was_clean each
+      (λ world works. hold_after it.again run.files each copied.was_open world (commands_of_work world runs.work) works.answers works.count works.is_cut works.drives)
+
+  pub leaves_its_work_unclosed : (end : End (Modelled Host S c s) g) → LeavesItsWorkUnclosed contents told_of end
+  leaves_its_work_unclosed end run =
+      let runs = done_by_unclosed contents told_of end run in
+      let conn = runs.runs.conn in
+      let it = runs.runs.does in
+      λ honest.
+      let each = unclosed_each it.again run.store it.closed.quiet run.numbered run.files run.files_are honest in
+      opened_leaves HoldAfterOneMore conn it.again _ runs.work run.old run.new run.err_old run.err_new run.obeys.done end.status end.is_told run.files runs.runs.opened it.does it.drives run.obeys.tells
+      (unclosed_clean it.again run.store it.closed.quiet run.numbered run.files run.files_are honest) each
+      (λ world works. hold_one_more it.again run.files each world (commands_of_work world runs.work) works.answers works.count works.is_cut works.drives)
+
+-- ---- one after another
+
+module _ {S T W E : Type 0} {c d : calls.Ghosts Host} {s : start.Ghosts S} {t : start.Ghosts T} {g : Ghosts (Modelled Host S c s)} {h : Ghosts (Modelled Host T d t)} (stays : SeenMayStay g) (still : SeenMayStay h)
+    (contents : W → Option (List ℕ)) (told_of : E → Option (List ℕ)) where
+  pub begins_where_one_ended : (first : End (Modelled Host S c s) g) (second : End (Modelled Host T d t) h) → BeginsWhereOneEnded contents told_of first second
+  begins_where_one_ended first second one two may =
+      let left : LeavesItsDone contents told_of first one = leaves_its_work stays contents told_of first one in
+      let next : LeavesItsDone contents told_of second two = leaves_its_work still contents told_of second two in
+      record {
+        left = left;
+        next = next;
+        done = λ honest world it. ∥∥₁_map (it.held (image_at t) may) (λ after. next honest _ after.project (inl after.held));
+        kept = λ honest world project held it. ∥∥₁_map (it.held held (image_at t) may) (λ still_held. next honest world project (inl still_held));
+      }
+
+  pub begins_where_one_stopped : (first : End (Modelled Host S c s) g) (second : End (Modelled Host T d t) h) → BeginsWhereOneStopped contents told_of first second
+  begins_where_one_stopped first second one two may =
+      let left : LeavesItsDoneOrMore contents told_of first one = leaves_its_work_unclosed stays contents told_of first one in
+      let next : LeavesItsDone contents told_of second two = leaves_its_work still contents told_of second two in
+      record {
+        left = left;
+        next = next;
+        done = λ honest world it. ∥∥₁_map (it.held (image_at t) may) (λ found. record {
+          kept = found.kept;
+          within = found.within;
+          has_done = found.has_done;
+          at_most_one_more = found.at_most_one_more;
+          next = next honest _ found.after.project (inl found.after.held);
+        });
+        kept = λ honest world project held it. ∥∥₁_map (it.held held (image_at t) may) (λ still_held. next honest world project (inl still_held));
+      }

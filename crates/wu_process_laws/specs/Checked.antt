@@ -1,0 +1,64 @@
+-- What a check tells of the files whose bytes it read.
+use Rattle.std.specs.Prelude.{◌≡◌, ◌⊎◌, ℕ, List, Option, Result, Ok, Err, IfErr}
+use Rattle.std.specs.Io.KnownBytes.{Appends}
+use Rattle.sqlite.specs.Effect.{Database, IsDatabase}
+use Rattle.sqlite.specs.Files.{AreFoundIn}
+use Rattle.sqlite_wal.specs.Recovery.{Image}
+use Rattle.wu_check.specs.Checking.{HasWholeRows, IsKnown}
+use Rattle.wu_check.specs.Findings.{IsSoundAs, PutsLaterFirst, Tells}
+use Rattle.wu_check.specs.declared.finding.Finding.{Finding}
+use Rattle.wu_core.specs.World.{World}
+use Rattle.wu_core.specs.declared.fault.Fault.TheVariants.{Output}
+use Rattle.wu_machine.specs.Sound.{IsSound}
+use Rattle.wu_schema.specs.Faults.{IsFailure}
+use Rattle.wu_cli.specs.Checks.{sound_line}
+use Rattle.wu_cli.specs.declared.reason.Reason.TheVariants.{Damaged, FailingDisk, FullDisk, Memory}
+use Rattle.wu_cli.specs.declared.trouble.Trouble.{Trouble}
+use Rattle.wu_cli.specs.declared.trouble.Trouble.TheVariants as trouble
+use Rattle.wu_lives.specs.Runs.{HoldsWorld}
+use Rattle.wu_process.specs.Checks.{ChecksCopy}
+use Rattle.wu_process.specs.declared.copy.FileBytes.{FileBytes}
+
+-- the two files with these bytes
+abbrev pub image_of_bytes : FileBytes → Image
+image_of_bytes bytes = record { log = bytes.log.items; db = bytes.db.items }
+
+-- an opening of the files finds a database of which this holds, where no row of it is shorter than its table
+pub record FindsWith (image : Image) (Holds : Database → Type 0) : Type 0 where
+  pub db : Database
+  pub found : AreFoundIn image db.trees
+  pub sound : IsDatabase db
+  pub holds : HasWholeRows db → Holds db
+
+-- what went out is the line of a sound project, and the files hold one with these numbers
+pub record FindsSound (image : Image) (before after : Option (List ℕ)) : Type 0 where
+  pub version : ℕ
+  pub workunits : ℕ
+  pub results : ℕ
+  pub told : Appends before after (sound_line version workunits results)
+  pub found : FindsWith image (λ db. IsSoundAs db version workunits results)
+
+-- what is told is true, and a later version is told before all else
+pub record IsToldTruly (db : Database) (finding : Finding) : Type 0 where
+  pub tells : Tells db finding
+  pub later : PutsLaterFirst db finding
+
+-- want of memory, or of the disk or the output
+abbrev pub IsWant : Trouble → Type 0
+IsWant (trouble.Fault fault) = IsFailure fault ⊎ (fault ≡ Output)
+IsWant (trouble.Unchecked reason) = (reason ≡ Memory) ⊎ ((reason ≡ FailingDisk) ⊎ ((reason ≡ Damaged) ⊎ (reason ≡ FullDisk)))
+IsWant _ = ⊥
+
+pub record TellsOfFiles (image : Image) (before after : Option (List ℕ)) (done : Result (Unit {0}) Trouble) : Type 0 where
+  -- `ok` tells of a sound project of a known version, which the files hold, and of its numbers
+  pub sound : done ≡ Ok tt → FindsSound image before after
+  -- of one that they hold nothing else is told, but want of memory or of the disk
+  pub unsound : (world : World) → HoldsWorld image world → IsSound world → IsKnown world.version → IfErr done IsWant
+  -- and what is told to be wrong is
+  pub why : (finding : Finding) → done ≡ Err (trouble.Unsound finding) → FindsWith image (λ db. IsToldTruly db finding)
+
+-- so it is of each check
+abbrev pub EachCheckIsTrue : {W : Type 0} → (W → Option (List ℕ)) → Type 0
+EachCheckIsTrue {W} contents =
+    (path : List ℕ) (old new : W) (done : Result (Unit {0}) Trouble) (check : ChecksCopy contents path old new done)
+    → TellsOfFiles (image_of_bytes check.bytes) (contents old) (contents new) done

@@ -1,3 +1,0 @@
-pub mod ContentLemmas
-pub mod CopyLemmas
-pub mod RunLemmas

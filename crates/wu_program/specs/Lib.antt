@@ -1,8 +1,0 @@
-pub mod Asking
-pub mod Checks
-pub mod Closing
-pub mod Contents
-pub mod Copies
-pub mod Opening
-pub mod Running
-pub mod Processes

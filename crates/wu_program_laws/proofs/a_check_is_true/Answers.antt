@@ -1,5 +1,0 @@
-use Rattle.wu_program_laws.proofs.Checked.{each_check}
-use Rattle.wu_program_laws.proofs.a_check_is_true.Goals as goal
-
-pub returns : goal.returns
-returns g c = each_check g.O.Write.contents

@@ -1,9 +1,0 @@
-mod ActionLemmas
-mod BothLemmas
-mod ContentLemmas
-mod NumberLemmas
-mod OrderLemmas
-mod ParseLemmas
-mod ReadLemmas
-mod TableLemmas
-mod StepLemmas
