@@ -5,3 +5,4 @@ pub mod Copies
 pub mod Opening
 pub mod Running
 pub mod Processes
+pub mod Signs

@@ -31,3 +31,15 @@ module _ {S W E : Type 0} {c : calls.Ghosts Host} {s : start.Ghosts S} {g : Ghos
   RunsProcess (Ok words) = RunsGiven words
   RunsProcess (Err error) =
       (told : Trouble) × IsUnheard (error_kind error) told × TellsTrouble {T = Unit {0}} told_of err_old err_new (Err told) end.status end.is_told × (new ≡ old)
+
+-- the process ends with the status of such a run, over some words, outputs of these types and a database file of which
+-- nothing is supposed
+pub record EndsAsRun {S W E : Type 0} {c : calls.Ghosts Host} {s : start.Ghosts S} (g : Ghosts (Modelled Host S c s)) (contents : W → Option (List ℕ)) (told_of : E → Option (List ℕ)) (status : ℕ) : Type 0 where
+  pub words : Result (Vec (String Global) Global) Error
+  pub old : W
+  pub new : W
+  pub err_old : E
+  pub err_new : E
+  pub end : End (Modelled Host S c s) g
+  pub runs : RunsProcess contents told_of old new err_old err_new end words
+  pub same : status ≡ end.status

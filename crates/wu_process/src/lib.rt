@@ -4,9 +4,10 @@
 //! clauses hold whatever they are. That they lie where the words say, no clause can say.
 #![tactic(auto)]
 
-ghost use Rattle.std.specs.Prelude.{map, string_bytes};
+ghost use Rattle.std.specs.Prelude.{◌≡◌, ◌⊎◌, map, string_bytes};
+ghost use Rattle.wu_arguments.specs.Statuses.{fault_status};
 ghost use Rattle.wu_process.specs.Running.{EndsSo, RunsWords, TellsTrouble};
-ghost use Rattle.wu_process.specs.Processes.{Demonstrates, RunsProcess};
+ghost use Rattle.wu_process.specs.Processes.{Demonstrates, EndsAsRun, RunsProcess};
 
 mod check;
 mod copy;
@@ -23,7 +24,7 @@ use sqlite::FileFrom;
 use sqlite_disk::{Disk, Wary};
 use std::alloc::Global;
 use std::env;
-use std::io::{self, BufWriter, IsTerminal, Write};
+use std::io::{self, BufWriter, IsTerminal, Stderr, Stdout, Write};
 use wu_arguments::{Order, read_words};
 use wu_cli::{Trouble, Work, explain, unheard};
 use wu_core::Fault;
@@ -134,7 +135,12 @@ fn words(rt: &HostRuntime) -> io::Result<Vec<String>> {
 /// Does what the words of the command line ask for, as `run_with`, with the outputs of the process, over a database file of
 /// which nothing is supposed. Where standard error is a terminal, it shows there meanwhile how many answers have gone
 /// out, and the last one. It answers the status to end with.
-pub fn run(rt: &HostRuntime) -> u8 {
+pub fn run(rt: &HostRuntime) -> u8
+    ensures { EndsAsRun ⟦<FileFrom<Wary> as Disk>⟧
+        ⟦<Watched<BufWriter<Stdout>, Stderr> as Write>⟧.contents
+        ⟦<Cleared<Stderr> as Write>⟧.contents result
+        ⊎ (result ≡ fault_status Fault.Memory) }
+{
     let is_terminal = rt.stderr().is_terminal();
     let mut err = Cleared::new(rt.stderr(), is_terminal);
     match BufWriter::new(rt.alloc(), rt.stdout()) {

@@ -1,6 +1,9 @@
 //! Signs of life on a terminal while work goes on: how many answers have gone out, and the last of them. No contract
 //! speaks of the terminal: what it shows is wiped before anything else is written.
 
+ghost use Rattle.std.specs.Prelude.{◌≡◌};
+ghost use Rattle.wu_process.specs.Signs.{handed_on};
+
 use std::io::{self, Write};
 
 /// Takes away what stands on the last line of a terminal.
@@ -161,7 +164,8 @@ impl<O: Write + Drop, T: Write + Drop> Write for Watched<O, T> {
     }
 }
 
-/// A writer that wipes the last line of a terminal before its first bytes, where it is one.
+/// A writer that wipes the last line of a terminal before its first bytes, where it is one. Where it is none, it hands on
+/// all that it is given, and nothing else.
 #[derive(Drop)]
 pub struct Cleared<E: Drop> {
     out: E,
@@ -170,7 +174,10 @@ pub struct Cleared<E: Drop> {
 
 impl<E: Write + Drop> Cleared<E> {
     /// This writer, and whether a line of a terminal is to be wiped before its first bytes.
-    pub fn new(out: E, is_terminal: bool) -> Self {
+    pub fn new(out: E, is_terminal: bool) -> Self
+        ensures { handed_on result.is_to_wipe (E.contents result.out)
+            ≡ handed_on is_terminal (E.contents out) }
+    {
         Cleared {
             out,
             is_to_wipe: is_terminal,
@@ -179,10 +186,15 @@ impl<E: Write + Drop> Cleared<E> {
 }
 
 impl<E: Write + Drop> Write for Cleared<E> {
+    ghost use Rattle.wu_process.specs.Signs.{handed_on};
+
+    ghost contents = { λ w. handed_on w.is_to_wipe (E.contents w.out) };
+
     fn write(&mut self, bytes: &[u8]) -> io::Result<usize> {
         if self.is_to_wipe {
             self.is_to_wipe = false;
             let _ = self.out.write_all(WIPE);
+            return self.out.write(bytes);
         }
         self.out.write(bytes)
     }

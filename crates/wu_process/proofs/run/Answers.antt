@@ -1,0 +1,14 @@
+use Rattle.std.proofs.Common.{inl, refl}
+use Rattle.wu_process.proofs.run.Goals as goal
+
+pub returns-in-Ok : goal.returns-in-Ok
+returns-in-Ok c = inl (record {
+  words = c.words.result;
+  old = c.begin.new.self;
+  new = c.run_with-status.new.out;
+  err_old = c.new-err.result;
+  err_new = c.run_with-status.new.err;
+  end = c.run_with-status.result;
+  runs = c.run_with-status.ensures;
+  same = refl;
+})
