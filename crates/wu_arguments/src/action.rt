@@ -36,7 +36,7 @@ impl Drop for Action {
     }
 }
 
-/// An action of one command.
+/// Makes an action of one command.
 fn one(alloc: Global, command: Command) -> Result<Action, Fault>
     ensures { IsOrWantsMemory result (one command) }
 {
@@ -44,7 +44,7 @@ fn one(alloc: Global, command: Command) -> Result<Action, Fault>
     Ok(Action::Commands(Rows::from_vec(commands)))
 }
 
-/// The bytes of a line's next file. One that could not be read, or that is not there, is refused as a whole.
+/// Returns the bytes of a line's next file. One that could not be read, or that is not there, is refused as a whole.
 fn next_content(contents: &mut IntoIter<Option<Vec<u8>>>) -> Result<Bytes, Fault>
     ensures first { result ≡ content_of (bytes_of (into_iter_items contents.old)) 0 }
     ensures rest { into_iter_items contents.new ≡ drop 1 (into_iter_items contents.old) }
@@ -58,7 +58,7 @@ fn next_content(contents: &mut IntoIter<Option<Vec<u8>>>) -> Result<Bytes, Fault
     }
 }
 
-/// The moment of a text, or `BadMoment`; so too where there is none.
+/// Reads the moment of a text, or `BadMoment`, also where there is no text.
 fn moment(text: &Option<Word>) -> Result<Moment, Fault>
     ensures { result ≡ moment_in text.now }
 {
@@ -68,7 +68,7 @@ fn moment(text: &Option<Word>) -> Result<Moment, Fault>
     }
 }
 
-/// The name of a text, or `BadName`; want of memory is told only where it is one.
+/// Reads the name of a text, or `BadName`. Out of memory is reported only for a name.
 fn name(alloc: Global, text: &Word) -> Result<Name, Fault>
     ensures name { IsOrWantsMemory result (name_of text.now) }
     ensures told { TellsRefusal result (name_of text.now) }
@@ -76,7 +76,7 @@ fn name(alloc: Global, text: &Word) -> Result<Name, Fault>
     Name::read(alloc, text.as_str().as_bytes())
 }
 
-/// The files of a batch: its jobs, and its template.
+/// Returns the files of a batch: its jobs, and its template.
 fn batch_files(contents: Vec<Option<Vec<u8>>>) -> Result<(Bytes, Bytes), Fault>
     ensures { result ≡ both (content_of (bytes_of contents.items) 0)
         (content_of (bytes_of contents.items) 1) }
@@ -87,7 +87,7 @@ fn batch_files(contents: Vec<Option<Vec<u8>>>) -> Result<(Bytes, Bytes), Fault>
     both(file, template)
 }
 
-/// The action of a batch: the contents are those of its jobs and of its template.
+/// Makes the action of a batch. The contents are those of its jobs and of its template.
 fn batch(alloc: Global, text: &Word, contents: Vec<Option<Vec<u8>>>) -> Result<Action, Fault>
     ensures action { IsOrWantsMemory result (batch text.now (bytes_of contents.items)) }
     ensures told { TellsRefusal result (batch text.now (bytes_of contents.items)) }
@@ -103,7 +103,7 @@ fn batch(alloc: Global, text: &Word, contents: Vec<Option<Vec<u8>>>) -> Result<A
     )
 }
 
-/// A file of rows under its name.
+/// Makes a file of rows under its name.
 fn rows_file(alloc: Global, text: &Word, contents: Vec<Option<Vec<u8>>>) -> Result<RowsFile, Fault>
     ensures file { IsOrWantsMemory result (rows_file text.now (bytes_of contents.items)) }
     ensures told { TellsRefusal result (rows_file text.now (bytes_of contents.items)) }
@@ -113,7 +113,7 @@ fn rows_file(alloc: Global, text: &Word, contents: Vec<Option<Vec<u8>>>) -> Resu
     Ok(RowsFile { name, file })
 }
 
-/// The action of an import, with the contents of its files.
+/// Makes the action of an import, with the contents of its files.
 fn import(
     alloc: Global,
     kind: ImportKind,
@@ -132,7 +132,7 @@ fn import(
     }
 }
 
-/// The least age of a purge, or `BadLimit` where there is none.
+/// Returns the least age of a purge, or `BadLimit` where there is none.
 fn age(min_age: Option<u64>) -> Result<u64, Fault>
     ensures { result ≡ age_in min_age }
 {
@@ -142,7 +142,7 @@ fn age(min_age: Option<u64>) -> Result<u64, Fault>
     }
 }
 
-/// The command of a pass.
+/// Makes the command of a pass.
 fn pass_command(
     pass: Pass,
     now: &Option<Word>,
@@ -171,7 +171,7 @@ fn pass_command(
     Ok(command)
 }
 
-/// The action of a cycle.
+/// Makes the action of a cycle.
 fn all_of_cycle(alloc: Global, now: &Word, limit: u64, min_age: u64) -> Result<Action, Fault>
     ensures action { IsOrWantsMemory result (all_of_cycle now.now limit min_age) }
     ensures told { TellsRefusal result (all_of_cycle now.now limit min_age) }
@@ -181,14 +181,19 @@ fn all_of_cycle(alloc: Global, now: &Word, limit: u64, min_age: u64) -> Result<A
     Ok(Action::Commands(Rows::from_vec(commands)))
 }
 
-/// What a line asks of a project, with the contents of its files in the order of its usage line: None for one that
-/// could not be read, no bytes for a template that the line leaves out. It takes their bytes and copies none. It
-/// answers the first fault among the options from left to right: `BadName`, `BadMoment`, or for a file that was not
-/// read `BadFile` with row 0 and `Unreadable`; want of memory it tells only where there is none. Limits and ages are
-/// not looked at.
+/// Returns what a line asks of a project, with the contents of its files in the order of its usage line. A content is
+/// `None` for a file that could not be read, and has no bytes for a template that the line leaves out. The contents are
+/// moved, not copied.
+///
+/// The fault is the first among the options from left to right: `BadName`, `BadMoment`, or for a file that was not read
+/// `BadFile` with row 0 and `Unreadable`. Only where there is none of these can it be out of memory. Limits and ages
+/// are not checked here.
 pub fn prepare(alloc: Global, line: &Line, contents: Vec<Option<Vec<u8>>>) -> Result<Action, Fault>
+    // A line asks for its command, a cycle's seven, or its view; else for its options' first fault,
+    // or it is out of memory.
     ensures action { IsOrWantsMemory result
         (prepared line.now.asking (bytes_of contents.items)) }
+    // A fault of a name, a moment or an unread file is reported as such, whatever memory there is.
     ensures told { TellsRefusal result (prepared line.now.asking (bytes_of contents.items)) }
 {
     match &line.asking {
@@ -213,9 +218,11 @@ pub fn prepare(alloc: Global, line: &Line, contents: Vec<Option<Vec<u8>>>) -> Re
     }
 }
 
-/// What a line asks of a project, with what its files hold, as `prepare`. Memory may be wanted for the reading of these,
+/// Returns what a line asks of a project, with what its files hold, as `prepare`. Reading files may run out of memory,
 /// so of an import alone.
 pub fn read_and_prepare<F: ReadFile>(alloc: Global, line: &Line, files: &F) -> Result<Action, Fault>
+    // The line's files are read, with a content for each, and it asks for what `prepare` gives; or
+    // reading is out of memory.
     ensures { Prepares (F.ReadFile.gives files.now) line.now.asking result }
 {
     let contents = line.asking.read_files(alloc, files)?;

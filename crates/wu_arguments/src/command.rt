@@ -10,7 +10,7 @@ use crate::subcommand::{SUBCOMMANDS, Subcommand, SubcommandForm};
 use clap::{Arg, ArgAction, Command, value_parser};
 use std::alloc::{AllocError, Global};
 
-/// An option by its name, and what help says of it.
+/// Makes an option by its name, with what help says of it.
 fn bare_arg<'a>(alloc: Global, form: OptionForm) -> Arg<'a>
     ensures rule { rule_of result ≡ bare_rule form.name.now (is_required_value form.value) }
     ensures local { result.global ≡ false }
@@ -22,7 +22,7 @@ fn bare_arg<'a>(alloc: Global, form: OptionForm) -> Arg<'a>
         .action(ArgAction::Set)
 }
 
-/// An option whose value follows its name.
+/// Makes an option whose value follows its name.
 fn named_arg<'a>(alloc: Global, form: OptionForm) -> Arg<'a>
     ensures rule { rule_of result ≡ named_rule form.name.now (is_required_value form.value) }
     ensures local { result.global ≡ false }
@@ -30,7 +30,7 @@ fn named_arg<'a>(alloc: Global, form: OptionForm) -> Arg<'a>
     bare_arg(alloc, form).long(form.name)
 }
 
-/// An option, with what help says of it.
+/// Makes an option, with what help says of it.
 fn arg<'a>(alloc: Global, option: LineOption) -> Arg<'a>
     ensures rule { rule_of result ≡ option_rule option }
     ensures local { result.global ≡ false }
@@ -43,7 +43,7 @@ fn arg<'a>(alloc: Global, option: LineOption) -> Arg<'a>
     }
 }
 
-/// A subcommand without its options.
+/// Makes a subcommand without its options.
 fn bare_subcommand<'a>(alloc: Global, form: SubcommandForm) -> Command<'a>
     ensures shape { app_of result ≡ leaf_with form.name.now [] }
     ensures local { (out-Command result).has_globals ≡ false }
@@ -53,7 +53,7 @@ fn bare_subcommand<'a>(alloc: Global, form: SubcommandForm) -> Command<'a>
         .after_help(form.example)
 }
 
-/// These options as arguments, in their order.
+/// Makes arguments of these options, in their order.
 fn args<'a>(alloc: Global, options: &[LineOption]) -> Result<Vec<Arg<'a>>, AllocError>
     ensures { IfOk result (λ args. map rule_and_global args.items ≡ map local_rule options.now) }
 {
@@ -64,7 +64,7 @@ fn args<'a>(alloc: Global, options: &[LineOption]) -> Result<Vec<Arg<'a>>, Alloc
     Ok(args)
 }
 
-/// A subcommand with its options.
+/// Makes a subcommand with its options.
 fn subcommand<'a>(alloc: Global, subcommand: Subcommand) -> Result<Command<'a>, AllocError>
     ensures { IfOk result (λ command. shape_and_globals command ≡ local_shape subcommand) }
 {
@@ -73,7 +73,7 @@ fn subcommand<'a>(alloc: Global, subcommand: Subcommand) -> Result<Command<'a>, 
     bare_subcommand(alloc, form).args(args)
 }
 
-/// All subcommands, each with its options, in the order of help.
+/// Makes all subcommands, each with its options, in the order of help.
 fn subcommands<'a>(alloc: Global) -> Result<Vec<Command<'a>>, AllocError>
     ensures { IfOk result (λ all.
         map shape_and_globals all.items ≡ map local_shape all_subcommands) }
@@ -85,11 +85,11 @@ fn subcommands<'a>(alloc: Global) -> Result<Vec<Command<'a>>, AllocError>
     Ok(all)
 }
 
-/// What `--version` tells behind the program's name. No contract speaks of it: a play shows it, and `tools/docs` holds
-/// it against the schema's present version and the toolchain's logic.
+/// What `--version` prints after the program's name. No contract speaks of it: a scenario shows it, and `tools/docs`
+/// holds it against the schema's present version and the toolchain's logic.
 const VERSION: &str = "0.1.0 (schema version 3, logic dac8208d650f15bf)";
 
-/// The command of the program without its subcommands.
+/// Makes the command of the program without its subcommands.
 fn bare_command<'a>(alloc: Global) -> Command<'a>
     ensures { app_of result ≡ program_with [] }
 {
@@ -102,8 +102,9 @@ fn bare_command<'a>(alloc: Global) -> Command<'a>
         .subcommand_required(true)
 }
 
-/// The command of the program: one subcommand a line, each with its options.
+/// Makes the command of the program: one subcommand a line, each with its options.
 pub fn command<'a>(alloc: Global) -> Result<Command<'a>, AllocError>
+    // The command is the program's definition: each subcommand with its options and their rules.
     ensures { IfOk result (λ command. app_of command ≡ program) }
 {
     let subcommands = subcommands(alloc)?;

@@ -20,15 +20,18 @@ pub trait ReadFile {
     /// This may be what a reading of the path gives, of so many bytes at most and one more.
     ghost gives: { Self → List ℕ → ℕ → Option (List ℕ) → Type 0 };
 
-    /// The bytes of the file at the path, at most so many and one more, by which it is seen to hold too many; None where
-    /// it can't be read. The only fault is `Memory`.
+    /// Returns the bytes of the file at the path, at most so many and one more, by which a file that is too long is
+    /// noticed. Returns `None` if it cannot be read. The only fault is `Memory`.
     fn read(&self, path: &str, most: usize) -> Result<Option<Vec<u8>>, Fault>
+        // What is read is what the file at this path may give, of at most so many bytes and one
+        // more.
         ensures bytes { IfOk result (λ bytes.
             gives self.now path.now most (content_bytes bytes)) }
+        // The only fault is `Memory`.
         ensures fault { IfErr result (λ fault. fault ≡ Memory) };
 }
 
-/// What a template holds. One that is left out has no bytes.
+/// Returns what a template holds. One that is left out has no bytes.
 fn read_template<F: ReadFile>(
     alloc: Global,
     files: &F,
@@ -45,16 +48,18 @@ fn read_template<F: ReadFile>(
 }
 
 impl Asking {
-    /// What its files hold, in the order of its usage line: jobs and template, or the file of sends, of reports or of
-    /// classes, or none. None for one that could not be read. The only fault is `Memory`,
-    /// of an import alone.
+    /// Returns what the line's files hold, in the order of its usage line: jobs and template, the one file of rows, or
+    /// nothing. A content is `None` for a file that could not be read. The only fault is `Memory`, of an import alone.
     pub fn read_files<F: ReadFile>(
         &self,
         alloc: Global,
         files: &F,
     ) -> Result<Vec<Option<Vec<u8>>>, Fault>
+        // There is a content for each file of the line, in the order of its usage line; a template
+        // left out has no bytes.
         ensures contents { IfOk result (λ contents.
             AreContentsOf (F.ReadFile.gives files.now) self.now (bytes_of contents.items)) }
+        // The only fault is `Memory`, and only of a line that names files.
         ensures fault { IfErr result (λ fault.
             (fault ≡ Memory) × (names_files self.now ≡ true)) }
     {

@@ -7,8 +7,8 @@ use wu_core::ImportKind;
 use wu_machine::View;
 use wu_rules::Pass;
 
-/// What a line asks of a project, with the values of its options as they were written. Names, moments and files are read
-/// later, limits and ages are any 64-bit numbers.
+/// What a line asks of a project, with the values of its options as they were written. Names, moments and files are
+/// read later. Limits and ages are any 64-bit numbers.
 pub enum Asking {
     /// Imports a file under a name. A batch may have a template, with the parameters of its jobs.
     Import {

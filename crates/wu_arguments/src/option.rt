@@ -17,8 +17,9 @@ pub enum OptionValue {
 }
 
 impl OptionValue {
-    /// Whether it has to be given.
+    /// Returns whether the value has to be given.
     pub fn is_required(self) -> bool
+        // A text and a number have to be given; a word and a text that may be left out do not.
         ensures { result ≡ is_required_value self }
     {
         match self {
@@ -72,9 +73,11 @@ pub enum LineOption {
 }
 
 impl LineOption {
-    /// How the command line knows it.
+    /// Returns the option as the command line knows it.
     pub fn form(self) -> OptionForm
+        // The name is that of the option, without the two hyphens.
         ensures name { result.name.now ≡ option_name self }
+        // The value is of the option's kind.
         ensures value { result.value ≡ value_of_option self }
     {
         match self {

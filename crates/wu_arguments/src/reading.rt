@@ -9,8 +9,9 @@ use std::alloc::Global;
 use std::io::{self, ErrorKind, Read};
 use wu_core::{Fault, FileCause};
 
-/// What a file that can't be read holds: nothing that is known. Want of memory alone is a fault.
+/// Returns what a file that cannot be read holds: `None`. The only fault is `Memory`.
 pub fn unread(error: &io::Error) -> Result<Option<Vec<u8>>, Fault>
+    // A file that cannot be read has no content; out of memory alone is a fault.
     ensures { ReadsNothing (error_kind error.now) result }
 {
     if error.kind() == ErrorKind::OutOfMemory {
@@ -20,8 +21,10 @@ pub fn unread(error: &io::Error) -> Result<Option<Vec<u8>>, Fault>
     }
 }
 
-/// What a reading to an end gave: the bytes, or what is told of a file that can't be read.
+/// Returns what was read to its end, or what a file that cannot be read holds.
 fn read_whole(read: io::Result<usize>, bytes: Vec<u8>) -> Result<Option<Vec<u8>>, Fault>
+    // What was read to its end is kept; only an error of reading is reported, as unreadable or as
+    // out of memory.
     ensures { KeepsRead read bytes result }
 {
     match read {
@@ -30,15 +33,17 @@ fn read_whole(read: io::Result<usize>, bytes: Vec<u8>) -> Result<Option<Vec<u8>>
     }
 }
 
-/// What a reader holds, at most so many bytes and one more, by which it is seen to hold too many; None where it can't
-/// be read to there. The only fault is `Memory`.
+/// Returns what a reader holds, at most so many bytes and one more, by which a file that is too long is noticed.
+/// Returns `None` if it cannot be read to there. The only fault is `Memory`.
 pub fn read_up_to<R: Read + Drop>(
     alloc: Global,
     reader: R,
     most: usize,
 ) -> Result<Option<Vec<u8>>, Fault>
+    // What is read is the first bytes of the reader, at most the limit and one more.
     ensures bytes { IfOk result (λ read. IfSome read (λ bytes. IfSome (R.remaining reader)
         (λ all. bytes.items ≡ take (read_at_most most) all))) }
+    // The only fault is `Memory`.
     ensures fault { IfErr result (λ fault. fault ≡ Memory) }
 {
     let mut bytes = Vec::new(alloc);
@@ -47,8 +52,10 @@ pub fn read_up_to<R: Read + Drop>(
     read_whole(read, bytes)
 }
 
-/// The text of a script that was read, or the fault of one that could not be.
+/// Returns the text of a script that was read, or the fault of one that could not be.
 pub fn text_of_script(read: Option<Vec<u8>>) -> Result<Vec<u8>, Fault>
+    // The text of a script is what was read; a script that could not be read is `BadFile` with row
+    // 0 and `Unreadable`.
     ensures { IsTextOf read result }
 {
     match read {

@@ -1,4 +1,4 @@
-//! Why a line of a script can't be run.
+//! Why a line of a script cannot be run.
 
 ghost use Rattle.std.specs.Prelude.{◌≡◌};
 ghost use Rattle.wu_core.specs.declared.fault.Fault.TheVariants as fault;
@@ -19,7 +19,7 @@ pub enum Outsider {
     Explanation,
 }
 
-/// Why a line of a script can't be run.
+/// Why a line of a script cannot be run.
 pub enum Refusal {
     /// It is not taken apart into words.
     Text(LineCause),
@@ -79,8 +79,9 @@ impl From<AllocError> for Refusal {
 }
 
 impl Refusal {
-    /// The status that the program ends with.
+    /// Returns the status that the program ends with for this refusal.
     pub fn status(&self) -> u8
+        // The status is 2, except for out of memory and for a fault, which have their own.
         ensures { result ≡ refusal_status self.now }
     {
         match self {

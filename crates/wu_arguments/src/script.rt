@@ -10,7 +10,7 @@ use crate::words::read_words;
 use std::alloc::{AllocError, Global};
 use wu_feed::Words;
 
-/// The word that names the database.
+/// Makes the word that names the database.
 fn database_word(alloc: Global, db: &str) -> Result<String, AllocError>
     ensures { IfOk result (λ word. string_bytes word ≡ codes "--db=" ++ db.now) }
 {
@@ -19,7 +19,7 @@ fn database_word(alloc: Global, db: &str) -> Result<String, AllocError>
     Ok(word)
 }
 
-/// The words of a script's line behind the program's name.
+/// Makes the words of a script's line, after the program's name.
 fn words_behind_name(alloc: Global, words: Words) -> Result<Vec<String>, AllocError>
     ensures { IfOk result (λ all. map string_bytes all.items ≡ codes "lintelthyme" ∷ words) }
 {
@@ -29,8 +29,8 @@ fn words_behind_name(alloc: Global, words: Words) -> Result<Vec<String>, AllocEr
     Ok(all)
 }
 
-/// The words of a script's line as words of the command line: behind the program's name, with the database at their
-/// end.
+/// Makes words of the command line of the words of a script's line: after the program's name, with the database at
+/// their end.
 fn words_of_command(alloc: Global, db: &str, words: Words) -> Result<Vec<String>, AllocError>
     ensures { IfOk result (λ all. map string_bytes all.items ≡ command_words db.now words) }
 {
@@ -39,7 +39,7 @@ fn words_of_command(alloc: Global, db: &str, words: Words) -> Result<Vec<String>
     Ok(all)
 }
 
-/// The line that these words of a script ask for.
+/// Returns the line that these words of a script ask for.
 fn line_of_words(alloc: Global, db: &str, words: Words) -> Result<Line, Refusal>
     ensures { ReadsWords (command_words db.now words) result }
 {
@@ -52,7 +52,7 @@ fn line_of_words(alloc: Global, db: &str, words: Words) -> Result<Line, Refusal>
     }
 }
 
-/// The pass that these words of a script ask for, which stand behind `repeat`.
+/// Returns the pass that these words of a script ask for, which stand after `repeat`.
 fn pass_of_words(alloc: Global, db: &str, words: Words) -> Result<Line, Refusal>
     ensures { ReadsRepeated (command_words db.now words) result }
 {
@@ -63,8 +63,9 @@ fn pass_of_words(alloc: Global, db: &str, words: Words) -> Result<Line, Refusal>
     }
 }
 
-/// Whether the first of these words is `repeat`.
+/// Returns whether the first of these words is `repeat`.
 pub fn asks_to_repeat(words: &[String]) -> bool
+    // The answer is whether the first word is `repeat`.
     ensures { result ≡ asks_to_repeat (map string_bytes words.now) }
 {
     match words.first() {
@@ -73,7 +74,7 @@ pub fn asks_to_repeat(words: &[String]) -> bool
     }
 }
 
-/// The words but the first one, of which there is one.
+/// Returns the words without the first one, of which there is one.
 fn without_first(words: Words) -> Words
     requires { 0 < length words }
     ensures { result ≡ drop 1 words }
@@ -83,9 +84,13 @@ fn without_first(words: Words) -> Words
     Words::from_vec(words)
 }
 
-/// The line that a script's words ask for, once or to be repeated.
+/// Returns the line that a script's words ask for, once or to be repeated.
 pub fn line_of_all(alloc: Global, db: &str, words: Words, repeats: bool) -> Result<Line, Refusal>
+    // The line is to be repeated exactly where its first word is `repeat`.
     requires { repeats ≡ asks_to_repeat words }
+    // A line is the command line of its words, with the program's name before and the database
+    // after. It is refused by `clap`, for a script, a check or an explanation, or by out of memory;
+    // and only a pass can be repeated.
     ensures { ReadsWordsOf db.now words repeats result }
 {
     if repeats {

@@ -9,8 +9,10 @@ use wu_core::Fault;
 /// The status of a database that could not be opened.
 pub const UNOPENED: u8 = 3;
 
-/// The status that the program ends with after a fault.
+/// Returns the status that the program ends with after a fault.
 pub fn fault_status(fault: Fault) -> u8
+    // The status is 4 for out of memory, 3 for a failed database or an ended session, 5 for the
+    // output, and else 1.
     ensures { result ≡ fault_status fault }
 {
     match fault {
@@ -21,8 +23,9 @@ pub fn fault_status(fault: Fault) -> u8
     }
 }
 
-/// The status that the program ends with: 0 where no fault came.
+/// Returns the status that the program ends with: 0 without a fault.
 pub fn exit_status(end: Option<Fault>) -> u8
+    // The status is 0 without a fault, and else that of the fault.
     ensures { result ≡ exit_status end }
 {
     match end {
@@ -32,8 +35,9 @@ pub fn exit_status(end: Option<Fault>) -> u8
 }
 
 impl Usage {
-    /// The status that the program ends with where the words are no line.
+    /// Returns the status that the program ends with where the words are no command line.
     pub fn status(&self) -> u8
+        // The status is 2, except 4 for out of memory.
         ensures { result ≡ usage_status self.now }
     {
         match self {

@@ -33,8 +33,9 @@ impl Drop for Step {
 }
 
 impl Step {
-    /// Its action alone.
+    /// Returns its action alone.
     pub fn into_action(self) -> Action
+        // The result is the step's action.
         ensures { result ≡ self.action }
     {
         let Step {
@@ -46,7 +47,7 @@ impl Step {
     }
 }
 
-/// The first line of a script that can't be run, and why.
+/// The first line of a script that cannot be run, and why.
 pub struct BadLine {
     /// Its place among the lines of the script, from 1.
     pub number: u64,
@@ -64,8 +65,9 @@ impl Drop for BadLine {
 }
 
 impl BadLine {
-    /// The status that the program ends with.
+    /// Returns the status that the program ends with for this line.
     pub fn status(&self) -> u8
+        // The status is that of why the line cannot be run.
         ensures { result ≡ refusal_status self.now.why }
     {
         self.why.status()
@@ -80,7 +82,7 @@ pub struct LineFault {
     pub fault: Fault,
 }
 
-/// The line of this number, where memory was wanted for it.
+/// Makes the bad line of this number, for which memory ran out.
 fn lacks_memory(number: u64) -> BadLine
     ensures { result ≡ lacks_memory number }
 {
@@ -90,7 +92,7 @@ fn lacks_memory(number: u64) -> BadLine
     }
 }
 
-/// What a line of a script asks of a project, with what its files hold, or why it can't be run.
+/// Returns what a line of a script asks of a project, with what its files hold, or why it cannot be run.
 fn step_of<F: ReadFile>(
     alloc: Global,
     db: &str,
@@ -111,16 +113,21 @@ fn step_of<F: ReadFile>(
     })
 }
 
-/// What the lines of a script ask of the project in a database, in their order, or the first of them that can't be run.
-/// The files of a line are read where those before it can be run. Each is the line of the command line that its words
-/// are with `--db` and this database behind them. Where the first word is `repeat` it is the line of the others, which
-/// has to be a pass.
+/// Returns what the lines of a script ask of the project in a database, in their order, or the first of them that
+/// cannot be run.
+///
+/// The files of a line are read only if the lines before it can be run. A line is the command line of its words,
+/// followed by `--db` and this database. Where the first word is `repeat` it is the line of the others, which has to be
+/// a pass.
 pub fn steps_of<F: ReadFile>(
     alloc: Global,
     db: &str,
     lines: Rows<ScriptLine>,
     files: &F,
 ) -> Result<Rows<Step>, BadLine>
+    // There is a step for each line, in order and with its number; else the first line that cannot
+    // be run is reported. Out of memory is reported with the number of a line that can be run,
+    // after lines that can.
     ensures { GivesSteps (F.ReadFile.gives files.now) db.now lines result }
 {
     let mut steps = Vec::new(alloc);

@@ -55,9 +55,11 @@ pub const SUBCOMMANDS: [Subcommand; 16] = [
 ];
 
 impl Subcommand {
-    /// How the command line knows it.
+    /// Returns the subcommand as the command line knows it.
     pub fn form(self) -> SubcommandForm
+        // The name is that of the subcommand.
         ensures name { result.name.now ≡ subcommand_name self }
+        // The options are those of the subcommand, in the order of its usage line.
         ensures options { result.options.now ≡ options_of self }
     {
         match self {
@@ -175,8 +177,9 @@ impl Subcommand {
         }
     }
 
-    /// The subcommand of this name.
+    /// Returns the subcommand of this name.
     pub fn named(name: &str) -> Option<Subcommand>
+        // Each of the sixteen names gives its subcommand, and any other text `None`.
         ensures { result ≡ subcommand_named name.now }
     {
         for one in SUBCOMMANDS {

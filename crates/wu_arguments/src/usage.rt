@@ -1,4 +1,4 @@
-//! Why words are no line.
+//! Why words are no command line.
 
 ghost use Rattle.std.specs.Prelude.{◌≡◌};
 ghost use Rattle.wu_arguments.specs.declared.usage.Usage.TheVariants.{Memory};
@@ -9,15 +9,15 @@ use clap::Error;
 use clap::error::ErrorKind;
 use std::alloc::{AllocError, Global};
 
-/// Why words are no line.
+/// Why words are no command line.
 #[derive(Drop)]
 pub enum Usage {
     /// `clap` refused the words, or they ask for help: the text of its error, of which no contract of `clap` speaks.
     Refused(Word),
     /// What is to be shown is no view.
     UnknownView,
-    /// `clap` took the words, and found no subcommand, or no value of an option that has to be given, or none that
-    /// writes a number of 64 bits where one is wanted. Tests alone show that this never comes.
+    /// `clap` took the words, and found no subcommand, no value of an option that has to be given, or no number of 64
+    /// bits where one has to be given. Only tests show that this never happens.
     Incomplete,
     /// A growth of memory was refused.
     Memory,
@@ -31,8 +31,10 @@ impl From<AllocError> for Usage {
     }
 }
 
-/// The text of an error of `clap`, unless it is want of memory; memory may be wanted for the text too.
+/// Returns the text of an error of `clap`, unless it is out of memory. Memory for the text may run out too.
 pub fn told(alloc: Global, error: &Error) -> Usage
+    // An error of `clap` is reported as a refusal, or as out of memory; one of out of memory never
+    // as a refusal.
     ensures { IsTold error.now result }
 {
     if error.kind() == ErrorKind::OutOfMemory {

@@ -14,7 +14,7 @@ use clap::ArgMatches;
 use std::alloc::Global;
 use wu_machine::View;
 
-/// The first value of an option.
+/// Returns the first value of an option.
 fn value<'a>(found: &ArgMatches<'a>, option: LineOption) -> Option<&'a str>
     ensures { option_map (λ text. text.now) result
         ≡ value_in (rows_of (found_of found.now)) option }
@@ -22,10 +22,13 @@ fn value<'a>(found: &ArgMatches<'a>, option: LineOption) -> Option<&'a str>
     found.get_str(option.form().name)
 }
 
-/// The text of an option that has to be given.
+/// Returns the text of an option that has to be given.
 pub fn text(alloc: Global, found: &ArgMatches<'_>, option: LineOption) -> Result<Word, Usage>
+    // The text is the first value that `clap` found for the option.
     ensures value { IfOk result (IsTextIn (rows_of (found_of found.now)) option) }
+    // A refusal says that a value is lacking, which is so, or it is out of memory.
     ensures refused { IfErr result (IsWithout (LacksText (rows_of (found_of found.now)) option)) }
+    // Out of memory is reported only where the option has a value.
     ensures wants { WantsOnly result (HasText (rows_of (found_of found.now)) option) }
 {
     match value(found, option) {
@@ -34,14 +37,17 @@ pub fn text(alloc: Global, found: &ArgMatches<'_>, option: LineOption) -> Result
     }
 }
 
-/// The text of an option, if it is given.
+/// Returns the text of an option, if it is given.
 pub fn text_if_any(
     alloc: Global,
     found: &ArgMatches<'_>,
     option: LineOption,
 ) -> Result<Option<Word>, Usage>
+    // The text is the first value that `clap` found for the option, or `None` where it found none.
     ensures value { IfOk result (λ word. value_in (rows_of (found_of found.now)) option ≡ word) }
+    // The only refusal is out of memory.
     ensures refused { IfErr result (λ usage. usage ≡ Memory) }
+    // Out of memory is reported only where the option has a value.
     ensures wants { WantsOnly result (HasText (rows_of (found_of found.now)) option) }
 {
     match value(found, option) {
@@ -50,9 +56,11 @@ pub fn text_if_any(
     }
 }
 
-/// The number of an option that has to be given. It takes no memory.
+/// Returns the number of an option that has to be given. It takes no memory.
 pub fn number(found: &ArgMatches<'_>, option: LineOption) -> Result<u64, Usage>
+    // The number is what the one value that `clap` found for the option writes in decimal.
     ensures value { IfOk result (IsNumberIn (rows_of (found_of found.now)) option) }
+    // The only refusal is that a number is lacking, and there is none; it is never out of memory.
     ensures refused { IfErr result
         (TellsLack (LacksNumberText (rows_of (found_of found.now)) option)) }
 {
@@ -62,9 +70,11 @@ pub fn number(found: &ArgMatches<'_>, option: LineOption) -> Result<u64, Usage>
     }
 }
 
-/// The view that is to be shown. It takes no memory.
+/// Returns the view that is to be shown. It takes no memory.
 pub fn view(found: &ArgMatches<'_>) -> Result<View, Usage>
+    // The view is that of the name that `clap` found.
     ensures value { IfOk result (λ view. IsViewIn (rows_of (found_of found.now)) (Some view)) }
+    // A refusal says that the name is no view, or that it is lacking; it is never out of memory.
     ensures refused { IfErr result (IsUnseen (rows_of (found_of found.now))) }
 {
     match value(found, LineOption::View) {

@@ -5,8 +5,9 @@ ghost use Rattle.wu_arguments.specs.Lines.{view_named};
 
 use wu_machine::View;
 
-/// The view of this name.
+/// Returns the view of this name.
 pub fn view_named(name: &str) -> Option<View>
+    // Each of the six names gives its view, and any other text `None`.
     ensures { result ≡ view_named name.now }
 {
     match name {

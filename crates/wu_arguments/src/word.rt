@@ -26,8 +26,9 @@ impl Model for Word {
 }
 
 impl Word {
-    /// The text, copied.
+    /// Copies the text.
     pub fn from_text(alloc: Global, text: &str) -> Result<Self, AllocError>
+        // The word has the bytes of the text.
         ensures { IfOk result (λ word. word ≡ text.now) }
     {
         Ok(Word {
@@ -35,15 +36,17 @@ impl Word {
         })
     }
 
-    /// This text; it takes no memory.
+    /// Takes the text over, without taking memory.
     pub fn from_string(text: String) -> Self
+        // The word has the bytes of the text.
         ensures { result ≡ string_bytes text }
     {
         Word { text }
     }
 
-    /// Its text.
+    /// Returns its text.
     pub fn as_str(&self) -> &str
+        // The text has the bytes of the word.
         ensures { result.now ≡ self.now }
     {
         self.text.as_str()

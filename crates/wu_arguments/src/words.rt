@@ -19,7 +19,7 @@ use std::alloc::Global;
 use wu_core::ImportKind;
 use wu_rules::Pass;
 
-/// The option that names the file of such an import.
+/// Returns the option that names the file of such an import.
 fn file_option(kind: ImportKind) -> LineOption
     ensures { result ≡ file_option kind }
 {
@@ -29,7 +29,7 @@ fn file_option(kind: ImportKind) -> LineOption
     }
 }
 
-/// The template of an import: only a batch may have one.
+/// Returns the template of an import: only a batch may have one.
 fn template(alloc: Global, kind: ImportKind, found: &ArgMatches<'_>) -> Result<Option<Word>, Usage>
     ensures value { IfOk result (IsTemplate (rows_of (found_of found.now)) kind) }
     ensures refused { IfErr result (λ usage. usage ≡ Usage.Memory) }
@@ -40,7 +40,7 @@ fn template(alloc: Global, kind: ImportKind, found: &ArgMatches<'_>) -> Result<O
     }
 }
 
-/// The values of an import.
+/// Reads the values of an import.
 fn import(alloc: Global, kind: ImportKind, found: &ArgMatches<'_>) -> Result<Asking, Usage>
     ensures asking { IfOk result
         (HasValues (rows_of (found_of found.now)) (Subcommand.Import kind)) }
@@ -55,7 +55,7 @@ fn import(alloc: Global, kind: ImportKind, found: &ArgMatches<'_>) -> Result<Ask
     })
 }
 
-/// Whether the pass takes a moment.
+/// Returns whether the pass takes a moment.
 fn takes_moment(pass: Pass) -> bool
     ensures { result ≡ takes_moment pass }
 {
@@ -65,7 +65,7 @@ fn takes_moment(pass: Pass) -> bool
     }
 }
 
-/// The moment of a pass that takes one.
+/// Reads the moment of a pass that takes one.
 fn moment(alloc: Global, pass: Pass, found: &ArgMatches<'_>) -> Result<Option<Word>, Usage>
     ensures value { IfOk result
         (IsTextIf (takes_moment pass) (rows_of (found_of found.now)) LineOption.Now) }
@@ -78,7 +78,7 @@ fn moment(alloc: Global, pass: Pass, found: &ArgMatches<'_>) -> Result<Option<Wo
     }
 }
 
-/// The least age of a purge. It takes no memory.
+/// Reads the least age of a purge. It takes no memory.
 fn min_age(pass: Pass, found: &ArgMatches<'_>) -> Result<Option<u64>, Usage>
     ensures value { IfOk result
         (IsNumberIf (takes_age pass) (rows_of (found_of found.now)) LineOption.MinAge) }
@@ -90,7 +90,7 @@ fn min_age(pass: Pass, found: &ArgMatches<'_>) -> Result<Option<u64>, Usage>
     }
 }
 
-/// The values of a pass.
+/// Reads the values of a pass.
 fn pass(alloc: Global, pass: Pass, found: &ArgMatches<'_>) -> Result<Asking, Usage>
     ensures asking { IfOk result
         (HasValues (rows_of (found_of found.now)) (Subcommand.Pass pass)) }
@@ -105,7 +105,7 @@ fn pass(alloc: Global, pass: Pass, found: &ArgMatches<'_>) -> Result<Asking, Usa
     })
 }
 
-/// The values of a cycle.
+/// Reads the values of a cycle.
 fn cycle(alloc: Global, found: &ArgMatches<'_>) -> Result<Asking, Usage>
     ensures asking { IfOk result (HasValues (rows_of (found_of found.now)) Subcommand.Cycle) }
     ensures refused { IfErr result (IsLacking (rows_of (found_of found.now)) Subcommand.Cycle) }
@@ -117,7 +117,7 @@ fn cycle(alloc: Global, found: &ArgMatches<'_>) -> Result<Asking, Usage>
     })
 }
 
-/// The values of a cancel.
+/// Reads the values of a cancel.
 fn cancel(alloc: Global, found: &ArgMatches<'_>) -> Result<Asking, Usage>
     ensures asking { IfOk result (HasValues (rows_of (found_of found.now)) Subcommand.Cancel) }
     ensures refused { IfErr result (IsLacking (rows_of (found_of found.now)) Subcommand.Cancel) }
@@ -127,7 +127,7 @@ fn cancel(alloc: Global, found: &ArgMatches<'_>) -> Result<Asking, Usage>
     })
 }
 
-/// The line that asks this, of the database that is named.
+/// Makes the line that asks this, of the database that is named.
 fn line(alloc: Global, asking: Asking, found: &ArgMatches<'_>) -> Result<Order, Usage>
     ensures line { IfOk result (IsLineIn (rows_of (found_of found.now)) asking) }
     ensures refused { IfErr result
@@ -141,7 +141,7 @@ fn line(alloc: Global, asking: Asking, found: &ArgMatches<'_>) -> Result<Order, 
     }))
 }
 
-/// A script's file, and the database that it is for.
+/// Reads a script's file, and the database that it is for.
 fn script(alloc: Global, found: &ArgMatches<'_>) -> Result<Order, Usage>
     ensures order { IfOk result (IsOrder (rows_of (found_of found.now)) Subcommand.Script) }
     ensures refused { IfErr result (IsLacking (rows_of (found_of found.now)) Subcommand.Script) }
@@ -152,7 +152,7 @@ fn script(alloc: Global, found: &ArgMatches<'_>) -> Result<Order, Usage>
     }))
 }
 
-/// The topic of an explanation.
+/// Reads the topic of an explanation.
 fn explain(alloc: Global, found: &ArgMatches<'_>) -> Result<Order, Usage>
     ensures order { IfOk result (IsOrder (rows_of (found_of found.now)) Subcommand.Explain) }
     ensures refused { IfErr result (λ usage. usage ≡ Usage.Memory) }
@@ -163,11 +163,12 @@ fn explain(alloc: Global, found: &ArgMatches<'_>) -> Result<Order, Usage>
     }))
 }
 
-/// What a subcommand asks for, with the values that `clap` found. A view is looked at before memory is taken: an unknown
-/// one is never told as want of memory.
+/// Returns what a subcommand asks for, with the values that `clap` found. A view is read before memory is taken: an
+/// unknown one is never reported as out of memory.
 fn order_of(alloc: Global, subcommand: Subcommand, found: &ArgMatches<'_>) -> Result<Order, Usage>
     ensures order { IfOk result (IsOrder (rows_of (found_of found.now)) subcommand) }
     ensures refused { IfErr result (IsUnread (rows_of (found_of found.now)) subcommand) }
+    // An unknown view is never reported as out of memory.
     ensures wants { WantsOnly result
         (subcommand ≡ Subcommand.Show → IsSeen (rows_of (found_of found.now))) }
 {
@@ -184,7 +185,7 @@ fn order_of(alloc: Global, subcommand: Subcommand, found: &ArgMatches<'_>) -> Re
     }
 }
 
-/// What the words ask for that `clap` took apart.
+/// Returns what the words ask for that `clap` parsed.
 fn order_in(alloc: Global, matches: &ArgMatches<'_>) -> Result<Order, Usage>
     ensures order { IfOk result (λ order.
         OfTaken (λ words. IsOrderOf words order) (subcommand_rows_of matches.now)) }
@@ -200,12 +201,17 @@ fn order_in(alloc: Global, matches: &ArgMatches<'_>) -> Result<Order, Usage>
     }
 }
 
-/// What the words ask for, of which the first is the program's name. `clap` takes them apart: one subcommand, each
-/// option given once, `--db` always but for an explanation; limits and ages are numbers of 64 bits. Other words, and a
-/// request for help, are `Refused`; a view that there is not is `UnknownView`. Memory may be wanted for any words, by
-/// `clap` too.
+/// Returns what the words ask for, of which the first is the program's name. `clap` parses them: one subcommand, each
+/// option given once, `--db` always except for an explanation; limits and ages are numbers of 64 bits.
+///
+/// Other words, and a request for help, are `Refused`; an unknown view is `UnknownView`. Any words may run out of
+/// memory, in `clap` too.
 pub fn read_words(alloc: Global, words: &[String]) -> Result<Order, Usage>
+    // An accepted command line has exactly the subcommand and the values that `clap` finds in it,
+    // under the command as defined.
     ensures order { IfOk result (IsOrderOf (map string_bytes words.now)) }
+    // A refused one was refused by `clap`, names an unknown view, lacks a required value or a
+    // number's text, or ran out of memory.
     ensures refused { IfErr result (Explains (map string_bytes words.now)) }
 {
     let matches = parse(alloc, words)?;

@@ -26,15 +26,16 @@ use wu_core::{Fault, MOST_WORKUNITS, Workunit};
 /// The first version with classes of hosts.
 const FIRST_WITH_CLASSES: u64 = 3;
 
-/// Whether the number is one that the next workunit may get, or that of none.
+/// Returns whether the next workunit may get the number, or the number is one past the last.
 fn is_next_number(number: u64) -> bool
     ensures { IsTrue result ↔ IsNextNumber number }
 {
     1 <= number && number <= MOST_WORKUNITS + 1
 }
 
-/// The first row that is wrong by itself.
+/// Returns the first row that is wrong by itself.
 fn wrong_row(loaded: &Loaded) -> Option<Wrong>
+    // `None` means that each row is right by itself; a violation is the first in the written order.
     ensures { FindsWrong ToNumber loaded.now result }
 {
     if !is_next_number(loaded.next_number()) {
@@ -62,8 +63,10 @@ fn wrong_row(loaded: &Loaded) -> Option<Wrong>
     None
 }
 
-/// The first workunit whose key is wrong: not given, out of order or another's.
+/// Returns the first workunit whose key is wrong: not given, out of order or another's.
 fn wrong_workunit_key(alloc: Global, loaded: &Loaded) -> Result<Option<Wrong>, AllocError>
+    // After `Ok`, `None` means that the workunits' keys are right too; a violation is the first in
+    // the written order.
     requires { ToNumber loaded.now }
     ensures { IfOk result (FindsWrong ToArchivedNumber loaded.now) }
 {
@@ -80,8 +83,10 @@ fn wrong_workunit_key(alloc: Global, loaded: &Loaded) -> Result<Option<Wrong>, A
     Ok(None)
 }
 
-/// The first archived row whose key is wrong: not given, or another's.
+/// Returns the first archived row whose key is wrong: not given, or another's.
 fn wrong_archived_key(alloc: Global, loaded: &Loaded) -> Result<Option<Wrong>, AllocError>
+    // After `Ok`, `None` means that the archived rows' keys are right too; a violation is the first
+    // in the written order.
     requires { ToArchivedNumber loaded.now }
     ensures { IfOk result (FindsWrong ToGrantValues loaded.now) }
 {
@@ -98,8 +103,10 @@ fn wrong_archived_key(alloc: Global, loaded: &Loaded) -> Result<Option<Wrong>, A
     Ok(None)
 }
 
-/// The first workunit or archived row whose key is wrong.
+/// Returns the first workunit or archived row whose key is wrong.
 fn wrong_key(alloc: Global, loaded: &Loaded) -> Result<Option<Wrong>, AllocError>
+    // After `Ok`, `None` means that the keys of workunits and archived rows are right too; a
+    // violation is the first in the written order.
     requires { ToNumber loaded.now }
     ensures { IfOk result (FindsWrong ToGrantValues loaded.now) }
 {
@@ -109,8 +116,10 @@ fn wrong_key(alloc: Global, loaded: &Loaded) -> Result<Option<Wrong>, AllocError
     wrong_archived_key(alloc, loaded)
 }
 
-/// The first grant with a value out of its range, or the first grant or import whose key is another's.
+/// Returns the first grant with a value out of its range, or the first grant or import whose key is another's.
 fn wrong_grant_or_import(alloc: Global, loaded: &Loaded) -> Result<Option<Wrong>, AllocError>
+    // After `Ok`, `None` means that all rows and keys are right; a violation is the first in the
+    // written order.
     requires { ToGrantValues loaded.now }
     ensures { IfOk result (FindsWrong ToGrantAstray loaded.now) }
 {
@@ -126,10 +135,12 @@ fn wrong_grant_or_import(alloc: Global, loaded: &Loaded) -> Result<Option<Wrong>
     Ok(None)
 }
 
-/// The first grant that is not its workunit's, or the first workunit that lacks one.
+/// Returns the first grant that is not its workunit's, or the first workunit without one that it needs.
 fn wrong_credit(alloc: Global, loaded: &Loaded) -> Result<Option<Wrong>, AllocError>
     requires keyed { ToGrantAstray loaded.now }
     requires order { IsInOrder loaded.now }
+    // After `Ok`, `None` means that workunits and grants agree too; a violation is the first in the
+    // written order.
     ensures { IfOk result (FindsWrong ToArchivedAstray loaded.now) }
 {
     let workunits = loaded.workunits();
@@ -143,10 +154,12 @@ fn wrong_credit(alloc: Global, loaded: &Loaded) -> Result<Option<Wrong>, AllocEr
     Ok(None)
 }
 
-/// The first archived row that is not its workunit's, or the first workunit that lacks one, or whose name is one's.
+/// Returns the first archived row that is not its workunit's, or the first workunit that lacks one or has the name of
+/// one.
 fn wrong_archive(alloc: Global, loaded: &Loaded) -> Result<Option<Wrong>, AllocError>
     requires credited { ToArchivedAstray loaded.now }
     requires order { IsInOrder loaded.now }
+    // After `Ok`, `None` means that all rows agree; a violation is the first in the written order.
     ensures { IfOk result (FindsWrong ToClassValues loaded.now) }
 {
     let workunits = loaded.workunits();
@@ -163,10 +176,11 @@ fn wrong_archive(alloc: Global, loaded: &Loaded) -> Result<Option<Wrong>, AllocE
     Ok(None)
 }
 
-/// The first row that does not agree with the others.
+/// Returns the first row that does not agree with the others.
 fn wrong_record(alloc: Global, loaded: &Loaded) -> Result<Option<Wrong>, AllocError>
     requires keyed { ToGrantAstray loaded.now }
     requires order { IsInOrder loaded.now }
+    // After `Ok`, `None` means that all rows agree; a violation is the first in the written order.
     ensures { IfOk result (FindsWrong ToClassValues loaded.now) }
 {
     if let Some(wrong) = wrong_credit(alloc, loaded)? {
@@ -175,29 +189,30 @@ fn wrong_record(alloc: Global, loaded: &Loaded) -> Result<Option<Wrong>, AllocEr
     wrong_archive(alloc, loaded)
 }
 
-/// Whether no workunit has a class.
+/// Returns whether no workunit has a class.
 fn have_no_class(workunits: &[Workunit]) -> bool
     ensures { IsTrue result ↔ All (λ w. w.class ≡ 0) workunits.now }
 {
     workunits.iter().all(|workunit| workunit.class == 0)
 }
 
-/// Whether neither a host nor a workunit has a class.
+/// Returns whether neither a host nor a workunit has a class.
 fn is_classless(loaded: &Loaded) -> bool
     ensures { IsTrue result ↔ IsClassless loaded.now }
 {
     loaded.classes().is_empty() && have_no_class(loaded.workunits())
 }
 
-/// Whether there are classes only where the version has them.
+/// Returns whether there are classes only where the version has them.
 fn has_classes_in_time(loaded: &Loaded) -> bool
     ensures { IsTrue result ↔ HasClassesInTime loaded.now }
 {
     FIRST_WITH_CLASSES <= loaded.version() || is_classless(loaded)
 }
 
-/// The first host whose class is out of its range or that is out of order, or that the version has no classes.
+/// Returns the first host whose class is out of its range or that is out of order, or that the version has no classes.
 fn wrong_class(loaded: &Loaded) -> Option<Wrong>
+    // `None` means that the classes are right too; a violation is the first in the written order.
     requires { ToClassValues loaded.now }
     ensures { FindsWrong ToEnd loaded.now result }
 {
@@ -214,8 +229,10 @@ fn wrong_class(loaded: &Loaded) -> Option<Wrong>
     None
 }
 
-/// The first thing that is wrong in the written order, if there is one.
+/// Returns the first violation in the written order, or `None` if there is none.
 fn first_wrong(alloc: Global, loaded: &Loaded) -> Result<Option<Wrong>, AllocError>
+    // After `Ok`, `None` means that everything holds that an audit asks; a violation is the first
+    // in the written order.
     ensures { IfOk result (FindsWrong ToEnd loaded.now) }
 {
     if let Some(wrong) = wrong_row(loaded) {
@@ -233,10 +250,15 @@ fn first_wrong(alloc: Global, loaded: &Loaded) -> Result<Option<Wrong>, AllocErr
     Ok(wrong_class(loaded))
 }
 
-/// What is wrong with the world: none exactly where it is sound, else the first thing that stands against it.
+/// Returns the first violation in the written order, or `None` if the world is sound. Returns `Memory` if out of
+/// memory.
 pub fn audit(alloc: Global, loaded: &Loaded) -> Result<Option<Wrong>, Fault>
+    // `None` is returned exactly for a sound world.
     ensures exact { IfOk result (λ wrong. IsNone wrong ↔ IsSound loaded.now) }
+    // A violation is the first in the written order: it is at the first such row, and everything
+    // asked before it holds.
     ensures told { IfOk result (λ wrong. IfSome wrong (StandsAgainst loaded.now)) }
+    // The only fault is out of memory.
     ensures memory { IfErr result (λ fault. fault ≡ Memory) }
 {
     know_hosts(loaded.grants());

@@ -1,4 +1,4 @@
-//! The first workunit, grant, archived row, import or class of a host that may not stand in a world.
+//! The first workunit, grant, archived row, import or class of a host that may not be in a world.
 
 ghost use Rattle.std.specs.Prelude.{◌≡◌, All};
 ghost use Rattle.wu_core.specs.Classes.{IsClassed};
@@ -16,8 +16,10 @@ use crate::rows::{
 use crate::workunits::{is_consistent_workunit, is_formed_workunit, is_storable_workunit};
 use wu_core::{Archived, Grant, HostClass, Workunit};
 
-/// The first workunit that is not well formed.
+/// Returns the place of the first workunit that is not well formed, or `None` if there is none.
 pub fn first_unformed(workunits: &[Workunit]) -> Option<usize>
+    // A place, from 0, is that of the first workunit that is not well formed; `None` means that all
+    // are.
     ensures { FirstAgainst IsWorkunit workunits.now result }
 {
     for (place, workunit) in workunits.iter().enumerate() {
@@ -28,8 +30,10 @@ pub fn first_unformed(workunits: &[Workunit]) -> Option<usize>
     None
 }
 
-/// The first workunit that cannot be stored.
+/// Returns the place of the first workunit that cannot be stored, or `None` if there is none.
 pub fn first_unstorable(workunits: &[Workunit]) -> Option<usize>
+    // A place, from 0, is that of the first workunit that cannot be stored; `None` means that all
+    // can.
     ensures { FirstAgainst IsStorable workunits.now result }
 {
     for (place, workunit) in workunits.iter().enumerate() {
@@ -40,8 +44,9 @@ pub fn first_unstorable(workunits: &[Workunit]) -> Option<usize>
     None
 }
 
-/// Each grant is to a host with a name.
+/// Makes known that each grant is to a host with a name.
 pub fn know_hosts(grants: &[Grant])
+    // The host of each grant is a name.
     ensures { All (λ grant. IsName grant.host) grants.now }
 {
     for grant in grants {
@@ -49,8 +54,10 @@ pub fn know_hosts(grants: &[Grant])
     }
 }
 
-/// The first archived row that cannot be stored.
+/// Returns the place of the first archived row that cannot be stored, or `None` if there is none.
 pub fn first_unstorable_archived(archived: &[Archived]) -> Option<usize>
+    // A place, from 0, is that of the first archived row that cannot be stored; `None` means that
+    // all can.
     ensures { FirstAgainst IsStoredArchived archived.now result }
 {
     for (place, row) in archived.iter().enumerate() {
@@ -61,8 +68,10 @@ pub fn first_unstorable_archived(archived: &[Archived]) -> Option<usize>
     None
 }
 
-/// The first import with a verdict that no such file has.
+/// Returns the place of the first import with a verdict that no such file has, or `None` if there is none.
 pub fn first_wrong_import(imports: &[Imported]) -> Option<usize>
+    // A place, from 0, is that of the first import with a verdict or name that is invalid; `None`
+    // means that none has one.
     ensures { FirstAgainst IsRightImport imports.now result }
 {
     for (place, import) in imports.iter().enumerate() {
@@ -73,8 +82,10 @@ pub fn first_wrong_import(imports: &[Imported]) -> Option<usize>
     None
 }
 
-/// The first workunit whose states and verdicts do not agree.
+/// Returns the place of the first workunit whose states and verdicts do not agree, or `None` if there is none.
 pub fn first_inconsistent(workunits: &[Workunit]) -> Option<usize>
+    // A place, from 0, is that of the first workunit that is not consistent; `None` means that all
+    // are.
     ensures { FirstAgainst IsConsistent workunits.now result }
 {
     for (place, workunit) in workunits.iter().enumerate() {
@@ -85,8 +96,11 @@ pub fn first_inconsistent(workunits: &[Workunit]) -> Option<usize>
     None
 }
 
-/// The first archived row whose mask has a bit that this project never sets.
+/// Returns the place of the first archived row whose mask has a bit that this project never sets, or `None` if there is
+/// none.
 pub fn first_impossible_mask(archived: &[Archived]) -> Option<usize>
+    // A place, from 0, is that of the first archived row with a bit that is never set; `None` means
+    // that none has one.
     ensures { FirstAgainst HasPossibleMask archived.now result }
 {
     for (place, row) in archived.iter().enumerate() {
@@ -97,8 +111,10 @@ pub fn first_impossible_mask(archived: &[Archived]) -> Option<usize>
     None
 }
 
-/// The first workunit with a number that was not given.
+/// Returns the place of the first workunit with a number that was not given, or `None` if there is none.
 pub fn first_ungiven(loaded: &Loaded) -> Option<usize>
+    // A place, from 0, is that of the first workunit with a number that was not given; `None` means
+    // that none has one.
     ensures { FirstAgainst (λ w. IsGiven loaded.now w.number) loaded.now.workunits result }
 {
     let workunits = loaded.workunits();
@@ -110,8 +126,10 @@ pub fn first_ungiven(loaded: &Loaded) -> Option<usize>
     None
 }
 
-/// The first archived row with a number that was not given.
+/// Returns the place of the first archived row with a number that was not given, or `None` if there is none.
 pub fn first_ungiven_archived(loaded: &Loaded) -> Option<usize>
+    // A place, from 0, is that of the first archived row with a number that was not given; `None`
+    // means that none has one.
     ensures { FirstAgainst (λ row. IsGiven loaded.now row.number) loaded.now.archived result }
 {
     let archived = loaded.archived();
@@ -123,8 +141,11 @@ pub fn first_ungiven_archived(loaded: &Loaded) -> Option<usize>
     None
 }
 
-/// The first grant for a number that was not given, or with a number or a credit out of its range.
+/// Returns the place of the first grant for a number that was not given, or with a number or a credit out of its range.
+/// Returns `None` if there is none.
 pub fn first_wrong_grant(loaded: &Loaded) -> Option<usize>
+    // A place, from 0, is that of the first grant with an ungiven number or a value out of range;
+    // `None`: there is none.
     ensures { FirstAgainst (IsRightGrant loaded.now) loaded.now.grants result }
 {
     let grants = loaded.grants();
@@ -136,8 +157,10 @@ pub fn first_wrong_grant(loaded: &Loaded) -> Option<usize>
     None
 }
 
-/// The first host whose class is out of its range.
+/// Returns the place of the first host whose class is out of its range, or `None` if there is none.
 pub fn first_unclassed(classes: &[HostClass]) -> Option<usize>
+    // A place, from 0, is that of the first host with a wrong name or class; `None` means that none
+    // has one.
     ensures { FirstAgainst IsClassed classes.now result }
 {
     for (place, it) in classes.iter().enumerate() {

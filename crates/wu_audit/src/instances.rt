@@ -11,15 +11,18 @@ use wu_core::{
     FileDelete, Instance, LONGEST_OUTPUT, Moment, Name, Outcome, ServerState, ValidateState,
 };
 
-/// Whether the instance is over with a result.
+/// Returns whether the instance is over with a result.
 pub(crate) fn is_success(instance: &Instance) -> bool
+    // It is true exactly where the definition says that the instance is a success.
     ensures { result ≡ is_success instance.now }
 {
     instance.server_state == ServerState::Over && instance.outcome == Outcome::Success
 }
 
-/// Whether host, sending and deadline are there together, and as the states want it.
+/// Returns whether host, time of sending and deadline are there together, and as the states require.
 pub fn is_formed_instance(instance: &Instance) -> bool
+    // It is true exactly where host, sending time and deadline are all there or none: none while
+    // unsent, all in progress and after success.
     ensures { IsTrue result ↔ IsInstance instance.now }
 {
     let has_host = instance.host.is_some();
@@ -32,8 +35,8 @@ pub fn is_formed_instance(instance: &Instance) -> bool
         && !(is_success(instance) && !has_host)
 }
 
-/// Whether the verdict is one that the instance may have: any where there is a success, INVALID where it was refused as
-/// no result, and else none.
+/// Returns whether the instance may have its verdict: any after a success, INVALID where it was refused as no result,
+/// and else none.
 fn may_have_verdict(instance: &Instance) -> bool
     ensures { IsTrue result ↔ MayHaveVerdict instance.now }
 {
@@ -45,9 +48,11 @@ fn may_have_verdict(instance: &Instance) -> bool
     }
 }
 
-/// Whether no state stands that this project never sets, and no verdict but of a success, or of what was refused as no
-/// result.
+/// Returns whether the instance has only states that this project sets, and a verdict only after a success or a refusal
+/// as no result.
 pub fn is_possible_instance(instance: &Instance) -> bool
+    // It is true exactly where all states are ones that this project sets, and the verdict is one
+    // that the instance may have.
     ensures { IsTrue result ↔ IsPossible instance.now }
 {
     instance.server_state != ServerState::Inactive
@@ -56,7 +61,7 @@ pub fn is_possible_instance(instance: &Instance) -> bool
         && may_have_verdict(instance)
 }
 
-/// A host's name is one.
+/// Makes known that a host's name is one.
 fn know_host(host: &Option<Name>)
     ensures { IsHost host.now }
 {
@@ -65,7 +70,7 @@ fn know_host(host: &Option<Name>)
     }
 }
 
-/// The moments of an instance are in their ranges.
+/// Makes known that the moments of an instance are in their ranges.
 fn know_moments(instance: &Instance)
     ensures { AreMoments instance.now.sent_at instance.now.deadline instance.now.received_at }
 {
@@ -80,7 +85,8 @@ fn know_moments(instance: &Instance)
     }
 }
 
-/// Whether the values of the instance are in their ranges: its output is not too long, and the rest is so by its type.
+/// Returns whether the values of the instance are in their ranges: its output is not too long, and the rest is so by
+/// its type.
 fn may_be_instance(instance: &Instance) -> bool
     ensures { IsTrue result ↔ MayBeInstance instance.now }
 {
@@ -89,8 +95,9 @@ fn may_be_instance(instance: &Instance) -> bool
     instance.output.len() <= LONGEST_OUTPUT
 }
 
-/// Whether the instance is what a row of an instance stands for.
+/// Returns whether a row of an instance may represent this one.
 pub fn is_stored_instance(instance: &Instance) -> bool
+    // It is true exactly where the instance is well formed and its values are in their ranges.
     ensures { IsTrue result ↔ IsStoredInstance instance.now }
 {
     may_be_instance(instance) && is_formed_instance(instance)

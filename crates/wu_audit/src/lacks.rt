@@ -1,4 +1,4 @@
-//! The first workunit that lacks a grant or an archived row, or whose name is an archived workunit's.
+//! The first workunit without a grant or an archived row that it needs, or with the name of an archived one.
 
 ghost use Rattle.std.specs.Prelude.{◌≡◌, ◌↔◌, ◌≤◌, ◌<◌, IsTrue, IfOk, All};
 ghost use Rattle.std.specs.HashSet.{contains};
@@ -13,14 +13,14 @@ use std::collections::HashSet;
 use std::hash::Hash;
 use wu_core::{Archived, Assimilate, Grant, ValidateState, Workunit};
 
-/// The set of the keys.
+/// Returns the set of the keys.
 fn set_of<K: Eq + Hash + Copy + Drop>(alloc: Global, keys: &[K]) -> Result<HashSet<K>, AllocError>
     ensures { IfOk result (λ set. (q : K) → contains K.eq set q ≡ is_member K.eq keys.now q) }
 {
     keys.iter().copied().collect(alloc)
 }
 
-/// Whether the instance of this number, with this verdict, is in the set where it is valid.
+/// Returns whether the instance of this number is in the set, if its verdict is VALID.
 fn is_held_if_valid(
     granted: &HashSet<(u64, u32)>,
     number: u64,
@@ -32,7 +32,7 @@ fn is_held_if_valid(
     verdict != ValidateState::Valid || granted.contains(&(number, n))
 }
 
-/// Whether each valid instance of the workunit is in the set.
+/// Returns whether each valid instance of the workunit is in the set.
 fn are_valid_held(granted: &HashSet<(u64, u32)>, workunit: &Workunit) -> bool
     ensures { IsTrue result ↔ AreValidHeld granted.now workunit.now }
 {
@@ -45,7 +45,7 @@ fn are_valid_held(granted: &HashSet<(u64, u32)>, workunit: &Workunit) -> bool
     true
 }
 
-/// The first workunit with a valid instance that is not in the set.
+/// Returns the place of the first workunit with a VALID instance that is not in the set, or `None` if there is none.
 fn first_with_valid_unheld(granted: &HashSet<(u64, u32)>, workunits: &[Workunit]) -> Option<usize>
     ensures { FirstAgainst (AreValidHeld granted.now) workunits.now result }
 {
@@ -57,12 +57,14 @@ fn first_with_valid_unheld(granted: &HashSet<(u64, u32)>, workunits: &[Workunit]
     None
 }
 
-/// The first workunit with a valid instance that has no grant.
+/// Returns the place of the first workunit with a VALID instance that has no grant, or `None` if there is none.
 pub fn first_ungranted(
     alloc: Global,
     workunits: &[Workunit],
     grants: &[Grant],
 ) -> Result<Option<usize>, AllocError>
+    // A place, from 0, is that of the first workunit with a VALID instance without a grant; `None`
+    // means that there is none.
     ensures { IfOk result (FirstAgainst (IsGranted grants.now) workunits.now) }
 {
     let keys = granted_of(alloc, grants)?;
@@ -70,14 +72,14 @@ pub fn first_ungranted(
     Ok(first_with_valid_unheld(&granted, workunits))
 }
 
-/// Whether the workunit's number is in the set where it is assimilated.
+/// Returns whether the workunit's number is in the set, if it is assimilated.
 fn is_held_if_done(numbers: &HashSet<u64>, workunit: &Workunit) -> bool
     ensures { IsTrue result ↔ IsHeldIfDone numbers.now workunit.now }
 {
     workunit.assimilate != Assimilate::Done || numbers.contains(&workunit.number)
 }
 
-/// The first assimilated workunit whose number is not in the set.
+/// Returns the place of the first assimilated workunit whose number is not in the set, or `None` if there is none.
 fn first_done_unheld(numbers: &HashSet<u64>, workunits: &[Workunit]) -> Option<usize>
     ensures { FirstAgainst (IsHeldIfDone numbers.now) workunits.now result }
 {
@@ -89,12 +91,14 @@ fn first_done_unheld(numbers: &HashSet<u64>, workunits: &[Workunit]) -> Option<u
     None
 }
 
-/// The first assimilated workunit without an archived row.
+/// Returns the place of the first assimilated workunit without an archived row, or `None` if there is none.
 pub fn first_unkept(
     alloc: Global,
     workunits: &[Workunit],
     archived: &[Archived],
 ) -> Result<Option<usize>, AllocError>
+    // A place, from 0, is that of the first assimilated workunit without an archived row; `None`
+    // means that there is none.
     ensures { IfOk result (FirstAgainst (IsArchivedIfDone archived.now) workunits.now) }
 {
     let keys = numbers_of(alloc, archived)?;
@@ -102,14 +106,15 @@ pub fn first_unkept(
     Ok(first_done_unheld(&numbers, workunits))
 }
 
-/// Whether the workunit's name is not in the set where it is not assimilated.
+/// Returns whether the workunit is assimilated, or its name is not in the set.
 fn is_not_held_unless_done(names: &HashSet<&str>, workunit: &Workunit) -> bool
     ensures { IsTrue result ↔ IsNotHeldUnlessDone names.now workunit.now }
 {
     workunit.assimilate == Assimilate::Done || !names.contains(&workunit.name.as_str())
 }
 
-/// The first workunit that is not assimilated and whose name is in the set.
+/// Returns the place of the first workunit that is not assimilated and whose name is in the set, or `None` if there is
+/// none.
 fn first_held(names: &HashSet<&str>, workunits: &[Workunit]) -> Option<usize>
     ensures { FirstAgainst (IsNotHeldUnlessDone names.now) workunits.now result }
 {
@@ -121,12 +126,15 @@ fn first_held(names: &HashSet<&str>, workunits: &[Workunit]) -> Option<usize>
     None
 }
 
-/// The first workunit that is not assimilated and whose name is an archived workunit's.
+/// Returns the place of the first workunit that is not assimilated and has the name of an archived one, or `None` if
+/// there is none.
 pub fn first_taken(
     alloc: Global,
     workunits: &[Workunit],
     archived: &[Archived],
 ) -> Result<Option<usize>, AllocError>
+    // A place, from 0, is that of the first workunit not assimilated with an archived one's name;
+    // `None` means that there is none.
     ensures { IfOk result (FirstAgainst (IsNameFree archived.now) workunits.now) }
 {
     let keys = archived_names_of(alloc, archived)?;

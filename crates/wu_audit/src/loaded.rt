@@ -1,4 +1,4 @@
-//! A world held in memory: all that the tables of a project stand for.
+//! A world held in memory: all that the tables of a project represent.
 
 ghost use Rattle.std.specs.Prelude.{◌≡◌, ◌≤◌, ◌<◌, ◌^◌, ◌↔◌, true, IsTrue};
 ghost use Rattle.wu_core.specs.Names.{is_name};
@@ -7,7 +7,7 @@ ghost use Rattle.wu_core.specs.World.{World, Import, MayBeKept};
 use std::marker::Model;
 use wu_core::{Archived, Bytes, Grant, HostClass, ImportKind, Name, Workunit};
 
-/// What is kept for good of an imported file.
+/// What is kept permanently of an imported file.
 #[derive(Drop)]
 pub struct Imported {
     kind: ImportKind,
@@ -34,8 +34,8 @@ impl Model for Imported {
 }
 
 impl Imported {
-    /// An import of this kind and name, with what was imported and what it was answered first: the first number of a
-    /// batch, 0 where it made no workunit, and a verdict for each row.
+    /// Makes an import of this kind and name, with its content and its first answer. The answer has the first number of
+    /// a batch, 0 if it made no workunit, and a verdict for each row.
     pub fn new(
         kind: ImportKind,
         name: Name,
@@ -44,11 +44,17 @@ impl Imported {
         first_number: u64,
         verdicts: Bytes,
     ) -> Self
+        // The kind is this one.
         ensures kind { result.kind ≡ kind }
+        // The name is this one.
         ensures name { result.name ≡ name }
+        // The template is this one.
         ensures template { result.template ≡ template }
+        // The content is this one.
         ensures content { result.content ≡ content }
+        // The first number is this one.
         ensures first_number { result.first_number ≡ first_number }
+        // The verdicts are these.
         ensures verdicts { result.verdicts ≡ verdicts }
     {
         Imported {
@@ -61,22 +67,26 @@ impl Imported {
         }
     }
 
-    /// Its kind.
+    /// Returns the kind.
     pub fn kind(&self) -> ImportKind
+        // It is the kind of the import.
         ensures { result ≡ self.now.kind }
     {
         self.kind
     }
 
-    /// The name that it came under.
+    /// Returns the name that the import came under.
     pub fn name(&self) -> &Name
+        // It is the name of the import.
         ensures { result.now ≡ self.now.name }
     {
         &self.name
     }
 
-    /// Whether only a batch has a template, and a first number is there only where workunits were made.
+    /// Returns whether only a batch has a template, and a first number is there only if workunits were made.
     pub fn may_be_kept(&self) -> bool
+        // It is true exactly where only a batch has a template, and only an import that made
+        // workunits has a first number.
         ensures { IsTrue result ↔ MayBeKept self.now }
     {
         let is_batch = self.kind == ImportKind::Batch;
@@ -84,8 +94,9 @@ impl Imported {
         (is_batch || self.template.is_empty()) && (has_made || self.first_number == 0)
     }
 
-    /// A verdict for each row, as its code.
+    /// Returns the verdicts, one code for each row.
     pub fn verdicts(&self) -> &Bytes
+        // These are the verdicts of the import.
         ensures { result.now ≡ self.now.verdicts }
     {
         &self.verdicts
@@ -122,7 +133,7 @@ impl Model for Loaded {
 }
 
 impl Loaded {
-    /// The world with these.
+    /// Makes the world with these.
     pub fn new(
         workunits: Vec<Workunit>,
         grants: Vec<Grant>,
@@ -132,12 +143,19 @@ impl Loaded {
         next_number: u64,
         version: u64,
     ) -> Self
+        // The workunits are these.
         ensures workunits { result.workunits ≡ workunits.items }
+        // The grants are these.
         ensures grants { result.grants ≡ grants.items }
+        // The archived rows are these.
         ensures archived { result.archived ≡ archived.items }
+        // The imports are these.
         ensures imports { result.imports ≡ imports.items }
+        // The hosts with a class are these.
         ensures classes { result.classes ≡ classes.items }
+        // The next number is this one.
         ensures next_number { result.next_number ≡ next_number }
+        // The version is this one.
         ensures version { result.version ≡ version }
     {
         Loaded {
@@ -151,50 +169,57 @@ impl Loaded {
         }
     }
 
-    /// The workunits, in order of number.
+    /// Returns the workunits, in order of number.
     pub fn workunits(&self) -> &[Workunit]
+        // These are the workunits of the world.
         ensures { result.now ≡ self.now.workunits }
     {
         self.workunits.as_slice()
     }
 
-    /// The grants, in order of their making.
+    /// Returns the grants, in order of their making.
     pub fn grants(&self) -> &[Grant]
+        // These are the grants of the world.
         ensures { result.now ≡ self.now.grants }
     {
         self.grants.as_slice()
     }
 
-    /// The archived rows, in order of their archiving.
+    /// Returns the archived rows, in order of their archiving.
     pub fn archived(&self) -> &[Archived]
+        // These are the archived rows of the world.
         ensures { result.now ≡ self.now.archived }
     {
         self.archived.as_slice()
     }
 
-    /// The imports, in any order.
+    /// Returns the imports, in any order.
     pub fn imports(&self) -> &[Imported]
+        // These are the imports of the world.
         ensures { result.now ≡ self.now.imports }
     {
         self.imports.as_slice()
     }
 
-    /// The hosts that have a class, in order of their names' bytes.
+    /// Returns the hosts that have a class, in order of their names' bytes.
     pub fn classes(&self) -> &[HostClass]
+        // These are the hosts with a class of the world.
         ensures { result.now ≡ self.now.classes }
     {
         self.classes.as_slice()
     }
 
-    /// The number that the next workunit gets.
+    /// Returns the number that the next workunit gets.
     pub fn next_number(&self) -> u64
+        // It is the next number of the world.
         ensures { result ≡ self.now.next_number }
     {
         self.next_number
     }
 
-    /// The version of the schema that the tables are of.
+    /// Returns the version of the schema that the tables are of.
     pub fn version(&self) -> u64
+        // It is the version of the world.
         ensures { result ≡ self.now.version }
     {
         self.version

@@ -10,16 +10,18 @@ use wu_core::{
     Archived, Assimilate, ErrorMask, Grant, Instance, Moment, Name, ValidateState, Workunit,
 };
 
-/// The first place of a workunit with this number or a higher one.
+/// Returns the first place of a workunit with this number or a higher one.
 fn bound_of(workunits: &[Workunit], number: u64) -> usize
+    // Workunits before the place have lower numbers, and those from it on have not.
     requires { Ascends workunits.now }
     ensures { IsBoundOf number workunits.now result }
 {
     workunits.partition_point(|workunit| workunit.number < number)
 }
 
-/// The place of the workunit with this number.
+/// Returns the place of the workunit with this number, or `None` if there is none.
 fn place_of(workunits: &[Workunit], number: u64) -> Option<usize>
+    // A place has the workunit of this number; `None` means that none has it.
     requires { Ascends workunits.now }
     ensures { IsPlaceOf number workunits.now result }
 {
@@ -31,7 +33,7 @@ fn place_of(workunits: &[Workunit], number: u64) -> Option<usize>
     }
 }
 
-/// Whether the instance is this host's.
+/// Returns whether the instance is this host's.
 fn is_of(instance: &Instance, host: &Name) -> bool
     ensures { IsTrue result ↔ (instance.now.host ≡ Some host.now) }
 {
@@ -41,8 +43,10 @@ fn is_of(instance: &Instance, host: &Name) -> bool
     }
 }
 
-/// Whether the grant is for a valid instance of the workunit, for its host and with the workunit's credit.
+/// Returns whether the grant is for a valid instance of the workunit, for its host and with the workunit's credit.
 fn is_grant_of(workunit: &Workunit, grant: &Grant) -> bool
+    // It is true exactly where the grant is for a VALID instance of the workunit, for its host and
+    // with the workunit's credit.
     ensures { IsTrue result ↔ IsGrantOf workunit.now grant.now }
 {
     let Some(instance) = workunit.instances.as_slice().get(grant.n as usize) else {
@@ -53,8 +57,10 @@ fn is_grant_of(workunit: &Workunit, grant: &Grant) -> bool
         && grant.credit == u64::from(workunit.params.credit())
 }
 
-/// Whether the grant is so for the workunit of its number, if there is one.
+/// Returns whether the grant is so for the workunit of its number, if there is one.
 fn is_backed_grant(workunits: &[Workunit], grant: &Grant) -> bool
+    // It is true exactly where the workunit of the grant's number, if it is present, has such an
+    // instance.
     requires { Ascends workunits.now }
     ensures { IsTrue result ↔ IsBackedGrant workunits.now grant.now }
 {
@@ -64,10 +70,13 @@ fn is_backed_grant(workunits: &[Workunit], grant: &Grant) -> bool
     }
 }
 
-/// The first grant whose workunit is there, and that is not for a valid instance of it, or not for its host, or not
-/// with the workunit's credit.
+/// Returns the place of the first grant whose workunit is there without a VALID instance of its number, its host and
+/// its credit. Returns `None` if there is none.
 pub fn first_unbacked_grant(workunits: &[Workunit], grants: &[Grant]) -> Option<usize>
+    // The workunits are in order of number.
     requires { Ascends workunits.now }
+    // A place, from 0, is the first grant not for a VALID instance, its host and credit of a
+    // present workunit; `None`: there is none.
     ensures { FirstAgainst (IsBackedGrant workunits.now) grants.now result }
 {
     for (place, grant) in grants.iter().enumerate() {
@@ -78,21 +87,21 @@ pub fn first_unbacked_grant(workunits: &[Workunit], grants: &[Grant]) -> Option<
     None
 }
 
-/// Whether two canonical numbers are one, or there is none.
+/// Returns whether two canonical numbers are the same, or both are none.
 fn is_same_place(one: Option<u32>, other: Option<u32>) -> bool
     ensures { IsTrue result ↔ (one ≡ other) }
 {
     one == other
 }
 
-/// Whether two masks have the same bits.
+/// Returns whether two masks have the same bits.
 fn is_same_mask(one: ErrorMask, other: ErrorMask) -> bool
     ensures { IsTrue result ↔ (one ≡ other) }
 {
     one.code() == other.code()
 }
 
-/// Whether the moment of a workunit is this one.
+/// Returns whether the moment of a workunit is this one.
 fn is_done_at(done_at: Option<Moment>, moment: Moment) -> bool
     ensures { IsTrue result ↔ (done_at ≡ Some moment) }
 {
@@ -102,7 +111,7 @@ fn is_done_at(done_at: Option<Moment>, moment: Moment) -> bool
     }
 }
 
-/// Whether the row has the canonical number, the error mask and the moment of the workunit.
+/// Returns whether the row has the canonical number, the error mask and the moment of the workunit.
 fn is_row_of(workunit: &Workunit, row: &Archived) -> bool
     ensures { IsTrue result ↔ IsRowOf workunit.now row.now }
 {
@@ -111,15 +120,17 @@ fn is_row_of(workunit: &Workunit, row: &Archived) -> bool
         && is_done_at(workunit.done_at, row.done_at)
 }
 
-/// Whether the row is that of the workunit, which is assimilated.
+/// Returns whether the row is that of the workunit, which is assimilated.
 fn is_archived_of(workunit: &Workunit, row: &Archived) -> bool
     ensures { IsTrue result ↔ IsArchivedOf workunit.now row.now }
 {
     workunit.assimilate == Assimilate::Done && is_row_of(workunit, row) && row.name == workunit.name
 }
 
-/// Whether the archived row is so for the workunit of its number, if there is one.
+/// Returns whether the archived row is so for the workunit of its number, if there is one.
 fn is_backed_row(workunits: &[Workunit], row: &Archived) -> bool
+    // It is true exactly where the workunit of the row's number, if it is present, is assimilated
+    // and has the row's values.
     requires { Ascends workunits.now }
     ensures { IsTrue result ↔ IsBackedRow workunits.now row.now }
 {
@@ -129,9 +140,13 @@ fn is_backed_row(workunits: &[Workunit], row: &Archived) -> bool
     }
 }
 
-/// The first archived row whose workunit is there, and that is not what is kept of it.
+/// Returns the place of the first archived row whose workunit is there, and that is not what is kept of it. Returns
+/// `None` if there is none.
 pub fn first_unbacked_row(workunits: &[Workunit], archived: &[Archived]) -> Option<usize>
+    // The workunits are in order of number.
     requires { Ascends workunits.now }
+    // A place, from 0, is the first archived row that is not that of its present workunit,
+    // assimilated; `None` means that there is none.
     ensures { FirstAgainst (IsBackedRow workunits.now) archived.now result }
 {
     for (place, row) in archived.iter().enumerate() {

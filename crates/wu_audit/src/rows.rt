@@ -1,4 +1,4 @@
-//! Whether a grant, an archived row, an import and a host's class may stand in a world.
+//! Whether a grant, an archived row, an import and a host's class may be in a world.
 
 ghost use Rattle.std.specs.Prelude.{◌≡◌, ◌↔◌, ◌≤◌, IsTrue, All};
 ghost use Rattle.wu_core.specs.Classes.{IsClassed};
@@ -14,15 +14,18 @@ use wu_core::{
     MOST_INSTANCES,
 };
 
-/// Whether the number was given to a workunit.
+/// Returns whether the number was given to a workunit.
 pub fn is_given(loaded: &Loaded, number: u64) -> bool
+    // It is true exactly where the number was given: it is from 1 on, and below the next number.
     ensures { IsTrue result ↔ IsGiven loaded.now number }
 {
     1 <= number && number < loaded.next_number()
 }
 
-/// Whether the grant is for a number that was given, and its number and its credit are in their ranges.
+/// Returns whether the grant is for a number that was given, and its number and its credit are in their ranges.
 pub fn is_right_grant(loaded: &Loaded, grant: &Grant) -> bool
+    // It is true exactly where the workunit's number was given, the instance's is below 100, and
+    // the credit is at most 1,000,000.
     ensures { IsTrue result ↔ IsRightGrant loaded.now grant.now }
 {
     is_given(loaded, grant.workunit)
@@ -30,8 +33,9 @@ pub fn is_right_grant(loaded: &Loaded, grant: &Grant) -> bool
         && grant.credit <= u64::from(MOST_CREDIT)
 }
 
-/// Whether the archived row can be stored.
+/// Returns whether the archived row can be stored.
 pub fn is_storable_archived(archived: &Archived) -> bool
+    // It is true exactly where the values of the archived row are in their ranges.
     ensures { IsTrue result ↔ IsStoredArchived archived.now }
 {
     archived.name.as_bytes();
@@ -40,15 +44,16 @@ pub fn is_storable_archived(archived: &Archived) -> bool
     archived.output.len() <= LONGEST_OUTPUT
 }
 
-/// Whether no bit of the archived row's mask stands that this project never sets.
+/// Returns whether the archived row's mask has no bit that this project never sets.
 pub fn has_possible_mask(archived: &Archived) -> bool
+    // It is true exactly where the mask has neither of the two errors that this project never sets.
     ensures { IsTrue result ↔ HasPossibleMask archived.now }
 {
     let mask = archived.error_mask;
     !mask.couldnt_send_result && !mask.no_canonical_result
 }
 
-/// The greatest number of a skip in a file of this kind.
+/// Returns the greatest number of a skip in a file of this kind.
 fn last_skip(kind: ImportKind) -> u8
     ensures { result ≡ last_skip kind }
 {
@@ -60,7 +65,7 @@ fn last_skip(kind: ImportKind) -> u8
     }
 }
 
-/// Whether each verdict is a number of one on a file of this kind.
+/// Returns whether each verdict is a number of one on a file of this kind.
 fn are_verdicts(kind: ImportKind, verdicts: &[u8]) -> bool
     ensures { IsTrue result ↔ AreVerdicts kind verdicts.now }
 {
@@ -68,16 +73,19 @@ fn are_verdicts(kind: ImportKind, verdicts: &[u8]) -> bool
     verdicts.iter().all(|verdict| *verdict <= last_skip)
 }
 
-/// Whether the verdicts of the import are numbers of verdicts on such a file.
+/// Returns whether the verdicts of the import are numbers of verdicts on such a file.
 pub fn is_right_import(import: &Imported) -> bool
+    // It is true exactly where the import has a name, and each verdict is one that a file of its
+    // kind has.
     ensures { IsTrue result ↔ IsRightImport import.now }
 {
     import.name().as_bytes();
     are_verdicts(import.kind(), import.verdicts().as_slice())
 }
 
-/// Whether the class of the host is in its range.
+/// Returns whether the class of the host is in its range.
 pub fn is_classed(it: &HostClass) -> bool
+    // It is true exactly where the host has a name and a class from 1 to the highest.
     ensures { IsTrue result ↔ IsClassed it.now }
 {
     it.host.as_bytes();

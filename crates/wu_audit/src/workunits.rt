@@ -17,7 +17,7 @@ use wu_core::{
     Params, ServerState, ValidateState, Workunit,
 };
 
-/// The parameters of a workunit are in their ranges.
+/// Makes known that the parameters of a workunit are in their ranges.
 fn know_parameters(params: Params)
     ensures { IsParameters params }
 {
@@ -30,7 +30,7 @@ fn know_parameters(params: Params)
     params.credit();
 }
 
-/// Whether each instance is well formed.
+/// Returns whether each instance is well formed.
 fn is_all_formed(instances: &Instances) -> bool
     ensures { IsTrue result ↔ All IsInstance instances.now }
 {
@@ -39,7 +39,7 @@ fn is_all_formed(instances: &Instances) -> bool
         .all(|instance| is_formed_instance(instance))
 }
 
-/// Whether the canonical instance, if there is one, is there.
+/// Returns whether the canonical instance, if there is one, is there.
 fn is_canonical_there(workunit: &Workunit) -> bool
     ensures { IsTrue result ↔ IsCanonicalPlace workunit.now }
 {
@@ -49,7 +49,7 @@ fn is_canonical_there(workunit: &Workunit) -> bool
     }
 }
 
-/// Whether there are no more instances than the workunit may have, and its canonical one is among them.
+/// Returns whether there are no more instances than the workunit may have, and its canonical one is among them.
 fn has_its_instances(workunit: &Workunit) -> bool
     ensures { IsTrue result ↔ HasItsInstances workunit.now }
 {
@@ -57,7 +57,7 @@ fn has_its_instances(workunit: &Workunit) -> bool
         && is_canonical_there(workunit)
 }
 
-/// The moment of a workunit is in its range.
+/// Makes known that the moment of a workunit is in its range.
 fn know_moment(done_at: Option<Moment>)
     ensures { IsMoment done_at }
 {
@@ -66,22 +66,24 @@ fn know_moment(done_at: Option<Moment>)
     }
 }
 
-/// Whether the workunit has a moment exactly where it is assimilated.
+/// Returns whether the workunit has a moment exactly where it is assimilated.
 fn is_stamped(workunit: &Workunit) -> bool
     ensures { IsTrue result ↔ IsDoneWithMoment workunit.now }
 {
     (workunit.assimilate == Assimilate::Done) == workunit.done_at.is_some()
 }
 
-/// Whether the workunit is well formed.
+/// Returns whether the workunit is well formed.
 pub fn is_formed_workunit(workunit: &Workunit) -> bool
+    // It is true exactly for a well-formed workunit: parameters in range, well-formed instances
+    // within their number, canonical one there, moment exactly if assimilated.
     ensures { IsTrue result ↔ IsWorkunit workunit.now }
 {
     know_parameters(workunit.params);
     is_all_formed(&workunit.instances) && has_its_instances(workunit) && is_stamped(workunit)
 }
 
-/// Whether each instance is what a row of an instance stands for.
+/// Returns whether a row of an instance may represent each instance.
 fn is_all_stored(instances: &Instances) -> bool
     ensures { IsTrue result ↔ AreStoredInstances instances.now }
 {
@@ -90,8 +92,9 @@ fn is_all_stored(instances: &Instances) -> bool
         .all(|instance| is_stored_instance(instance))
 }
 
-/// A number of an instance fits into 32 bits.
+/// Makes known that a number of an instance fits into 32 bits.
 pub(crate) fn know_place(place: Option<u32>)
+    // The number, if there is one, is below 2^32.
     ensures { IsPlace place }
 {
     if let Some(n) = place {
@@ -99,7 +102,7 @@ pub(crate) fn know_place(place: Option<u32>)
     }
 }
 
-/// Whether the values of the workunit but its instances and its class are in their ranges.
+/// Returns whether the values of the workunit, except its instances and its class, are in their ranges.
 fn is_stored_workunit(workunit: &Workunit) -> bool
     ensures { IsTrue result ↔ IsStoredWorkunit (bare workunit.now) }
 {
@@ -110,8 +113,10 @@ fn is_stored_workunit(workunit: &Workunit) -> bool
     workunit.input.len() <= LONGEST_INPUT && is_stamped(workunit)
 }
 
-/// Whether the values of the workunit and of its instances are such as their rows are read as, and it has its instances.
+/// Returns whether the values of the workunit and of its instances are in their ranges, and it has its instances.
 pub fn is_storable_workunit(workunit: &Workunit) -> bool
+    // It is true exactly where number, values, class and instances are in their ranges and the
+    // workunit has its instances.
     ensures { IsTrue result ↔ IsStorable workunit.now }
 {
     workunit.number <= i64::MAX as u64
@@ -121,7 +126,7 @@ pub fn is_storable_workunit(workunit: &Workunit) -> bool
         && has_its_instances(workunit)
 }
 
-/// Whether each instance is in a state that this project sets.
+/// Returns whether each instance is in a state that this project sets.
 fn is_all_possible(instances: &Instances) -> bool
     ensures { IsTrue result ↔ All IsPossible instances.now }
 {
@@ -130,7 +135,7 @@ fn is_all_possible(instances: &Instances) -> bool
         .all(|instance| is_possible_instance(instance))
 }
 
-/// Whether an instance waits to be sent.
+/// Returns whether an instance waits to be sent.
 fn has_unsent(instances: &Instances) -> bool
     ensures { result ≡ list_any is_unsent instances.now }
 {
@@ -139,21 +144,21 @@ fn has_unsent(instances: &Instances) -> bool
         .any(|instance| instance.server_state == ServerState::Unsent)
 }
 
-/// Whether no bit of the mask is set.
+/// Returns whether no bit of the mask is set.
 fn is_clear(mask: ErrorMask) -> bool
     ensures { result ≡ is_clear mask }
 {
     mask.code() == 0
 }
 
-/// Whether the instance is a success that was found valid.
+/// Returns whether the instance is a success that was found valid.
 fn is_valid_success(instance: &Instance) -> bool
     ensures { IsTrue result ↔ IsValidSuccess instance.now }
 {
     is_success(instance) && instance.validate_state == ValidateState::Valid
 }
 
-/// Whether the canonical instance, if there is one, is a success that was found valid.
+/// Returns whether the canonical instance, if there is one, is a success that was found valid.
 fn is_canonical_valid(workunit: &Workunit) -> bool
     ensures { IsTrue result ↔ IsCanonicalValid workunit.now }
 {
@@ -166,21 +171,21 @@ fn is_canonical_valid(workunit: &Workunit) -> bool
     }
 }
 
-/// Whether an instance has a host.
+/// Returns whether an instance has a host.
 fn has_hosted(instances: &Instances) -> bool
     ensures { result ≡ list_any (λ i. is_some i.host) instances.now }
 {
     instances.iter().any(|instance| instance.host.is_some())
 }
 
-/// Whether the workunit has no class where no instance of it has a host.
+/// Returns whether the workunit has no class where no instance of it has a host.
 fn is_classless_unsent(workunit: &Workunit) -> bool
     ensures { IsTrue result ↔ IsClasslessUnsent workunit.now }
 {
     workunit.class == 0 || has_hosted(&workunit.instances)
 }
 
-/// Whether no state stands that this project never sets.
+/// Returns whether the workunit has only states that this project sets.
 fn is_settable(workunit: &Workunit) -> bool
     ensures { IsTrue result ↔ IsSettable workunit.now }
 {
@@ -191,14 +196,14 @@ fn is_settable(workunit: &Workunit) -> bool
         && is_classless_unsent(workunit)
 }
 
-/// Whether the workunit has neither a canonical result nor an error.
+/// Returns whether the workunit has neither a canonical result nor an error.
 fn is_undecided(workunit: &Workunit) -> bool
     ensures { result ≡ (is_clear workunit.now.error_mask && is_none workunit.now.canonical) }
 {
     is_clear(workunit.error_mask) && workunit.canonical.is_none()
 }
 
-/// Whether the workunit is undecided, given up or decided, and not two of them.
+/// Returns whether the workunit is undecided, given up or decided, and not two of them.
 fn is_in_one_state(workunit: &Workunit) -> bool
     ensures { IsTrue result ↔ IsInOneState workunit.now }
 {
@@ -210,8 +215,10 @@ fn is_in_one_state(workunit: &Workunit) -> bool
     }
 }
 
-/// Whether the states and verdicts of the workunit agree.
+/// Returns whether the states and verdicts of the workunit agree.
 pub fn is_consistent_workunit(workunit: &Workunit) -> bool
+    // It is true exactly for a consistent workunit: possible states, one of undecided, given up and
+    // decided, and a valid canonical result.
     ensures { IsTrue result ↔ IsConsistent workunit.now }
 {
     is_settable(workunit) && is_in_one_state(workunit) && is_canonical_valid(workunit)

@@ -15,8 +15,9 @@ pub enum Table {
 }
 
 impl Table {
-    /// The name of the table.
+    /// Returns the name of the table.
     pub fn word(self) -> &'static str
+        // It is the name of the table in the schema.
         ensures { result.now ≡ table_word self }
     {
         match self {
@@ -30,8 +31,8 @@ impl Table {
     }
 }
 
-/// What is wrong with a world: one thing that a sound world has not. Each but the first and the last tells a row by its
-/// place in its table, from 0.
+/// What is wrong with a world: one thing that a sound world has not. Each except the first and the last names a row by
+/// its place in its table, from 0.
 #[derive(Clone, Copy)]
 pub enum Wrong {
     /// The next number is 0, or more than one above the greatest that there may be.
@@ -42,7 +43,7 @@ pub enum Wrong {
     WorkunitValues(usize),
     /// A value of the archived row is out of its range.
     ArchivedValues(usize),
-    /// A verdict of the import is none of such a file.
+    /// A verdict of the import is invalid for such a file.
     ImportVerdicts(usize),
     /// The states and verdicts of the workunit do not agree.
     WorkunitStates(usize),
@@ -85,8 +86,9 @@ pub enum Wrong {
 }
 
 impl Wrong {
-    /// The table whose row is wrong.
+    /// Returns the table whose row is wrong.
     pub fn table(self) -> Table
+        // It is the table that the definition gives for this violation.
         ensures { result ≡ table_of self }
     {
         match self {
@@ -113,8 +115,9 @@ impl Wrong {
         }
     }
 
-    /// The place of the row in its table, from 0.
+    /// Returns the place of the row in its table, from 0, or `None` for the project.
     pub fn place(self) -> Option<usize>
+        // It is the place that the violation carries; `None` for the first and the last one.
         ensures { result ≡ place_of_wrong self }
     {
         match self {
@@ -144,8 +147,9 @@ impl Wrong {
         }
     }
 
-    /// What is wrong with the row, in words that go on after its table and its key.
+    /// Returns what is wrong with the row, in words that continue after its table and its key.
     pub fn word(self) -> &'static str
+        // The words are those that are written for this violation.
         ensures { result.now ≡ wrong_word self }
     {
         match self {

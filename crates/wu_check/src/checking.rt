@@ -21,18 +21,20 @@ use wu_loader::load_world;
 use wu_schema::version_of;
 use wu_tables::project_trees;
 
-/// The world that the tables stand for, or what keeps them from it.
+/// The world that the tables represent, or what keeps them from it.
 #[derive(Drop)]
 enum Basis {
     World(Loaded),
     Unsound(Finding),
 }
 
-/// What is found, or that the project is of a later version, which may have other tables and rows.
+/// Returns the finding, or that the project is of a later version, which may have other tables and rows.
 fn unless_later<S: Alter>(conn: &mut Connection<S>, finding: Finding) -> Result<Finding, Fault>
+    // Only reads; if the finding is true of the database, so is the one that is returned.
     ensures examines { Examines S.Store conn.old conn.new result (λ db found. Tells db finding
         → Tells db found) }
     ensures opens { ServesUnlessFailed S.Store conn.new result }
+    // With no limit on steps, the later version of a project's one row is what is found.
     ensures later { OnAnswer S.Store conn.old conn.new result (TellsLater conn.old.step_limit) }
 {
     match version_of(conn) {
@@ -42,14 +44,18 @@ fn unless_later<S: Alter>(conn: &mut Connection<S>, finding: Finding) -> Result<
     }
 }
 
-/// The world of this version that the tables stand for, or what keeps them from it.
+/// Returns the world of this version that the tables represent, or what keeps them from it.
 fn find_world_of<S: Alter>(
     conn: &mut Connection<S>,
     alloc: Global,
     version: u64,
 ) -> Result<Basis, Fault>
+    // Only reads; if the project has this version, the tables represent the world that is returned,
+    // or the finding is true.
     ensures examines { Examines S.Store conn.old conn.new result (IsBasisOf version) }
     ensures opens { ServesUnlessFailed S.Store conn.new result }
+    // With no limit on steps, a finding over a project's one row with a later version is that
+    // version.
     ensures later { OnAnswer S.Store conn.old conn.new result (IsBasisLater conn.old.step_limit) }
 {
     if let Err(misfit) = project_trees(conn.schema(), version) {
@@ -65,10 +71,13 @@ fn find_world_of<S: Alter>(
     }
 }
 
-/// The world that the tables stand for, or what keeps them from it.
+/// Returns the world that the tables represent, or what keeps them from it.
 fn find_world<S: Alter>(conn: &mut Connection<S>, alloc: Global) -> Result<Basis, Fault>
+    // Only reads; the tables represent the world that is returned, or the finding is true.
     ensures examines { Examines S.Store conn.old conn.new result IsBasis }
     ensures opens { ServesUnlessFailed S.Store conn.new result }
+    // With no limit on steps, a finding over a project's one row with a later version is that
+    // version.
     ensures later { OnAnswer S.Store conn.old conn.new result (IsBasisLater conn.old.step_limit) }
 {
     if let Err(misfit) = project_trees(conn.schema(), FIRST_VERSION) {
@@ -79,10 +88,14 @@ fn find_world<S: Alter>(conn: &mut Connection<S>, alloc: Global) -> Result<Basis
     find_world_of(conn, alloc, version)
 }
 
-/// The verdict, for what is found first.
+/// Returns the verdict, for what is found first.
 fn examine<S: Alter>(conn: &mut Connection<S>, alloc: Global) -> Result<Verdict, Fault>
+    // Only reads; `Sound` is of a sound world of a known version with these numbers, and a finding
+    // is true.
     ensures examines { Examines S.Store conn.old conn.new result Says }
     ensures opens { ServesUnlessFailed S.Store conn.new result }
+    // With no limit on steps, a finding over a project's one row with a later version is that
+    // version.
     ensures later { OnLegible S.Store conn.old conn.new result (SaysLater conn.old.step_limit) }
 {
     let loaded = match find_world(conn, alloc)? {
@@ -99,16 +112,29 @@ fn examine<S: Alter>(conn: &mut Connection<S>, alloc: Global) -> Result<Verdict,
     })
 }
 
-/// Whether the database holds a sound project of a version that this program knows. It reads all tables whole, and
-/// changes nothing.
+/// Returns whether the database holds a sound project of a version that this program knows, or what was found first.
+/// Reads all tables whole, and changes nothing.
 pub fn check<S: Alter>(conn: &mut Connection<S>, alloc: Global) -> Result<Verdict, Fault>
+    // Begins no transaction and commits nothing; except after `Memory` and `Broken` all is as
+    // before; `Broken` means a failed disk or a closed connection.
     ensures asks { Asks S.Store conn.old conn.new result }
+    // The connection is open afterwards, except after `Memory` and `Broken`.
     ensures opens { ServesUnlessFailed S.Store conn.new result }
+    // Over kept tables, `Sound` means that they represent a sound world of a known version with
+    // these numbers of workunits and results.
     ensures sound { OnKept S.Store conn.old conn.new result SaysSound }
+    // A finding means that the tables represent no sound world of a known version.
     ensures unsound { OnAnswer S.Store conn.old conn.new result SaysUnsound }
+    // Over kept tables the finding is true. A row is missing or invalid at its place; an unknown
+    // version is that of the one row of `project`, or of what has its name; a place of the queue is
+    // the first that differs.
     ensures told { OnKept S.Store conn.old conn.new result SaysWhy }
+    // Over kept tables with no limit on steps, a finding reports the version that the one row of
+    // `project` has, if it is later.
     ensures later { OnKept S.Store conn.old conn.new result (SaysLater conn.old.step_limit) }
+    // A fault is `Memory`, `Broken` or `NotAProject`.
     ensures fault { IfErr result IsStoreFault }
+    // With no limit on steps, the only faults are `Memory` and `Broken`.
     ensures answered { AnswersUnlessFailed S.Store conn.old conn.new result }
 {
     sound_in_any_order();

@@ -27,7 +27,7 @@ pub enum Key {
 pub enum Finding {
     /// A table is missing or altered.
     Tables(Misfit),
-    /// A row is that of no value, or lacks.
+    /// A row is that of no value, or is missing.
     Row(WrongRow),
     /// The project has a version that this program does not know, as a later one.
     Version(u64),
@@ -35,7 +35,7 @@ pub enum Finding {
     World(Wrong, Key),
     /// The queue, or one of its indexes, is missing or altered.
     Queue,
-    /// The row of the queue at this place, from 1, is not that of its workunit's marks; or a row lacks there.
+    /// The row of the queue at this place, from 1, is not that of its workunit's marks, or is missing.
     Marks(u64),
 }
 

@@ -1,4 +1,4 @@
-//! Whether the world that the tables stand for is that of a sound project.
+//! Whether the world that the tables represent is that of a sound project.
 
 ghost use Rattle.std.specs.Prelude.{◌≡◌, ◌≤◌, ◌↔◌, IfErr, IfOk, IfSome, IsNone, IsTrue};
 ghost use Rattle.wu_check.specs.Checking.{IsKnown};
@@ -21,25 +21,31 @@ use wu_core::Fault;
 use wu_schema::PRESENT_VERSION;
 use wu_tables::queue_tree;
 
-/// Whether this program knows the version.
+/// Returns whether this program knows the version.
 pub fn is_known(version: u64) -> bool
+    // It is true exactly for versions from 1 to the present one.
     ensures { IsTrue result ↔ IsKnown version }
 {
     1 <= version && version <= PRESENT_VERSION
 }
 
-/// Whether the world is of a version that has a queue.
+/// Returns whether the world is of a version that has a queue.
 fn is_queued(loaded: &Loaded) -> bool
     ensures { IsTrue result ↔ IsQueued loaded.now }
 {
     2 <= loaded.version()
 }
 
-/// What is wrong with the world, if not the rows of its queue.
+/// Returns what is wrong with the world, except for the rows of its queue, or `None` if nothing is.
 fn wrong_world(schema: &Schema, alloc: Global, loaded: &Loaded) -> Result<Option<Finding>, Fault>
+    // `None` means that the world is sound, of a known version, and that the schema has the queue
+    // that this version has.
     ensures right { IfOk result (λ found. IsNone found → IsRightWorld schema.now loaded.now) }
+    // A finding is true of each database with this schema that represents the world.
     ensures told { IfOk result (λ found. IfSome found (TellsOf schema.now loaded.now)) }
+    // A version that this program does not know is what is found of a world that has it.
     ensures unknown { IfOk result (TellsUnknown loaded.now) }
+    // The only fault is out of memory.
     ensures memory { IfErr result (λ fault. fault ≡ Memory) }
 {
     if !is_known(loaded.version()) {
@@ -55,16 +61,21 @@ fn wrong_world(schema: &Schema, alloc: Global, loaded: &Loaded) -> Result<Option
     Ok(None)
 }
 
-/// What is wrong with the world that the tables stand for, or with its queue.
+/// Returns what is wrong with the world that the tables represent, or with its queue, or `None` if nothing is.
 pub fn judge<S: Alter>(
     conn: &mut Connection<S>,
     alloc: Global,
     loaded: &Loaded,
 ) -> Result<Option<Finding>, Fault>
+    // Only reads. Over the world's tables, if questions show all of them, a finding is true, and
+    // `None` means a sound world of a known version with each workunit's marks queued.
     ensures examines { Examines S.Store conn.old conn.new result
         (λ db found. Refines db loaded.now → Judges db loaded.now found) }
+    // A connection that was open is open afterwards, except after `Memory` and `Broken`.
     ensures stays { StaysUnlessFailed S.Store conn.old conn.new result }
+    // `None` means that the world is sound.
     ensures sound { IfOk result (λ found. IsNone found → IsSound loaded.now) }
+    // A version that this program does not know is what is found of a world that has it.
     ensures unknown { IfOk result (TellsUnknown loaded.now) }
 {
     if let Some(finding) = wrong_world(conn.schema(), alloc, loaded)? {

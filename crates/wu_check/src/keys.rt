@@ -1,4 +1,4 @@
-//! The key of the row of which a world's audit tells.
+//! The key of the row that a world's audit reports.
 
 ghost use Rattle.std.specs.Prelude.{◌≡◌, ◌+◌, ◌<◌, length, Some, IfErr, IfOk};
 ghost use Rattle.wu_audit.specs.Wrong.{StandsAgainst};
@@ -9,7 +9,7 @@ use crate::finding::Key;
 use wu_audit::{Loaded, Table, Wrong};
 use wu_core::Fault;
 
-/// The place, counted from 1, of one of so many rows.
+/// Returns the place, counted from 1, of one of so many rows.
 fn counted(place: usize, rows: usize) -> u64
     requires { place < rows }
     ensures { result ≡ place + 1 }
@@ -17,30 +17,37 @@ fn counted(place: usize, rows: usize) -> u64
     place as u64 + 1
 }
 
-/// The key of the import at this place.
+/// Returns the key of the import at this place.
 fn import_key(loaded: &Loaded, place: usize) -> Result<Key, Fault>
     requires { place < length loaded.now.imports }
+    // It is the kind and the name of the import at this place.
     ensures key { IfOk result (IsKeyAt loaded.now Table.Import (Some place)) }
+    // The only fault is out of memory.
     ensures memory { IfErr result (λ fault. fault ≡ Memory) }
 {
     let import = &loaded.imports()[place];
     Ok(Key::Import(import.kind(), import.name().copy()?))
 }
 
-/// The key of the host at this place among those that have a class.
+/// Returns the key of the host at this place among those that have a class.
 fn class_key(loaded: &Loaded, place: usize) -> Result<Key, Fault>
     requires { place < length loaded.now.classes }
+    // It is the name of the host at this place.
     ensures key { IfOk result (IsKeyAt loaded.now Table.HostClass (Some place)) }
+    // The only fault is out of memory.
     ensures memory { IfErr result (λ fault. fault ≡ Memory) }
 {
     let one = &loaded.classes()[place];
     Ok(Key::HostClass(one.host.copy()?))
 }
 
-/// The key of the row that is wrong.
+/// Returns the key of the row that is wrong. Returns `Memory` if out of memory.
 pub fn key_of(loaded: &Loaded, wrong: Wrong) -> Result<Key, Fault>
+    // The violation is the first of this world in the written order.
     requires { StandsAgainst loaded.now wrong }
+    // The key is that of the reported row; grants and archived rows are counted from 1.
     ensures key { IfOk result (IsKeyOf loaded.now wrong) }
+    // The only fault is out of memory.
     ensures memory { IfErr result (λ fault. fault ≡ Memory) }
 {
     let Some(place) = wrong.place() else {

@@ -13,7 +13,7 @@ use wu_core::{Fault, Moment, Workunit};
 use wu_rules::marks_of;
 use wu_schema::query;
 
-/// Whether the column is this number.
+/// Returns whether the column is this number.
 fn is_number(row: &Row, at: usize, wanted: u64) -> bool
     requires { at < length row.now }
     ensures { IsTrue result ↔ (column row.now at ≡ number wanted) }
@@ -24,7 +24,7 @@ fn is_number(row: &Row, at: usize, wanted: u64) -> bool
     }
 }
 
-/// Whether the column is this number, or empty where there is none.
+/// Returns whether the column is this number, or empty if there is none.
 fn is_number_or_null(row: &Row, at: usize, wanted: Option<u64>) -> bool
     requires { at < length row.now }
     ensures { IsTrue result ↔ (column row.now at ≡ number_or_null wanted) }
@@ -35,7 +35,7 @@ fn is_number_or_null(row: &Row, at: usize, wanted: Option<u64>) -> bool
     }
 }
 
-/// Whether the column is this moment, or empty where there is none.
+/// Returns whether the column is this moment, or empty if there is none.
 fn is_moment_or_null(row: &Row, at: usize, wanted: Option<Moment>) -> bool
     requires { at < length row.now }
     ensures { IsTrue result ↔ (column row.now at ≡ number_or_null wanted) }
@@ -46,7 +46,7 @@ fn is_moment_or_null(row: &Row, at: usize, wanted: Option<Moment>) -> bool
     }
 }
 
-/// Whether the column is this mark.
+/// Returns whether the column is this mark.
 fn is_flag(row: &Row, at: usize, wanted: bool) -> bool
     requires { at < length row.now }
     ensures { IsTrue result ↔ (column row.now at ≡ flag wanted) }
@@ -58,7 +58,7 @@ fn is_flag(row: &Row, at: usize, wanted: bool) -> bool
     }
 }
 
-/// Whether the row is that of the marks of the workunit.
+/// Returns whether the row is that of the marks of the workunit.
 fn has_marks(row: &Row, workunit: &Workunit) -> bool
     ensures { IsTrue result ↔ (row.now ≡ marked_row workunit.now) }
 {
@@ -72,8 +72,11 @@ fn has_marks(row: &Row, workunit: &Workunit) -> bool
         && is_moment_or_null(row, 5, marks.purge_from)
 }
 
-/// The first place, from 1, at which the rows are not those of the workunits' marks.
+/// Returns the first place, from 1, at which the rows are not those of the workunits' marks, or `None` if there is
+/// none.
 fn first_other(rows: &[Row], workunits: &[Workunit]) -> Option<u64>
+    // A place is the first at which the rows differ from those of the workunits' marks; `None`
+    // means that they do not.
     ensures { ComparesTo (map marked_row workunits.now) rows.now result }
 {
     'each: for (place, row) in rows.iter().enumerate() {
@@ -89,8 +92,10 @@ fn first_other(rows: &[Row], workunits: &[Workunit]) -> Option<u64>
     }
 }
 
-/// The rows of the queue, in order of their workunits' numbers.
+/// Returns the rows of the queue, in order of their workunits' numbers.
 fn queue_rows<S: Alter>(conn: &mut Connection<S>) -> Result<Vec<Row>, Fault>
+    // Only reads; over a queue whose rows are whole and in rowid order, these are its rows, without
+    // the empty cell of the key.
     ensures { LooksInQueue S.Store conn.old conn.new result (λ rows shown. shown.items ≡ map
         (keyed 6) rows) }
 {
@@ -101,11 +106,15 @@ fn queue_rows<S: Alter>(conn: &mut Connection<S>) -> Result<Vec<Row>, Fault>
     )
 }
 
-/// The first place, from 1, at which the rows of the queue are not the marks of each workunit.
+/// Returns the first place, from 1, at which the rows of the queue are not the marks of each workunit, or `None` if
+/// there is none.
 pub fn wrong_marks<S: Alter>(
     conn: &mut Connection<S>,
     loaded: &Loaded,
 ) -> Result<Option<u64>, Fault>
+    // Only reads. A place is the first at which a queue's rows, whole and in rowid order, differ
+    // from the workunits' marks; `None` means that they do not. Over a queue with no limit on
+    // steps, its only faults are `Memory` and `Broken`.
     ensures { LooksInQueue S.Store conn.old conn.new result (HasMarks loaded.now) }
 {
     let rows = queue_rows(conn)?;

@@ -14,7 +14,7 @@ use wu_schema::query;
 /// The first version. Its tables are those that each version has.
 pub const FIRST_VERSION: u64 = 1;
 
-/// The rows of the table of the project.
+/// Returns the rows of the table of the project.
 fn project_rows<S: Alter>(conn: &mut Connection<S>) -> Result<Vec<Row>, Fault>
     ensures { Looks FIRST_VERSION S.Store conn.old conn.new result
         (λ db trees rows. rows.items ≡ map (keyed 3) (db.trees trees.project)) }
@@ -26,8 +26,9 @@ fn project_rows<S: Alter>(conn: &mut Connection<S>) -> Result<Vec<Row>, Fault>
     )
 }
 
-/// The version in the row of a project; the first in another row.
+/// Returns the version in the row of a project, and 1 for any other row.
 fn version_in_row(row: &Row) -> u64
+    // The version is the number after the key, or 1 where no number is there.
     ensures { IsToldBy (column row.now 1) result }
 {
     match row.get_ref(1) {
@@ -36,8 +37,10 @@ fn version_in_row(row: &Row) -> u64
     }
 }
 
-/// The version in the one row of a project; the first in other rows.
+/// Returns the version in the one row of a project, and 1 for any other rows.
 fn version_in(rows: &[Row]) -> u64
+    // The version is that of the one row, or 1 where there is not one row with a number after the
+    // key.
     ensures { TellVersion rows.now result }
 {
     match rows {
@@ -46,8 +49,11 @@ fn version_in(rows: &[Row]) -> u64
     }
 }
 
-/// The version of each world that the tables stand for.
+/// Returns the version of each world that the tables represent.
 pub fn version_told<S: Alter>(conn: &mut Connection<S>) -> Result<u64, Fault>
+    // Only reads. The version is that of each represented world, and of the one row of `project`;
+    // or 1 where there is no such row. Over such tables with no limit on steps, its only faults are
+    // `Memory` and `Broken`.
     ensures { Looks FIRST_VERSION S.Store conn.old conn.new result
         (λ db trees version. IsReadVersion db version) }
 {

@@ -1,4 +1,4 @@
-//! A check: whether an open database holds a sound project, and how that is told.
+//! A check: whether an open database holds a sound project, and how that is reported.
 
 ghost use Rattle.wu_cli.specs.Checking.{ChecksOver, TellsVerdict};
 
@@ -9,7 +9,7 @@ use std::alloc::Global;
 use std::io::Write;
 use wu_check::{Verdict, check};
 
-/// Tells a verdict: a sound project on the writer, and what keeps it from being one as the trouble.
+/// Reports a verdict: a sound project on the writer, and what keeps it from being sound as the trouble.
 fn tell_verdict<W: Write>(out: &mut W, verdict: Verdict) -> Result<(), Trouble>
     ensures { TellsVerdict W.contents out.old out.new verdict result }
 {
@@ -26,13 +26,16 @@ fn tell_verdict<W: Write>(out: &mut W, verdict: Verdict) -> Result<(), Trouble>
     }
 }
 
-/// Tells whether an open database holds a sound project, as `wu_check::check` does: where it does, on the writer; else
-/// what keeps it from that is the trouble, and nothing is written. Nothing of the database is changed.
+/// Checks whether an open database holds a sound project, as `wu_check::check` does. If so, it prints that on the
+/// writer. Else the trouble is what keeps it from that, and nothing is written. Nothing of the database is changed.
 pub fn check_over<S: Alter, W: Write>(
     alloc: Global,
     conn: &mut Connection<S>,
     out: &mut W,
 ) -> Result<(), Trouble>
+    // The line of a sound project goes out, or a prefix of it with `Output`. A finding is reported
+    // as the trouble, and nothing is written. The verdict is that of `wu_check::check`, which
+    // changes nothing; without one the fault is reported.
     ensures { ChecksOver S.Store W.contents conn.old conn.new out.old out.new result }
 {
     let verdict = check(conn, alloc)?;

@@ -1,4 +1,4 @@
-//! What is told of a topic: a fault, a status, a view, a file or another.
+//! The explanation of a topic: a fault, a status, a view, a file or another.
 
 ghost use Rattle.wu_cli.specs.Explaining.{ExplainsTopic, IsNoTopic};
 
@@ -10,7 +10,7 @@ use wu_arguments::{Topic, Usage, Word};
 use wu_core::Fault;
 use wu_explain::explanation;
 
-/// The text of a word; empty where there is none.
+/// Returns the text of a word; empty where there is none.
 fn text_or_empty(word: &Option<Word>) -> &str {
     match word {
         Some(word) => word.as_str(),
@@ -18,7 +18,7 @@ fn text_or_empty(word: &Option<Word>) -> &str {
     }
 }
 
-/// That the words name no topic.
+/// Returns the trouble of words that name no topic.
 fn no_topic(alloc: Global) -> Trouble
     ensures { IsNoTopic result }
 {
@@ -28,8 +28,11 @@ fn no_topic(alloc: Global) -> Trouble
     }
 }
 
-/// Writes what is told of a topic, and flushes. What is no topic is refused, with status 2, and nothing is written.
+/// Writes the explanation of a topic, and flushes. Words that name no topic are refused with status 2, and nothing is
+/// written.
 pub fn explain<W: Write>(alloc: Global, topic: &Topic, out: &mut W) -> Result<(), Trouble>
+    // The text of the topic goes out, which is not empty; or a prefix of it with `Output`. Or the
+    // words name no topic, which is reported or out of memory, and nothing goes out.
     ensures { ExplainsTopic W.contents out.old out.new result }
 {
     let told = explanation(text_or_empty(&topic.name), text_or_empty(&topic.detail));

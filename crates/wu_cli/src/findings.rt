@@ -15,7 +15,7 @@ use wu_loader::finding::Table;
 use wu_report::{Piece, write_pieces};
 use wu_tables::Misfit;
 
-/// The word of the subcommand that imports such files.
+/// Returns the word of the subcommand that imports such files.
 fn kind_word(kind: ImportKind) -> &'static str
     ensures { result.now ≡ kind_word kind }
 {
@@ -27,7 +27,7 @@ fn kind_word(kind: ImportKind) -> &'static str
     }
 }
 
-/// The name of a table before a row's place.
+/// Returns the name of a table before a row's place.
 fn row_front(table: Table) -> &'static str
     ensures { result.now ≡ row_front table }
 {
@@ -120,6 +120,7 @@ fn line_of_row<W: Write>(out: &mut W, key: &Key, what: &str) -> Result<(), Fault
 
 /// Writes what was found.
 pub(crate) fn line_of_finding<W: Write>(out: &mut W, finding: &Finding) -> Result<(), Fault>
+    // With Ok exactly the line of the finding is written, and else a prefix of it.
     ensures { WritesTo W.contents out.old out.new (finding_line finding.now) result }
 {
     match finding {
@@ -152,8 +153,11 @@ pub fn write_sound<W: Write>(
     workunits: u64,
     results: u64,
 ) -> Result<(), Fault>
+    // With Ok exactly the line with the version and both numbers is written, and else a prefix of
+    // it.
     ensures bytes { WritesTo W.contents out.old out.new
         (sound_line version workunits results) result }
+    // The only fault is `Output`.
     ensures fault { IsOkUnless result Output }
 {
     write_flushed(

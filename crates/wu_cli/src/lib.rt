@@ -1,4 +1,4 @@
-//! The command line: what is done over a project for its words, the status that it ends with, and the lines of faults.
+//! The command line: what its words do over a project, the status that it ends with, and the lines of faults.
 #![tactic(auto)]
 
 mod checking;

@@ -15,18 +15,21 @@ use wu_arguments::{Action, LineFault, Step, exit_status};
 use wu_core::Fault;
 use wu_drive::Project;
 
-/// Runs the commands of an action, or shows its view. It answers the status of the program, and the fault that ended
-/// it. Over a world that the session goes on over, the machine's answers to the commands are printed, or the view, and
-/// with a fault a beginning of that.
+/// Runs the commands of an action, or shows its view. Returns the status of the program, and the fault that ended it.
 pub fn perform<S: Alter, W: Write>(
     alloc: Global,
     project: &mut Project<S>,
     action: &Action,
     out: &mut W,
 ) -> (u8, Option<Fault>)
+    // The commands of the action are run as by `drive`, or its view is shown as by `show`, and the
+    // fault is that one's.
     ensures does { Performs W.contents project.old project.new out.old out.new
         action.now result.1 }
+    // The status is 0 without a fault, and else that of the fault.
     ensures status { result.0 ≡ exit_status result.1 }
+    // Over a world exactly the machine's answers, or the view, go out, and with a fault a prefix of
+    // them.
     ensures prints { PrintsAction W.contents project.old project.new out.old out.new
         action.now result.1 }
 {
@@ -34,23 +37,35 @@ pub fn perform<S: Alter, W: Write>(
     (exit_status(end), end)
 }
 
-/// Does what the steps of a script ask for, in order, up to the first fault. It answers the status of the program, and
-/// the fault that ended it with its line. A repeated step is done until its pass handles less than its limit, so over a
-/// world a script is the list of commands that the machine's answers make of it. What is printed is what each step
-/// prints over the world that those before it left, one after another, and with a fault a beginning of that.
+/// Does what the steps of a script ask for, in order, up to the first fault. Returns the status of the program, and the
+/// fault that ended it with its line.
+///
+/// A repeated step is done until its pass handles less than its limit, at most a million times. So over a world a
+/// script is the list of commands that the machine's answers make of it.
 pub fn perform_script<S: Alter, W: Write>(
     alloc: Global,
     project: &mut Project<S>,
     steps: &[Step],
     out: &mut W,
 ) -> (u8, Option<LineFault>)
+    // The steps are done in order, each over what the one before left, up to the first fault. A
+    // step is done once; a repeated pass again after each answer that is its limit, and after no
+    // other, at most a million times.
     ensures does { PerformsScript W.contents project.old project.new out.old out.new
         steps.now result.1 }
+    // The status is 0 without a fault, and else that of the fault.
     ensures status { result.0 ≡ status_of_line result.1 }
+    // A prefix of the script's commands is done, each with the machine's reply; without a fault
+    // all. Where the session ended within a command, a crash may leave that one done. What went out
+    // reports just as many commands as were done.
     ensures drives { DrivesSteps W.contents project.old project.new out.old out.new
         steps.now result.1 }
+    // Where a crash could leave one world alone, after the script each world that it may leave is
+    // that of the longer history. The cut command is in it or not.
     ensures lives { LengthensBySteps W.contents project.old project.new out.old out.new
         steps.now result.1 }
+    // Over a world exactly what the steps print goes out, in order, and with a fault a prefix of
+    // it.
     ensures prints { PrintsSteps W.contents project.old project.new out.old out.new
         steps.now result.1 }
 {

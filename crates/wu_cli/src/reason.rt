@@ -1,4 +1,4 @@
-//! Why a database that is to be checked can't be opened.
+//! Why a database that is to be checked cannot be opened.
 
 ghost use Rattle.std.specs.Prelude.{◌≡◌};
 ghost use Rattle.std.specs.IoError.{error_kind};
@@ -7,7 +7,7 @@ ghost use Rattle.wu_cli.specs.Checks.{reason_line, reason_of, reason_of_file, re
 use sqlite::{Error, ErrorCode};
 use std::io::{self, ErrorKind};
 
-/// Why a database can't be opened.
+/// Why a database cannot be opened.
 #[derive(Clone, Copy, PartialEq, Eq)]
 pub enum Reason {
     /// No file lies at the path.
@@ -19,15 +19,16 @@ pub enum Reason {
     Damaged,
     FailingDisk,
     FullDisk,
-    /// The file can't be opened: no permission, say.
+    /// The file cannot be opened, for example without permission.
     Refused,
     /// A growth of memory was refused.
     Memory,
 }
 
 impl Reason {
-    /// The reason that an error of the store tells.
+    /// Returns the reason for an error of the store.
     pub fn of(error: &Error) -> Reason
+        // Each error of the store has its one reason; any that is not listed is `Refused`.
         ensures { result ≡ reason_of error.now }
     {
         match error {
@@ -41,8 +42,9 @@ impl Reason {
         }
     }
 
-    /// The reason why the system does not open a file.
+    /// Returns the reason why the system does not open a file.
     pub fn of_file(error: &io::Error) -> Reason
+        // An error on opening a file is `NoFile`, `InUse`, `Memory` or else `Refused`.
         ensures { result ≡ reason_of_file (error_kind error.now) }
     {
         match error.kind() {
@@ -53,8 +55,9 @@ impl Reason {
         }
     }
 
-    /// The reason why the system does not read a file that is open.
+    /// Returns the reason why the system does not read a file that is open.
     pub fn of_reading(error: &io::Error) -> Reason
+        // An error on reading a file is `Memory`, or else `FailingDisk`.
         ensures { result ≡ reason_of_reading (error_kind error.now) }
     {
         match error.kind() {
@@ -63,8 +66,9 @@ impl Reason {
         }
     }
 
-    /// The status to end with: 4 for want of memory, else 3.
+    /// Returns the status to end with: 4 for out of memory, else 3.
     pub fn status(self) -> u8
+        // The status is 4 for out of memory, and else 3.
         ensures { result ≡ reason_status self }
     {
         match self {
@@ -73,8 +77,9 @@ impl Reason {
         }
     }
 
-    /// The line that tells it.
+    /// Returns the line that reports the reason.
     pub fn line(self) -> &'static str
+        // The line is the reason's one text.
         ensures { result.now ≡ reason_line self }
     {
         match self {

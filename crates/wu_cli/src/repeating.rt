@@ -14,7 +14,7 @@ use wu_arguments::{Action, LineFault, Step, fault_status};
 use wu_core::Fault;
 use wu_drive::{Command, Project, drive_and_count, show};
 
-/// How many workunits a pass may handle; nothing for any other command.
+/// Returns how many workunits a pass may handle; `None` for any other command.
 fn limit_of(command: &Command) -> Option<u64>
     ensures { result ≡ limit_of (request_of command.now) }
 {
@@ -28,7 +28,7 @@ fn limit_of(command: &Command) -> Option<u64>
     }
 }
 
-/// Whether so many workunits are as many as a pass may handle.
+/// Returns whether the number handled is the limit.
 fn is_at_limit(limit: Option<u64>, handled: Option<u32>) -> bool
     ensures { result ≡ is_at_limit limit handled }
 {
@@ -38,7 +38,7 @@ fn is_at_limit(limit: Option<u64>, handled: Option<u32>) -> bool
     }
 }
 
-/// Whether these commands are one pass, which handled as many workunits as it may.
+/// Returns whether these commands are one pass, which handled as many workunits as its limit.
 fn fill_limit(commands: &[Command], handled: Option<u32>) -> bool
     ensures { result ≡ fill_limit commands.now handled }
 {
@@ -48,16 +48,20 @@ fn fill_limit(commands: &[Command], handled: Option<u32>) -> bool
     }
 }
 
-/// Runs the commands of an action, or shows its view. It answers the fault that ended it, and whether there may be more
-/// to do: it is one pass, which handled as many workunits as its limit lets it.
+/// Runs the commands of an action, or shows its view. Returns the fault that ended it, and whether there may be more to
+/// do: it is one pass, which handled as many workunits as its limit.
 pub fn act<S: Alter, W: Write>(
     alloc: Global,
     project: &mut Project<S>,
     action: &Action,
     out: &mut W,
 ) -> (Option<Fault>, bool)
+    // The commands of the action are run as by `drive`, or its view is shown as by `show`, and the
+    // fault is that one's.
     ensures does { Performs W.contents project.old project.new out.old out.new
         action.now result.0 }
+    // Without a fault, there may be more to do exactly where the action is one pass that handles as
+    // many workunits as its limit.
     ensures full { TellsFull project.old project.new action.now result.0 result.1 }
 {
     match action {
@@ -72,23 +76,26 @@ pub fn act<S: Alter, W: Write>(
     }
 }
 
-/// How often a step is done at most.
+/// Returns how often a step is done at most: a million times if it is repeated, and else once.
 fn most_rounds(repeats: bool) -> u32
     ensures { result ≡ most_rounds repeats }
 {
     if repeats { 1_000_000 } else { 1 }
 }
 
-/// Does what a step of a script asks for, and where it is repeated again and again, until its pass handles less than
-/// its limit: at most a million times. It answers the status of the program, and the fault that ended it with its line.
+/// Does what a step of a script asks for. A repeated step is done again until its pass handles less than its limit, at
+/// most a million times. Returns the status of the program, and the fault that ended the step with its line.
 pub fn perform_step<S: Alter, W: Write>(
     alloc: Global,
     project: &mut Project<S>,
     step: &Step,
     out: &mut W,
 ) -> (u8, Option<LineFault>)
+    // A step is done once; a repeated pass again after each answer that is its limit, and after no
+    // other, at most a million times.
     ensures does { PerformsStep W.contents project.old project.new out.old out.new
         step.now result.1 }
+    // The status is 0 without a fault, and else that of the fault.
     ensures status { result.0 ≡ status_of_line result.1 }
 {
     'each: for _ in 0..most_rounds(step.repeats) {

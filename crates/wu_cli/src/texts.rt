@@ -15,7 +15,9 @@ use wu_report::{Piece, flush, write_pieces};
 
 /// Writes the pieces in turn, and flushes.
 pub(crate) fn write_flushed<W: Write>(out: &mut W, pieces: &[Piece<'_>]) -> Result<(), Fault>
+    // With Ok exactly the texts of the pieces are written, and else a prefix of them.
     ensures bytes { WritesTo W.contents out.old out.new (flat_map piece_text pieces.now) result }
+    // The only fault is `Output`.
     ensures fault { IsOkUnless result Output }
 {
     write_pieces(out, pieces)?;
@@ -24,7 +26,9 @@ pub(crate) fn write_flushed<W: Write>(out: &mut W, pieces: &[Piece<'_>]) -> Resu
 
 /// Writes a text, and flushes.
 pub(crate) fn write_text<W: Write>(out: &mut W, text: &str) -> Result<(), Fault>
+    // With Ok exactly the text is written, and else a prefix of it.
     ensures bytes { WritesTo W.contents out.old out.new text.now result }
+    // The only fault is `Output`.
     ensures fault { IsOkUnless result Output }
 {
     write_pieces(out, &[Piece::Text(text)])?;
@@ -33,6 +37,7 @@ pub(crate) fn write_text<W: Write>(out: &mut W, text: &str) -> Result<(), Fault>
 
 /// Writes a line.
 pub(crate) fn plain<W: Write>(out: &mut W, text: &str) -> Result<(), Fault>
+    // With Ok exactly the line is written, and else a prefix of it.
     ensures { WritesTo W.contents out.old out.new (text.now ++ line_end) result }
 {
     write_flushed(out, &[Piece::Text(text), Piece::Text("\n")])
@@ -65,6 +70,8 @@ pub(crate) fn placed<'a, W: Write>(
     row: u64,
     cause: &'a str,
 ) -> Result<(), Fault>
+    // With Ok exactly the text, the number and the word are written as a line, and else a prefix of
+    // it.
     ensures { WritesTo W.contents out.old out.new
         (text.now ++ decimal row ++ codes " " ++ cause.now ++ line_end) result }
 {
@@ -82,6 +89,7 @@ pub(crate) fn placed<'a, W: Write>(
 
 /// Writes the line of a fault.
 pub(crate) fn line_of_fault<W: Write>(out: &mut W, fault: Fault) -> Result<(), Fault>
+    // With Ok exactly the line of the fault is written, and else a prefix of it.
     ensures { WritesTo W.contents out.old out.new (fault_line fault) result }
 {
     match fault {
@@ -107,8 +115,9 @@ pub(crate) fn line_of_fault<W: Write>(out: &mut W, fault: Fault) -> Result<(), F
     }
 }
 
-/// Writes the text of why words are no line.
+/// Writes the text of why words are no command line.
 pub(crate) fn text_of_usage<W: Write>(out: &mut W, usage: &Usage) -> Result<(), Fault>
+    // With Ok exactly the text of why the words are refused is written, and else a prefix of it.
     ensures { WritesTo W.contents out.old out.new (usage_text usage.now) result }
 {
     match usage {
@@ -119,8 +128,9 @@ pub(crate) fn text_of_usage<W: Write>(out: &mut W, usage: &Usage) -> Result<(), 
     }
 }
 
-/// Writes the line of a fault and flushes, without taking memory. It answers whether all of it went out.
+/// Writes the line of a fault and flushes, without taking memory. Returns whether all of it went out.
 pub fn write_fault<W: Write>(fault: &Fault, out: &mut W) -> bool
+    // With true exactly the line of the fault went out, and else a prefix of it.
     ensures { WritesAll (W.contents out.old) (W.contents out.new) (fault_line fault.now) result }
 {
     match line_of_fault(out, *fault) {
@@ -143,7 +153,7 @@ fn line_number<W: Write>(out: &mut W, number: u64) -> Result<(), Fault>
     )
 }
 
-/// Writes why a line of a script is not taken apart into words.
+/// Writes why a line of a script cannot be split into words.
 fn text_of_cause<W: Write>(out: &mut W, cause: LineCause) -> Result<(), Fault>
     ensures { WritesTo W.contents out.old out.new (cause_text cause) result }
 {
@@ -154,7 +164,7 @@ fn text_of_cause<W: Write>(out: &mut W, cause: LineCause) -> Result<(), Fault>
     }
 }
 
-/// That this stands in no script.
+/// Returns the line of what cannot stand in a script.
 fn outsider_line(outsider: Outsider) -> &'static str
     ensures { result.now ≡ outsider_line outsider }
 {
@@ -165,7 +175,7 @@ fn outsider_line(outsider: Outsider) -> &'static str
     }
 }
 
-/// Writes why a line of a script can't be run.
+/// Writes why a line of a script cannot be run.
 fn text_of_refusal<W: Write>(out: &mut W, why: &Refusal) -> Result<(), Fault>
     ensures { WritesTo W.contents out.old out.new (refusal_text why.now) result }
 {
@@ -178,9 +188,10 @@ fn text_of_refusal<W: Write>(out: &mut W, why: &Refusal) -> Result<(), Fault>
     }
 }
 
-/// Writes why a line can't be run, as it is told of a line by itself, and flushes, without taking memory. It answers
+/// Writes why a line cannot be run, as it is reported of a line by itself, and flushes, without taking memory. Returns
 /// whether all of it went out.
 pub fn write_refusal<W: Write>(why: &Refusal, out: &mut W) -> bool
+    // With true exactly the text of the refusal went out, and else a prefix of it.
     ensures { WritesAll (W.contents out.old) (W.contents out.new) (refusal_text why.now) result }
 {
     match text_of_refusal(out, why) {
@@ -189,16 +200,19 @@ pub fn write_refusal<W: Write>(why: &Refusal, out: &mut W) -> bool
     }
 }
 
-/// Writes which line of a script can't be run, and why.
+/// Writes which line of a script cannot be run, and why.
 pub(crate) fn line_of_bad_line<W: Write>(out: &mut W, bad: &BadLine) -> Result<(), Fault>
+    // With Ok exactly the number of the line and why it cannot be run are written, and else a
+    // prefix of that.
     ensures { WritesTo W.contents out.old out.new (bad_line_text bad.now) result }
 {
     line_number(out, bad.number)?;
     text_of_refusal(out, &bad.why)
 }
 
-/// Writes the line of a script whose fault ended it, with the line of the fault.
+/// Writes the number of the line of a script whose fault ended it, and the line of the fault.
 pub(crate) fn line_of_line_fault<W: Write>(out: &mut W, end: LineFault) -> Result<(), Fault>
+    // With Ok exactly the number of the line and its fault are written, and else a prefix of that.
     ensures { WritesTo W.contents out.old out.new (line_fault_text end) result }
 {
     line_number(out, end.number)?;

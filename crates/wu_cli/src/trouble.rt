@@ -28,17 +28,17 @@ const UNSOUND: u8 = 1;
 /// What ends a run of the program before all of it is done.
 #[derive(Drop)]
 pub enum Trouble {
-    /// The words are no line.
+    /// The words are no command line.
     Usage(Usage),
-    /// A line of a script can't be run.
+    /// A line of a script cannot be run.
     BadLine(BadLine),
-    /// The database can't be opened.
+    /// The database cannot be opened.
     Unopened,
-    /// A line, or the file of a script, came to a fault.
+    /// A line, or the file of a script, failed with a fault.
     Fault(Fault),
-    /// A line of a script came to a fault.
+    /// A line of a script failed with a fault.
     LineFault(LineFault),
-    /// The database that was to be checked can't be opened.
+    /// The database that was to be checked cannot be opened.
     Unchecked(Reason),
     /// The database that was checked holds no sound project.
     Unsound(Finding),
@@ -93,8 +93,10 @@ impl<T: Drop> From<AllocFailed<T>> for Trouble {
 }
 
 impl Trouble {
-    /// The status that the program ends with.
+    /// Returns the status that the program ends with: 3 for a database that cannot be opened, 1 for an unsound one.
+    /// Refused words and faults have their own.
     pub fn status(&self) -> u8
+        // Each trouble has its one status.
         ensures { result ≡ trouble_status self.now }
     {
         match self {
@@ -108,8 +110,9 @@ impl Trouble {
         }
     }
 
-    /// Writes its text and flushes, without taking memory. It answers whether all of it went out.
+    /// Writes its text and flushes, without taking memory. Returns whether all of it went out.
     pub fn write<E: Write>(&self, err: &mut E) -> bool
+        // With true exactly the text of the trouble went out, and else a prefix of it.
         ensures { WritesAll (E.contents err.old) (E.contents err.new)
             (trouble_text self.now) result }
     {
@@ -135,9 +138,10 @@ fn write_trouble<E: Write>(trouble: &Trouble, err: &mut E) -> Result<(), Fault>
     }
 }
 
-/// Why the words of a process could not be had: want of memory, or they are no UTF-8 text, which is refused with status
-/// 2.
+/// Returns why the words of a process could not be read: out of memory, or they are no UTF-8 text, which is refused
+/// with status 2.
 pub fn unheard(alloc: Global, error: &io::Error) -> Trouble
+    // The trouble is out of memory or, for any other error, that the words are no UTF-8 text.
     ensures { IsUnheard (error_kind error.now) result }
 {
     if error.kind() == ErrorKind::OutOfMemory {
@@ -149,8 +153,10 @@ pub fn unheard(alloc: Global, error: &io::Error) -> Trouble
     }
 }
 
-/// Why a database can't be opened: want of memory, or another cause, which is not told.
+/// Returns the trouble of a database that cannot be opened: out of memory, or another cause, which is not named.
 pub fn unopened(error: &Error) -> Trouble
+    // An error of out of memory is reported as that, and any other as a database that cannot be
+    // opened.
     ensures { result ≡ trouble_of_opening (fault_of error.now) }
 {
     match fault_of(error) {

@@ -16,7 +16,7 @@ use wu_core::Fault;
 use wu_drive::Project;
 use wu_feed::{LONGEST_FILE, Rows, read_script};
 
-/// What is asked of a project. It holds what the files of the words hold, so that all of them are read before it is
+/// What is asked of a project. It holds the contents of all files that the words name, so they are read before it is
 /// done.
 #[derive(Drop)]
 pub enum Work {
@@ -24,7 +24,7 @@ pub enum Work {
     Script(Rows<Step>),
 }
 
-/// How a line ended.
+/// Returns how a line ended.
 fn line_outcome(end: Option<Fault>) -> Result<(), Trouble>
     ensures { result ≡ line_outcome end }
 {
@@ -34,7 +34,7 @@ fn line_outcome(end: Option<Fault>) -> Result<(), Trouble>
     }
 }
 
-/// How a script ended.
+/// Returns how a script ended.
 fn script_outcome(end: Option<LineFault>) -> Result<(), Trouble>
     ensures { result ≡ script_outcome end }
 {
@@ -45,19 +45,23 @@ fn script_outcome(end: Option<LineFault>) -> Result<(), Trouble>
 }
 
 impl Work {
-    /// What a line asks for, with what its files hold, as `read_and_prepare`.
+    /// Returns what a line asks for, with what its files hold, as `read_and_prepare`.
     pub fn of_line<F: ReadFile>(alloc: Global, line: &Line, files: &F) -> Result<Work, Trouble>
+        // What a line asks for is what its definition gives with the contents of its files; else
+        // its first fault is reported.
         ensures { AsksOfLine (F.ReadFile.gives files.now) line.now result }
     {
         Ok(Work::Line(read_and_prepare(alloc, line, files)?))
     }
 
-    /// What a script asks for, with what the files of its lines hold, as `steps_of`.
+    /// Returns what a script asks for, with what the files of its lines hold, as `steps_of`.
     pub fn of_script<F: ReadFile>(
         alloc: Global,
         script: &ScriptFile,
         files: &F,
     ) -> Result<Work, Trouble>
+        // What a script asks for is what its definition gives with the contents of all files; else
+        // its first bad line, or its fault.
         ensures { AsksOfScript (F.ReadFile.gives files.now) script.now result }
     {
         let text = text_of_script(files.read(script.file.as_str(), LONGEST_FILE)?)?;
@@ -85,16 +89,25 @@ impl Work {
     }
 
     /// Adopts the project in an open database, does what is asked over it, up to the first fault, and gives the
-    /// database back. Where nothing is adopted, no command is done and nothing is written.
+    /// database back.
+    ///
+    /// Where nothing is adopted, no command is done and nothing is written.
     pub fn perform_over<S: Alter, W: Write>(
         &self,
         alloc: Global,
         conn: Connection<S>,
         out: &mut W,
     ) -> (Connection<S>, Result<(), Trouble>)
+        // The project is adopted, the work is done over it, and the database is given back. Or
+        // nothing is adopted: that fault is reported, and nothing is done or written.
         ensures does { DoesOver S.Store W.contents conn result.0 out.old out.new
             self.now result.1 }
+        // Over each world, or the empty one where no project is, a prefix of the commands is done,
+        // each with the machine's reply; without a fault all. Or nothing is adopted, and the world
+        // stays.
         ensures drives { DrivesOver S.Store conn result.0 self.now result.1 }
+        // Over such a world exactly the machine's answers and views go out, and with a fault a
+        // prefix of them.
         ensures prints { PrintsOver S.Store W.contents conn result.0 out.old out.new
             self.now result.1 }
     {

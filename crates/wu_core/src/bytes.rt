@@ -24,8 +24,9 @@ impl Model for Bytes {
 }
 
 impl Bytes {
-    /// No bytes; it takes no memory.
+    /// Returns no bytes; takes no memory.
     pub fn new(alloc: Global) -> Self
+        // The result has no bytes.
         ensures { result ≡ [] }
     {
         Bytes {
@@ -33,44 +34,50 @@ impl Bytes {
         }
     }
 
-    /// These bytes; it takes no memory.
+    /// Returns these bytes; takes no memory.
     pub fn from_vec(items: Vec<u8>) -> Self
+        // The result has the vector's bytes.
         ensures { result ≡ items.items }
     {
         Bytes { items }
     }
 
-    /// The bytes as a vector; it takes no memory.
+    /// Returns the bytes as a vector; takes no memory.
     pub fn into_vec(self) -> Vec<u8>
+        // The vector has the same bytes.
         ensures { result.items ≡ self }
     {
         let Bytes { items } = self;
         items
     }
 
-    /// The bytes.
+    /// Returns the bytes.
     pub fn as_slice(&self) -> &[u8]
+        // The slice has the same bytes.
         ensures { result.now ≡ self.now }
     {
         self.items.as_slice()
     }
 
-    /// How many bytes they are.
+    /// Returns the number of bytes.
     pub fn len(&self) -> usize
+        // The result is the number of bytes.
         ensures { result ≡ length self.now }
     {
         self.items.len()
     }
 
-    /// Whether there is none.
+    /// Returns whether there are no bytes.
     pub fn is_empty(&self) -> bool
+        // The result is true exactly if there are no bytes.
         ensures { IsTrue result ↔ (self.now ≡ []) }
     {
         self.items.is_empty()
     }
 
-    /// Drops the bytes; it takes no memory.
+    /// Drops the bytes; takes no memory.
     pub fn clear(&mut self)
+        // No bytes are left.
         ensures { self.new ≡ [] }
     {
         self.items.clear();

@@ -25,8 +25,9 @@ pub enum TemplateKey {
 }
 
 impl TemplateKey {
-    /// The word that a fault's line prints.
+    /// Returns the word that a fault's line prints.
     pub fn word(self) -> &'static str
+        // The result is the written word of the key, or of what is wrong with the whole document.
         ensures { result.now ≡ template_key_word self }
     {
         match self {
@@ -44,6 +45,7 @@ impl TemplateKey {
 }
 
 impl fmt::Display for TemplateKey {
+    // A key prints its written word.
     ghost output = { λ key. Some (template_key_word key) };
 
     fn fmt<W: fmt::Write>(&self, f: &mut fmt::Formatter<W>) -> fmt::Result {
@@ -71,8 +73,9 @@ pub enum FileCause {
 }
 
 impl FileCause {
-    /// The word that a fault's line prints.
+    /// Returns the word that a fault's line prints.
     pub fn word(self) -> &'static str
+        // The result is the written word of the cause.
         ensures { result.now ≡ file_cause_word self }
     {
         match self {
@@ -94,6 +97,7 @@ impl FileCause {
 }
 
 impl fmt::Display for FileCause {
+    // A cause prints its written word.
     ghost output = { λ cause. Some (file_cause_word cause) };
 
     fn fmt<W: fmt::Write>(&self, f: &mut fmt::Formatter<W>) -> fmt::Result {
@@ -104,7 +108,7 @@ impl fmt::Display for FileCause {
 /// Why a call was refused. Its `Display` is the line that the program prints.
 #[derive(Clone, Copy, Debug, PartialEq, Eq, Error)]
 pub enum Fault {
-    /// A text that was to be a name is none.
+    /// A text that should be a name is invalid.
     #[error("F1 BadName")]
     BadName,
     /// A template was refused, with the first key at fault.
@@ -119,10 +123,10 @@ pub enum Fault {
     /// The first row of a readable batch whose workunit name is taken.
     #[error("F5 WorkunitUsed {0}")]
     WorkunitUsed(u32),
-    /// The batch would pass a thousand million workunits ever.
+    /// With the batch the project would have had more than 1,000,000,000 workunits.
     #[error("F6 TooMany")]
     TooMany,
-    /// A text that was to be a moment is none.
+    /// A text that should be a moment is invalid.
     #[error("F7 BadMoment")]
     BadMoment,
     /// A limit or a least age is out of range.
@@ -140,24 +144,25 @@ pub enum Fault {
     /// The project has this later schema version.
     #[error("F12 NewSchema {0}")]
     NewSchema(u64),
-    /// The database is no project, a stored row is no value of its type, or a statement was refused.
+    /// The database is no project, a stored row has an invalid value, or a statement was refused.
     #[error("F13 NotAProject")]
     NotAProject,
-    /// A growth of memory was refused.
+    /// Out of memory: a growth of memory was refused.
     #[error("F14 Memory")]
     Memory,
-    /// The disk or a size failed, or a commit or a rollback did.
+    /// The disk failed, a size is too big, or a commit or a rollback failed.
     #[error("F15 Broken")]
     Broken,
     /// The session has ended.
     #[error("F16 Ended")]
     Ended,
-    /// The output took no more bytes.
+    /// The writer of the output took no more bytes.
     #[error("F17 Output")]
     Output,
 }
 
 impl From<AllocError> for Fault {
+    // A failed allocation becomes `Memory`.
     ghost from_gives = { λ _ fault. fault ≡ Memory };
 
     fn from(_error: AllocError) -> Fault {
@@ -166,6 +171,7 @@ impl From<AllocError> for Fault {
 }
 
 impl<T: Drop> From<AllocFailed<T>> for Fault {
+    // A failed allocation becomes `Memory`.
     ghost from_gives = { λ _ fault. fault ≡ Memory };
 
     fn from(_error: AllocFailed<T>) -> Fault {

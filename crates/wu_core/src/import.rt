@@ -13,15 +13,17 @@ pub enum ImportKind {
 }
 
 impl ImportKind {
-    /// The number of this project, as a table stores it.
+    /// Returns the number of the kind in this project, as a table stores it: 1 to 4.
     pub fn code(self) -> u32
+        // The result is the number of the kind.
         ensures { result ≡ import_kind_code self }
     {
         self as u32
     }
 
-    /// The kind of a stored number, if it is the number of one.
+    /// Returns the kind of a stored number, or `None` if no kind has it.
     pub fn from_code(code: u32) -> Option<Self>
+        // The number of a kind reads as that kind, and any other number as `None`.
         ensures { Decodes import_kind_code code result }
     {
         match code {

@@ -13,7 +13,7 @@ pub const LONGEST_OUTPUT: usize = 65_536;
 /// The most instances that a workunit may have.
 pub const MOST_INSTANCES: u32 = 100;
 
-/// The most workunits that a project may ever have, which is the greatest number of one.
+/// The most workunits that a project may ever have, and the greatest number of a workunit.
 pub const MOST_WORKUNITS: u64 = 1_000_000_000;
 
 /// The greatest quorum, and the greatest target that a template may set.
@@ -25,7 +25,7 @@ pub const HIGHEST_TARGET: u32 = 101;
 /// The longest delay of a result, in seconds: 365 days.
 pub const LONGEST_DELAY: u32 = 31_536_000;
 
-/// The greatest least age of a purge, in seconds: 365 days.
+/// The highest value for the least age of a purge, in seconds: 365 days.
 pub const LONGEST_AGE: u64 = 31_536_000;
 
 /// The most credit that a valid result may be worth.

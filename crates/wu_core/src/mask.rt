@@ -1,4 +1,4 @@
-//! BOINC's mask of errors of a workunit.
+//! BOINC's error mask of a workunit.
 
 ghost use Rattle.std.specs.Prelude.{◌≡◌, ◌↔◌, IsTrue};
 ghost use Rattle.wu_core.specs.Codes.{Decodes};
@@ -22,8 +22,9 @@ pub struct ErrorMask {
 }
 
 impl ErrorMask {
-    /// The mask of a workunit with no error.
+    /// Returns the mask of a workunit without an error.
     pub fn none() -> Self
+        // The result has no bit set.
         ensures { result ≡ no_errors }
     {
         ErrorMask {
@@ -36,15 +37,17 @@ impl ErrorMask {
         }
     }
 
-    /// Whether no bit is set.
+    /// Returns whether no bit is set.
     pub fn is_none(self) -> bool
+        // The result is true exactly if no bit is set.
         ensures { IsTrue result ↔ (self ≡ no_errors) }
     {
         self == ErrorMask::none()
     }
 
-    /// BOINC's number: the sum of the bits that are set, 0 to 63.
+    /// Returns BOINC's number: the sum of the bits that are set, 0 to 63.
     pub fn code(self) -> u32
+        // The result is the sum of the bits that are set.
         ensures { result ≡ error_mask_code self }
     {
         u32::from(self.couldnt_send_result)
@@ -55,8 +58,9 @@ impl ErrorMask {
             + 32 * u32::from(self.no_canonical_result)
     }
 
-    /// The mask of a stored number, if it is below 64.
+    /// Returns the mask of a stored number, or `None` if the number is above 63.
     pub fn from_code(code: u32) -> Option<Self>
+        // The sum of a mask's bits reads as that mask, and any other number as `None`.
         ensures { Decodes error_mask_code code result }
     {
         if code >= 64 {

@@ -6,7 +6,7 @@ ghost use Rattle.wu_core.specs.Limits.{last_moment, last_deadline, longest_delay
 use crate::limits::{LAST_DEADLINE, LAST_MOMENT};
 use std::marker::Model;
 
-/// A moment that is handed in: 0 to 4102444799, the last second of the year 2099.
+/// A moment that a caller gives: 0 to 4102444799, the last second of the year 2099.
 #[derive(Clone, Copy, PartialEq, Eq, PartialOrd, Ord)]
 pub struct Moment {
     seconds: u64,
@@ -23,15 +23,17 @@ impl Model for Moment {
 }
 
 impl Moment {
-    /// The first moment: 1970-01-01T00:00:00Z.
+    /// Returns the first moment: 1970-01-01T00:00:00Z.
     pub fn first() -> Self
+        // The result is second 0.
         ensures { result ≡ 0 }
     {
         Moment { seconds: 0 }
     }
 
-    /// The moment so many seconds after the start of 1970, if it is not after the year 2099.
+    /// Returns the moment so many seconds after the start of 1970, or `None` if it is after the year 2099.
     pub fn new(seconds: u64) -> Option<Self>
+        // A number of seconds is a moment exactly if it is at most 4102444799.
         ensures { SomeIff result (seconds ≤ last_moment) seconds }
     {
         if seconds <= LAST_MOMENT {
@@ -41,17 +43,21 @@ impl Moment {
         }
     }
 
-    /// The seconds since 1970-01-01T00:00:00Z: at most 4102444799, the last second of 2099.
+    /// Returns the seconds since 1970-01-01T00:00:00Z: at most 4102444799, the last second of 2099.
     pub fn seconds(self) -> u64
+        // The result is the number of seconds of the moment.
         ensures value { result ≡ self }
+        // A moment is at most 4102444799, the last second of 2099.
         ensures within { self ≤ last_moment }
     {
         self.seconds
     }
 
-    /// The deadline of what is sent at this moment, with a delay of at most a year of 365 days.
+    /// Returns the deadline of an instance that is sent at this moment, with a delay in seconds of at most 365 days.
     pub fn after(self, delay: u32) -> Deadline
+        // The delay is at most 31,536,000 seconds, 365 days.
         requires { delay ≤ longest_delay }
+        // The deadline is the moment plus the delay.
         ensures { result ≡ self + delay }
     {
         Deadline {
@@ -60,7 +66,7 @@ impl Moment {
     }
 }
 
-/// When a sent instance is due: 0 to 4133980799, a year after the last moment.
+/// The deadline of a sent instance: 0 to 4133980799, 365 days after the last moment.
 #[derive(Clone, Copy, PartialEq, Eq, PartialOrd, Ord)]
 pub struct Deadline {
     seconds: u64,
@@ -77,8 +83,9 @@ impl Model for Deadline {
 }
 
 impl Deadline {
-    /// The deadline so many seconds after the start of 1970, if it is not after the last one.
+    /// Returns the deadline so many seconds after the start of 1970, or `None` if it is after the last one.
     pub fn new(seconds: u64) -> Option<Self>
+        // A number of seconds is a deadline exactly if it is at most 4133980799.
         ensures { SomeIff result (seconds ≤ last_deadline) seconds }
     {
         if seconds <= LAST_DEADLINE {
@@ -88,16 +95,19 @@ impl Deadline {
         }
     }
 
-    /// The seconds since 1970-01-01T00:00:00Z: at most 4133980799, a year after the last moment.
+    /// Returns the seconds since 1970-01-01T00:00:00Z: at most 4133980799, 365 days after the last moment.
     pub fn seconds(self) -> u64
+        // The result is the number of seconds of the deadline.
         ensures value { result ≡ self }
+        // A deadline is at most 4133980799, 365 days after the last moment.
         ensures within { self ≤ last_deadline }
     {
         self.seconds
     }
 
-    /// Whether the deadline lies before the moment; at the deadline itself nothing is late.
+    /// Returns whether the deadline is before the moment. At the deadline itself nothing is late.
     pub fn is_before(self, now: Moment) -> bool
+        // The result is true exactly if the deadline is before the moment.
         ensures { IsTrue result ↔ (self < now) }
     {
         self.seconds < now.seconds

@@ -35,21 +35,21 @@ impl Model for Name {
     ghost invariant = { λ name. is_name (string_bytes name.text) ≡ true };
 }
 
-/// Whether the byte may stand in a name.
+/// Returns whether a name may contain the byte.
 fn may_stand_in_name(byte: u8) -> bool
     ensures { result ≡ is_name_byte byte }
 {
     byte.is_ascii_alphanumeric() || byte == b'_' || byte == b'.' || byte == b'-'
 }
 
-/// Whether each byte of the text may stand in a name.
+/// Returns whether a name may contain each byte of the text.
 fn may_all_stand_in_name(text: &[u8]) -> bool
     ensures { result ≡ list_all is_name_byte text.now }
 {
     text.iter().all(|byte| may_stand_in_name(*byte))
 }
 
-/// Whether the text is a name.
+/// Returns whether the text is a name.
 fn is_name(text: &[u8]) -> bool
     ensures { result ≡ is_name text.now }
 {
@@ -57,9 +57,12 @@ fn is_name(text: &[u8]) -> bool
 }
 
 impl Name {
-    /// The text as a name. Any other text is `BadName`, whatever memory there is.
+    /// Reads a name from its text. Any other text is `BadName`, even if the program is out of memory.
     pub fn read(alloc: Global, text: &[u8]) -> Result<Self, Fault>
+        // A text with the written form of a name is that name, or out of memory; any other is
+        // `BadName`.
         ensures name { IsOrWantsMemory result (name_of text.now) }
+        // A text that is no name is never reported as out of memory.
         ensures told { TellsRefusal result (name_of text.now) }
     {
         if !is_name(text) {
@@ -73,23 +76,27 @@ impl Name {
         })
     }
 
-    /// Its text: 1 to 64 characters, each one that may stand in a name.
+    /// Returns the text of the name: 1 to 64 characters, each an ASCII letter, a digit, `_`, `.` or `-`.
     pub fn as_str(&self) -> &str
+        // The text has the bytes of the name.
         ensures { result.now ≡ self.now }
     {
         self.text.as_str()
     }
 
-    /// Its bytes: 1 to 64, each one that may stand in a name.
+    /// Returns the bytes of the name: 1 to 64, each an ASCII letter, a digit, `_`, `.` or `-`.
     pub fn as_bytes(&self) -> &[u8]
+        // The slice has the bytes of the name.
         ensures bytes { result.now ≡ self.now }
+        // The bytes have the written form of a name.
         ensures name { is_name self.now ≡ true }
     {
         self.text.as_bytes()
     }
 
-    /// The same name again.
+    /// Returns a copy of the name.
     pub fn copy(&self) -> Result<Self, AllocError>
+        // If there is memory, the result is the same name.
         ensures { IfOk result (λ name. name ≡ self.now) }
     {
         Ok(Name {
@@ -103,6 +110,7 @@ impl PartialEq for Name {
     ghost use Rattle.std.specs.Cmp.{partial_equiv_from_equiv};
     ghost use Rattle.std.specs.Cmp.Lexicographic.{nat_list_eq_equiv};
 
+    // Two names are equal exactly if their bytes are.
     ghost eq = { bytes_eq };
 
     ghost laws = { partial_equiv_from_equiv nat_list_eq_equiv };
@@ -121,6 +129,7 @@ impl Eq for Name {
 impl fmt::Display for Name {
     ghost use Rattle.std.specs.Prelude.{Some};
 
+    // A name prints its own text.
     ghost output = { λ name. Some name };
 
     fn fmt<W: fmt::Write>(&self, f: &mut fmt::Formatter<W>) -> fmt::Result {
@@ -128,14 +137,14 @@ impl fmt::Display for Name {
     }
 }
 
-/// The name of an instance: that of its workunit, and its place among the workunit's instances, 0 to 99.
+/// The name of an instance: its workunit's name, and its number among the workunit's instances, 0 to 99.
 #[derive(Drop)]
 pub struct ResultName {
     pub workunit: Name,
     pub n: u32,
 }
 
-/// The number that one digit writes, or two of which the first is not 0.
+/// Returns the number that one digit writes, or two digits of which the first is not 0; `None` for any other text.
 fn place(digits: &[u8]) -> Option<u32>
     ensures { result ≡ place_of digits.now }
 {
@@ -148,9 +157,11 @@ fn place(digits: &[u8]) -> Option<u32>
     }
 }
 
-/// Where the last `_` of the text is.
+/// Returns the place of the last `_` of the text, or `None` if it has none.
 fn last_underscore(text: &[u8]) -> Option<usize>
+    // Without a result no `_` is in the text.
     ensures none { IfNone result (IsFreeFrom text.now 0) }
+    // The result is the place of a `_`, and none comes after it.
     ensures found { IfSome result (IsLastUnderscore text.now) }
 {
     text.iter().rposition(|byte| *byte == b'_')
@@ -160,6 +171,7 @@ impl fmt::Display for ResultName {
     ghost use Rattle.std.specs.Prelude.{Some};
     ghost use Rattle.wu_core.specs.ResultNames.{result_name_text};
 
+    // The name of an instance prints its workunit's name, `_` and its number in decimal.
     ghost output = { λ name. Some (result_name_text name) };
 
     fn fmt<W: fmt::Write>(&self, f: &mut fmt::Formatter<W>) -> fmt::Result {
@@ -168,10 +180,13 @@ impl fmt::Display for ResultName {
 }
 
 impl ResultName {
-    /// The text as a name of an instance: a workunit's name, `_` and the place in decimal, 0 to 99, without leading
-    /// zeros. Any other text is `BadName`, whatever memory there is.
+    /// Reads the name of an instance: a workunit's name, `_` and the instance's number in decimal, 0 to 99, without
+    /// leading zeros. Any other text is `BadName`, even if the program is out of memory.
     pub fn read(alloc: Global, text: &[u8]) -> Result<Self, Fault>
+        // A text with the written form of an instance's name is that name, or out of memory; any
+        // other is `BadName`.
         ensures name { IsOrWantsMemory result (result_name_of text.now) }
+        // A text that is no instance's name is never reported as out of memory.
         ensures told { TellsRefusal result (result_name_of text.now) }
     {
         let Some(cut) = last_underscore(text) else {

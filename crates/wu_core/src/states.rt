@@ -17,15 +17,17 @@ pub enum ServerState {
 }
 
 impl ServerState {
-    /// BOINC's number, as a table stores it. The number 3 is not used.
+    /// Returns BOINC's number of the state, as a table stores it. The number 3 is not used.
     pub fn code(self) -> u32
+        // The result is BOINC's number of the state.
         ensures { result ≡ server_state_code self }
     {
         self as u32
     }
 
-    /// The state of a stored number, if it is the number of one.
+    /// Returns the state of a stored number, or `None` if no state has it.
     pub fn from_code(code: u32) -> Option<Self>
+        // The number of a state reads as that state, and any other number as `None`.
         ensures { Decodes server_state_code code result }
     {
         match code {
@@ -37,8 +39,9 @@ impl ServerState {
         }
     }
 
-    /// The word that a view prints.
+    /// Returns the word that a view prints.
     pub fn word(self) -> &'static str
+        // The result is BOINC's word of the state.
         ensures { result.now ≡ server_state_word self }
     {
         match self {
@@ -51,6 +54,7 @@ impl ServerState {
 }
 
 impl fmt::Display for ServerState {
+    // A state prints its written word.
     ghost output = { λ state. Some (server_state_word state) };
 
     fn fmt<W: fmt::Write>(&self, f: &mut fmt::Formatter<W>) -> fmt::Result {
@@ -72,15 +76,17 @@ pub enum Outcome {
 }
 
 impl Outcome {
-    /// BOINC's number, as a table stores it.
+    /// Returns BOINC's number of the outcome, as a table stores it.
     pub fn code(self) -> u32
+        // The result is BOINC's number of the outcome.
         ensures { result ≡ outcome_code self }
     {
         self as u32
     }
 
-    /// The outcome of a stored number, if it is the number of one.
+    /// Returns the outcome of a stored number, or `None` if no outcome has it.
     pub fn from_code(code: u32) -> Option<Self>
+        // The number of an outcome reads as that outcome, and any other number as `None`.
         ensures { Decodes outcome_code code result }
     {
         match code {
@@ -96,8 +102,9 @@ impl Outcome {
         }
     }
 
-    /// The word that a view prints.
+    /// Returns the word that a view prints.
     pub fn word(self) -> &'static str
+        // The result is BOINC's word of the outcome.
         ensures { result.now ≡ outcome_word self }
     {
         match self {
@@ -114,6 +121,7 @@ impl Outcome {
 }
 
 impl fmt::Display for Outcome {
+    // An outcome prints its written word.
     ghost output = { λ outcome. Some (outcome_word outcome) };
 
     fn fmt<W: fmt::Write>(&self, f: &mut fmt::Formatter<W>) -> fmt::Result {
@@ -121,7 +129,7 @@ impl fmt::Display for Outcome {
     }
 }
 
-/// What the validator found of an instance.
+/// The validator's verdict on an instance.
 #[derive(Clone, Copy, PartialEq, Eq)]
 pub enum ValidateState {
     Init = 0,
@@ -133,15 +141,17 @@ pub enum ValidateState {
 }
 
 impl ValidateState {
-    /// BOINC's number, as a table stores it.
+    /// Returns BOINC's number of the verdict, as a table stores it.
     pub fn code(self) -> u32
+        // The result is BOINC's number of the verdict.
         ensures { result ≡ validate_state_code self }
     {
         self as u32
     }
 
-    /// The state of a stored number, if it is the number of one.
+    /// Returns the verdict of a stored number, or `None` if no verdict has it.
     pub fn from_code(code: u32) -> Option<Self>
+        // The number of a verdict reads as that verdict, and any other number as `None`.
         ensures { Decodes validate_state_code code result }
     {
         match code {
@@ -155,8 +165,9 @@ impl ValidateState {
         }
     }
 
-    /// The word that a view prints.
+    /// Returns the word that a view prints.
     pub fn word(self) -> &'static str
+        // The result is BOINC's word of the verdict.
         ensures { result.now ≡ validate_state_word self }
     {
         match self {
@@ -171,6 +182,7 @@ impl ValidateState {
 }
 
 impl fmt::Display for ValidateState {
+    // A verdict prints its written word.
     ghost output = { λ state. Some (validate_state_word state) };
 
     fn fmt<W: fmt::Write>(&self, f: &mut fmt::Formatter<W>) -> fmt::Result {
@@ -187,15 +199,17 @@ pub enum Assimilate {
 }
 
 impl Assimilate {
-    /// BOINC's number, as a table stores it.
+    /// Returns BOINC's number of the state, as a table stores it.
     pub fn code(self) -> u32
+        // The result is BOINC's number of the state.
         ensures { result ≡ assimilate_code self }
     {
         self as u32
     }
 
-    /// The state of a stored number, if it is the number of one.
+    /// Returns the state of a stored number, or `None` if no state has it.
     pub fn from_code(code: u32) -> Option<Self>
+        // The number of a state reads as that state, and any other number as `None`.
         ensures { Decodes assimilate_code code result }
     {
         match code {
@@ -206,8 +220,9 @@ impl Assimilate {
         }
     }
 
-    /// The word that a view prints.
+    /// Returns the word that a view prints.
     pub fn word(self) -> &'static str
+        // The result is the written word of the state.
         ensures { result.now ≡ assimilate_word self }
     {
         match self {
@@ -219,6 +234,7 @@ impl Assimilate {
 }
 
 impl fmt::Display for Assimilate {
+    // A state prints its written word.
     ghost output = { λ state. Some (assimilate_word state) };
 
     fn fmt<W: fmt::Write>(&self, f: &mut fmt::Formatter<W>) -> fmt::Result {
@@ -236,15 +252,17 @@ pub enum FileDelete {
 }
 
 impl FileDelete {
-    /// BOINC's number, as a table stores it.
+    /// Returns BOINC's number of the state, as a table stores it.
     pub fn code(self) -> u32
+        // The result is BOINC's number of the state.
         ensures { result ≡ file_delete_code self }
     {
         self as u32
     }
 
-    /// The state of a stored number, if it is the number of one.
+    /// Returns the state of a stored number, or `None` if no state has it.
     pub fn from_code(code: u32) -> Option<Self>
+        // The number of a state reads as that state, and any other number as `None`.
         ensures { Decodes file_delete_code code result }
     {
         match code {
@@ -256,8 +274,9 @@ impl FileDelete {
         }
     }
 
-    /// The word that a view prints.
+    /// Returns the word that a view prints.
     pub fn word(self) -> &'static str
+        // The result is the written word of the state.
         ensures { result.now ≡ file_delete_word self }
     {
         match self {
@@ -270,6 +289,7 @@ impl FileDelete {
 }
 
 impl fmt::Display for FileDelete {
+    // A state prints its written word.
     ghost output = { λ state. Some (file_delete_word state) };
 
     fn fmt<W: fmt::Write>(&self, f: &mut fmt::Formatter<W>) -> fmt::Result {
@@ -286,8 +306,9 @@ pub enum Status {
 }
 
 impl Status {
-    /// The word that a file of reports has.
+    /// Returns the word that a file of reports has.
     pub fn word(self) -> &'static str
+        // The result is the written word of the status.
         ensures { result.now ≡ status_word self }
     {
         match self {
@@ -297,8 +318,9 @@ impl Status {
         }
     }
 
-    /// The status of this word, if it is the word of one.
+    /// Returns the status of this word, or `None` if it is the word of no status.
     pub fn from_word(word: &[u8]) -> Option<Self>
+        // The word of a status reads as that status, and any other text as `None`.
         ensures { result ≡ status_of word.now }
     {
         if word == b"success".as_slice() {
@@ -312,8 +334,9 @@ impl Status {
         }
     }
 
-    /// How an instance ended that is reported so.
+    /// Returns the outcome of an instance that is reported so.
     pub fn outcome(self) -> Outcome
+        // A success, a client error and a detached client have the outcomes of these names.
         ensures { result ≡ outcome_of self }
     {
         match self {
@@ -325,6 +348,7 @@ impl Status {
 }
 
 impl fmt::Display for Status {
+    // A status prints its written word.
     ghost output = { λ status. Some (status_word status) };
 
     fn fmt<W: fmt::Write>(&self, f: &mut fmt::Formatter<W>) -> fmt::Result {

@@ -16,7 +16,7 @@ use std::alloc::{AllocError, Global};
 use std::marker::Model;
 use std::slice::Iter;
 
-/// One copy of a workunit's job, for one host. Its place in the workunit's list is its number n.
+/// One copy of a workunit's job, for one host. Its place in the workunit's list is its number `n`, from 0.
 #[derive(Drop)]
 pub struct Instance {
     pub server_state: ServerState,
@@ -24,7 +24,7 @@ pub struct Instance {
     pub validate_state: ValidateState,
     /// Of the output.
     pub file_delete: FileDelete,
-    /// Where it was sent.
+    /// The host that it was sent to.
     pub host: Option<Name>,
     pub sent_at: Option<Moment>,
     pub deadline: Option<Deadline>,
@@ -37,8 +37,9 @@ pub struct Instance {
 impl Instance {
     ghost use Rattle.wu_core.specs.Workunit.{fresh};
 
-    /// A new instance: UNSENT, with no host, no moments and no output. It takes no memory.
+    /// Returns a new instance: UNSENT, with no host, no moments and no output. Takes no memory.
     pub fn unsent(alloc: Global) -> Self
+        // The instance is UNSENT, each other state is INIT, and it has no host, moments or output.
         ensures { result ≡ fresh }
     {
         Instance {
@@ -55,9 +56,11 @@ impl Instance {
     }
 }
 
-/// Appends so many new instances. For want of memory the list stays as it was.
+/// Appends `count` new instances. If out of memory, the list stays as it was.
 fn append_unsent(alloc: Global, items: &mut Vec<Instance>, count: usize) -> Result<(), AllocError>
+    // On success the new instances come after the others.
     ensures ok { OnOk result (items.new.items ≡ items.old.items ++ replicate count fresh) }
+    // If out of memory, the list stays as it was.
     ensures err { OnErr result (items.new.items ≡ items.old.items) }
 {
     let before = items.len();
@@ -98,8 +101,9 @@ impl Instances {
     ghost use Rattle.std.specs.Borrow.{sem};
     ghost use Rattle.wu_core.specs.Workunit.{fresh, LendsAll};
 
-    /// No instances; it takes no memory.
+    /// Returns no instances; takes no memory.
     pub fn new(alloc: Global) -> Self
+        // The result has no instances.
         ensures { result ≡ [] }
     {
         Instances {
@@ -107,78 +111,96 @@ impl Instances {
         }
     }
 
-    /// These instances, at most 100, numbered from 0; it takes no memory.
+    /// Returns these instances, numbered from 0; takes no memory.
     pub fn from_vec(items: Vec<Instance>) -> Self
+        // There are at most 100 instances.
         requires { vec_len items ≤ most_instances }
+        // The result has the vector's instances.
         ensures { result ≡ items.items }
     {
         Instances { items }
     }
 
-    /// The instances as a vector; it takes no memory.
+    /// Returns the instances as a vector; takes no memory.
     pub fn into_vec(self) -> Vec<Instance>
+        // The vector has the same instances.
         ensures items { result.items ≡ self }
+        // There are at most 100 instances.
         ensures within { length self ≤ most_instances }
     {
         let Instances { items } = self;
         items
     }
 
-    /// How many they are: at most 100.
+    /// Returns the number of instances: at most 100.
     pub fn len(&self) -> usize
+        // The result is the number of instances.
         ensures len { result ≡ length self.now }
+        // There are at most 100 instances.
         ensures within { result ≤ most_instances }
     {
         self.items.len()
     }
 
-    /// Whether there is none.
+    /// Returns whether there are no instances.
     pub fn is_empty(&self) -> bool
+        // The result is true exactly if there are no instances.
         ensures { IsTrue result ↔ (self.now ≡ []) }
     {
         self.items.is_empty()
     }
 
-    /// The instances in order of their numbers.
+    /// Returns an iterator over the instances in order of their numbers.
     pub fn iter(&self) -> Iter<'_, Instance>
+        // The iterator has all instances before it.
         ensures rest { iter_rest result ≡ self.now }
+        // There are at most 100 instances.
         ensures within { length (iter_rest result) ≤ most_instances }
+        // The iterator yields each instance once, in order.
         ensures runs { IterYieldsInOrder Instance }
     {
         self.items.as_slice().iter()
     }
 
-    /// The instances in order of their numbers: at most 100.
+    /// Returns the instances in order of their numbers: at most 100.
     pub fn as_slice(&self) -> &[Instance]
+        // The slice has the same instances.
         ensures items { result.now ≡ self.now }
+        // There are at most 100 instances.
         ensures within { length self.now ≤ most_instances }
     {
         self.items.as_slice()
     }
 
-    /// Appends so many new instances. For want of memory the list stays as it was.
+    /// Appends `count` new instances. If out of memory, the list stays as it was.
     pub fn add_unsent(&mut self, alloc: Global, count: usize) -> Result<(), AllocError>
+        // There are at most 100 instances with the new ones.
         requires { length self.old + count ≤ most_instances }
+        // On success the new instances come after the others.
         ensures ok { OnOk result (self.new ≡ self.old ++ replicate count fresh) }
+        // If out of memory, the list stays as it was.
         ensures err { OnErr result (self.new ≡ self.old) }
     {
         append_unsent(alloc, &mut self.items, count)
     }
 
-    /// The instances, for writing in place.
+    /// Returns the instances for a change in place.
     pub fn as_mut_slice(&mut self) -> &mut [Instance]
+        // What is written to the slice is written to the instances.
         ensures* writes_back { sem 𝓛 (LendsAll self.entry result) }
+        // The slice has the same instances.
         ensures value { result.now ≡ self.old }
+        // There are at most 100 instances.
         ensures within { length self.old ≤ most_instances }
     {
         self.items.as_mut_slice()
     }
 }
 
-/// A job: its parameters and its input, how far it is, and its instances.
+/// A job: its parameters, its input, its states and its instances.
 #[derive(Drop)]
 pub struct Workunit {
-    /// From 1, never used again.
+    /// From 1, never used twice.
     pub number: u64,
     pub name: Name,
     pub params: Params,
@@ -192,8 +214,8 @@ pub struct Workunit {
     pub file_delete: FileDelete,
     /// When it was assimilated.
     pub done_at: Option<Moment>,
-    /// 0 to 65535: that of the host that an instance was last sent to. A transition makes it 0 where none is in
-    /// progress or a viable success.
+    /// 0 to 65535: the class of the host that an instance was last sent to. A transition sets it to 0 if no instance
+    /// is in progress or a viable success.
     pub class: u32,
     pub instances: Instances,
 }
@@ -215,14 +237,14 @@ pub struct Grant {
     pub credit: u64,
 }
 
-/// What the assimilator keeps of a workunit for good.
+/// What the assimilator keeps of a workunit permanently.
 #[derive(Drop)]
 pub struct Archived {
     pub number: u64,
     pub name: Name,
     pub error_mask: ErrorMask,
     pub canonical: Option<u32>,
-    /// The canonical output, or no bytes where there is none.
+    /// The canonical output, or no bytes without a canonical result.
     pub output: Bytes,
     pub done_at: Moment,
 }

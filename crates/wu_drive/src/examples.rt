@@ -7,26 +7,32 @@ ghost use Rattle.wu_core.specs.declared.fault.TemplateKey.TheVariants.{TargetNre
 ghost use Rattle.wu_core.specs.declared.import.ImportKind.TheVariants.{Batch, Classes, Reported, Sent};
 ghost use Rattle.wu_drive.specs.Texts.{fault_text, import_text};
 
-/// The answer to a batch, and to one without rows.
+/// Shows the answer to a batch, and to one without rows.
 pub fn prints_batches()
+    // A batch `b1` of one job, with number 1, answers this line.
     ensures one { import_text Batch (codes "b1") 1 (0 ∷ []) ≡ codes "batch b1: 1 added, first 1\n" }
+    // A batch without rows has `-` for its first number.
     ensures none { import_text Batch (codes "b0") 0 [] ≡ codes "batch b0: 0 added, first -\n" }
 {}
 
-/// The answer to a file of classes.
+/// Shows the answer to a file of classes.
 pub fn prints_classes()
+    // A file of three rows of classes answers this line.
     ensures { import_text Classes (codes "c1") 0 (0 ∷ 0 ∷ 0 ∷ [])
         ≡ codes "classes c1: 3 applied\n" }
 {}
 
-/// The answers to a file of sends and to one of reports, with why rows were skipped.
+/// Shows the answers to a file of sends and to one of reports, with why rows were skipped.
 pub fn prints_skipped_rows()
+    // The second row was skipped since its host has an instance of the workunit already.
     ensures sends { import_text Sent (codes "s1") 0 (0 ∷ 3 ∷ [])
         ≡ codes "sent s1: 1 applied, 1 skipped\n"
         ++ codes "  row 3: same_host\n" }
+    // The second row was skipped since its host is of another class.
     ensures classes { import_text Sent (codes "s1") 0 (0 ∷ 4 ∷ [])
         ≡ codes "sent s1: 1 applied, 1 skipped\n"
         ++ codes "  row 3: class\n" }
+    // One row of six was applied; each other row says why it was skipped.
     ensures reports { import_text Reported (codes "r1") 0 (1 ∷ 2 ∷ 3 ∷ 4 ∷ 0 ∷ 5 ∷ [])
         ≡ codes "reported r1: 1 applied, 5 skipped\n"
         ++ codes "  row 2: unknown\n"
@@ -36,10 +42,13 @@ pub fn prints_skipped_rows()
         ++ codes "  row 7: over\n" }
 {}
 
-/// The lines of two faults.
+/// Shows the lines of three faults.
 pub fn prints_faults()
+    // A file with too many rows is refused at row 1002.
     ensures rows { fault_text (BadFile 1002 TooManyRows) ≡ codes "F3 BadFile 1002 too_many_rows" }
+    // A class that is out of range is refused at its row.
     ensures class { fault_text (BadFile 2 Class) ≡ codes "F3 BadFile 2 class" }
+    // A template's key out of range is refused by its name.
     ensures target { fault_text (BadTemplate TargetNresults)
         ≡ codes "F2 BadTemplate target_nresults" }
 {}

@@ -1,4 +1,4 @@
-//! Lists of commands over a project with the texts of their answers, and the demonstration.
+//! Lists of commands over a project, with the texts of their answers, and the demonstration.
 #![tactic(auto)]
 
 pub mod examples;

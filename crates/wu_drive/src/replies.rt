@@ -22,21 +22,21 @@ enum AppliedFile {
     Reports,
 }
 
-/// Why a row of sends was skipped, by the number of its verdict; nothing where it was applied.
+/// Returns why a row of sends was skipped, by the number of its verdict; `None` where it was applied.
 fn send_skip_word(verdict: u8) -> Option<&'static str>
     ensures { option_map (λ word. word.now) result ≡ send_skip_word verdict }
 {
     SendVerdict::from_code(verdict)?.word()
 }
 
-/// Why a row of reports was skipped, by the number of its verdict; nothing where it was applied.
+/// Returns why a row of reports was skipped, by the number of its verdict; `None` where it was applied.
 fn report_skip_word(verdict: u8) -> Option<&'static str>
     ensures { option_map (λ word. word.now) result ≡ report_skip_word verdict }
 {
     ReportVerdict::from_code(verdict)?.word()
 }
 
-/// The word of a file in its answer.
+/// Returns the word of a file in its answer.
 fn file_word(file: AppliedFile) -> &'static str
     ensures { result.now ≡ file_word file }
 {
@@ -46,7 +46,7 @@ fn file_word(file: AppliedFile) -> &'static str
     }
 }
 
-/// Why a row was skipped, by the number of its verdict; nothing where it was applied.
+/// Returns why a row was skipped, by the number of its verdict; `None` where it was applied.
 fn skip_word(file: AppliedFile, verdict: u8) -> Option<&'static str>
     ensures { option_map (λ word. word.now) result ≡ skip_word file verdict }
 {
@@ -90,7 +90,7 @@ fn write_skips<W: Write>(out: &mut W, file: AppliedFile, verdicts: &[u8]) -> Res
     Ok(())
 }
 
-/// How many rows were applied.
+/// Returns how many rows were applied.
 fn applied_count(verdicts: &[u8]) -> usize
     ensures { result ≡ applied_count verdicts.now }
 {
@@ -127,7 +127,7 @@ fn write_applied<W: Write>(
     write_skips(out, file, verdicts)
 }
 
-/// The number, or `-` for 0.
+/// Returns the number, or `-` for 0.
 fn number_or_dash(number: u64) -> Piece<'static>
     ensures { piece_text result ≡ number_or_dash number }
 {
@@ -202,7 +202,7 @@ fn write_import<W: Write>(
     }
 }
 
-/// The word of a pass in its answer.
+/// Returns the word of a pass in its answer.
 fn pass_word(pass: Pass) -> &'static str
     ensures { result.now ≡ pass_word pass }
 {
@@ -270,10 +270,13 @@ fn write_cancelled<W: Write>(out: &mut W, workunit: &Name) -> Result<(), Fault>
     )
 }
 
-/// Writes the text of an answer. One that went out whole is never told as failed.
+/// Writes the text of an answer. One that went out whole is never reported as failed.
 fn write_text<W: Write>(out: &mut W, answer: &Answer) -> Result<(), Fault>
+    // With Ok exactly the text of the answer is written, and else a prefix of it.
     ensures bytes { WritesTo W.contents out.old out.new (answer_text answer.now) result }
+    // What is reported as failed was cut: a text that went out whole never is.
     ensures cut { CutsWhatFails W.contents out.old out.new (answer_text answer.now) result }
+    // The only fault is `Output`.
     ensures fault { IsOkUnless result Output }
 {
     match answer {
@@ -289,9 +292,13 @@ fn write_text<W: Write>(out: &mut W, answer: &Answer) -> Result<(), Fault>
     }
 }
 
-/// Writes the text of an answer, and flushes.
+/// Writes the text of an answer, and flushes. With `Output` a prefix of the text was written, or all of it and the
+/// flush failed.
 pub fn write_answer<W: Write>(out: &mut W, answer: &Answer) -> Result<(), Fault>
+    // With Ok exactly the text of the answer is written, and else a prefix of it; a skipped row has
+    // the word of its verdict.
     ensures bytes { WritesTo W.contents out.old out.new (answer_text answer.now) result }
+    // The only fault is `Output`.
     ensures fault { IsOkUnless result Output }
 {
     write_text(out, answer)?;

@@ -24,7 +24,7 @@ pub struct Run {
     pub end: Option<Fault>,
 }
 
-/// How many workunits a pass handled, by its answer; nothing where the answer is of no pass.
+/// Returns how many workunits a pass handled, by its answer; `None` where the answer is of no pass.
 fn handled_by(answer: &Answer) -> Option<u32>
     ensures { result ≡ handled_by (Ok (reply_of_answer answer.now)) }
 {
@@ -34,16 +34,19 @@ fn handled_by(answer: &Answer) -> Option<u32>
     }
 }
 
-/// Runs the commands as `drive`, and tells how many workunits the last one that was done handled: nothing where it is no
-/// pass, or none was done.
+/// Runs the commands as `drive`. Returns also how many workunits the last one that was done handled; `None` where it is
+/// no pass, or none was done.
 pub fn drive_and_count<S: Alter, W: Write>(
     alloc: Global,
     project: &mut Project<S>,
     commands: &[Command],
     out: &mut W,
 ) -> (Run, Option<u32>)
+    // The commands are run in order up to the first fault; all that is promised of `drive` holds.
     ensures runs { RunsList W.contents project.old project.new out.old out.new
         commands.now result.0 }
+    // The count is what the machine says of the last command done, over the world that the tables
+    // represented before.
     ensures counts { CountsLast project.old project.new commands.now result.0 result.1 }
 {
     let mut acknowledged = 0;
@@ -70,26 +73,30 @@ pub fn drive_and_count<S: Alter, W: Write>(
 
 /// Runs the commands in order and writes the text of each answer, up to the first fault.
 ///
-/// An acknowledged command is one that was answered, also where its text could not be written. The run ends early with
-/// the refusal of the next command, with a fault of the store, or with `Output` for the text of the last one done. It
-/// ends the session with `Broken`, and else only with `Memory`. A connection that was open is open after any end but
-/// `Broken`, unless the disk failed meanwhile. Over a session that had ended it answers `Ended` at once. Where the first
-/// command was not done, or the machine makes nothing by all that were, every table is as it was, but for want of memory
-/// or of the disk. Behind it the tables stand for the world of the acknowledged commands. Where a stop before it could
-/// leave one world alone, the worlds that a stop may leave after it are that one, and that of the cut command with it.
-/// Over a project of an older version the run ends with `OldSchema` at a first command that is no upgrade.
+/// An acknowledged command is one that was answered, also where its text could not be written. Over a session that had
+/// ended the run ends with `Ended` at once. Over a project of an older version it ends with `OldSchema` at a first
+/// command that is no upgrade.
 pub fn drive<S: Alter, W: Write>(
     alloc: Global,
     project: &mut Project<S>,
     commands: &[Command],
     out: &mut W,
 ) -> Run
+    // A prefix of the list is done, each command with the machine's reply, whose text goes out. The
+    // tables then represent the world after it. The run ends early with the machine's refusal of
+    // the next command, a fault of the store, or `Output` of the last text, which may be cut. The
+    // session ends only with `Memory` or `Broken`, and always with `Broken`; a crash may then leave
+    // the step of the next command too. Where a crash could leave one world alone, after it each
+    // world that it may leave is that of the longer history. Only a disk that fails in this call
+    // shuts an open connection, and nothing opens one that is shut. Where no command was done, or
+    // the machine makes nothing by those done, every table stays, except after `Memory` and
+    // `Broken`. Over a session that had ended nothing is done or written.
     ensures { RunsList W.contents project.old project.new out.old out.new commands.now result }
 {
     drive_and_count(alloc, project, commands, out).0
 }
 
-/// The batch of the demonstration: one job of two bytes.
+/// Returns the batch of the demonstration: one job of two bytes.
 fn demo_batch(alloc: Global) -> Result<Command, Fault>
     ensures { IfOk result (λ command. request_of command ≡ demonstration) }
 {
@@ -117,9 +124,11 @@ fn run_demo<W: Write>(alloc: Global, out: &mut W) -> Result<(), Fault>
     }
 }
 
-/// The demonstration: a batch of one job in a database in memory, and the view of workunits. Without a fault, all that
-/// it prints went out.
+/// Runs the demonstration: a batch of one job in a database in memory, and the view of workunits. Returns its first
+/// fault.
 pub fn demo<W: Write>(alloc: Global, out: &mut W) -> Option<Fault>
+    // Without a fault the machine's reply to the batch over a fresh project went out, and the
+    // workunits of the world it makes.
     ensures { IfNone result (IsDemonstrated (W.contents out.old) (W.contents out.new)) }
 {
     run_demo(alloc, out).err()

@@ -2,8 +2,9 @@
 
 ghost use Rattle.std.specs.Prelude.{◌≤◌, IfSome, length};
 
-/// What is told of the fault of this number, as `F3`.
+/// Returns the explanation of the fault of this number, as `F3`; `None` if there is no such fault.
 pub fn fault_text<'a>(name: &str) -> Option<&'a str>
+    // A text that is returned is not empty.
     ensures { IfSome result (λ text. 1 ≤ length text.now) }
 {
     match name {

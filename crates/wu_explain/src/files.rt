@@ -2,8 +2,9 @@
 
 ghost use Rattle.std.specs.Prelude.{◌≤◌, IfSome, length};
 
-/// What is told of the file of this name.
+/// Returns the explanation of the file of this name; `None` if there is no such file.
 pub fn file_text<'a>(name: &str) -> Option<&'a str>
+    // A text that is returned is not empty.
     ensures { IfSome result (λ text. 1 ≤ length text.now) }
 {
     match name {

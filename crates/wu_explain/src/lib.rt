@@ -1,4 +1,4 @@
-//! What `lintelthyme explain` tells: what each fault, status, view, file and key means, what stands afterwards, and
+//! What `lintelthyme explain` prints: what each fault, status, view, file and key means, what stands afterwards, and
 //! what to do. The texts stand here alone; `tools/docs` holds `docs/OPERATING.md` against them.
 #![tactic(auto)]
 
@@ -16,7 +16,7 @@ use statuses::status_text;
 use subjects::subject_text;
 use views::view_text;
 
-/// What is told of a topic of one word. None where it is none.
+/// Returns the explanation of a topic of one word; `None` if there is no such topic.
 fn text_of_word<'a>(word: &str) -> Option<&'a str>
     ensures { IfSome result (λ text. 1 ≤ length text.now) }
 {
@@ -29,9 +29,10 @@ fn text_of_word<'a>(word: &str) -> Option<&'a str>
     }
 }
 
-/// What is told of a topic: its first word, and the second one, empty where there is none. With no word it is the list
-/// of all topics. None where it is no topic.
+/// Returns the explanation of a topic: its first word, and the second one, empty where there is none. Without a word it
+/// is the list of all topics. Returns `None` if there is no such topic.
 pub fn explanation<'a>(first: &str, second: &str) -> Option<&'a str>
+    // A text that is returned is not empty.
     ensures { IfSome result (λ text. 1 ≤ length text.now) }
 {
     match first {

@@ -1,9 +1,11 @@
-//! What else there is to tell.
+//! Other subjects.
 
 ghost use Rattle.std.specs.Prelude.{◌≤◌, IfSome, length};
 
-/// What is told of this subject; with no name, of which there is something to tell.
+/// Returns the explanation of this subject; with no name, the list of all topics. Returns `None` if there is no such
+/// subject.
 pub fn subject_text<'a>(name: &str) -> Option<&'a str>
+    // A text that is returned is not empty.
     ensures { IfSome result (λ text. 1 ≤ length text.now) }
 {
     match name {

@@ -2,8 +2,9 @@
 
 ghost use Rattle.std.specs.Prelude.{◌≤◌, IfSome, length};
 
-/// What is told of the view of this name.
+/// Returns the explanation of the view of this name; `None` if there is no such view.
 pub fn view_text<'a>(name: &str) -> Option<&'a str>
+    // A text that is returned is not empty.
     ensures { IfSome result (λ text. 1 ≤ length text.now) }
 {
     match name {

@@ -20,21 +20,21 @@ use wu_core::{Fault, FileCause, HostClass, Name};
 /// Hosts and their classes in the order of their rows.
 pub type Classes = Rows<HostClass>;
 
-/// Whether each byte of the text is a digit.
+/// Returns whether each byte of the text is a digit.
 fn are_digits(text: &[u8]) -> bool
     ensures { result ≡ list_all is_ascii_digit text.now }
 {
     text.iter().all(|byte| byte.is_ascii_digit())
 }
 
-/// Whether the text is digits, of which the first is not 0.
+/// Returns whether the text is digits of which the first is not 0.
 fn is_decimal(text: &[u8]) -> bool
     ensures { result ≡ is_decimal text.now }
 {
     !text.is_empty() && text[0] != b'0' && are_digits(text)
 }
 
-/// The class that the text writes in decimal: 1 to 65535, without leading zeros.
+/// Reads a class from its decimal text: 1 to 65535, without leading zeros. Returns `None` for any other text.
 fn read_class(text: &[u8]) -> Option<u32>
     ensures { result ≡ class_written text.now }
 {
@@ -50,14 +50,17 @@ fn read_class(text: &[u8]) -> Option<u32>
     }
 }
 
-/// The host of two fields and its class. The first field at fault decides.
+/// Reads a host and its class from two fields. The first field at fault decides.
 fn read_host_class(
     alloc: Global,
     number: u32,
     host: &[u8],
     class: &[u8],
 ) -> Result<HostClass, Fault>
+    // The fields read as a host and its class, or as out of memory; otherwise the row is `BadFile`
+    // with its first cause.
     ensures exact { IsOrWantsMemory result (host_class_of number (host.now ∷ class.now ∷ [])) }
+    // A row that is refused is never reported as out of memory.
     ensures told { TellsRefusal result (host_class_of number (host.now ∷ class.now ∷ [])) }
 {
     let host = at_field(number, FileCause::Host, Name::read(alloc, host));
@@ -85,15 +88,22 @@ impl Row for HostClass {
     }
 }
 
-/// The hosts and their classes of a file of at most 1,048,576 bytes: a header `host,class` and at most 1,000 rows, each
-/// a host and a class from 1 to 65535 in decimal, without leading zeros. Any other file is `BadFile` with its first
-/// faulty row (records numbered from 1, the header; 0 for the file's length) and the first cause there, from left to
-/// right.
+/// Reads the hosts and classes of a file of at most 1,048,576 bytes: a header `host,class` and at most 1,000 rows. Each
+/// row has a host and a class from 1 to 65535 in decimal, without leading zeros.
+///
+/// Any other file is `BadFile` with its first faulty row and the first cause there, from left to right. Rows are
+/// numbered from 1, the header; 0 stands for the whole file.
 pub fn read_classes(alloc: Global, file: &[u8]) -> Result<Classes, Fault>
+    // A file of classes reads as its rows, or as out of memory; any other is `BadFile` with its
+    // first faulty row and first cause.
     ensures exact { IsOrWantsMemory result (classes_of_file file.now) }
+    // A file above 1,048,576 bytes is refused as too long, even if the program is out of memory.
     ensures long { TellsTooLong result file.now }
+    // A fault is `Memory`, or `BadFile` with a row and a cause.
     ensures told { IfErr result IsFileFault }
+    // There are at most 1,000 rows.
     ensures few { IfOk result (λ classes. length classes ≤ most_rows) }
+    // Each host has the written form of a name, and each class is 1 to 65535.
     ensures ranged { IfOk result AreClassed }
 {
     read_file(alloc, file)

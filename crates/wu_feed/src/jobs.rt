@@ -31,7 +31,7 @@ pub struct Job {
 /// Jobs in the order of their rows.
 pub type Jobs = Rows<Job>;
 
-/// The input of a field, which is hex digits. They are decoded before it is known that they are.
+/// Reads the input of a field, which is hex digits. Memory is allocated before the digits are checked.
 fn read_input(alloc: Global, number: u32, text: &[u8]) -> Result<Bytes, Fault>
     ensures { IsOrWantsMemory result (ok_or (input_of text.now) (BadFile number Input)) }
 {
@@ -41,9 +41,12 @@ fn read_input(alloc: Global, number: u32, text: &[u8]) -> Result<Bytes, Fault>
     }
 }
 
-/// The job of two fields: its name, and then its input. The first field at fault decides.
+/// Reads a job from two fields: its name and its input. The first field at fault decides.
 fn read_job(alloc: Global, number: u32, name: &[u8], input: &[u8]) -> Result<Job, Fault>
+    // The fields read as a job, or as out of memory; otherwise the row is `BadFile` with its first
+    // cause.
     ensures exact { IsOrWantsMemory result (job_of number (name.now ∷ input.now ∷ [])) }
+    // A row that is refused for its name is never reported as out of memory.
     ensures told { TellsFound result (job_of number (name.now ∷ input.now ∷ [])) }
 {
     let name = at_field(number, FileCause::Name, Name::read(alloc, name));
@@ -71,14 +74,22 @@ impl Row for Job {
     }
 }
 
-/// The jobs of a file of at most 1,048,576 bytes: a header `name,input` and at most 1,000 rows, each a name and an
-/// input of at most 4,096 bytes in hex. Any other file is `BadFile` with its first faulty row (records numbered from 1,
-/// the header; 0 for the file's length) and the first cause there, from left to right.
+/// Reads the jobs of a file of at most 1,048,576 bytes: a header `name,input` and at most 1,000 rows. Each row has a
+/// name and an input of at most 4,096 bytes in hex.
+///
+/// Any other file is `BadFile` with its first faulty row and the first cause there, from left to right. Rows are
+/// numbered from 1, the header; 0 stands for the whole file.
 pub fn read_jobs(alloc: Global, file: &[u8]) -> Result<Jobs, Fault>
+    // A file of jobs reads as its rows, or as out of memory; any other is `BadFile` with its first
+    // faulty row and first cause.
     ensures exact { IsOrWantsMemory result (jobs_of_file file.now) }
+    // A file above 1,048,576 bytes is refused as too long, even if the program is out of memory.
     ensures long { TellsTooLong result file.now }
+    // A fault is `Memory`, or `BadFile` with a row and a cause.
     ensures told { IfErr result IsFileFault }
+    // There are at most 1,000 rows.
     ensures few { IfOk result (λ jobs. length jobs ≤ most_rows) }
+    // Each name has the written form of a name, and each input has at most 4,096 bytes.
     ensures ranged { IfOk result (All IsJob) }
 {
     read_file(alloc, file)

@@ -1,5 +1,5 @@
-//! The readers of what a BOINC project is fed with: moments, templates, files of jobs, of sends, of
-//! reports and of classes of hosts, and scripts.
+//! The readers of a BOINC project's inputs: moments, templates, files of jobs, sends, reports and classes of hosts, and
+//! scripts.
 #![tactic(auto)]
 
 mod classes;

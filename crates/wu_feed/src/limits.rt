@@ -1,4 +1,5 @@
-//! The limits of what is read, each in one place. `specs/Limits.antt` has the same numbers under the same names.
+//! The limits of the files that are read, each in one place. `specs/Limits.antt` has the same numbers under the same
+//! names.
 
 /// The longest file, in bytes.
 pub const LONGEST_FILE: usize = 1_048_576;
@@ -6,7 +7,7 @@ pub const LONGEST_FILE: usize = 1_048_576;
 /// The longest template, in bytes.
 pub const LONGEST_TEMPLATE: usize = 65_536;
 
-/// The most rows that a file may have below its header.
+/// The most rows that a file may have after its header.
 pub const MOST_ROWS: u32 = 1_000;
 
 /// The number of the last row that a file may have. The header is row 1.

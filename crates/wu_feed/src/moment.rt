@@ -13,7 +13,7 @@ use wu_core::{Fault, Moment};
 /// The text of a moment, with `0` for each digit.
 const SHAPE: [u8; 20] = *b"0000-00-00T00:00:00Z";
 
-/// Whether the byte may stand where the shape has this one.
+/// Returns whether the byte fits this byte of the shape.
 fn fits(shape: u8, byte: u8) -> bool
     ensures { result ≡ fits shape byte }
 {
@@ -24,7 +24,7 @@ fn fits(shape: u8, byte: u8) -> bool
     }
 }
 
-/// Whether the text has the shape of a moment, whatever its digits.
+/// Returns whether the text has the shape of a moment, with any digits.
 fn has_shape(text: &[u8]) -> bool
     ensures { result ≡ has_shape text.now }
 {
@@ -39,7 +39,7 @@ fn has_shape(text: &[u8]) -> bool
     true
 }
 
-/// The number of the two digits at a place.
+/// Returns the number of the two digits at a place.
 fn two_at(text: &[u8], place: usize) -> u8
     requires within { place + 1 < length text.now }
     requires tens { is_ascii_digit (slice_index text.now place) ≡ true }
@@ -50,7 +50,7 @@ fn two_at(text: &[u8], place: usize) -> u8
     10 * (text[place] - b'0') + (text[place + 1] - b'0')
 }
 
-/// The day of the calendar, if it has it.
+/// Returns the day of the calendar; `None` if there is no such day.
 fn civil_date(year: u16, month: u8, day: u8) -> Option<Date>
     requires { (year < 10000) × (month < 100) × (day < 100) }
     ensures none { IfNone result (is_civil_date year month day ≡ false) }
@@ -60,7 +60,7 @@ fn civil_date(year: u16, month: u8, day: u8) -> Option<Date>
     Date::new(year as i16, month as i8, day as i8).ok()
 }
 
-/// The time of day, if a clock shows it.
+/// Returns the time of day; `None` if there is no such time.
 fn clock_time(hour: u8, minute: u8, second: u8) -> Option<Time>
     requires { (hour < 100) × (minute < 100) × (second < 100) }
     ensures none { IfNone result (is_clock_time hour minute second ≡ false) }
@@ -70,7 +70,7 @@ fn clock_time(hour: u8, minute: u8, second: u8) -> Option<Time>
     Time::new(hour as i8, minute as i8, second as i8, 0).ok()
 }
 
-/// The seconds from the start of 1970 to a civil date and time.
+/// Returns the seconds from the start of 1970 to a civil date and time.
 #[tactic(auto, unfolding(jiff_core::specs::DateTime::civil_seconds))]
 fn second_of(date: Date, time: Time) -> i64
     ensures { result ≡ epoch_day date *ℤ pos 86_400 +ℤ pos (time_seconds time) }
@@ -78,7 +78,7 @@ fn second_of(date: Date, time: Time) -> i64
     DateTime::from_parts(date, time).to_plain().to_second()
 }
 
-/// The moment at a civil date and time of day, where both exist, from the year 1970 to 2099.
+/// Returns the moment at a civil date and time of day; `BadMoment` if they do not exist, or are not from 1970 to 2099.
 fn moment_at(
     year: u16,
     month: u8,
@@ -103,9 +103,10 @@ fn moment_at(
     }
 }
 
-/// The moment that the text is: 20 bytes `YYYY-MM-DDTHH:MM:SSZ` whose civil date and time exist, from the year 1970 to
-/// 2099. Any other text is `BadMoment`.
+/// Reads a moment from its text: 20 bytes `YYYY-MM-DDTHH:MM:SSZ` with a date and a time that exist, from 1970 to 2099.
+/// Any other text is `BadMoment`.
 pub fn read_moment(text: &[u8]) -> Result<Moment, Fault>
+    // The one text of a moment reads as that moment, and any other text as `BadMoment`.
     ensures { result ≡ moment_of text.now }
 {
     if !has_shape(text) {

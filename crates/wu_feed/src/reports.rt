@@ -19,7 +19,7 @@ use csv::ByteRecord;
 use std::alloc::Global;
 use wu_core::{Bytes, Fault, FileCause, LONGEST_OUTPUT, Moment, Name, Status};
 
-/// An instance, by its workunit's name and its number, was reported by a host: how it ended, and its output.
+/// A report: an instance, by its workunit's name and its number, the host, the moment, the status and the output.
 #[derive(Drop)]
 pub struct ReportRow {
     pub workunit: Name,
@@ -35,7 +35,8 @@ pub struct ReportRow {
 /// Reports in the order of their rows.
 pub type Reports = Rows<ReportRow>;
 
-/// The output of a success, in hex; of any other status there is none, and the text is empty.
+/// Reads the output of a success, in hex. An instance with any other status has no output, and the text is empty.
+/// Returns `None` for any other text.
 fn read_output(alloc: Global, status: Status, text: &[u8]) -> Result<Option<Bytes>, Fault>
     ensures { IsOrWantsMemory result (Ok (reported_output status text.now)) }
 {
@@ -48,14 +49,17 @@ fn read_output(alloc: Global, status: Status, text: &[u8]) -> Result<Option<Byte
     }
 }
 
-/// The status of a report, and its output. The first of the two at fault decides.
+/// Reads the status of a report, and its output. The first of the two at fault decides.
 fn read_ending(
     alloc: Global,
     number: u32,
     status: &[u8],
     output: &[u8],
 ) -> Result<(Status, Bytes), Fault>
+    // The fields read as a status and its output, or as out of memory; otherwise the row is
+    // `BadFile` with its first cause.
     ensures exact { IsOrWantsMemory result (ending_of number (status_of status.now) output.now) }
+    // A row that is refused for its status is never reported as out of memory.
     ensures told { TellsFound result (ending_of number (status_of status.now) output.now) }
 {
     let Some(status) = Status::from_word(status) else {
@@ -67,11 +71,16 @@ fn read_ending(
     }
 }
 
-/// The report of a row: the instance, the host, the moment, the status and the output. The first field at fault
+/// Reads a report from a row: the instance, the host, the moment, the status and the output. The first field at fault
 /// decides.
 fn read_report(alloc: Global, number: u32, row: &ByteRecord) -> Result<ReportRow, Fault>
+    // The fields read as a report, or as out of memory; otherwise the row is `BadFile` with its
+    // first cause.
     ensures exact { IsOrWantsMemory result (report_of number (fields_of row.now)) }
+    // A row that does not have five fields is refused as that, even if the program is out of
+    // memory.
     ensures fields { TellsFields result number reports_header (fields_of row.now) }
+    // A row that is refused for anything but its output is never reported as out of memory.
     ensures told { TellsFound result (report_of number (fields_of row.now)) }
 {
     let Some((name, host, moment, status, output)) = five_fields(row) else {
@@ -106,15 +115,24 @@ impl Row for ReportRow {
     }
 }
 
-/// The reports of a file of at most 1,048,576 bytes: a header `result,host,moment,status,output` and at most 1,000
-/// rows, each the name of an instance, a host, a moment, a status and an output of at most 65,536 bytes in hex, which
-/// is empty unless the status is `success`. Any other file is `BadFile` with its first faulty row (records numbered
-/// from 1, the header; 0 for the file's length) and the first cause there, from left to right.
+/// Reads the reports of a file of at most 1,048,576 bytes: a header `result,host,moment,status,output` and at most
+/// 1,000 rows. Each row has the name of an instance, a host, a moment, a status, and an output of at most 65,536 bytes
+/// in hex. The output is empty unless the status is `success`.
+///
+/// Any other file is `BadFile` with its first faulty row and the first cause there, from left to right. Rows are
+/// numbered from 1, the header; 0 stands for the whole file.
 pub fn read_reports(alloc: Global, file: &[u8]) -> Result<Reports, Fault>
+    // A file of reports reads as its rows, or as out of memory; any other is `BadFile` with its
+    // first faulty row and first cause.
     ensures exact { IsOrWantsMemory result (reports_of_file file.now) }
+    // A file above 1,048,576 bytes is refused as too long, even if the program is out of memory.
     ensures long { TellsTooLong result file.now }
+    // A fault is `Memory`, or `BadFile` with a row and a cause.
     ensures told { IfErr result IsFileFault }
+    // There are at most 1,000 rows.
     ensures few { IfOk result (λ reports. length reports ≤ most_rows) }
+    // Each name has its written form; numbers are 0 to 99, moments up to the end of 2099, and
+    // outputs at most 65,536 bytes.
     ensures ranged { IfOk result (All IsReportRow) }
 {
     read_file(alloc, file)

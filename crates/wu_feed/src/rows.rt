@@ -32,52 +32,60 @@ impl<R> Model for Rows<R> {
 }
 
 impl<R> Rows<R> {
-    /// These rows; it takes no memory.
+    /// Returns these rows; takes no memory.
     pub fn from_vec(items: Vec<R>) -> Self
+        // The result has the vector's rows.
         ensures { result ≡ items.items }
     {
         Rows { items }
     }
 
-    /// The rows as a vector; it takes no memory.
+    /// Returns the rows as a vector; takes no memory.
     pub fn into_vec(self) -> Vec<R>
+        // The vector has the same rows.
         ensures { result.items ≡ self }
     {
         self.items
     }
 
-    /// The rows in the order of the file.
+    /// Returns the rows in the order of the file.
     pub fn as_slice(&self) -> &[R]
+        // The slice has the same rows.
         ensures { result.now ≡ self.now }
     {
         self.items.as_slice()
     }
 
-    /// How many they are.
+    /// Returns the number of rows.
     pub fn len(&self) -> usize
+        // The result is the number of rows.
         ensures { result ≡ length self.now }
     {
         self.items.len()
     }
 
-    /// Whether there is none.
+    /// Returns whether there are no rows.
     pub fn is_empty(&self) -> bool
+        // The result is true exactly if there are no rows.
         ensures { IsTrue result ↔ (self.now ≡ []) }
     {
         self.items.is_empty()
     }
 
-    /// The rows in the order of the file.
+    /// Returns an iterator over the rows in the order of the file.
     pub fn iter(&self) -> Iter<'_, R>
+        // The iterator has all rows before it.
         ensures rest { iter_rest result ≡ self.now }
+        // Their number is below 2^64.
         ensures fits { length (iter_rest result) < 2 ^ 64 }
+        // The iterator yields each row once, in order.
         ensures runs { IterYieldsInOrder R }
     {
         self.items.as_slice().iter()
     }
 }
 
-/// A kind of row.
+/// A kind of row of a file.
 pub trait Row: Drop {
     ghost use Rattle.std.specs.Prelude.{◌≡◌, ℕ, List, Result};
     ghost use Rattle.wu_core.specs.declared.fault.Fault.{Fault};
@@ -85,23 +93,34 @@ pub trait Row: Drop {
     /// The fields of its header.
     ghost names: { List (List ℕ) };
 
-    /// What the row of a number is, by its fields.
+    /// The value of the row of this number with these fields, or its fault.
     ghost row_of: { ℕ → List (List ℕ) → Result Self Fault };
 
-    /// Whether the row is the header.
+    /// Returns whether the row is the header.
     fn is_header(row: &ByteRecord) -> bool
+        // The result is true exactly if the fields are the header's names, in this order.
         ensures { result ≡ is_header names (fields_of row.now) };
 
-    /// The row of this number, or the first cause for which there is none.
+    /// Reads the row of this number, or returns the first cause for which it is refused.
     fn read(alloc: Global, number: u32, row: &ByteRecord) -> Result<Self, Fault>
+        // The fields read as the row's value, or as out of memory; otherwise the row is `BadFile`
+        // with its first cause.
         ensures exact { IsOrWantsMemory result (row_of number (fields_of row.now)) }
+        // A row with another number of fields than the header is refused as that, even if the
+        // program is out of memory.
         ensures fields { TellsFields result number names (fields_of row.now) }
+        // A row that is refused for anything but its input or output is never reported as out of
+        // memory.
         ensures told { TellsFound result (row_of number (fields_of row.now)) };
 }
 
-/// The row of this number, where a file may have one.
+/// Reads the row of this number. A row after the thousandth is refused.
 fn read_row<R: Row>(alloc: Global, number: u32, row: &ByteRecord) -> Result<R, Fault>
+    // A row up to the thousandth reads as its value, or as out of memory; otherwise it is `BadFile`
+    // with its first cause.
     ensures exact { IsOrWantsMemory result (row_at R.row_of number (fields_of row.now)) }
+    // A row that is refused for anything but its input or output is never reported as out of
+    // memory.
     ensures told { TellsFound result (row_at R.row_of number (fields_of row.now)) }
 {
     if number > LAST_ROW {
@@ -110,7 +129,7 @@ fn read_row<R: Row>(alloc: Global, number: u32, row: &ByteRecord) -> Result<R, F
     R::read(alloc, number, row)
 }
 
-/// The rows below the header, which are numbered from 2. The first faulty row decides.
+/// Reads the rows after the header, which are numbered from 2. The first faulty row decides.
 fn read_rows<R: Row>(alloc: Global, rows: &[ByteRecord]) -> Result<Rows<R>, Fault>
     ensures { IsOrWantsMemory result (rows_from R.row_of 2 (map fields_of rows.now)) }
 {
@@ -124,10 +143,13 @@ fn read_rows<R: Row>(alloc: Global, rows: &[ByteRecord]) -> Result<Rows<R>, Faul
     Ok(Rows::from_vec(items))
 }
 
-/// The rows of a file's records, of which the first is the header.
+/// Reads the rows of a file's records, of which the first is the header.
 fn read_records<R: Row>(alloc: Global, records: &[ByteRecord]) -> Result<Rows<R>, Fault>
+    // Records with the header read as the rows after it, or as out of memory; any other are
+    // `BadFile` with the first faulty row.
     ensures exact { IsOrWantsMemory result
         (rows_under R.names R.row_of (map fields_of records.now)) }
+    // Records without the header are refused as that, even if the program is out of memory.
     ensures header { TellsHeader result R.names (map fields_of records.now) }
 {
     match records {
@@ -136,11 +158,16 @@ fn read_records<R: Row>(alloc: Global, records: &[ByteRecord]) -> Result<Rows<R>
     }
 }
 
-/// The rows of a file of at most 1,048,576 bytes: its header and at most 1,000 rows. Any other file is `BadFile` with
-/// its first faulty row (records numbered from 1, the header; 0 for the file's length) and the first cause there.
+/// Reads the rows of a file of at most 1,048,576 bytes: its header and at most 1,000 rows. Any other file is `BadFile`
+/// with its first faulty row and the first cause there. Rows are numbered from 1, the header; 0 stands for the whole
+/// file.
 pub fn read_file<R: Row>(alloc: Global, file: &[u8]) -> Result<Rows<R>, Fault>
+    // A file with the header reads as its rows, or as out of memory; any other is `BadFile` with
+    // its first faulty row and cause.
     ensures exact { IsOrWantsMemory result (rows_of_file R.names R.row_of file.now) }
+    // A file above 1,048,576 bytes is refused as too long, even if the program is out of memory.
     ensures long { TellsTooLong result file.now }
+    // There are at most 1,000 rows.
     ensures few { IfOk result (λ rows. length rows ≤ most_rows) }
 {
     if file.len() > LONGEST_FILE {

@@ -1,4 +1,4 @@
-//! Scripts: a command a line, whose words stand apart by blanks.
+//! Scripts: a command on each line, with its words separated by blanks.
 
 ghost use Rattle.std.specs.Prelude.{◌≡◌, ◌==◌, IfErr, IfOk, None, Ok, Some, map, option_map};
 ghost use Rattle.std.specs.List.{enumerate_from, filter_map, slice_split};
@@ -20,7 +20,7 @@ use wu_core::{Fault, FileCause};
 /// Why a line of a script has no words.
 #[derive(Clone, Copy, PartialEq, Eq)]
 pub enum LineCause {
-    /// A quote is not closed on the line.
+    /// A quote is not closed on its line.
     OpenQuote,
     /// A word is no UTF-8 text.
     NotText,
@@ -36,7 +36,7 @@ pub struct ScriptLine {
     pub words: Result<Words, LineCause>,
 }
 
-/// The line without the carriage return at its end, if it has one.
+/// Returns the line without the carriage return at its end, if it has one.
 fn without_return(line: &[u8]) -> &[u8]
     ensures { result.now ≡ strip_carriage_return line.now }
 {
@@ -46,7 +46,7 @@ fn without_return(line: &[u8]) -> &[u8]
     }
 }
 
-/// The text of a line alone: without the carriage return at its end, and with a line feed.
+/// Returns the text of a line alone: without the carriage return at its end, and with a line feed.
 fn as_text(alloc: Global, line: &[u8]) -> Result<Vec<u8>, AllocError>
     ensures { IfOk result (λ text. text.items ≡ text_of_line line.now) }
 {
@@ -56,7 +56,7 @@ fn as_text(alloc: Global, line: &[u8]) -> Result<Vec<u8>, AllocError>
     Ok(text)
 }
 
-/// The first record of a text, of which a comment has none. The only fault is `Memory`.
+/// Reads the first record of a text; returns `None` if there is no more than a comment. The only fault is `Memory`.
 fn first_record(alloc: Global, text: &[u8]) -> Result<Option<ByteRecord>, Fault>
     ensures found { IfOk result (λ row. option_map fields_of row
         ≡ option_map (λ read. read.0) (first_read text.now)) }
@@ -72,7 +72,7 @@ fn first_record(alloc: Global, text: &[u8]) -> Result<Option<ByteRecord>, Fault>
     read_record(alloc, &mut reader)
 }
 
-/// The fields of a line. The only fault is `Memory`.
+/// Reads the fields of a line. The only fault is `Memory`.
 fn read_fields(alloc: Global, line: &[u8]) -> Result<ByteRecord, Fault>
     ensures found { IfOk result (λ row. fields_of row ≡ fields_in line.now) }
     ensures refused { FailsForMemory result }
@@ -85,9 +85,11 @@ fn read_fields(alloc: Global, line: &[u8]) -> Result<ByteRecord, Fault>
     }
 }
 
-/// The field as a word. A quote that is not closed takes in the line feed.
+/// Returns the field as a word. An open quote takes in the line feed, and is a cause.
 fn read_word(field: &[u8]) -> Result<&str, LineCause>
+    // A result is the field itself, which has no cause.
     ensures word { IfOk result (λ word. (word.now ≡ field.now) × (field_cause field.now ≡ None)) }
+    // A fault is the cause of the field.
     ensures cause { IfErr result (λ cause. field_cause field.now ≡ Some cause) }
 {
     if field.contains(&b'\n') {
@@ -99,7 +101,7 @@ fn read_word(field: &[u8]) -> Result<&str, LineCause>
     }
 }
 
-/// The words among the fields of a line: those with bytes. The first field that is no word decides.
+/// Returns the words among the fields of a line: those that are not empty. The first field that is no word decides.
 fn words_among(alloc: Global, row: &ByteRecord) -> Result<Result<Words, LineCause>, Fault>
     ensures { IsOrWantsMemory result (Ok (words_among (fields_of row.now))) }
 {
@@ -116,9 +118,11 @@ fn words_among(alloc: Global, row: &ByteRecord) -> Result<Result<Words, LineCaus
     Ok(Ok(Words::from_vec(words)))
 }
 
-/// The words of the line of this number, or the cause for which it has none.
+/// Reads the words of the line of this number, or returns the cause for which it has none.
 fn read_words(alloc: Global, number: u64, line: &[u8]) -> Result<Result<Words, LineCause>, Fault>
+    // The line reads as its words or its cause, or as out of memory.
     ensures exact { IsOrWantsMemory result (Ok (words_at number line.now)) }
+    // A line after the thousandth has that cause, even if the program is out of memory.
     ensures late { TellsLate number result (words_at number line.now) }
 {
     if number > MOST_LINES as u64 {
@@ -128,7 +132,7 @@ fn read_words(alloc: Global, number: u64, line: &[u8]) -> Result<Result<Words, L
     words_among(alloc, &row)
 }
 
-/// The line with its words, or the cause for which it has none. A line without words is none.
+/// Returns the line with its words or its cause; `None` for a line without words.
 fn line_with(number: u64, words: Result<Words, LineCause>) -> Option<ScriptLine>
     ensures { result ≡ line_with number words }
 {
@@ -138,9 +142,13 @@ fn line_with(number: u64, words: Result<Words, LineCause>) -> Option<ScriptLine>
     }
 }
 
-/// What the line of this number is: none without words.
+/// Reads the line of this number; returns `None` for a line without words.
 fn read_line(alloc: Global, number: u64, line: &[u8]) -> Result<Option<ScriptLine>, Fault>
+    // The line reads as its words or its cause, or as out of memory; a line without words gives
+    // `None`.
     ensures exact { IsOrWantsMemory result (Ok (script_line_of (number, line.now))) }
+    // A line after the thousandth has that cause, even if the program is out of memory, unless it
+    // has no byte.
     ensures late { TellsLate number result (script_line_of (number, line.now)) }
 {
     if line.is_empty() {
@@ -150,7 +158,7 @@ fn read_line(alloc: Global, number: u64, line: &[u8]) -> Result<Option<ScriptLin
     Ok(line_with(number, words))
 }
 
-/// The lines of a text that are numbered from 1. The only fault is `Memory`.
+/// Reads the lines of a text, numbered from 1. The only fault is `Memory`.
 fn read_lines(alloc: Global, lines: &[&[u8]]) -> Result<Rows<ScriptLine>, Fault>
     ensures { IsOrWantsMemory result (Ok (filter_map script_line_of
         (enumerate_from 1 (map (λ line. line.now) lines.now)))) }
@@ -166,7 +174,7 @@ fn read_lines(alloc: Global, lines: &[&[u8]]) -> Result<Rows<ScriptLine>, Fault>
     Ok(Rows::from_vec(items))
 }
 
-/// The parts of a text between its line feeds.
+/// Returns the parts of a text between its line feeds.
 fn split_lines(alloc: Global, text: &[u8]) -> Result<Vec<&[u8]>, AllocError>
     ensures { IfOk result (λ lines. map (λ line. line.now) lines.items
         ≡ slice_split (λ byte. byte == line_feed) text.now) }
@@ -174,14 +182,21 @@ fn split_lines(alloc: Global, text: &[u8]) -> Result<Vec<&[u8]>, AllocError>
     text.split(|byte| *byte == b'\n').collect(alloc)
 }
 
-/// The lines of a script of at most 1,048,576 bytes, each with its number, from 1, and its words. Words stand apart by
-/// blanks; a word in double quotes may hold blanks, and a quote in it is written twice; no word is empty. A line that
-/// begins with `#` and a line without words are left out. A line at fault has a cause in place of its words: an open
-/// quote, a word that is no text, or, whatever it has, a place after the thousandth line. A longer text is `BadFile`
-/// with row 0 and `TooLong`.
+/// Reads the lines of a script of at most 1,048,576 bytes, each with its number, from 1, and its words. Words are
+/// separated by blanks. A word in double quotes may contain blanks, and quotes written twice; no word is empty. Lines
+/// that begin with `#` and lines without words are left out.
+///
+/// A faulty line has a cause in place of its words: an open quote, a word that is no UTF-8 text, or a number above
+/// 1,000, which comes first. A longer text is `BadFile` with row 0 and `TooLong`.
 pub fn read_script(alloc: Global, text: &[u8]) -> Result<Rows<ScriptLine>, Fault>
+    // A script reads as its lines between line feeds, numbered from 1, without comments and lines
+    // without a word, or as out of memory. Words are the fields that `csv` reads with a blank as
+    // separator. A line with an open quote, with a word that is no text, or after the thousandth
+    // has this cause in place of words.
     ensures exact { IsOrWantsMemory result (script_of text.now) }
+    // A script above 1,048,576 bytes is refused as too long, even if the program is out of memory.
     ensures long { TellsTooLong result text.now }
+    // A fault is `Memory`, or `BadFile` with a row and a cause.
     ensures told { IfErr result IsFileFault }
 {
     if text.len() > LONGEST_FILE {

@@ -16,7 +16,7 @@ use csv::ByteRecord;
 use std::alloc::Global;
 use wu_core::{Fault, FileCause, Moment, Name, ResultName};
 
-/// An instance, by its workunit's name and its number, was sent to a host.
+/// A send: an instance, by its workunit's name and its number, the host and the moment.
 #[derive(Drop)]
 pub struct SendRow {
     pub workunit: Name,
@@ -29,7 +29,7 @@ pub struct SendRow {
 /// Sends in the order of their rows.
 pub type Sends = Rows<SendRow>;
 
-/// The send of three fields: the instance, the host and the moment. The first field at fault decides.
+/// Reads a send from three fields: the instance, the host and the moment. The first field at fault decides.
 pub fn read_send(
     alloc: Global,
     number: u32,
@@ -37,8 +37,11 @@ pub fn read_send(
     host: &[u8],
     moment: &[u8],
 ) -> Result<SendRow, Fault>
+    // The fields read as a send, or as out of memory; otherwise the row is `BadFile` with its first
+    // cause.
     ensures exact { IsOrWantsMemory result
         (send_of number (name.now ∷ host.now ∷ moment.now ∷ [])) }
+    // A row that is refused is never reported as out of memory.
     ensures told { TellsRefusal result (send_of number (name.now ∷ host.now ∷ moment.now ∷ [])) }
 {
     let name = at_field(number, FileCause::Result, ResultName::read(alloc, name));
@@ -72,14 +75,23 @@ impl Row for SendRow {
     }
 }
 
-/// The sends of a file of at most 1,048,576 bytes: a header `result,host,moment` and at most 1,000 rows, each the name
-/// of an instance, a host and a moment. Any other file is `BadFile` with its first faulty row (records numbered from 1,
-/// the header; 0 for the file's length) and the first cause there, from left to right.
+/// Reads the sends of a file of at most 1,048,576 bytes: a header `result,host,moment` and at most 1,000 rows. Each row
+/// has the name of an instance, a host and a moment.
+///
+/// Any other file is `BadFile` with its first faulty row and the first cause there, from left to right. Rows are
+/// numbered from 1, the header; 0 stands for the whole file.
 pub fn read_sends(alloc: Global, file: &[u8]) -> Result<Sends, Fault>
+    // A file of sends reads as its rows, or as out of memory; any other is `BadFile` with its first
+    // faulty row and first cause.
     ensures exact { IsOrWantsMemory result (sends_of_file file.now) }
+    // A file above 1,048,576 bytes is refused as too long, even if the program is out of memory.
     ensures long { TellsTooLong result file.now }
+    // A fault is `Memory`, or `BadFile` with a row and a cause.
     ensures told { IfErr result IsFileFault }
+    // There are at most 1,000 rows.
     ensures few { IfOk result (λ sends. length sends ≤ most_rows) }
+    // Each name has the written form of a name; numbers are 0 to 99, and moments up to the end of
+    // 2099.
     ensures ranged { IfOk result (All IsSendRow) }
 {
     read_file(alloc, file)

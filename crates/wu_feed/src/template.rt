@@ -14,8 +14,11 @@ use std::alloc::Global;
 use toml::Table;
 use wu_core::{Fault, Params, TemplateKey};
 
-/// The document that was read. The reader has one error for want of memory and for a text that is none; it tells which.
+/// Returns the document that was read. An error of `toml` is `Memory` if it is out of memory, and otherwise
+/// `BadTemplate`.
 fn document_read(read: Result<Table, toml::de::Error>) -> Result<Table, Fault>
+    // A document is kept; an error of `toml` is `Memory` if it says out of memory, and otherwise
+    // `BadTemplate` with `Document`.
     ensures { KeepsDocument read result }
 {
     match read {
@@ -25,10 +28,14 @@ fn document_read(read: Result<Table, toml::de::Error>) -> Result<Table, Fault>
     }
 }
 
-/// The document that the text is. Any other text is `BadTemplate`.
+/// Reads a text as a TOML document. Any other text is `BadTemplate`.
 fn read_document(alloc: Global, text: &[u8]) -> Result<Table, Fault>
+    // A result is the document that the text is.
     ensures read { IfOk result (λ table. document_of text.now ≡ Some (table_view table)) }
+    // The fault is `Memory`, or `BadTemplate` with `Document` of a text that is no document.
     ensures refused { IfErr result (λ fault. (fault ≡ Memory) ⊎ IsNoDocument text.now fault) }
+    // A template above 65,536 bytes is refused as no document, even if the program is out of
+    // memory.
     ensures long { TellsLongTemplate result text.now }
 {
     if text.len() > LONGEST_TEMPLATE {
@@ -48,21 +55,21 @@ const KEYS: [&str; 7] = [
     "credit",
 ];
 
-/// Whether a template may have the key.
+/// Returns whether a template may have the key.
 fn is_key(text: &str) -> bool
     ensures { result ≡ is_key text.now }
 {
     KEYS.contains(&text)
 }
 
-/// Whether the document has no other key.
+/// Returns whether the document has only keys that a template may have.
 fn has_only_keys(table: &Table) -> bool
     ensures { result ≡ list_all (λ key. is_key (string_bytes key)) (keys table.now) }
 {
     table.keys().all(|key| is_key(key.as_str()))
 }
 
-/// The value of the key, if it is a whole number, or the default where the key is absent.
+/// Returns the value of the key if it is a whole number, and the default if the key is absent; otherwise `None`.
 fn value_or(table: &Table, key: &str, default: u32) -> Option<i64>
     ensures { result ≡ value_or default (get_member key.now (table_view table.now)) }
 {
@@ -72,7 +79,7 @@ fn value_or(table: &Table, key: &str, default: u32) -> Option<i64>
     }
 }
 
-/// The parameters that the document sets.
+/// Returns the parameters that the document sets.
 fn read_table(table: &Table) -> Result<Params, Fault>
     ensures { result ≡ document_parameters (table_view table.now) }
 {
@@ -91,13 +98,19 @@ fn read_table(table: &Table) -> Result<Params, Fault>
     ])
 }
 
-/// The parameters that a template of at most 65,536 bytes sets; absent keys have their defaults. `BadTemplate` has the
-/// first of: `Document`, for a text that is too long or no TOML document; `Unknown`, for one with a key that no
-/// template has; the first key, in the order of the fields of `Params`, whose value is no whole number or out of its
-/// range.
+/// Reads the parameters that a template of at most 65,536 bytes sets. Absent keys have their defaults.
+///
+/// Any other text is `BadTemplate`. It has `Document` if the text is too long or no TOML document, else `Unknown` if it
+/// has a key that no template has. Otherwise it has the first key, in the order of the fields of `Params`, whose value
+/// is no whole number or out of its range.
 pub fn read_template(alloc: Global, text: &[u8]) -> Result<Params, Fault>
+    // A template reads as the parameters that it sets, or as out of memory; any other text is
+    // `BadTemplate` with its first fault.
     ensures exact { IsOrWantsMemory result (template_of text.now) }
+    // A fault is `Memory`, or `BadTemplate` with a key.
     ensures told { IfErr result IsTemplateFault }
+    // A template above 65,536 bytes is refused as no document, even if the program is out of
+    // memory.
     ensures long { TellsLongTemplate result text.now }
 {
     let table = read_document(alloc, text)?;

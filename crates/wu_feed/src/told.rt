@@ -1,5 +1,4 @@
-//! What is told of a row where several things are wrong with it: the first of them from left to right, and want of
-//! memory last.
+//! Which fault of a row is reported if it has several: the first from left to right, and out of memory last.
 
 ghost use Rattle.std.specs.Prelude.{◌≡◌};
 ghost use Rattle.wu_feed.specs.Told.{at_field, both};
@@ -7,8 +6,9 @@ ghost use Rattle.wu_feed.specs.Told.{at_field, both};
 use crate::records::fault_at;
 use wu_core::{Fault, FileCause};
 
-/// What was read of a field, or the fault of its row. Want of memory is not the field's.
+/// Returns what was read of a field, or the fault of its row with this cause. Out of memory stays `Memory`.
 pub fn at_field<T: Drop>(number: u32, cause: FileCause, read: Result<T, Fault>) -> Result<T, Fault>
+    // A value and `Memory` stay; any other fault becomes `BadFile` with this row and cause.
     ensures { result ≡ at_field number cause read }
 {
     match read {
@@ -18,11 +18,12 @@ pub fn at_field<T: Drop>(number: u32, cause: FileCause, read: Result<T, Fault>) 
     }
 }
 
-/// Both values, or the first fault: want of memory is told only where nothing else is.
+/// Returns both values, or the first fault. Out of memory is reported only if nothing else is wrong.
 pub fn both<A: Drop, B: Drop>(
     first: Result<A, Fault>,
     second: Result<B, Fault>,
 ) -> Result<(A, B), Fault>
+    // The result is both values, or the first fault; `Memory` comes after any other fault.
     ensures { result ≡ both first second }
 {
     match (first, second) {

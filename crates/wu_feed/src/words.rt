@@ -19,22 +19,25 @@ impl Model for Words {
 }
 
 impl Words {
-    /// These words; it takes no memory.
+    /// Returns these words; takes no memory.
     pub fn from_vec(items: Vec<String>) -> Self
+        // The result has the bytes of the vector's texts.
         ensures { result ≡ map string_bytes items.items }
     {
         Words { items }
     }
 
-    /// The words as a vector; it takes no memory.
+    /// Returns the words as a vector; takes no memory.
     pub fn into_vec(self) -> Vec<String>
+        // The vector has the same texts.
         ensures { map string_bytes result.items ≡ self }
     {
         self.items
     }
 
-    /// The words in the order of the line.
+    /// Returns the words in the order of the line.
     pub fn as_slice(&self) -> &[String]
+        // The slice has the same texts.
         ensures { map string_bytes result.now ≡ self.now }
     {
         self.items.as_slice()

@@ -1,4 +1,4 @@
-//! A list of commands is run over a project, and its session let go.
+//! A list of commands is run over a project, and its session released.
 
 ghost use Rattle.wu_lives.specs.Reopening.{DrivesAndReleases};
 
@@ -8,7 +8,7 @@ use std::alloc::Global;
 use std::io::Write;
 use wu_drive::{Command, Project, Run, drive};
 
-/// Runs a list of commands, and lets the session go.
+/// Runs a list of commands, and releases the session.
 fn drive_session<S: Alter, W: Write>(
     alloc: Global,
     mut project: Project<S>,
@@ -22,15 +22,17 @@ fn drive_session<S: Alter, W: Write>(
     (run, project.release())
 }
 
-/// Runs a list of commands over a project in two files, and lets the session go.
+/// Runs a list of commands over a project in two files, and releases the session.
 ///
-/// It is one function for all: that two files serve as a store is proved again in each that calls one over any store.
+/// It is one function for all its callers: that two files serve as a store is proved again in each that calls one over
+/// any store.
 pub fn drive_and_release<D: Disk + Drop, W: Write>(
     alloc: Global,
     project: Project<FileStore<D>>,
     commands: &[Command],
     out: &mut W,
 ) -> (Run, Connection<FileStore<D>>)
+    // The list is run as by `drive`, and the connection of the session comes back.
     ensures { DrivesAndReleases W.contents project
         out.old out.new commands.now result.0 result.1 }
 {

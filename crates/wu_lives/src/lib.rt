@@ -1,4 +1,4 @@
-//! The laws of a project over lives: lists of commands, stops, and the sessions that go on over what is found.
+//! The laws of histories of sessions: lists of commands, crashes, and the sessions that go on over what is found.
 #![tactic(auto)]
 
 mod driving;

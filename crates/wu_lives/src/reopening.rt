@@ -1,6 +1,6 @@
-//! A project through stops: the machine stops at any moment, and the two files are opened again.
+//! A project through crashes: the machine crashes at any moment, and the two files are opened again.
 //!
-//! A disk may fail at any call and from then on, so a stop amid a list of commands is one of these stops too.
+//! A disk may fail at any call and from then on, so a crash during a list of commands is one of these crashes too.
 
 ghost use Rattle.std.specs.Prelude.{IfSome};
 ghost use Rattle.sqlite.specs.Files.{file_state};
@@ -17,12 +17,13 @@ use std::io::Write;
 use wu_drive::{Command, Project, Run};
 use wu_stops::{begin, stop_and_open};
 
-/// Runs a list of commands; then the machine stops, and the two files are opened again.
+/// Runs a list of commands; then the machine crashes, and the two files are opened again. Returns how far the run went,
+/// and the connection.
 ///
-/// What is found stands for the world after a beginning of the list: every acknowledged command, and one more only
-/// where the run ended with `Memory` or `Broken` during it. It is what the stop could leave of the session after the
-/// run, and where the connection was open then, its last commit; it is open, and all of it is committed. Why the run
-/// ended is as of `drive`. `None` where the open fails.
+/// What is found represents the world after a prefix of the list: every acknowledged command, and one more only where
+/// the run ended with `Memory` or `Broken` during it. It is open, and all of it is committed. It is what the crash
+/// could leave of the session after the run; where the connection was open then, its last commit. Why the run ended is
+/// as in `drive`. Returns `None` if the opening fails.
 pub fn drive_stop_and_open<D: Crash + Drop, W: Write>(
     alloc: Global,
     project: Project<FileStore<D>>,
@@ -30,15 +31,24 @@ pub fn drive_stop_and_open<D: Crash + Drop, W: Write>(
     out: &mut W,
     options: Options,
 ) -> Option<(Run, Connection<FileStore<D>>)>
+    // A disk with no fault by now had none before the run.
     ensures clean { IfSome result (λ r. WasClean (state_of project) (file_state r.1)) }
+    // The texts of the answers went out, each the machine's reply to an acknowledged command.
     ensures answers { IfSome result (λ r.
         TellsReplies (W.contents out.old) (W.contents out.new) project
         commands.now r.0 (file_state r.1)) }
+    // The tables represent the world after a prefix of the list: each acknowledged command, and one
+    // more only after `Memory` or `Broken`.
     ensures found { IfSome result (λ r.
         FindsBeginning project commands.now r.0 (file_state r.1)) }
+    // The run did no more than the list, and all of it where nothing ended it.
     ensures all { IfSome result (λ r. DoesAll commands.now r.0) }
+    // Over a session that had ended nothing was done or written.
     ensures ended { IfSome result (λ r. TellsEnded project out.old out.new r.0) }
+    // A run ends early with the machine's refusal of the next command, a fault of the store, or
+    // `Output`.
     ensures ends { IfSome result (λ r. TellsEnd project commands.now r.0 (file_state r.1)) }
+    // What is found is open, sound and committed, and what the crash could leave after the run.
     ensures reopened { IfSome result (λ r. FindsLeft project commands.now r.0 (file_state r.1)) }
 {
     let (run, conn) = drive_and_release(alloc, project, commands, out);
@@ -48,11 +58,12 @@ pub fn drive_stop_and_open<D: Crash + Drop, W: Write>(
     }
 }
 
-/// A life of a project: a list of commands, a stop of the machine, and a session over what is found.
+/// Runs a list of commands, crashes the machine, and begins the next session over what is found. Returns how far the
+/// run went, and the next session.
 ///
-/// The session goes on from the world after a beginning of the list, which has every acknowledged command. A project
-/// that is found after the stop is adopted as it stands. Why the run ended is as of `drive`. `None` where the open or
-/// the adoption fails.
+/// The next session goes on from the world after a prefix of the list, which has every acknowledged command. A project
+/// that is found after the crash is adopted as it stands. Why the run ended is as in `drive`. Returns `None` if the
+/// opening or the adoption fails.
 pub fn live<D: Crash + Drop, W: Write>(
     alloc: Global,
     project: Project<FileStore<D>>,
@@ -60,18 +71,29 @@ pub fn live<D: Crash + Drop, W: Write>(
     out: &mut W,
     options: Options,
 ) -> Option<(Run, Project<FileStore<D>>)>
+    // A disk with no fault by now had none before the run.
     ensures clean { IfSome result (λ r.
         WasClean (state_of project) (state_of r.1)) }
+    // The next session has not ended, and knows the version of its tables.
     ensures begins { IfSome result (λ r. IsBegun r.1) }
+    // The texts of the answers went out, each the machine's reply to an acknowledged command.
     ensures answers { IfSome result (λ r.
         TellsReplies (W.contents out.old) (W.contents out.new) project
         commands.now r.0 (state_of r.1)) }
+    // The session goes on after a prefix of the list: each acknowledged command, and one more only
+    // after `Memory` or `Broken`.
     ensures found { IfSome result (λ r.
         FindsBeginning project commands.now r.0 (state_of r.1)) }
+    // The run did no more than the list, and all of it where nothing ended it.
     ensures all { IfSome result (λ r. DoesAll commands.now r.0) }
+    // Over a session that had ended nothing was done or written.
     ensures ended { IfSome result (λ r. TellsEnded project out.old out.new r.0) }
+    // A run ends early with the machine's refusal of the next command, a fault of the store, or
+    // `Output`.
     ensures ends { IfSome result (λ r.
         TellsEnd project commands.now r.0 (state_of r.1)) }
+    // What the crash could leave after the run is found, and the next session adopts it as it
+    // stands.
     ensures reopened { IfSome result (λ r. AdoptsLeft project commands.now r.0 r.1) }
 {
     match drive_stop_and_open(alloc, project, commands, out, options) {
@@ -83,11 +105,13 @@ pub fn live<D: Crash + Drop, W: Write>(
     }
 }
 
-/// A list of lives, each of which goes on from what the one before it left; a run for each life.
+/// Runs lists of commands, one session after another: each list ends with a crash, and the next session goes on from
+/// what that left. Returns a run for each list, and the last session.
 ///
-/// The texts of the answers are written, session by session; each answer is the machine's reply, and what is found is
-/// the world after a life of these sessions, each cut command in or out. After at least one life the session goes on,
-/// also where the first one had ended. `None` where an open or an adoption fails, or memory for the runs is refused.
+/// The texts of the answers are written, session by session; each answer is the machine's reply. What is found is the
+/// world after a history of these sessions, each cut command in or out. After at least one list the session goes on,
+/// also where the first one had ended. Returns `None` if an opening or an adoption fails, or memory for the runs is
+/// refused.
 pub fn live_all<D: Crash + Drop, W: Write>(
     alloc: Global,
     mut project: Project<FileStore<D>>,
@@ -95,10 +119,16 @@ pub fn live_all<D: Crash + Drop, W: Write>(
     out: &mut W,
     options: Options,
 ) -> Option<(Vec<Run>, Project<FileStore<D>>)>
+    // A disk with no fault by now had none at the beginning.
     ensures clean { IfSome result (λ r.
         WasClean (state_of project) (state_of r.1)) }
+    // Over a session that had not ended, or after at least one list, the session goes on.
     ensures begins { IfSome result (λ r. GoesOnAfter project lives.now r.1) }
+    // There is one run for each list.
     ensures count { IfSome result (λ r. RunsEach lives.now r.0.items) }
+    // The texts of the answers went out session by session, each the machine's reply. The tables
+    // represent the world of a history of these sessions, each cut command in or out, and one is
+    // cut only after `Memory` or `Broken`.
     ensures found { IfSome result (λ r.
         TellsLives (W.contents out.old) (W.contents out.new) project
         lives.now r.0.items r.1) }

@@ -1,7 +1,7 @@
-//! Two runs of the program over one file: a stop ends the first, and the second opens what it left.
+//! Two runs of the program over one file: a crash ends the first, and the second opens what it left.
 //!
-//! A disk may fail at any call and from then on, so a stop amid a command is one of these stops. No code can tell what
-//! a file holds, so the second run is one over whatever bytes `S` supposes of it.
+//! A disk may fail at any call and from then on, so a crash during a command is one of these crashes. No code can say
+//! what a file holds, so the second run is one over whatever bytes `S` supposes of it.
 
 ghost use Rattle.std.specs.Prelude.{IfErr, IfOk, IfSome};
 ghost use Rattle.sqlite_wal.specs.Files.{image_at};
@@ -17,46 +17,64 @@ use std::io::Write;
 use wu_drive::{Command, Project, Run};
 use wu_stops::{begin, store_of};
 
-/// Runs a list of commands over a project, and lets its two files go.
+/// Runs a list of commands over a project, and lets its two files go. Returns how far the run went, and the files.
 ///
-/// Each image that a stop may leave of these files holds the world after a beginning of the list: every acknowledged
-/// command, and one more only where the run ended with `Memory` or `Broken` during it. Why the run ended is as of
-/// `drive`.
+/// Each image that a crash may leave of these files holds the world after a prefix of the list. It has every
+/// acknowledged command, and one more only where the run ended with `Memory` or `Broken` during it. Why the run ended
+/// is as in `drive`.
 pub fn run_and_leave<D: Disk + Drop, W: Write>(
     alloc: Global,
     project: Project<FileStore<D>>,
     commands: &[Command],
     out: &mut W,
 ) -> (Run, Files<D>)
+    // The files are those that the released session left.
     ensures files { AreLeft project commands.now result.0 result.1 }
+    // The texts of the answers went out, each the machine's reply to an acknowledged command.
     ensures answers { TellsAnswers project commands.now result.0
         (W.contents out.old) (W.contents out.new) result.1 }
+    // Each crash image of the files holds the world after a prefix: each acknowledged command, and
+    // one more only after `Memory` or `Broken`.
     ensures left { LeavesBeginnings project commands.now result.0 result.1 }
+    // The run did no more than the list, and all of it where nothing ended it.
     ensures all { DoesAll commands.now result.0 }
+    // Over a session that had ended nothing was done or written.
     ensures ended { TellsEnded project out.old out.new result.0 }
+    // A run ends early with the machine's refusal of the next command, a fault of the store, or
+    // `Output`.
     ensures ends { WhyEnded project commands.now result.0 result.1 }
 {
     let (run, conn) = drive_and_release(alloc, project, commands, out);
     (run, store_of(conn).close())
 }
 
-/// Runs a list of commands over a project, and closes its database, as the program does.
+/// Runs a list of commands over a project, and closes its database, as the program does. Returns how far the run went,
+/// and the files or, after a close that failed, the store.
 ///
-/// Where the close ended well, each image that a stop may leave of the files holds the world after a beginning of the
-/// list, as of `run_and_leave`; with a close that failed its store is left, and the same is said of the files of one
-/// that is numbered. So `begin_at` goes on from there.
+/// After a close that ended well, each image that a crash may leave of the files holds the world after a prefix of the
+/// list, as in `run_and_leave`. After a close that failed the same holds of the files of its store, if that is numbered
+/// as its catalog says. So `begin_at` goes on from there.
 pub fn run_and_close<D: Disk + Drop, W: Write>(
     alloc: Global,
     project: Project<FileStore<D>>,
     commands: &[Command],
     out: &mut W,
 ) -> (Run, Result<Files<D>, FileStore<D>>)
+    // After a close that ended well, the files are those that the released session left.
     ensures files { IfOk result.1 (AreLeft project commands.now result.0) }
+    // After a close that ended well, the texts of the answers went out, each the machine's reply to
+    // an acknowledged command.
     ensures answers { IfOk result.1 (TellsAnswers project commands.now result.0
         (W.contents out.old) (W.contents out.new)) }
+    // After a close that ended well each crash image holds the world after a prefix: each
+    // acknowledged command, and at most the cut one.
     ensures left { IfOk result.1 (LeavesBeginnings project commands.now result.0) }
+    // After a close that failed the same holds of the files of its store, where that is numbered as
+    // its catalog says.
     ensures unclosed { IfErr result.1 (LeavesUnclosed project commands.now result.0) }
+    // The run did no more than the list, and all of it where nothing ended it.
     ensures all { DoesAll commands.now result.0 }
+    // Over a session that had ended nothing was done or written.
     ensures ended { TellsEnded project out.old out.new result.0 }
 {
     let (run, conn) = drive_and_release(alloc, project, commands, out);
@@ -68,15 +86,19 @@ pub fn run_and_close<D: Disk + Drop, W: Write>(
 
 /// Opens the file at a path and begins a session over the project in it.
 ///
-/// Where its database has no byte it is a fresh project, which stands for the empty world; where the file holds the
-/// tables of a world it goes on from that world. `None` where the open or the adoption fails.
+/// Where its database has no byte it is a fresh project, which represents the empty world. Where the file holds the
+/// tables of a world it goes on from that world. Returns `None` if the opening or the adoption fails.
 pub fn begin_at<S: Start>(
     rt: &HostRuntime,
     path: &str,
     start: S,
 ) -> Option<Project<FileStore<FileFrom<S>>>>
+    // The session has not ended, and knows the version of its tables.
     ensures begins { IfSome result IsBegun }
+    // Over a database without a byte the session begins from the empty world.
     ensures blank { IfSome result (λ project. BeginsBlank (image_at S.Start) (state_of project)) }
+    // Over files that hold the tables of a world the session goes on from it, and knows its
+    // version.
     ensures found { IfSome result (λ project. BeginsOver (image_at S.Start) (state_of project)) }
 {
     match Connection::open_from(rt, path, false, start) {
@@ -85,12 +107,13 @@ pub fn begin_at<S: Start>(
     }
 }
 
-/// Two runs of the program: the first runs a list of commands over an adopted project, and a stop ends it; the second
-/// opens the file and adopts the project in it.
+/// Runs the program twice. The first run does a list of commands over an adopted project, and a crash ends it. The
+/// second opens the file and adopts the project in it.
 ///
-/// Each image that the stop may leave holds the world after a beginning of the list, which has every acknowledged
-/// command. Where the second run found such an image, it goes on from that world, and the tables stand for the world of
-/// the life over both runs. Why the first ended is as of `drive`. `None` where the open or the adoption fails.
+/// Each image that the crash may leave holds the world after a prefix of the list, which has every acknowledged
+/// command. Where the second run found such an image, it goes on from that world, and the tables represent the world of
+/// the history over both runs. Why the first ended is as in `drive`. Returns `None` if the opening or the adoption
+/// fails.
 pub fn run_and_begin_again<D: Disk + Drop, S: Start, W: Write>(
     rt: &HostRuntime,
     project: Project<FileStore<D>>,
@@ -99,15 +122,28 @@ pub fn run_and_begin_again<D: Disk + Drop, S: Start, W: Write>(
     path: &str,
     start: S,
 ) -> Option<(Run, Project<FileStore<FileFrom<S>>>)>
+    // The second session has not ended, and knows the version of its tables.
     ensures begins { IfSome result (λ r. IsBegun r.1) }
+    // Over files that hold the tables of a world the second session goes on from it, and knows its
+    // version.
     ensures found { IfSome result (λ r. BeginsOver (image_at S.Start) (state_of r.1)) }
+    // The texts of the first run's answers went out, each the machine's reply to an acknowledged
+    // command.
     ensures answers { IfSome result (λ r.
         AnswersFirst project commands.now r.0 (W.contents out.old) (W.contents out.new)) }
+    // Each crash image of the first run holds the world after a prefix: each acknowledged command,
+    // and one more only after `Memory` or `Broken`.
     ensures left { IfSome result (λ r. LeavesFirst project commands.now r.0) }
+    // Where the second run found such an image, its tables represent the world of the history over
+    // both runs.
     ensures lives { IfSome result (λ r. LivesOver project commands.now r.0
         (W.contents out.old) (W.contents out.new) (image_at S.Start) r.1) }
+    // The first run did no more than the list, and all of it where nothing ended it.
     ensures all { IfSome result (λ r. DoesAll commands.now r.0) }
+    // Over a session that had ended the first run did and wrote nothing.
     ensures ended { IfSome result (λ r. TellsEnded project out.old out.new r.0) }
+    // The first run ends early with the machine's refusal of the next command, a fault of the
+    // store, or `Output`.
     ensures ends { IfSome result (λ r. EndsFirst project commands.now r.0) }
 {
     let (run, files) = run_and_leave(rt.alloc(), project, commands, out);

@@ -18,11 +18,12 @@ use sqlite::Row;
 use std::alloc::{AllocError, Global};
 use wu_core::{HostClass, Workunit};
 
-/// The workunits, each with class 0.
+/// Returns the workunits, each with class 0.
 pub(crate) fn without_classes(
     alloc: Global,
     workunits: Vec<Workunit>,
 ) -> Result<Vec<Workunit>, AllocError>
+    // After `Ok` these are the workunits, each with class 0.
     ensures { IfOk result (λ unbound. unbound.items ≡ map unclassed workunits.items) }
 {
     let mut unbound = Vec::new(alloc);
@@ -33,17 +34,21 @@ pub(crate) fn without_classes(
     Ok(unbound)
 }
 
-/// The workunits, each with its class. A class that is that of none of them is told, or the place behind the last one
-/// where one lacks.
+/// Returns the workunits, each with its class. Returns the first place whose class is that of another workunit, or the
+/// place after the last class if one is missing.
 pub(crate) fn with_classes(
     alloc: Global,
     workunits: Vec<Workunit>,
     classes: &[Classed],
 ) -> Result<Vec<Workunit>, NoWorld>
+    // After `Ok` these are the workunits, each with the class of its row, and no row is left.
     ensures classed { IfOk result (λ classed. AreClassedBy workunits.items classes.now
         classed.items) }
+    // A row that is reported means that the rows of classes are not those of these workunits.
     ensures none { IfErr result (λ reason. UnlessMemory reason
         (λ _. AreOfOthers workunits.items classes.now)) }
+    // The reported row is the first, by number, of which the workunits' numbers and those of the
+    // rows of classes differ.
     ensures told { IfErr result (λ reason. UnlessMemory reason (IsIn Table.WorkunitClass
         (DiffersAt (numbers workunits.items) (numbers_classed classes.now)))) }
 {
@@ -79,14 +84,14 @@ fn sort(classes: &mut Vec<HostClass>) -> Result<(), AllocError>
     classes.sort_by(|one, other| one.host.as_str().cmp(other.host.as_str()))
 }
 
-/// Whether the name of the one is below that of the other.
+/// Returns whether the name of the one is below that of the other.
 fn is_below(one: &HostClass, other: &HostClass) -> bool
     ensures { IsTrue result ↔ (by_host one.now other.now ≡ Less) }
 {
     one.host.as_str().cmp(other.host.as_str()).is_lt()
 }
 
-/// The first host whose name is not above that of the one before it.
+/// Returns the first host whose name is not above that of the one before it, or `None` if there is none.
 fn first_out_of_order(classes: &[HostClass]) -> Option<usize>
     ensures order { MatchOption result (AreRising classes.now) (λ _. ¬ AreRising classes.now) }
     ensures within { IfSome result (λ place. place < length classes.now) }
@@ -100,13 +105,19 @@ fn first_out_of_order(classes: &[HostClass]) -> Option<usize>
     None
 }
 
-/// The hosts of these rows with their classes, in order of their names. One that stands twice is told.
+/// Returns the hosts of these rows with their classes, in order of their names. Reports a host that occurs twice.
 pub(crate) fn host_classes(alloc: Global, rows: &[Row]) -> Result<Vec<HostClass>, NoWorld>
+    // After `Ok` the rows are those of these hosts and classes, in some order.
     ensures same { IfOk result (λ classes. IsPermutation (map class_cells classes.items) rows.now) }
+    // After `Ok` the hosts are in order of their names' bytes, each once.
     ensures order { IfOk result (λ classes. AreInOrder classes.items) }
+    // A row that is reported means that the rows are those of no hosts in order with names and
+    // classes in range.
     ensures none { IfErr result (λ reason. UnlessMemory reason (λ _. (classes : List HostClass)
         → All IsStoredHostClass classes → AreInOrder classes
         → ¬ IsPermutation (map class_cells classes) rows.now)) }
+    // The reported row of `host_class` is that of no host and class, or, in order of names, that of
+    // a host that occurred before.
     ensures told { IfErr result (λ reason. UnlessMemory reason (IsIn Table.HostClass
         (IsWrongHostClass rows.now))) }
 {

@@ -1,4 +1,4 @@
-//! A column as a value that no other reader reads: it is `NotAProject` where it is none of its type.
+//! A reader of a column that no other crate has. A column that is no value of its type is refused as `NotAProject`.
 
 ghost use Rattle.std.specs.Prelude.{⊤};
 ghost use Rattle.sqlite.specs.Order.{column};
@@ -9,8 +9,10 @@ use sqlite::Row;
 use wu_core::{Fault, ImportKind};
 use wu_schema::read_column;
 
-/// The kind of an import in a column.
+/// Reads the kind of an import in a column.
 pub(crate) fn kind_at(row: &Row, at: usize) -> Result<ImportKind, Fault>
+    // The number of a kind of import is read as that kind, or out of memory; any other column is
+    // refused.
     ensures { Restores kind_cell (λ _. ⊤) (column row.now at) result }
 {
     let code: u32 = read_column(row, at)?;

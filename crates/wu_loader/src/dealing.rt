@@ -17,14 +17,17 @@ use wu_core::{Instance, Instances, MOST_INSTANCES, Workunit};
 
 /// Sorts the instances by their workunits' numbers, and those of a workunit by their own.
 pub(crate) fn sort(placed: &mut Vec<Placed>) -> Result<(), AllocError>
+    // The instances are the same afterwards, in some order.
     ensures same { IsPermutation placed.old.items placed.new.items }
+    // After `Ok` they are in order of their workunits' numbers, and then of their own.
     ensures sorted { OnOk result (IsSorted by_place placed.new.items) }
 {
     placed.sort_by(|one, other| { one.workunit.cmp(&other.workunit).then(one.n.cmp(&other.n)) })
 }
 
-/// The instances as a queue.
+/// Returns the instances as a queue.
 pub(crate) fn queue_of(alloc: Global, placed: Vec<Placed>) -> Result<VecDeque<Placed>, AllocError>
+    // After `Ok` the queue has the instances in their order.
     ensures { IfOk result (λ queue. queue.items ≡ placed.items) }
 {
     let mut queue = VecDeque::new(alloc);
@@ -34,7 +37,7 @@ pub(crate) fn queue_of(alloc: Global, placed: Vec<Placed>) -> Result<VecDeque<Pl
     Ok(queue)
 }
 
-/// Whether the first of these is the one of this workunit and this number.
+/// Returns whether the first of these is the one of this workunit and this number.
 fn is_next(left: &VecDeque<Placed>, workunit: u64, n: usize) -> bool
     ensures { IsTrue result ↔ IsNext workunit n left.now.items }
 {
@@ -51,9 +54,13 @@ fn take_instances(
     workunit: u64,
     left: &mut VecDeque<Placed>,
 ) -> Result<Vec<Instance>, AllocError>
+    // After `Ok` the taken instances, numbered from 0, and those that are left are all that were
+    // there.
     ensures taken { IfOk result
         (λ instances. left.old.items ≡ placed_from workunit instances.items ++ left.new.items) }
+    // After `Ok` they are at most 100.
     ensures few { IfOk result (λ instances. length instances.items ≤ most_instances) }
+    // After `Ok` the next one is not the first that is left, unless 100 were taken.
     ensures all { IfOk result (λ instances. length instances.items < most_instances
         → ¬ IsNext workunit (length instances.items) left.new.items) }
 {
@@ -68,16 +75,20 @@ fn take_instances(
     Ok(instances)
 }
 
-/// The workunits with these instances, which are in order. The first result that is none of theirs is told, or one too
-/// many of a workunit.
+/// Returns the workunits with these instances, which are in order. Returns the first result that is of none of them, or
+/// one too many of a workunit.
 pub(crate) fn deal(
     alloc: Global,
     workunits: Vec<Workunit>,
     placed: VecDeque<Placed>,
 ) -> Result<Vec<Workunit>, NoWorld>
+    // After `Ok` these are the workunits with exactly these instances, at most 100 each.
     ensures dealt { IfOk result (λ dealt. AreDealt workunits.items placed.items dealt.items) }
+    // A row that is reported means that the instances, in order, are not those of any such
+    // workunits in order of number.
     ensures none { IfErr result (λ reason. UnlessMemory reason (λ _. (dealt : List Workunit)
         → IsOrdered dealt → ¬ AreDealt workunits.items placed.items dealt)) }
+    // The results before the reported one are instances of the workunits; with it they are not.
     ensures told { IfErr result (λ reason. UnlessMemory reason (IsIn Table.Result
         (IsUndealtAt workunits.items placed.items))) }
 {

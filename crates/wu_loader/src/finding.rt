@@ -20,10 +20,11 @@ pub enum Table {
     WorkunitClass,
 }
 
-/// A row that keeps the tables from being those of a world: its table and its place there, counted from 1. A table is
-/// counted in order of its key; results are in order of workunit and number, hosts and their classes in order of the
-/// hosts' names, and these in any order where a row cannot be read, as imports are. A place behind the last row tells of
-/// a row that lacks.
+/// A row that keeps the tables from being those of a world: its table and its place there, counted from 1. A place
+/// after the last row means that a row is missing.
+///
+/// A table is counted in order of its key. Results are counted by workunit and number, hosts and their classes by the
+/// hosts' names. Imports are counted in any order, and so are these three tables if one of their rows cannot be read.
 #[derive(Clone, Copy)]
 pub struct Wrong {
     pub table: Table,

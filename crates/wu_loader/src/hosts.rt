@@ -25,21 +25,21 @@ fn sort(hosts: &mut Vec<Host>) -> Result<(), AllocError>
     hosts.sort_by(|one, other| one.name.as_str().cmp(other.name.as_str()))
 }
 
-/// Whether the name of the one is below that of the other.
+/// Returns whether the name of the one is below that of the other.
 fn is_below(one: &Host, other: &Host) -> bool
     ensures { IsTrue result ↔ (by_name one.now other.now ≡ Less) }
 {
     one.name.as_str().cmp(other.name.as_str()).is_lt()
 }
 
-/// References to the grants, in their order.
+/// Returns references to the grants, in their order.
 fn references_to<'a>(alloc: Global, grants: &'a [Grant]) -> Result<Vec<&'a Grant>, AllocError>
     ensures { IfOk result (λ all. referred all.items ≡ grants.now) }
 {
     grants.iter().collect(alloc)
 }
 
-/// The grants in order of their hosts' names.
+/// Returns the grants in order of their hosts' names.
 fn by_hosts<'a>(alloc: Global, grants: &'a [Grant]) -> Result<Vec<&'a Grant>, AllocError>
     ensures same { IfOk result (λ sorted. IsPermutation grants.now (referred sorted.items)) }
     ensures sorted { IfOk result (λ sorted. IsSorted by_host sorted.items) }
@@ -49,7 +49,8 @@ fn by_hosts<'a>(alloc: Global, grants: &'a [Grant]) -> Result<Vec<&'a Grant>, Al
     Ok(sorted)
 }
 
-/// The grants to the host of this name. They stand together, since the grants are in order of their hosts' names.
+/// Returns the grants to the host of this name. They are next to each other, since the grants are in order of their
+/// hosts' names.
 fn run_of<'a>(grants: &'a [&'a Grant], name: &Name) -> &'a [&'a Grant]
     requires { IsSorted by_host grants.now }
     ensures { referred result.now ≡ filter (is_to name.now) (referred grants.now) }
@@ -59,7 +60,7 @@ fn run_of<'a>(grants: &'a [&'a Grant], name: &Name) -> &'a [&'a Grant]
     &grants[start..end]
 }
 
-/// Whether this is the credit of all the grants: one after another is taken from it.
+/// Returns whether this is the credit of all the grants: one after another is taken from it.
 fn is_credit(total: u64, grants: &[&Grant]) -> bool
     ensures { IsTrue result ↔ (total ≡ sum_by (λ grant. grant.now.credit) grants.now) }
 {
@@ -73,15 +74,16 @@ fn is_credit(total: u64, grants: &[&Grant]) -> bool
     left == 0
 }
 
-/// Whether the host has grants, and as many as these.
+/// Returns whether the host has grants, and as many as these.
 fn is_counted(host: &Host, grants: &[&Grant]) -> bool
     ensures { IsTrue result ↔ ((0 < host.now.grants) × (host.now.grants ≡ length grants.now)) }
 {
     host.grants > 0 && host.grants == grants.len() as u64
 }
 
-/// Whether the host has grants, and its sums are theirs.
+/// Returns whether the host has grants, and its sums are theirs.
 fn is_granted(host: &Host, grants: &[&Grant]) -> bool
+    // It is true exactly where the host has grants, and its total and count are theirs.
     requires { IsSorted by_host grants.now }
     ensures { IsTrue result ↔ IsGranted (referred grants.now) host.now }
 {
@@ -89,7 +91,7 @@ fn is_granted(host: &Host, grants: &[&Grant]) -> bool
     is_counted(host, run) && is_credit(host.total, run)
 }
 
-/// The first host whose name is not above that of the one before it.
+/// Returns the first host whose name is not above that of the one before it, or `None` if there is none.
 fn first_out_of_order(hosts: &[Host]) -> Option<usize>
     ensures order { MatchOption result (Rise hosts.now) (λ _. ¬ Rise hosts.now) }
     ensures within { IfSome result (λ place. place < length hosts.now) }
@@ -103,7 +105,7 @@ fn first_out_of_order(hosts: &[Host]) -> Option<usize>
     None
 }
 
-/// The first host that has not what it was granted.
+/// Returns the first host that has not what it was granted, or `None` if there is none.
 fn first_ungranted(hosts: &[Host], grants: &[&Grant]) -> Option<usize>
     requires { IsSorted by_host grants.now }
     ensures granted { MatchOption result (All (IsGranted (referred grants.now)) hosts.now)
@@ -119,7 +121,7 @@ fn first_ungranted(hosts: &[Host], grants: &[&Grant]) -> Option<usize>
     None
 }
 
-/// Whether one of the hosts, which are in order, has the name.
+/// Returns whether one of the hosts, which are in order, has the name.
 fn is_listed(hosts: &[Host], name: &Name) -> bool
     requires { Rise hosts.now }
     ensures { IsTrue result ↔ IsListed hosts.now name.now }
@@ -129,7 +131,7 @@ fn is_listed(hosts: &[Host], name: &Name) -> bool
         .is_ok()
 }
 
-/// Whether the host of each grant is among these, which are in order.
+/// Returns whether the host of each grant is among these, which are in order.
 fn are_listed(hosts: &[Host], grants: &[&Grant]) -> bool
     requires { Rise hosts.now }
     ensures { IsTrue result ↔ All (λ grant. IsListed hosts.now grant.host) (referred grants.now) }
@@ -142,12 +144,18 @@ fn are_listed(hosts: &[Host], grants: &[&Grant]) -> bool
     true
 }
 
-/// The first of these hosts that keeps them from being those of the grants, or the place behind them where one lacks.
+/// Returns the first of these hosts that keeps them from being those of the grants, or the place after them if one is
+/// missing. Returns `None` if they are.
 fn first_wrong(hosts: &[Host], grants: &[&Grant]) -> Option<usize>
     requires { IsSorted by_host grants.now }
+    // `None` means that these are the hosts of the grants, each once and in order, with their
+    // totals and counts.
     ensures hosts { MatchOption result (AreHosts (referred grants.now) hosts.now)
         (λ _. ¬ AreHosts (referred grants.now) hosts.now) }
+    // A place is at most that after the last host.
     ensures within { IfSome result (λ place. place ≤ length hosts.now) }
+    // A place is that of a host out of order or not as granted, or that after the last one where
+    // one is missing.
     ensures told { IfSome result (IsWrongHost (referred grants.now) hosts.now) }
 {
     if let Some(place) = first_out_of_order(hosts) {
@@ -163,12 +171,19 @@ fn first_wrong(hosts: &[Host], grants: &[&Grant]) -> Option<usize>
     }
 }
 
-/// Whether the rows are those of the hosts of these grants. Where one lacks, the place behind the last row is told.
+/// Returns `Ok` if the rows are those of the hosts of these grants. If one is missing, the place after the last row is
+/// reported.
 pub(crate) fn know_hosts(alloc: Global, rows: &[Row], grants: &[Grant]) -> Result<(), NoWorld>
+    // `Ok` means that the rows are those of the hosts of these grants with their totals and counts,
+    // in some order.
     ensures hosts { OnOk result (IsPermutation (map (host_of grants.now)
         (hosts_of grants.now)) rows.now) }
+    // A row that is reported means that, for grants with values in range, the rows are not those of
+    // their hosts.
     ensures none { IfErr result (λ reason. UnlessMemory reason (λ _. All IsStoredGrant grants.now
         → ¬ IsPermutation (map (host_of grants.now) (hosts_of grants.now)) rows.now)) }
+    // The reported row of `host` is that of no host, out of order, not as granted, or missing after
+    // the last one.
     ensures told { IfErr result (λ reason. UnlessMemory reason (IsIn Table.Host
         (IsWrongHostRow grants.now rows.now))) }
 {

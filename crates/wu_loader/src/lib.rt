@@ -1,4 +1,8 @@
 //! The rows of a project's tables, read whole, as a world.
+//!
+//! A world is *readable* if each of its values is in its range. The comments over clauses on a database leave out a
+//! premise that all of these clauses have: the disk is clean. It returns what was written, and nobody else writes the
+//! file. Clauses on a reported row say nothing of out of memory.
 #![tactic(auto)]
 
 mod classes;

@@ -24,16 +24,18 @@ use wu_schema::rows::{
 };
 use wu_schema::{number_at, read_column};
 
-/// What a row of a table stands for.
+/// What a row of a table represents.
 pub trait FromRow: Sized {
     /// The row of a value at a place among the rows, counted from 1.
     ghost cells: { ℕ → Self → Row };
 
-    /// The values that rows may stand for.
+    /// The values that rows may represent.
     ghost is_value: { Self → Type 0 };
 
-    /// The value that the row at this place stands for, or `NotAProject` where there is none.
+    /// Returns the value that the row at this place represents. Returns `NotAProject` if there is none.
     fn from_row(alloc: Global, place: u64, row: &Row) -> Result<Self, Fault>
+        // The row of a value in its ranges, at this place, is read as that value, or out of memory;
+        // any other row is refused.
         ensures { Restores (cells place) is_value row.now result };
 }
 
@@ -178,7 +180,7 @@ impl FromRow for Workunit {
 
     ghost is_value = { IsStoredWorkunit };
 
-    /// The workunit of the row, with no instances.
+    /// Returns the workunit of the row, with no instances.
     fn from_row(alloc: Global, place: u64, row: &Row) -> Result<Self, Fault> {
         workunit_from(alloc, row)
     }
@@ -191,7 +193,7 @@ pub struct Classed {
     pub class: u32,
 }
 
-/// The class in a column.
+/// Reads a class in a column.
 fn class_at(row: &Row, at: usize) -> Result<u32, Fault>
     ensures { Restores number IsClass (column row.now at) result }
 {
@@ -232,7 +234,7 @@ impl FromRow for HostClass {
     }
 }
 
-/// How an instance stands.
+/// The states of an instance.
 #[derive(Clone, Copy)]
 struct States {
     server_state: ServerState,
@@ -249,7 +251,7 @@ struct Moments {
     received_at: Option<Moment>,
 }
 
-/// The states in the four columns from the third on.
+/// Reads the states in the four columns from the third on.
 fn states_from(row: &Row) -> Result<States, Fault>
     ensures { Restores state_cells (λ _. ⊤) (columns row.now 2 4) result }
 {
@@ -261,7 +263,7 @@ fn states_from(row: &Row) -> Result<States, Fault>
     })
 }
 
-/// The moments in the three columns from the eighth on.
+/// Reads the moments in the three columns from the eighth on.
 fn moments_from(row: &Row) -> Result<Moments, Fault>
     requires { 11 ≤ length row.now }
     ensures { Restores moment_cells HasMoments (columns row.now 7 3) result }
@@ -273,7 +275,7 @@ fn moments_from(row: &Row) -> Result<Moments, Fault>
     })
 }
 
-/// The instance in the nine columns from the third on, well formed or not.
+/// Reads the instance in the nine columns from the third on, well formed or not.
 fn instance_from(alloc: Global, row: &Row) -> Result<Instance, Fault>
     requires { length row.now ≡ 11 }
     ensures { Restores instance_row MayBeInstance (columns row.now 2 9) result }

@@ -49,14 +49,14 @@ pub struct ClassRows {
 #[derive(Drop)]
 pub struct TableRows {
     pub plain: PlainRows,
-    /// None where the version has no classes.
+    /// `None` if the version has no classes.
     pub classes: Option<ClassRows>,
 }
 
 /// The version of the schema from which on there are classes.
 const CLASS_VERSION: u64 = 3;
 
-/// The question about all rows of a table: in order of the key where that is the rowid, else in any order.
+/// Returns the question for all rows of a table: in order of the key if that is the rowid, else in any order.
 fn question(table: Table) -> &'static str
     ensures { result.now ≡ question table }
 {
@@ -77,16 +77,20 @@ fn question(table: Table) -> &'static str
     }
 }
 
-/// All rows of a table.
+/// Returns all rows of a table.
 fn rows_of<S: Alter>(conn: &mut Connection<S>, table: Table) -> Result<Vec<Row>, Fault>
+    // Only reads; over tables of a version that has this table, these are all its rows, as the
+    // question shows them.
     ensures { (version : ℕ) → IsTableIn version table → Looks version S.Store conn.old conn.new
         result (λ db trees rows. ShowsTable table db.trees trees rows.items) }
 {
     query(conn, question(table), &[])
 }
 
-/// The rows of the tables that every version has. Nothing is changed.
+/// Returns the rows of the tables that every version has. Changes nothing.
 fn plain_rows<S: Alter>(conn: &mut Connection<S>) -> Result<PlainRows, Fault>
+    // Only reads; over tables of any version, these are all rows of the tables that every version
+    // has.
     ensures { (version : ℕ) → Looks version S.Store conn.old conn.new result
         (λ db trees rows. ShowsPlain db.trees trees rows) }
 {
@@ -101,8 +105,10 @@ fn plain_rows<S: Alter>(conn: &mut Connection<S>) -> Result<PlainRows, Fault>
     })
 }
 
-/// The rows of the tables of classes. Nothing is changed.
+/// Returns the rows of the tables of classes. Changes nothing.
 fn class_rows<S: Alter>(conn: &mut Connection<S>) -> Result<ClassRows, Fault>
+    // Only reads; over tables of a version with classes, these are all rows of the tables of
+    // classes.
     ensures { (version : ℕ) → IsClassedVersion version → Looks version S.Store conn.old conn.new
         result (λ db trees rows. ShowsClasses db.trees trees rows) }
 {
@@ -112,8 +118,11 @@ fn class_rows<S: Alter>(conn: &mut Connection<S>) -> Result<ClassRows, Fault>
     })
 }
 
-/// The rows of all tables of a project of this version. Nothing is changed.
+/// Returns the rows of all tables of a project of this version. Changes nothing.
 pub fn table_rows<S: Alter>(conn: &mut Connection<S>, version: u64) -> Result<TableRows, Fault>
+    // Only reads; over tables of this version in rowid order, these are all rows of each table, as
+    // its question shows them. With no limit on steps its only faults over them are `Memory` and
+    // `Broken`.
     ensures { Looks version S.Store conn.old conn.new result
         (λ db trees rows. Shows version db.trees trees rows) }
 {

@@ -9,14 +9,17 @@ use sqlite::Row;
 use std::alloc::Global;
 use wu_core::Fault;
 
-/// The values that the rows of a table stand for, or the first row that stands for none.
+/// Returns the values that the rows of a table represent, or the first row that represents none.
 pub(crate) fn all_from<T: FromRow + Drop>(
     alloc: Global,
     table: Table,
     rows: &[Row],
 ) -> Result<Vec<T>, NoWorld>
+    // After `Ok` the rows are those of these values, by their places from 1.
     ensures same { IfOk result (λ values. rows.now ≡ rows_of T.cells values.items) }
+    // After `Ok` each value is in its ranges.
     ensures each { IfOk result (λ values. All T.is_value values.items) }
+    // The row that is reported, of this table, is that of no value in its ranges.
     ensures none { IfErr result (λ reason. UnlessMemory reason
         (IsIn table (IsNoRow T.cells T.is_value rows.now))) }
 {

@@ -15,15 +15,20 @@ use sqlite::Row;
 use std::alloc::Global;
 use wu_core::Workunit;
 
-/// The workunits of these rows, with the instances of those.
+/// Returns the workunits of these rows, with the instances of those.
 pub(crate) fn works_from(
     alloc: Global,
     rows: &[Row],
     instances: &[Row],
 ) -> Result<Vec<Workunit>, NoWorld>
+    // After `Ok` the rows are those of these workunits and, in some order, of their instances.
     ensures works { IfOk result (λ works. AreRowsOfWorks rows.now instances.now works.items) }
+    // A row that is reported means that the rows are those of no readable workunits in order of
+    // number.
     ensures none { IfErr result (λ reason. UnlessMemory reason (λ _. (works : List Workunit)
         → IsOrdered works → All IsStorable works → ¬ AreRowsOfWorks rows.now instances.now works)) }
+    // The reported row is that of no workunit, of no instance, or the first result that is of none
+    // of the workunits.
     ensures told { IfErr result (λ reason. UnlessMemory reason
         (IsWrongWork rows.now instances.now)) }
 {

@@ -22,11 +22,14 @@ use std::alloc::Global;
 use wu_audit::{Imported, Loaded};
 use wu_core::{Archived, Grant, HostClass, Workunit};
 
-/// The one row of the project. Where there is none, the first place is told, and where there are more, the second.
+/// Returns the one row of the project. Reports the first place if there is no row, and the second if there are more.
 fn project_from(alloc: Global, rows: &[Row]) -> Result<ProjectRow, NoWorld>
+    // After `Ok` the one row is that of this project.
     ensures project { IfOk result (λ project. rows.now ≡ project_row project ∷ []) }
+    // A row that is reported means that the rows are not the one row of a project.
     ensures none { IfErr result (λ reason. UnlessMemory reason (λ _. (project : ProjectRow)
         → IsStoredProject project → rows.now ≢ project_row project ∷ [])) }
+    // The place is one at which a project has another row, or none.
     ensures told { IfErr result (λ reason. UnlessMemory reason (IsIn Table.Project (λ place.
         (version : ℕ) → IsWrongProject version rows.now place))) }
 {
@@ -51,11 +54,14 @@ struct Plain {
     imports: Vec<Imported>,
 }
 
-/// What these rows are those of, or the first row found that keeps them from being those of anything.
+/// Returns what these rows are those of, or the first row found that keeps them from being those of anything.
 fn plain_from(alloc: Global, rows: &PlainRows) -> Result<Plain, NoWorld>
+    // After `Ok` the rows of the tables of every version are those of these values.
     ensures plain { IfOk result (λ plain. ArePlainRowsOf rows.now (plain_world plain)) }
+    // A row that is reported means that the rows are those of no readable world in order of number.
     ensures none { IfErr result (λ reason. UnlessMemory reason (λ _. (world : World)
         → IsReadable world → IsOrdered world.workunits → ¬ ArePlainRowsOf rows.now world)) }
+    // The reported row is missing or invalid at its place, for a project of any version.
     ensures told { IfErr result (λ reason. UnlessMemory reason (λ wrong. (version : ℕ)
         → IsWrongPlain version rows.now wrong)) }
 {
@@ -81,17 +87,22 @@ struct WithClasses {
     hosts: Vec<HostClass>,
 }
 
-/// The workunits with the classes of these rows, and the hosts of theirs. Without such rows none has one.
+/// Returns the workunits with the classes of these rows, and the hosts with theirs. Without such rows none has one.
 fn classes_from(
     alloc: Global,
     workunits: Vec<Workunit>,
     rows: &Option<ClassRows>,
 ) -> Result<WithClasses, NoWorld>
+    // After `Ok` the rows of classes, or that there are none, are those of these workunits and
+    // hosts.
     ensures found { IfOk result (HasClassesOf workunits.items rows.now) }
+    // A row that is reported means that the rows of classes are those of no readable world with
+    // these workunits.
     ensures none { IfErr result (λ reason. UnlessMemory reason (λ _. (world : World)
         → IsReadable world → AreInOrder world.classes
         → map workunit_row workunits.items ≡ map workunit_row world.workunits
         → ¬ AreAnyClassRowsOf rows.now world)) }
+    // The reported row of a table of classes is missing or invalid at its place.
     ensures told { IfErr result (λ reason. UnlessMemory reason
         (IsWrongClass (map workunit_row workunits.items) rows.now)) }
 {
@@ -107,11 +118,16 @@ fn classes_from(
     Ok(WithClasses { workunits, hosts })
 }
 
-/// The world of these rows of a project of this version, or the first row found that keeps them from being those of one.
+/// Returns the world of these rows of a project of this version, or the first row found that keeps them from being
+/// those of one.
 pub fn world_from(alloc: Global, version: u64, rows: &TableRows) -> Result<Loaded, NoWorld>
+    // After `Ok` the rows are those of this world, which is of this version.
     ensures world { IfOk result (AreRowsOf version rows.now) }
+    // A row that is reported means that the rows are those of no readable world of this version.
     ensures none { IfErr result (λ reason. UnlessMemory reason (λ _. (world : World)
         → IsReadable world → IsOrdered world.workunits → ¬ AreRowsOf version rows.now world)) }
+    // The reported row is missing, or invalid for a project of this version, at its place in its
+    // table.
     ensures told { IfErr result (λ reason. UnlessMemory reason (IsWrongRow version rows.now)) }
 {
     let Plain {

@@ -1,4 +1,4 @@
-//! What a project is asked, and what it answers.
+//! Commands to a project, and its answers.
 
 use wu_core::{Bytes, ImportKind, Moment, Name};
 use wu_rules::Pass;
@@ -18,10 +18,10 @@ pub struct RowsFile {
     pub file: Bytes,
 }
 
-/// What a project is asked to do. Each command is done whole or not at all.
+/// A command to a project. Each is done whole or not at all.
 ///
-/// A pass changes the first workunits of the world's list, up to its limit of 1 to 1000, that are due for it; in a
-/// sound world they are the first by number. The least age of a purge is at most a year of 365 days.
+/// A pass changes the first workunits of the world's list for which it is due, up to its limit of 1 to 1000. In a sound
+/// world they are the first by number. The least age of a purge is at most 31,536,000 seconds, 365 days.
 pub enum Command {
     /// Adds the jobs of a batch.
     Batch(Batch),
@@ -31,32 +31,33 @@ pub enum Command {
     Reported(RowsFile),
     /// Sets the classes of hosts by the rows of a file, a later row over an earlier one.
     Classes(RowsFile),
-    /// Times out what is overdue by this moment, makes the instances that are wanted, closes what is given up, names the
-    /// files that nobody needs any more for deletion, and frees what is not active from its class.
+    /// Ends overdue instances, makes the instances that are needed, closes workunits that are given up, and marks files
+    /// for deletion. Sets the class of workunits without an active instance to 0.
     Transition {
         now: Moment,
         limit: u64,
     },
-    /// Judges results, and grants credit.
+    /// Validates results, and grants credit.
     Validate {
         limit: u64,
     },
-    /// Closes what is ready, and keeps its canonical output for good.
+    /// Archives the workunits that are READY, with their canonical outputs, permanently.
     Assimilate {
         now: Moment,
         limit: u64,
     },
-    /// Deletes the inputs and outputs that nobody needs any more.
+    /// Deletes the inputs and outputs that are marked for deletion.
     Delete {
         limit: u64,
     },
-    /// Removes what was assimilated at least this many seconds ago, and is through.
+    /// Removes the workunits that were assimilated at least this many seconds ago, with all instances over and all
+    /// files deleted.
     Purge {
         now: Moment,
         limit: u64,
         min_age: u64,
     },
-    /// Gives an undecided workunit up.
+    /// Gives up an undecided workunit.
     Cancel {
         workunit: Name,
     },
@@ -92,15 +93,15 @@ impl Drop for Command {
     }
 }
 
-/// What a project answers to a command that it accepted.
+/// A project's answer to a command that it accepted.
 pub enum Answer {
     /// A file was imported, now or at an earlier command.
     Imported {
         kind: ImportKind,
         name: Name,
-        /// The first number of a batch; 0 where no workunit was made.
+        /// The first number of a batch; 0 if no workunit was made.
         first: u64,
-        /// One for each row: 0 where it was applied, else the number of the skip.
+        /// One for each row: 0 if it was applied, otherwise the number of the verdict that skips it.
         verdicts: Bytes,
     },
     /// A pass changed so many workunits.
@@ -112,7 +113,7 @@ pub enum Answer {
     Cancelled {
         workunit: Name,
     },
-    /// The schema was of one version, and is of the other now.
+    /// The schema had one version, and has the other now.
     Upgraded {
         from: u64,
         to: u64,

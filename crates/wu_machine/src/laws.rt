@@ -6,18 +6,21 @@ ghost use Rattle.wu_machine.specs.Machine.{HasValues};
 
 use crate::command::Command;
 
-/// An import that comes again, after any requests, answers its first answer and changes nothing.
+/// Proves that a repeated import is harmless.
 pub fn imports_act_once()
+    // An import that is repeated, after any requests, answers its first answer and changes nothing.
     ensures { ImportsActOnce }
 {}
 
-/// What a request makes of a world that commands run over is such a world again.
+/// Proves that commands still run after each request.
 pub fn requests_keep_projects()
+    // A request with values in range makes of a world that commands run over such a world.
     ensures { RequestsKeepProjects }
 {}
 
-/// The values of a command are in their ranges: an import's name is one, and a pass's moment is not after the last.
+/// Proves that the values of each command are in range.
 pub fn has_values(command: &Command)
+    // An import's name is a name, and a pass's moment is at most 2099-12-31T23:59:59Z.
     ensures { HasValues (request_of command.now) }
 {
     match command {
@@ -50,8 +53,9 @@ pub fn has_values(command: &Command)
     }
 }
 
-/// What a command makes of a world that commands run over is such a world again.
+/// Proves that commands still run after each command.
 pub fn commands_keep_projects(command: &Command)
+    // A command makes of a world that commands run over such a world.
     ensures { KeepsProjects (request_of command.now) }
 {
     has_values(command);

@@ -1,4 +1,4 @@
-//! The machine: what a project is asked, what it answers and what becomes of its world, apart from any tables.
+//! The machine, the abstract back end: commands, answers and their effect on a project's world, without tables.
 #![tactic(auto)]
 
 mod command;

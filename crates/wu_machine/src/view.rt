@@ -1,4 +1,4 @@
-//! What is shown of a project.
+//! Views of a project.
 
 /// A view of a project.
 #[derive(Clone, Copy, PartialEq, Eq)]
@@ -11,7 +11,7 @@ pub enum View {
     Hosts,
     /// A line for each archived workunit, in order of its assimilation.
     Archive,
-    /// Twelve lines: the version, the next number, and how much there is of what.
+    /// Twelve lines: the version, the next number, and counts.
     Summary,
     /// A line for each host that has a class, in order of the bytes of its name.
     Classes,

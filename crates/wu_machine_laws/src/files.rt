@@ -3,20 +3,27 @@
 ghost use Rattle.wu_machine_laws.specs.Files.{AppliesFiles};
 ghost use Rattle.wu_machine_laws.specs.Rows.{LeavesUnnamedInstances, RowsSeeRows};
 
-/// A new file of sends or reports has a verdict for each row; its first row is applied exactly where it may be, after
-/// the file each row that was applied holds, and where none was, the workunits are as they were. After a new file of
-/// classes a host that it names has the class of the last row that names it, and each other the class that it had.
+/// Proves what a new file of sends, reports or classes does as a whole.
 pub fn applies_files()
+    // A new file of sends or reports has one verdict for each row, and its first row is applied
+    // exactly if it may be. After the file each applied row holds; if none was applied, all
+    // workunits are as before. After a new file of classes, a host has the class of the last row
+    // that names it, and any other host keeps its class.
     ensures { AppliesFiles }
 {}
 
-/// Each row of a new file gets the verdict that its workunit gives as the rows before it left it; a row that is applied
-/// changes its instance alone, as it says, and one that is skipped changes nothing.
+/// Proves that each row of a new file is judged by what the rows before it left.
 pub fn rows_see_rows()
+    // Each row of a new file of sends or reports gets the verdict of its workunit, as the rows
+    // before it left that, or `unknown`. It is applied exactly if it may be. An applied row changes
+    // its own instance as it says, and no other instance and no other workunit; a skipped row
+    // changes nothing.
     ensures { RowsSeeRows }
 {}
 
-/// A new file leaves each instance of which no row is that was applied, also of a workunit that its rows name.
+/// Proves which instances a new file leaves.
 pub fn leaves_unnamed_instances()
+    // A new file of sends or reports leaves each instance that none of its applied rows names as it
+    // was.
     ensures { LeavesUnnamedInstances }
 {}

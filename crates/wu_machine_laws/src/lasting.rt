@@ -1,97 +1,126 @@
-//! Laws of what lasts over any list of requests: each function's contract is one.
+//! Laws of what lasts over any list of requests: each function's contract is one. Requests have values in range, as
+//! each command has (`has_values` of `wu_machine`).
 
 ghost use Rattle.wu_machine_laws.specs.Lasting.{GrantsLast, ArchiveLasts, ImportsLast, NextNumberRises, CanonicalResultsLast, NamesLast, VerdictsLast, GivenUpLasts, HostsLast, HostsStayApart, HostsAreApart, NamesStayTaken, NumbersAreGivenOnce, ClassesStay, IdleWorldsAreOneClass, OneClassStaysByStep, OneClassStays, OneClassSince};
 
-/// No grant is ever taken away or changed.
+/// Proves that grants are permanent.
 pub fn grants_last()
+    // No list of requests removes or changes a grant.
     ensures { GrantsLast }
 {}
 
-/// No archived row is ever taken away or changed.
+/// Proves that archived rows are permanent.
 pub fn the_archive_lasts()
+    // No list of requests removes or changes an archived row.
     ensures { ArchiveLasts }
 {}
 
-/// No import is ever taken away or changed.
+/// Proves that imports are permanent.
 pub fn imports_last()
+    // No list of requests removes or changes an import.
     ensures { ImportsLast }
 {}
 
-/// The number that the next workunit gets never falls.
+/// Proves that the next number never falls.
 pub fn the_next_number_rises()
+    // After any list of requests the next number is at least what it was.
     ensures { NextNumberRises }
 {}
 
-/// In a sound world a workunit that has a canonical result has that one as long as it is present.
+/// Proves that a canonical result is final.
 pub fn canonical_results_last()
+    // From a sound world on, with values in range, a workunit keeps its canonical result as long as
+    // it is present.
     ensures { CanonicalResultsLast }
 {}
 
-/// In a sound world a workunit keeps its name as long as it is present.
+/// Proves that a workunit's name is final.
 pub fn names_last()
+    // From a sound world on, with values in range, a workunit keeps its name as long as it is
+    // present.
     ensures { NamesLast }
 {}
 
-/// In a sound world a final verdict of an instance stays as long as its workunit is present.
+/// Proves that final verdicts are final.
 pub fn verdicts_last()
+    // From a sound world on, with values in range, an instance keeps a final verdict as long as its
+    // workunit is present.
     ensures { VerdictsLast }
 {}
 
-/// In a sound world a workunit that was given up stays so as long as it is present.
+/// Proves that giving up is final.
 pub fn what_is_given_up_stays_so()
+    // From a sound world on, with values in range, a workunit that is given up stays given up as
+    // long as it is present.
     ensures { GivenUpLasts }
 {}
 
-/// In a sound world an instance that was sent stays with its host as long as its workunit is present.
+/// Proves that an instance stays with its host.
 pub fn hosts_last()
+    // From a sound world on, with values in range, a sent instance keeps its host as long as its
+    // workunit is present.
     ensures { HostsLast }
 {}
 
-/// Where a world is sound and no host has two instances of one of its workunits, no host ever gets a second one, nor
-/// two of a workunit that comes later.
+/// Proves that no host gets a second instance of a workunit.
 pub fn hosts_stay_apart()
+    // If in a sound world no host has two instances of a workunit, none has after any list of
+    // requests with values in range.
     ensures { HostsStayApart }
 {}
 
-/// In a project that began fresh no host ever has two instances of a workunit.
+/// Proves that in a project no host has two instances of a workunit.
 pub fn hosts_are_apart()
+    // From a fresh project on, with values in range, no host ever has two instances of a workunit.
     ensures { HostsAreApart }
 {}
 
-/// In a sound world a name that a workunit or an archived row has stays taken.
+/// Proves that a name is not used twice.
 pub fn names_stay_taken()
+    // From a sound world on, with values in range, a name of a workunit or an archived row stays
+    // taken.
     ensures { NamesStayTaken }
 {}
 
-/// In a sound world no number is given to a second workunit.
+/// Proves that a number is not used twice.
 pub fn numbers_are_given_once()
+    // From a sound world on, with values in range, no number is given to a second workunit.
     ensures { NumbersAreGivenOnce }
 {}
 
-/// Without a file of classes each host keeps its class.
+/// Proves that only a file of classes changes classes.
 pub fn classes_stay()
+    // Over a list of requests without a file of classes each host keeps its class.
     ensures { ClassesStay }
 {}
 
-/// Where no workunit has an active instance, the active instances of each are of one class, whatever classes there are.
+/// Proves that a world without active instances is of one class for each workunit.
 pub fn idle_worlds_are_one_class()
+    // If no workunit has an active instance, all active instances of each are of one class,
+    // whatever classes hosts have.
     ensures { IdleWorldsAreOneClass }
 {}
 
-/// In a sound world where the active instances of each workunit are of one class, a request leaves them so exactly where
-/// it tells no late success of a host of another class, and gives the host of no active instance another one.
+/// Proves exactly which requests keep the active instances of each workunit in one class.
 pub fn one_class_stays_by_step()
+    // If in a sound world each workunit's active instances are of its class, a request keeps that
+    // exactly under two conditions. No row of a new file of reports brings a late success from a
+    // host of another class than its workunit's. No file of classes changes the class of an active
+    // instance's host.
     ensures { OneClassStaysByStep }
 {}
 
-/// Where a world is sound and the active instances of each of its workunits are of one class, they stay so, those of
-/// workunits that come later too, over any list of requests in which no success is reported late from a host of another
-/// class, and no file gives the host of an active instance another class.
+/// Proves that such requests keep the active instances of each workunit in one class.
 pub fn one_class_stays()
+    // If in a sound world each workunit's active instances are of its class, a list of requests
+    // with values in range keeps that. Each request has to meet the conditions of
+    // `one_class_stays_by_step`.
     ensures { OneClassStays }
 {}
 
-/// In a project that began fresh they are so after each such list.
+/// Proves the same from a fresh project on.
 pub fn one_class_since()
+    // From a fresh project on, a list of requests as in `one_class_stays` leaves each workunit's
+    // active instances in its class.
     ensures { OneClassSince }
 {}

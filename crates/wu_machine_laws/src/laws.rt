@@ -2,53 +2,67 @@
 
 ghost use Rattle.wu_machine_laws.specs.Laws.{TellsWhatChanges, HandlesUpToTheLimit, SoundWorldsAreInOrder, TakesTheFirst, LeavesTheOthers, RecordsMore, AnswersHowMany, AnswersZeroForNothing, AddsUpGrants, ListsEachHostOnce};
 
-/// A pass takes a workunit up exactly where it makes another of it, and a purge where it may be purged.
+/// Proves which workunits a pass changes.
 pub fn tells_what_changes()
+    // A pass other than a purge is due for a workunit exactly if it changes it. A purge is due
+    // exactly if the workunit may be purged, and leaves nothing of it.
     ensures { TellsWhatChanges }
 {}
 
-/// A pass handles as many workunits as it changes, up to its limit.
+/// Proves how many workunits a pass takes.
 pub fn handles_up_to_the_limit()
+    // A pass takes as many workunits as it is due for, or its limit if that is less.
     ensures { HandlesUpToTheLimit }
 {}
 
-/// Sound worlds have their workunits in order of number.
+/// Proves the order of workunits.
 pub fn sound_worlds_are_in_order()
+    // A sound world has its workunits in ascending order of number.
     ensures { SoundWorldsAreInOrder }
 {}
 
-/// A pass takes the first workunits of the world's list (by number, in a sound world), and leaves none that it changes
-/// while its limit is not reached.
+/// Proves which workunits a pass takes.
 pub fn takes_the_first()
+    // In a world in order of number, a pass takes the first workunits by number that it changes, at
+    // most its limit. It leaves one that it would change only if the limit is reached.
     ensures { TakesTheFirst }
 {}
 
-/// The workunits that a pass does not take are after it as they were, in their order.
+/// Proves what a pass leaves.
 pub fn leaves_the_others()
+    // The workunits that a pass does not take are after it as they were, in their order.
     ensures { LeavesTheOthers }
 {}
 
-/// Grants and archived rows only become more, and those of the validator and of the assimilator alone.
+/// Proves what a pass records.
 pub fn records_more()
+    // A pass removes and changes no grant, archived row or import, and no class, next number or
+    // version. Only the validator grants, and only the assimilator archives.
     ensures { RecordsMore }
 {}
 
-/// What a pass answers is how many workunits it changed: as many as there are, up to its limit.
+/// Proves the answer of a pass.
 pub fn answers_how_many()
+    // A pass answers how many workunits it changes, or its limit if that is less.
     ensures { AnswersHowMany }
 {}
 
-/// A pass answers 0 exactly where it changes nothing.
+/// Proves when a pass answers 0.
 pub fn answers_zero_for_nothing()
+    // A pass answers 0 exactly if it leaves the world as it was.
     ensures { AnswersZeroForNothing }
 {}
 
-/// A host's credit and the number of its grants grow by those of the new grants, and a host is listed once it has one.
+/// Proves how the credit of hosts grows.
 pub fn adds_up_grants()
+    // A pass adds the credit and the number of its new grants to those of each host. A host is
+    // listed exactly if it was, or a new grant is to it.
     ensures { AddsUpGrants }
 {}
 
-/// The hosts of grants are exactly those with a grant, each once, in the order of their names' bytes.
+/// Proves which hosts are listed.
 pub fn lists_each_host_once()
+    // The hosts of grants are exactly those with a grant, each once, in ascending order of their
+    // names' bytes.
     ensures { ListsEachHostOnce }
 {}

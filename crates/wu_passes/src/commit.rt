@@ -24,15 +24,26 @@ impl<'a> Work for Changes<'a> {
 
 /// Makes all changes in one transaction.
 ///
-/// `NotAProject` says that a statement was refused, and that all is as before. After `Memory` or `Broken` the tables
-/// are as before while the connection is open, and an open may find what it could have found before, or all changes.
+/// `NotAProject` means that a statement was refused. After `Memory` or `Broken` a later opening of the files may find
+/// the tables as they were, or with all changes.
 pub fn change_all<S: Alter>(conn: &mut Connection<S>, changes: &[Change<'_>]) -> Result<(), Fault>
+    // The connection is not inside a transaction.
     requires { conn.old.in_transaction ≡ false }
+    // Afterwards the connection is not inside a transaction.
     ensures mode { conn.new.in_transaction ≡ false }
+    // With Ok all changes are made and committed, the connection is open, and a crash leaves
+    // exactly these tables.
     ensures done { Commits S.Store conn.old conn.new result (MakesWorlds changes.now) }
+    // After `NotAProject` the connection is open, the tables are as before, and a crash leaves
+    // exactly them.
     ensures refused { Refuses S.Store conn.old conn.new result }
+    // Each fault is one of the store: `Memory`, `Broken` or `NotAProject`.
     ensures told { IfErr result IsStoreFault }
+    // After any fault the tables are as before while the connection is open, and then a crash
+    // leaves exactly them.
     ensures undone { Undoes S.Store conn.old conn.new result }
+    // Whatever the answer, a crash leaves what it could have left before the call, or the tables
+    // with all changes.
     ensures crash { CrashAllows S.Store conn.old conn.new (MakesWorlds changes.now) }
 {
     transact(conn, &Changes(changes))

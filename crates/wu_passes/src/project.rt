@@ -10,12 +10,12 @@ use sqlite::{Alter, Connection};
 
 /// A session over the database of a project, from its adoption to its release.
 ///
-/// Over an older version than the present one only an upgrade is done: each other command answers `OldSchema`, and so
-/// does each walk, and the summary. It stays over that version until an upgrade is done, whatever fault comes between.
+/// Over an older version than the present one only an upgrade is done: each other command, each walk and the summary
+/// answer `OldSchema`. It stays over that version until an upgrade is done, whatever fault comes between.
 ///
-/// It ends at `Broken` (the disk failed, or something is too big for the store), and at want of memory within a
-/// transaction: from then on each call answers `Ended` and changes nothing, since what the database holds is known
-/// again only once it is opened anew.
+/// It ends at `Broken` (the disk failed, or something is too big for the store), and at out of memory within a
+/// transaction. From then on each call answers `Ended` and changes nothing: what the database holds is known only once
+/// it is opened again.
 #[derive(Drop)]
 pub struct Project<S: Alter> {
     conn: Connection<S>,

@@ -8,14 +8,21 @@ use sqlite::{Alter, Connection};
 use wu_core::Fault;
 use wu_schema::{check_version, version_of};
 
-/// The version of the project's tables, which this program knows.
+/// Returns the version of the project's tables, which this program knows.
 ///
-/// A later version is `NewSchema`. `NotAProject` where no project is there any more.
+/// A later version is `NewSchema`. `NotAProject` means that no project is there any more.
 pub fn known_version<S: Alter>(conn: &mut Connection<S>) -> Result<u64, Fault>
+    // It only reads: nothing is committed or changed, and `Broken` means a failed disk or a
+    // connection that was not open.
     ensures asks { Asks S.Store conn.old conn.new result }
+    // The connection is open afterwards, except after `Memory` and `Broken`.
     ensures opens { ServesUnlessFailed S.Store conn.new result }
+    // It never answers `Ended`.
     ensures never { NeverEnded result }
+    // Without a limit on steps, the version of a world that commands run over is never
+    // `NotAProject`.
     ensures unrefused { NotRefusedIn S.Store conn.old conn.new result IsProject }
+    // The version is that of each world that the tables represent.
     ensures version { ForEachWorld S.Store conn.old conn.new (TellsVersion result) }
 {
     let Some(version) = version_of(conn)? else {

@@ -23,11 +23,12 @@ use wu_feed::{Job, Jobs, read_jobs, read_template};
 use wu_machine::Batch;
 use wu_store::{Change, has_archived, has_workunit, import_of, next_number};
 
-/// Whether the name belongs to a workunit that is present, or that was archived.
+/// Returns whether the name belongs to a workunit that is present, or that was archived.
 fn is_taken<S: Alter>(conn: &mut Connection<S>, name: &Name) -> Result<bool, Fault>
     ensures asks { Asks S.Store conn.old conn.new result }
     ensures opens { ServesUnlessFailed S.Store conn.new result }
     ensures fault { IfErr result IsStoreFault }
+    // Over a represented world, with no limit on steps, no read is refused.
     ensures unrefused { NeverRefused S.Store conn.old conn.new result }
     ensures taken { ForEachWorld S.Store conn.old conn.new (KnowsTaken name.now result) }
 {
@@ -37,14 +38,14 @@ fn is_taken<S: Alter>(conn: &mut Connection<S>, name: &Name) -> Result<bool, Fau
     has_archived(conn, name)
 }
 
-/// Whether one of these jobs has the name.
+/// Returns whether one of these jobs has the name.
 fn has_job(jobs: &[Job], name: &Name) -> bool
     ensures { result ≡ list_any (λ job. bytes_eq job.name name.now) jobs.now }
 {
     jobs.iter().any(|job| job.name == *name)
 }
 
-/// Whether the name belongs to a workunit, an archived row or one of these jobs.
+/// Returns whether the name belongs to a workunit, an archived row or one of these jobs.
 fn is_used<S: Alter>(conn: &mut Connection<S>, earlier: &[Job], name: &Name) -> Result<bool, Fault>
     ensures asks { Asks S.Store conn.old conn.new result }
     ensures fault { IfErr result IsStoreFault }
@@ -62,6 +63,7 @@ fn check_names<S: Alter>(conn: &mut Connection<S>, jobs: &[Job]) -> Result<(), F
     requires { length jobs.now ≤ most_rows }
     ensures asks { Asks S.Store conn.old conn.new result }
     ensures fault { IfErr result RefusesName }
+    // Over a represented world, with no limit on steps, no read is refused.
     ensures unrefused { NeverRefused S.Store conn.old conn.new result }
     ensures free { ForEachWorld S.Store conn.old conn.new (FindsFree jobs.now result) }
 {
@@ -75,7 +77,7 @@ fn check_names<S: Alter>(conn: &mut Connection<S>, jobs: &[Job]) -> Result<(), F
     Ok(())
 }
 
-/// A workunit as a batch adds it: without instances.
+/// Makes a workunit as a batch adds it: without instances.
 fn new_workunit(alloc: Global, number: u64, params: Params, job: Job) -> Workunit
     ensures { result ≡ new_workunit params number job }
 {
@@ -95,7 +97,7 @@ fn new_workunit(alloc: Global, number: u64, params: Params, job: Job) -> Workuni
     }
 }
 
-/// The changes that add the jobs, with consecutive numbers from the next one.
+/// Returns the changes that add the jobs, with consecutive numbers from the next one.
 fn additions<'a>(
     alloc: Global,
     next: u64,
@@ -117,14 +119,14 @@ fn additions<'a>(
     Ok(changes)
 }
 
-/// The first number of so many workunits; 0 where there are none.
+/// Returns the first number of so many workunits; 0 where there are none.
 fn first_of(next: u64, count: usize) -> u64
     ensures { result ≡ if count == 0 then 0 else next }
 {
     if count == 0 { 0 } else { next }
 }
 
-/// The answer and the changes of a batch of these jobs, none of which is refused.
+/// Returns the answer and the changes of a batch of these jobs, none of which is refused.
 fn new_batch<'a>(
     alloc: Global,
     batch: &'a Batch,
@@ -149,8 +151,8 @@ fn new_batch<'a>(
     })
 }
 
-/// The plan of a batch of these jobs, under a name that no batch had: a workunit's name that is taken is refused, and
-/// too many workunits.
+/// Returns the plan of a batch of these jobs, under a name that no batch had. A workunit's name that is taken is
+/// refused, and too many workunits.
 fn plan_jobs<'a, S: Alter>(
     conn: &mut Connection<S>,
     alloc: Global,
@@ -172,7 +174,7 @@ fn plan_jobs<'a, S: Alter>(
     new_batch(alloc, batch, next, params, jobs)
 }
 
-/// The plan of a batch under a name that no batch had: the template is read, and then the file.
+/// Returns the plan of a batch under a name that no batch had: the template is read, and then the file.
 fn plan_new<'a, S: Alter>(
     conn: &mut Connection<S>,
     alloc: Global,
@@ -188,17 +190,24 @@ fn plan_new<'a, S: Alter>(
     plan_jobs(conn, alloc, batch, params, jobs)
 }
 
-/// What a batch answers and changes, or the first refusal: the name was used with other content, the template, the
-/// file, a workunit's name that is taken, too many workunits.
+/// Returns what a batch answers and changes, or the first refusal. In order: the name was used with other content, the
+/// template, the file, a workunit's name that is taken, too many workunits.
 pub fn plan_batch<'a, S: Alter>(
     conn: &mut Connection<S>,
     alloc: Global,
     batch: &'a Batch,
 ) -> Result<Plan<'a>, Fault>
+    // It only reads: nothing is committed or changed, and `Broken` means a failed disk or a
+    // connection that was not open.
     ensures asks { Asks S.Store conn.old conn.new result }
+    // The connection is open afterwards, except after `Memory` and `Broken`.
     ensures opens { ServesUnlessFailed S.Store conn.new result }
+    // It never answers `Ended`.
     ensures never { NeverEnded result }
+    // Over a project, with no limit on steps, no read is refused.
     ensures unrefused { NotRefusedIn S.Store conn.old conn.new result IsProject }
+    // The plan answers the machine's reply and makes the machine's step; or it is the machine's
+    // refusal, or a fault of the store.
     ensures plan { ForEachWorld S.Store conn.old conn.new (PlansBatch batch.now result) }
 {
     match import_of(conn, alloc, ImportKind::Batch, &batch.name)? {

@@ -14,9 +14,11 @@ use wu_machine::Answer;
 use wu_rules::cancel;
 use wu_store::{Change, load_named};
 
-/// The plan that gives the workunit up, if it is undecided.
+/// Returns the plan that gives the workunit up, if it is undecided.
 fn give_up<'a>(alloc: Global, mut workunit: Workunit) -> Result<Plan<'a>, Fault>
+    // The workunit is undecided, and the definition's image takes its place.
     ensures plan { IfOk result (IsCancelPlan workunit) }
+    // The only faults are `Memory`, and `NotOpenToCancel` of a workunit that is not undecided.
     ensures fault { IfErr result (RefusesCancel workunit) }
 {
     let was = copy_of(alloc, &workunit)?;
@@ -30,17 +32,24 @@ fn give_up<'a>(alloc: Global, mut workunit: Workunit) -> Result<Plan<'a>, Fault>
     })
 }
 
-/// What cancelling the workunit of this name answers and changes, or the refusal: none has the name, or it is not
-/// undecided.
+/// Returns what cancelling the workunit of this name answers and changes, or the refusal: none has the name, or it is
+/// not undecided.
 pub fn plan_cancel<'a, S: Alter>(
     conn: &mut Connection<S>,
     alloc: Global,
     name: &Name,
 ) -> Result<Plan<'a>, Fault>
+    // It only reads: nothing is committed or changed, and `Broken` means a failed disk or a
+    // connection that was not open.
     ensures asks { Asks S.Store conn.old conn.new result }
+    // The connection is open afterwards, except after `Memory` and `Broken`.
     ensures opens { ServesUnlessFailed S.Store conn.new result }
+    // It never answers `Ended`.
     ensures never { NeverEnded result }
+    // Over a project of the present version, with no limit on steps, no read is refused.
     ensures unrefused { NotRefusedIn S.Store conn.old conn.new result IsPresentProject }
+    // The plan gives an undecided workunit up; another one, or an unknown name, is refused as the
+    // machine does; or a fault of the store.
     ensures plan { ForEachWorld S.Store conn.old conn.new (PlansNow (AskCancel name.now) result) }
 {
     match load_named(conn, alloc, name)? {

@@ -15,7 +15,7 @@ use wu_feed::{Classes, read_classes};
 use wu_machine::RowsFile;
 use wu_store::{Change, import_of};
 
-/// The changes that set the class of each row's host, in the order of the rows.
+/// Returns the changes that set the class of each row's host, in the order of the rows.
 fn class_changes<'a>(alloc: Global, classes: Classes) -> Result<Vec<Change<'a>>, Fault>
     ensures changes { IfOk result (λ changes. changes.items ≡ map sets_class classes) }
     ensures fault { IfErr result (λ fault. fault ≡ Memory) }
@@ -28,8 +28,9 @@ fn class_changes<'a>(alloc: Global, classes: Classes) -> Result<Vec<Change<'a>>,
     Ok(changes)
 }
 
-/// The answer and the changes of a file of these classes, under a name that no file of classes had.
+/// Returns the answer and the changes of a file of these classes, under a name that no file of classes had.
 fn new_classes<'a>(alloc: Global, source: &Source<'a>, classes: Classes) -> Result<Plan<'a>, Fault>
+    // The class of each row's host is set in order, so a later row wins, and the file is kept.
     ensures plan { IfOk result (IsNewClasses (given_of source.now) classes) }
     ensures fault { IfErr result (λ fault. fault ≡ Memory) }
 {
@@ -43,16 +44,24 @@ fn new_classes<'a>(alloc: Global, source: &Source<'a>, classes: Classes) -> Resu
     })
 }
 
-/// What a file of classes answers and changes, or the first refusal: the name was used with other content, the file.
+/// Returns what a file of classes answers and changes, or the first refusal. In order: the name was used with other
+/// content, the file.
 pub fn plan_classes<'a, S: Alter>(
     conn: &mut Connection<S>,
     alloc: Global,
     file: &'a RowsFile,
 ) -> Result<Plan<'a>, Fault>
+    // It only reads: nothing is committed or changed, and `Broken` means a failed disk or a
+    // connection that was not open.
     ensures asks { Asks S.Store conn.old conn.new result }
+    // The connection is open afterwards, except after `Memory` and `Broken`.
     ensures opens { ServesUnlessFailed S.Store conn.new result }
+    // It never answers `Ended`.
     ensures never { NeverEnded result }
+    // Over a project of the present version, with no limit on steps, no read is refused.
     ensures unrefused { NotRefusedIn S.Store conn.old conn.new result IsPresentProject }
+    // The plan answers the machine's reply and makes the machine's step; or it is the machine's
+    // refusal, or a fault of the store.
     ensures plan { ForEachWorld S.Store conn.old conn.new
         (PlansNow (AskClasses file.now.name file.now.file) result) }
 {

@@ -1,4 +1,4 @@
-//! Copies of workunits, for want of memory an error.
+//! Copies of workunits; out of memory is an error.
 
 ghost use Rattle.std.specs.Prelude.{◌≡◌, IfErr, IfOk};
 ghost use Rattle.wu_core.specs.declared.fault.Fault.TheVariants.{Memory};
@@ -6,7 +6,7 @@ ghost use Rattle.wu_core.specs.declared.fault.Fault.TheVariants.{Memory};
 use std::alloc::Global;
 use wu_core::{Bytes, Fault, Instance, Instances, Name, Workunit};
 
-/// The same bytes. `Memory` is its one fault.
+/// Copies the bytes. The only fault is `Memory`.
 fn copy_of_bytes(alloc: Global, bytes: &Bytes) -> Result<Bytes, Fault>
     ensures copy { IfOk result (λ copy. copy ≡ bytes.now) }
     ensures fault { IfErr result (λ fault. fault ≡ Memory) }
@@ -14,7 +14,7 @@ fn copy_of_bytes(alloc: Global, bytes: &Bytes) -> Result<Bytes, Fault>
     Ok(Bytes::from_vec(Vec::from_slice(alloc, bytes.as_slice())?))
 }
 
-/// The same host's name, if there is one. `Memory` is its one fault.
+/// Copies the host's name, if there is one. The only fault is `Memory`.
 fn copy_of_host(host: &Option<Name>) -> Result<Option<Name>, Fault>
     ensures copy { IfOk result (λ copy. copy ≡ host.now) }
     ensures fault { IfErr result (λ fault. fault ≡ Memory) }
@@ -25,7 +25,7 @@ fn copy_of_host(host: &Option<Name>) -> Result<Option<Name>, Fault>
     }
 }
 
-/// The same instance. `Memory` is its one fault.
+/// Copies the instance. The only fault is `Memory`.
 fn copy_of_instance(alloc: Global, instance: &Instance) -> Result<Instance, Fault>
     ensures copy { IfOk result (λ copy. copy ≡ instance.now) }
     ensures fault { IfErr result (λ fault. fault ≡ Memory) }
@@ -45,7 +45,7 @@ fn copy_of_instance(alloc: Global, instance: &Instance) -> Result<Instance, Faul
     })
 }
 
-/// Copies of the instances, in their order.
+/// Copies the instances, in their order.
 fn copies_of(alloc: Global, instances: &[Instance]) -> Result<Vec<Instance>, Fault>
     ensures copies { IfOk result (λ copies. copies.items ≡ instances.now) }
     ensures fault { IfErr result (λ fault. fault ≡ Memory) }
@@ -57,9 +57,11 @@ fn copies_of(alloc: Global, instances: &[Instance]) -> Result<Vec<Instance>, Fau
     Ok(copies)
 }
 
-/// The same workunit again, with its instances.
+/// Copies the workunit, with its instances.
 pub fn copy_of(alloc: Global, workunit: &Workunit) -> Result<Workunit, Fault>
+    // The copy is the same workunit.
     ensures copy { IfOk result (λ copy. copy ≡ workunit.now) }
+    // The only fault is `Memory`.
     ensures fault { IfErr result (λ fault. fault ≡ Memory) }
 {
     let name = workunit.name.copy()?;

@@ -18,14 +18,14 @@ use wu_feed::{Rows, read_reports, read_sends};
 use wu_machine::RowsFile;
 use wu_store::{Change, import_of, load_named};
 
-/// What the rows of a file left: the workunits that they spoke of, and the number of a verdict for each row.
+/// What the rows of a file left: the workunits that they name, and the number of a verdict for each row.
 #[derive(Drop)]
 pub struct Left {
     pub touched: Touched,
     pub verdicts: Vec<u8>,
 }
 
-/// Sees that the workunit of this name is among the touched, if it is present.
+/// Makes sure that the workunit of this name is among the touched, if it is present.
 fn touch<S: Alter>(
     conn: &mut Connection<S>,
     alloc: Global,
@@ -34,6 +34,8 @@ fn touch<S: Alter>(
 ) -> Result<(), Fault>
     ensures asks { Asks S.Store conn.old conn.new result }
     ensures fault { IfErr result IsStoreFault }
+    // Over a world whose workunit of this name can be read, with no limit on steps, no read is
+    // refused.
     ensures unrefused { NotRefusedIn S.Store conn.old conn.new result (LoadsNamed name.now) }
     ensures touches { ForEachWorld S.Store conn.old conn.new
         (TouchesNamed name.now touched.old touched.new result) }
@@ -47,8 +49,8 @@ fn touch<S: Alter>(
     }
 }
 
-/// Applies a row to its workunit as the rows before left it, or skips it: the number of the verdict. The class of its
-/// host is asked for, where it depends on that.
+/// Applies a row to its workunit as the rows before left it, or skips it. Returns the number of the verdict. The class
+/// of its host is asked for, where the verdict depends on that.
 fn apply_row<R: FileRow, S: Alter>(
     conn: &mut Connection<S>,
     alloc: Global,
@@ -57,8 +59,11 @@ fn apply_row<R: FileRow, S: Alter>(
 ) -> Result<u8, Fault>
     ensures asks { Asks S.Store conn.old conn.new result }
     ensures fault { IfErr result IsStoreFault }
+    // Over a world whose workunits and classes can be read, with no limit on steps, no read is
+    // refused.
     ensures unrefused { NotRefusedIn S.Store conn.old conn.new result TakesRows }
     ensures digit { IfOk result (λ verdict. verdict ≤ 9) }
+    // The row sees what the rows before it left, and a send the class of its host in the world.
     ensures left { ForEachWorld S.Store conn.old conn.new
         (LeavesRow (rule_in R.rule R.class_in) row touched.old touched.new result) }
 {
@@ -75,8 +80,11 @@ fn apply_rows<R: FileRow, S: Alter>(
 ) -> Result<Left, Fault>
     ensures asks { Asks S.Store conn.old conn.new result }
     ensures fault { IfErr result IsStoreFault }
+    // Over a world whose workunits and classes can be read, with no limit on steps, no read is
+    // refused.
     ensures unrefused { NotRefusedIn S.Store conn.old conn.new result TakesRows }
     ensures digits { IfOk result (λ left. All (λ verdict. verdict ≤ 9) left.verdicts.items) }
+    // Each row sees what the rows before it left; the verdicts are theirs.
     ensures left { ForEachWorld S.Store conn.old conn.new
         (LeavesRows (rule_in R.rule R.class_in) rows result) }
 {
@@ -88,9 +96,10 @@ fn apply_rows<R: FileRow, S: Alter>(
     Ok(Left { touched, verdicts })
 }
 
-/// The answer and the changes of a file whose rows left this.
+/// Returns the answer and the changes of a file whose rows left this.
 fn new_file<'a>(alloc: Global, source: &Source<'a>, left: Left) -> Result<Plan<'a>, Fault>
     requires { All (λ verdict. verdict ≤ 9) left.verdicts.items }
+    // Each touched workunit is put in place once, and the file is kept with its verdicts.
     ensures plan { IfOk result (IsNewFile (given_of source.now) left) }
     ensures fault { IfErr result (λ fault. fault ≡ Memory) }
 {
@@ -104,7 +113,7 @@ fn new_file<'a>(alloc: Global, source: &Source<'a>, left: Left) -> Result<Plan<'
     })
 }
 
-/// The plan of a file of these rows, under a name that no file of its kind had.
+/// Returns the plan of a file of these rows, under a name that no file of its kind had.
 fn plan_rows<'a, R: FileRow, S: Alter>(
     conn: &mut Connection<S>,
     alloc: Global,
@@ -114,6 +123,8 @@ fn plan_rows<'a, R: FileRow, S: Alter>(
     ensures asks { Asks S.Store conn.old conn.new result }
     ensures fault { IfErr result IsStoreFault }
     ensures unrefused { NotRefusedIn S.Store conn.old conn.new result TakesRows }
+    // The rows are applied or skipped in order, and the file is kept with their verdicts; or a
+    // fault of the store.
     ensures plan { ForEachWorld S.Store conn.old conn.new
         (PlansRows (rule_in R.rule R.class_in) (given_of source.now) rows result) }
 {
@@ -121,16 +132,24 @@ fn plan_rows<'a, R: FileRow, S: Alter>(
     new_file(alloc, source, left)
 }
 
-/// What a file of sends answers and changes, or the first refusal: the name was used with other content, the file.
+/// Returns what a file of sends answers and changes, or the first refusal. In order: the name was used with other
+/// content, the file.
 pub fn plan_sent<'a, S: Alter>(
     conn: &mut Connection<S>,
     alloc: Global,
     file: &'a RowsFile,
 ) -> Result<Plan<'a>, Fault>
+    // It only reads: nothing is committed or changed, and `Broken` means a failed disk or a
+    // connection that was not open.
     ensures asks { Asks S.Store conn.old conn.new result }
+    // The connection is open afterwards, except after `Memory` and `Broken`.
     ensures opens { ServesUnlessFailed S.Store conn.new result }
+    // It never answers `Ended`.
     ensures never { NeverEnded result }
+    // Over a project of the present version, with no limit on steps, no read is refused.
     ensures unrefused { NotRefusedIn S.Store conn.old conn.new result IsPresentProject }
+    // The plan answers the machine's reply and makes its step, skipped rows changing nothing; or
+    // the machine's refusal, or a fault of the store.
     ensures plan { ForEachWorld S.Store conn.old conn.new
         (PlansNow (AskSent file.now.name file.now.file) result) }
 {
@@ -146,16 +165,24 @@ pub fn plan_sent<'a, S: Alter>(
     }
 }
 
-/// What a file of reports answers and changes, or the first refusal: the name was used with other content, the file.
+/// Returns what a file of reports answers and changes, or the first refusal. In order: the name was used with other
+/// content, the file.
 pub fn plan_reported<'a, S: Alter>(
     conn: &mut Connection<S>,
     alloc: Global,
     file: &'a RowsFile,
 ) -> Result<Plan<'a>, Fault>
+    // It only reads: nothing is committed or changed, and `Broken` means a failed disk or a
+    // connection that was not open.
     ensures asks { Asks S.Store conn.old conn.new result }
+    // The connection is open afterwards, except after `Memory` and `Broken`.
     ensures opens { ServesUnlessFailed S.Store conn.new result }
+    // It never answers `Ended`.
     ensures never { NeverEnded result }
+    // Over a project of the present version, with no limit on steps, no read is refused.
     ensures unrefused { NotRefusedIn S.Store conn.old conn.new result IsPresentProject }
+    // The plan answers the machine's reply and makes its step, skipped rows changing nothing; or
+    // the machine's refusal, or a fault of the store.
     ensures plan { ForEachWorld S.Store conn.old conn.new
         (PlansNow (AskReported file.now.name file.now.file) result) }
 {

@@ -1,4 +1,4 @@
-//! A file as it is imported: what is kept of it, and what it answers, now or when it comes again.
+//! A file as it is imported: what is kept of it, and what it answers, now or when it is imported again.
 
 ghost use Rattle.std.specs.Prelude.{◌≡◌, ◌≤◌, All, Err, Ok, IfOk, IfErr, false, replicate};
 ghost use Rattle.wu_core.specs.declared.fault.Fault.TheVariants.{Memory, NameUsed};
@@ -22,8 +22,9 @@ pub struct Source<'a> {
     pub content: &'a [u8],
 }
 
-/// A batch, as it is imported.
+/// Returns a batch, as it is imported.
 pub fn batch_source<'a>(batch: &'a Batch) -> Source<'a>
+    // It has the name, the template and the content of the batch.
     ensures { given_of result ≡ batch_of batch.now }
 {
     Source {
@@ -34,8 +35,9 @@ pub fn batch_source<'a>(batch: &'a Batch) -> Source<'a>
     }
 }
 
-/// A file of rows of this kind, as it is imported.
+/// Returns a file of rows of this kind, as it is imported.
 pub fn file_source<'a>(kind: ImportKind, file: &'a RowsFile) -> Source<'a>
+    // It has the kind, and the name and the content of the file, with no template.
     ensures { given_of result ≡ file_of kind file.now }
 {
     Source {
@@ -46,8 +48,9 @@ pub fn file_source<'a>(kind: ImportKind, file: &'a RowsFile) -> Source<'a>
     }
 }
 
-/// The answer of an import: its first number, and the verdicts of its rows.
+/// Returns the answer of an import: its first number, and the verdicts of its rows.
 pub fn imported(source: &Source<'_>, first: u64, verdicts: Bytes) -> Result<Answer, Fault>
+    // The answer has the kind, the name, the first number and the verdicts; or it is out of memory.
     ensures { IsOrWantsMemory result
         (Ok (Answer.Imported source.now.kind source.now.name.now first verdicts)) }
 {
@@ -59,14 +62,17 @@ pub fn imported(source: &Source<'_>, first: u64, verdicts: Bytes) -> Result<Answ
     })
 }
 
-/// The answer of an earlier import of this kind and name, where it had the same content.
+/// Returns the answer of an earlier import of this kind and name, if it had the same content.
 pub fn repeated<'a>(
     alloc: Global,
     source: &Source<'_>,
     earlier: StoredImport,
 ) -> Result<Plan<'a>, Fault>
+    // The plan answers the first answer, and changes nothing.
     ensures plan { IfOk result (IsRepeated (given_of source.now) earlier) }
+    // The only faults are `Memory`, and `NameUsed` for other content.
     ensures fault { IfErr result (RefusesRepeat (given_of source.now) earlier) }
+    // Content other than the earlier is `NameUsed`, never out of memory.
     ensures used { has_same_content (given_of source.now) earlier ≡ false
         → result ≡ Err NameUsed }
 {
@@ -81,8 +87,9 @@ pub fn repeated<'a>(
     })
 }
 
-/// The verdicts of so many rows: each is applied.
+/// Returns the verdicts of so many rows, each applied.
 pub fn applied(alloc: Global, count: usize) -> Result<Bytes, Fault>
+    // There is a verdict 0 for each row; or it is out of memory.
     ensures { IsOrWantsMemory result (Ok (replicate count 0)) }
 {
     let mut verdicts = Vec::new(alloc);
@@ -92,15 +99,18 @@ pub fn applied(alloc: Global, count: usize) -> Result<Bytes, Fault>
     Ok(Bytes::from_vec(verdicts))
 }
 
-/// What is kept of an import with these verdicts. Its content is lent.
+/// Returns what is kept of an import with these verdicts. Its content is lent.
 pub fn kept<'a>(
     alloc: Global,
     source: &Source<'a>,
     first_number: u64,
     verdicts: &[u8],
 ) -> Result<Import<'a>, Fault>
+    // Each verdict is one digit.
     requires { All (λ verdict. verdict ≤ 9) verdicts.now }
+    // It has the kind, the name, the content, the first number and the verdicts.
     ensures kept { IfOk result (KeepsImport (given_of source.now) first_number verdicts.now) }
+    // The only fault is `Memory`.
     ensures fault { IfErr result (λ fault. fault ≡ Memory) }
 {
     Ok(Import {

@@ -25,7 +25,7 @@ use wu_store::{Change, due_numbers, load_due, next_archived_place, next_grant_pl
 /// The most workunits that one pass may be asked to change.
 const HIGHEST_LIMIT: u64 = 1000;
 
-/// What a pass is asked: the moment that it runs at, up to how many workunits, and the least age of what a purge takes.
+/// What a pass is asked to do: at which moment, up to how many workunits, and of which least age those of a purge.
 #[derive(Clone, Copy)]
 pub struct Ask {
     pub pass: Pass,
@@ -36,8 +36,9 @@ pub struct Ask {
 }
 
 impl Ask {
-    /// Of a transition at this moment.
+    /// Asks for a transition at this moment.
     pub fn transition(now: Moment, limit: u64) -> Self
+        // It asks the machine for a transition at this moment, up to this limit.
         ensures { asked result ≡ AskPass pass.Transition now limit 0 }
     {
         Ask {
@@ -48,8 +49,9 @@ impl Ask {
         }
     }
 
-    /// Of a validation, which needs no moment.
+    /// Asks for a validation, which needs no moment.
     pub fn validate(limit: u64) -> Self
+        // It asks the machine for a validation, up to this limit.
         ensures { asked result ≡ AskPass pass.Validate 0 limit 0 }
     {
         Ask {
@@ -60,8 +62,9 @@ impl Ask {
         }
     }
 
-    /// Of an assimilation at this moment.
+    /// Asks for an assimilation at this moment.
     pub fn assimilate(now: Moment, limit: u64) -> Self
+        // It asks the machine for an assimilation at this moment, up to this limit.
         ensures { asked result ≡ AskPass pass.Assimilate now limit 0 }
     {
         Ask {
@@ -72,8 +75,9 @@ impl Ask {
         }
     }
 
-    /// Of a deletion of files, which needs no moment.
+    /// Asks for a deletion of files, which needs no moment.
     pub fn delete(limit: u64) -> Self
+        // It asks the machine for a deletion of files, up to this limit.
         ensures { asked result ≡ AskPass pass.Delete 0 limit 0 }
     {
         Ask {
@@ -84,8 +88,9 @@ impl Ask {
         }
     }
 
-    /// Of a purge at this moment, of what was assimilated at least so many seconds before.
+    /// Asks for a purge at this moment, of what was assimilated at least so many seconds before.
     pub fn purge(now: Moment, limit: u64, min_age: u64) -> Self
+        // It asks the machine for a purge at this moment, with this limit and this least age.
         ensures { asked result ≡ AskPass pass.Purge now limit min_age }
     {
         Ask {
@@ -96,8 +101,9 @@ impl Ask {
         }
     }
 
-    /// Whether the limit is 1 to 1000, and the least age of a purge at most a year of 365 days.
+    /// Returns whether the limit is 1 to 1000, and the least age of a purge at most a year of 365 days.
     pub fn is_right(&self) -> bool
+        // A limit is right from 1 to 1000, and the least age of a purge up to a year.
         ensures { result ≡ is_limit_right self.now.pass self.now.limit self.now.min_age }
     {
         let is_age_right = self.pass != Pass::Purge || self.min_age <= LONGEST_AGE;
@@ -111,11 +117,11 @@ struct Image<'a> {
     change: Change<'a>,
     /// One for each result that is newly found valid and has a host.
     grants: Vec<Grant>,
-    /// What is kept for good of a workunit that is assimilated.
+    /// What is kept permanently of a workunit that is assimilated.
     archived: Option<Archived>,
 }
 
-/// An image that grants nothing and archives nothing.
+/// Makes an image that grants nothing and archives nothing.
 fn plain<'a>(alloc: Global, change: Change<'a>) -> Image<'a>
     ensures same { result.change ≡ change.entry }
     ensures grants { result.grants.items ≡ [] }
@@ -128,14 +134,17 @@ fn plain<'a>(alloc: Global, change: Change<'a>) -> Image<'a>
     }
 }
 
-/// What the pass makes of the workunit. A fault is of memory alone.
+/// Returns what the pass makes of the workunit. The only fault is `Memory`.
 fn image_of<'a>(
     alloc: Global,
     pass: Pass,
     now: Moment,
     mut workunit: Workunit,
 ) -> Result<Image<'a>, Fault>
+    // The image, its grants and its archived row are what the pass's definition makes of the
+    // workunit.
     ensures image { IfOk result (IsImageOf pass now workunit) }
+    // The only fault is `Memory`.
     ensures fault { IfErr result (λ fault. fault ≡ Memory) }
 {
     match pass {
@@ -180,7 +189,7 @@ struct Handled<'a> {
 }
 
 impl<'a> Handled<'a> {
-    /// Adds what it makes of one more.
+    /// Adds what the pass makes of one more workunit.
     fn push(&mut self, image: Image<'a>) -> Result<(), Fault>
         ensures added { IfOk result (λ _. HandlesAlso image.entry self.old self.new) }
         ensures fault { IfErr result (λ fault. fault ≡ Memory) }
@@ -199,14 +208,16 @@ impl<'a> Handled<'a> {
     }
 }
 
-/// What the pass makes of these workunits, one after another.
+/// Returns what the pass makes of these workunits, one after another.
 fn handle<'a>(
     alloc: Global,
     pass: Pass,
     now: Moment,
     taken: Vec<Workunit>,
 ) -> Result<Handled<'a>, Fault>
+    // There is a change for each workunit, in order, with its grants and its archived row.
     ensures all { IfOk result (HandlesAll pass now taken.items) }
+    // The only fault is `Memory`.
     ensures fault { IfErr result (λ fault. fault ≡ Memory) }
 {
     let mut handled = Handled {
@@ -221,15 +232,18 @@ fn handle<'a>(
     Ok(handled)
 }
 
-/// Adds one change that keeps the grants at places in a row, from this one on, with their sums.
+/// Adds one change that keeps the grants at consecutive places, from this one on, with their sums.
 fn with_grants(
     alloc: Global,
     changes: &mut Vec<Change<'_>>,
     place: u64,
     grants: Vec<Grant>,
 ) -> Result<(), Fault>
+    // The grants get consecutive places from this one on, with one sum a host, except where two
+    // would pass 64 bits.
     ensures added { IfOk result (λ _.
         AddsFrom place grants.items changes.old.items changes.new.items) }
+    // The only fault is `Memory`.
     ensures fault { IfErr result (λ fault. fault ≡ Memory) }
 {
     let sums = sums_of(alloc, grants.as_slice())?;
@@ -237,7 +251,7 @@ fn with_grants(
     Ok(())
 }
 
-/// Adds the archived rows at places in a row, from this one on.
+/// Adds the archived rows at consecutive places, from this one on.
 fn with_archived(
     changes: &mut Vec<Change<'_>>,
     place: u64,
@@ -266,6 +280,7 @@ fn and_grants<S: Alter>(
     ensures asks { Asks S.Store conn.old conn.new result }
     ensures fault { IfErr result IsStoreFault }
     ensures unrefused { NeverRefused S.Store conn.old conn.new result }
+    // The grants get the next places of the world's, in order.
     ensures added { ForEachWorld S.Store conn.old conn.new
         (AddsGrants grants.items changes.old.items changes.new.items result) }
 {
@@ -285,6 +300,7 @@ fn and_archived<S: Alter>(
     ensures asks { Asks S.Store conn.old conn.new result }
     ensures fault { IfErr result IsStoreFault }
     ensures unrefused { NeverRefused S.Store conn.old conn.new result }
+    // The archived rows get the next places of the world's, in order.
     ensures added { ForEachWorld S.Store conn.old conn.new
         (AddsArchivedRows archived.items changes.old.items changes.new.items result) }
 {
@@ -295,7 +311,7 @@ fn and_archived<S: Alter>(
     with_archived(changes, place, archived)
 }
 
-/// The changes of what was handled: of the workunits, then the grants, then the archived rows.
+/// Returns the changes of what was handled: of the workunits, then the grants, then the archived rows.
 fn changes_of<'a, S: Alter>(
     conn: &mut Connection<S>,
     alloc: Global,
@@ -304,6 +320,8 @@ fn changes_of<'a, S: Alter>(
     ensures asks { Asks S.Store conn.old conn.new result }
     ensures fault { IfErr result IsStoreFault }
     ensures unrefused { NeverRefused S.Store conn.old conn.new result }
+    // The changes are those of the workunits, then the grants and the archived rows at the world's
+    // next places.
     ensures added { ForEachWorld S.Store conn.old conn.new (AddsGiven handled.entry result) }
 {
     let Handled {
@@ -316,7 +334,7 @@ fn changes_of<'a, S: Alter>(
     Ok(changes)
 }
 
-/// The plan of a pass that takes these workunits.
+/// Returns the plan of a pass that takes these workunits.
 fn plan_taken<'a, S: Alter>(
     conn: &mut Connection<S>,
     alloc: Global,
@@ -326,6 +344,7 @@ fn plan_taken<'a, S: Alter>(
     requires { length taken.items ≤ 1000 }
     ensures asks { Asks S.Store conn.old conn.new result }
     ensures fault { IfErr result IsStoreFault }
+    // Over a represented world, with no limit on steps, no read is refused.
     ensures unrefused { NeverRefused S.Store conn.old conn.new result }
     ensures plan { ForEachWorld S.Store conn.old conn.new (PlansTaken ask.now taken.items result) }
 {
@@ -342,7 +361,7 @@ fn plan_taken<'a, S: Alter>(
     })
 }
 
-/// A change for each number, which takes its workunit out.
+/// Returns a change for each number, which removes its workunit.
 fn removals<'a>(alloc: Global, numbers: Vec<u64>) -> Result<Vec<Change<'a>>, Fault>
     ensures all { IfOk result (λ changes. changes.items ≡ map Remove numbers.items) }
     ensures fault { IfErr result (λ fault. fault ≡ Memory) }
@@ -354,7 +373,7 @@ fn removals<'a>(alloc: Global, numbers: Vec<u64>) -> Result<Vec<Change<'a>>, Fau
     Ok(changes)
 }
 
-/// The plan of a purge. It grants and archives nothing, so it needs no more of a workunit than its number.
+/// Returns the plan of a purge. It grants and archives nothing, so it needs no more of a workunit than its number.
 fn plan_purge<'a, S: Alter>(
     conn: &mut Connection<S>,
     alloc: Global,
@@ -380,7 +399,7 @@ fn plan_purge<'a, S: Alter>(
     })
 }
 
-/// The plan of a pass that puts the images of workunits in their places.
+/// Returns the plan of a pass that replaces workunits by their images.
 fn plan_images<'a, S: Alter>(
     conn: &mut Connection<S>,
     alloc: Global,
@@ -397,18 +416,28 @@ fn plan_images<'a, S: Alter>(
     plan_taken(conn, alloc, ask, taken)
 }
 
-/// What a pass answers and changes, over tables of the present version. It takes the first workunits that it changes,
-/// up to its limit: the first by number, where the tables stand for a world whose list is in that order.
+/// Returns what a pass answers and changes, over tables of the present version.
+///
+/// It takes the first workunits that it changes, up to its limit. They are the first by number where the tables
+/// represent a world whose list is in that order.
 pub fn plan_pass<'a, S: Alter>(
     conn: &mut Connection<S>,
     alloc: Global,
     ask: &Ask,
 ) -> Result<Plan<'a>, Fault>
+    // The limit is from 1 to 1000, and the least age of a purge at most a year.
     requires { is_limit_right ask.now.pass ask.now.limit ask.now.min_age ≡ true }
+    // It only reads: nothing is committed or changed, and `Broken` means a failed disk or a
+    // connection that was not open.
     ensures asks { Asks S.Store conn.old conn.new result }
+    // The connection is open afterwards, except after `Memory` and `Broken`.
     ensures opens { ServesUnlessFailed S.Store conn.new result }
+    // It never answers `Ended`.
     ensures never { NeverEnded result }
+    // Over a project of the present version, with no limit on steps, no read is refused.
     ensures unrefused { NotRefusedOver S.Store conn.old conn.new result IsPresentProject }
+    // The plan answers the number of its workunits and makes the machine's step, each image in its
+    // place; or a fault of the store.
     ensures plan { ForEachProject S.Store conn.old conn.new (PlansNow (asked ask.now) result) }
 {
     match ask.pass {

@@ -12,14 +12,14 @@ use std::alloc::{AllocError, Global};
 use wu_core::{Fault, Grant};
 use wu_store::HostSum;
 
-/// References to the grants, in their order.
+/// Returns references to the grants, in their order.
 fn references_to<'a>(alloc: Global, grants: &'a [Grant]) -> Result<Vec<&'a Grant>, AllocError>
     ensures { IfOk result (λ all. map (λ grant. grant.now) all.items ≡ grants.now) }
 {
     grants.iter().collect(alloc)
 }
 
-/// The grants in order of their hosts' names: those to one host stand together.
+/// Returns the grants in order of their hosts' names: those to one host stand together.
 fn by_hosts<'a>(alloc: Global, grants: &'a [Grant]) -> Result<Vec<&'a Grant>, Fault>
     ensures same { IfOk result (λ sorted.
         IsPermutation grants.now (map (λ grant. grant.now) sorted.items)) }
@@ -32,7 +32,7 @@ fn by_hosts<'a>(alloc: Global, grants: &'a [Grant]) -> Result<Vec<&'a Grant>, Fa
     Ok(sorted)
 }
 
-/// The sum of one grant.
+/// Returns the sum of one grant.
 fn sum_of(grant: &Grant) -> Result<HostSum, Fault>
     ensures sum { IfOk result (λ sum. sum ≡ sum_of grant.now) }
     ensures fault { IfErr result (λ fault. fault ≡ Memory) }
@@ -44,7 +44,7 @@ fn sum_of(grant: &Grant) -> Result<HostSum, Fault>
     })
 }
 
-/// Begins a sum with a grant, behind the others.
+/// Begins a sum with a grant, after the others.
 fn begin(sums: &mut Vec<HostSum>, grant: &Grant) -> Result<(), Fault>
     ensures begun { IfOk result (λ _. sums.new.items ≡ sums.old.items ++ sum_of grant.now ∷ []) }
     ensures fault { IfErr result (λ fault. fault ≡ Memory) }
@@ -53,7 +53,7 @@ fn begin(sums: &mut Vec<HostSum>, grant: &Grant) -> Result<(), Fault>
     Ok(())
 }
 
-/// Adds a grant to a sum, if it is to the same host and neither number passes 64 bits: whether it did.
+/// Adds a grant to a sum, if it is to the same host and neither number passes 64 bits. Returns whether it did.
 fn grow(sum: &mut HostSum, grant: &Grant) -> bool
     ensures host { IsTrue result → sum.old.name ≡ grant.now.host }
     ensures grown { IsTrue result → sum.new ≡ with_more grant.now sum.old }
@@ -75,7 +75,7 @@ fn grow(sum: &mut HostSum, grant: &Grant) -> bool
     true
 }
 
-/// Adds a grant to the last of these sums, or behind them where it is to another host or would not fit.
+/// Adds a grant to the last of these sums, or after them where it is to another host or would not fit.
 fn add(sums: &mut Vec<HostSum>, grant: &Grant) -> Result<(), Fault>
     ensures added { IfOk result (λ _. SumsAlso grant.now sums.old.items sums.new.items) }
     ensures fault { IfErr result (λ fault. fault ≡ Memory) }
@@ -91,10 +91,13 @@ fn add(sums: &mut Vec<HostSum>, grant: &Grant) -> Result<(), Fault>
     begin(sums, grant)
 }
 
-/// The sums of these grants: one for each host, but that one which would pass 64 bits is begun anew.
+/// Returns the sums of these grants: one for each host, except that one which would pass 64 bits is begun again.
 pub fn sums_of(alloc: Global, grants: &[Grant]) -> Result<Vec<HostSum>, Fault>
+    // The sums have the total and the number of the grants of each host.
     ensures sums { IfOk result (λ sums. AreSums sums.items grants.now) }
+    // There is one sum a host, except where two would pass 64 bits together.
     ensures few { IfOk result (λ sums. AreFew sums.items) }
+    // The only fault is `Memory`.
     ensures fault { IfErr result (λ fault. fault ≡ Memory) }
 {
     let sorted = by_hosts(alloc, grants)?;

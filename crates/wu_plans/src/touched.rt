@@ -1,4 +1,4 @@
-//! The workunits that the rows of a file speak of, each as it was found and as the rows so far left it.
+//! The workunits of the rows of a file, each as it was found and as the rows so far left it.
 
 ghost use Rattle.std.specs.Prelude.{◌≡◌, ◌≢◌, ◌≤◌, [], IfErr, IfOk, IfSome, OnOk, is_some, map};
 ghost use Rattle.std.specs.Option.{option_map_or};
@@ -16,7 +16,7 @@ use wu_feed::{ReportRow, SendRow};
 use wu_rules::{ReportVerdict, SendVerdict, report, send};
 use wu_store::{Change, class_of};
 
-/// A row of a file that speaks of an instance of one workunit.
+/// A row of a file on an instance of one workunit.
 pub trait FileRow: Drop {
     ghost use Rattle.std.specs.Prelude.{◌≡◌, ◌≢◌, ◌≤◌, ℕ, List, IfErr};
     ghost use Rattle.wu_core.specs.Classes.{AreClassed};
@@ -25,35 +25,47 @@ pub trait FileRow: Drop {
     ghost use Rattle.wu_store.specs.Classes.{AnswersClass, NotRefusedClass};
     ghost use Rattle.wu_store.specs.Loading.{Asks, IsStoreFault};
 
-    /// The class on which the verdict on such a row depends, where hosts have these classes.
+    /// The class on which the verdict on a row depends, where hosts have these classes.
     ghost class_in: { List HostClass → Self → ℕ };
 
-    /// The verdict on such a row, and what it makes of its workunit, where this is that class.
+    /// The verdict on a row, and what it makes of its workunit, where this is that class.
     ghost rule: { ℕ → Rule Self };
 
-    /// The name of its workunit.
+    /// Returns the name of the row's workunit.
     fn workunit(&self) -> &Name
+        // The name is the one that the row has.
         ensures { (class : ℕ) → result.now ≡ (rule class).workunit self.now };
 
-    /// The class on which the verdict on the row depends: it is asked of the tables.
+    /// Reads from the tables the class on which the verdict on the row depends.
     fn find_class<S: Alter>(&self, conn: &mut Connection<S>) -> Result<u32, Fault>
+        // It only reads: nothing is committed or changed, and `Broken` means a failed disk or a
+        // connection that was not open.
         ensures asks { Asks S.Store conn.old conn.new result }
+        // A fault is `Memory`, `Broken` or `NotAProject`.
         ensures fault { IfErr result IsStoreFault }
+        // For a send the class is that of its host in the world; a report needs none, and gets 0.
         ensures found { AnswersClass S.Store conn.old conn.new result
             (λ world. class_in world.classes self.now) }
+        // Over a world whose classes can be read, with no limit on steps, no read is refused.
         ensures unrefused { NotRefusedClass S.Store conn.old conn.new result
             (λ world. AreClassed world.classes) };
 
-    /// The number of the verdict on such a row whose workunit is not present.
+    /// Returns the number of the verdict on such a row whose workunit is not present.
     fn unknown() -> u8
+        // The number is that of the verdict `unknown`.
         ensures { result ≡ unknown };
 
     /// Applies the row to its workunit, or skips it: the number of the verdict, 0 where it was applied.
     fn apply(self, class: u32, workunit: &mut Workunit) -> u8
+        // The verdict is that of the row's definition on the workunit, with this class.
         ensures verdict { result ≡ (rule class).verdict self workunit.old }
+        // The number of the verdict is one digit.
         ensures digit { result ≤ 9 }
+        // An applied row makes the definition's image of the workunit.
         ensures applied { result ≡ 0 → workunit.new ≡ (rule class).image self workunit.old }
+        // A skipped row leaves the workunit as it was.
         ensures skipped { result ≢ 0 → workunit.new ≡ workunit.old }
+        // The workunit keeps its number and its name.
         ensures keeps { KeepsIdentity workunit.old workunit.new };
 }
 
@@ -113,14 +125,14 @@ impl FileRow for ReportRow {
     }
 }
 
-/// A workunit that rows spoke of: as it was found, and as they left it.
+/// A workunit that rows name: as it was found, and as they left it.
 #[derive(Drop)]
 pub struct Touch {
     pub was: Workunit,
     pub now: Workunit,
 }
 
-/// The workunits that the rows so far spoke of. One is found by its name.
+/// The workunits that the rows so far name. Each is found by its name.
 #[derive(Drop)]
 pub struct Touched {
     by_name: BTreeMap<String, Touch>,
@@ -141,8 +153,9 @@ impl Model for Touched {
 }
 
 impl Touched {
-    /// None so far.
+    /// Makes an empty list: no row so far.
     pub fn new(alloc: Global) -> Self
+        // No workunit is among them.
         ensures { result ≡ [] }
     {
         Touched {
@@ -150,16 +163,20 @@ impl Touched {
         }
     }
 
-    /// Whether the workunit of this name is among them.
+    /// Returns whether the workunit of this name is among them.
     pub fn has(&self, name: &Name) -> bool
+        // The answer is whether the workunit of this name is among them.
         ensures { result ≡ is_some (touched_named self.now name.now) }
     {
         self.by_name.contains_key(name.as_str())
     }
 
-    /// Takes a workunit in, as it was found.
+    /// Adds a workunit, as it was found.
     pub fn insert(&mut self, alloc: Global, workunit: Workunit) -> Result<(), Fault>
+        // With Ok the workunit is among them as it was found, and each of another name is as
+        // before.
         ensures also { OnOk result (HasAlso workunit self.old self.new) }
+        // The only fault is `Memory`.
         ensures fault { IfErr result (λ fault. fault ≡ Memory) }
     {
         let name = String::from_str(alloc, workunit.name.as_str())?;
@@ -169,13 +186,18 @@ impl Touched {
         Ok(())
     }
 
-    /// Applies a row to its workunit, or skips it, where this is the class on which its verdict depends: the number of
-    /// the verdict. Where its workunit is not among these, it is `unknown`.
+    /// Applies a row to its workunit, or skips it, where this is the class on which its verdict depends. Returns the
+    /// number of the verdict: `unknown` where its workunit is not among these.
     pub fn apply<R: FileRow>(&mut self, row: R, class: u32) -> u8
+        // The verdict is that of the row on its workunit as the rows before left it, or `unknown`
+        // where that is not present.
         ensures verdict { result ≡ option_map_or (λ touch. (R.rule class).verdict row touch.now)
             (touched_named self.old ((R.rule class).workunit row)) unknown }
+        // The number of the verdict is one digit.
         ensures digit { result ≤ 9 }
+        // An applied row changes its workunit alone, and a skipped one nothing.
         ensures left { LeavesBy (R.rule class) row result self.old self.new }
+        // The row's workunit keeps its number and its name.
         ensures keeps { IfSome (touched_named self.old ((R.rule class).workunit row))
             (λ touch. KeepsIdentity touch.now (left_by (R.rule class) row result touch.now)) }
     {
@@ -185,10 +207,14 @@ impl Touched {
         row.apply(class, &mut touch.now)
     }
 
-    /// The changes that put each in the place of the present workunit of its number.
+    /// Returns the changes that put each in the place of the present workunit of its number.
     pub fn into_changes<'a>(self, alloc: Global) -> Result<Vec<Change<'a>>, Fault>
+        // No two of them have the same name.
         ensures distinct { AreDistinct self }
+        // With Ok there is one change for each, from the workunit as it was found to what the rows
+        // left.
         ensures changes { IfOk result (λ changes. changes.items ≡ map replaces self) }
+        // The only fault is `Memory`.
         ensures fault { IfErr result (λ fault. fault ≡ Memory) }
     {
         let mut changes = Vec::new(alloc);

@@ -11,7 +11,7 @@ use wu_machine::Answer;
 use wu_schema::PRESENT_VERSION;
 use wu_store::{Change, load_marks};
 
-/// What an upgrade of tables of this version answers and changes. It answers that version and the present one.
+/// Returns what an upgrade of tables of this version answers and changes. It answers that version and the present one.
 ///
 /// At the present version no change is planned. An older one, of whichever version, gets what it lacks, with the marks
 /// of all workunits, which are read here.
@@ -20,10 +20,17 @@ pub fn plan_upgrade<'a, S: Alter>(
     alloc: Global,
     version: u64,
 ) -> Result<Plan<'a>, Fault>
+    // It only reads: nothing is committed or changed, and `Broken` means a failed disk or a
+    // connection that was not open.
     ensures asks { Asks S.Store conn.old conn.new result }
+    // An open connection stays open, except after `Memory` and `Broken`.
     ensures opens { StaysUnlessFailed S.Store conn.old conn.new result }
+    // It never answers `Ended`.
     ensures never { NeverEnded result }
+    // Over a project of this version, with no limit on steps, no read is refused.
     ensures unrefused { NotRefusedIn S.Store conn.old conn.new result (IsOfVersion version) }
+    // The plan answers this version and the present one, at which the world then is; at the present
+    // version it changes nothing.
     ensures plan { ForEachWorld S.Store conn.old conn.new (PlansUpgrade version result) }
 {
     let answer = Answer::Upgraded {

@@ -12,7 +12,7 @@ use std::hash::{BuildHasher, RandomState};
 use std::io::Write;
 use wu_cli::{Reason, Trouble, check_over};
 
-/// Checks an open database, as `check_over`, and lets go of it. Nothing is written to its files.
+/// Checks an open database, as `check_over`, and drops it. Nothing is written to its files.
 ///
 /// It stands over any store: what is asked of one over files is proved again at each such call and drop.
 fn check_and_drop<S: Alter + Drop, O: Write>(
@@ -26,7 +26,7 @@ fn check_and_drop<S: Alter + Drop, O: Write>(
     check_over(alloc, &mut conn, out)
 }
 
-/// Opens the database in two files, and checks it. Where it can't be opened, why is the trouble, and nothing goes out.
+/// Opens the database in two files, and checks it. Where it cannot be opened, the trouble is why, and nothing goes out.
 fn check_files<D: Disk + Drop, O: Write>(
     alloc: Global,
     files: Files<D>,
@@ -43,7 +43,7 @@ fn check_files<D: Disk + Drop, O: Write>(
     }
 }
 
-/// Options with a seed of this run.
+/// Returns options with a seed of this run.
 fn options(rt: &HostRuntime) -> Options {
     let seed = match RandomState::new(rt) {
         Ok(state) => state.hash_one(&0u8),
@@ -52,9 +52,11 @@ fn options(rt: &HostRuntime) -> Options {
     Options::new(seed)
 }
 
-/// Checks a copy of the database at the path. Where its files can't be read, or not be copied, why is the trouble, and
-/// nothing goes out.
+/// Checks a copy of the database at the path. Where its files cannot be read or copied, the trouble is why, and nothing
+/// goes out.
 pub fn check_path<O: Write>(rt: &HostRuntime, path: &str, out: &mut O) -> Result<(), Trouble>
+    // A copy with just the bytes that were read of both files is checked; or why it cannot be is
+    // reported, and nothing goes out.
     ensures { ChecksPath O.contents path.now out.old out.new result }
 {
     let bytes = match read_database(rt, path) {

@@ -18,13 +18,13 @@ use wu_cli::Reason;
 pub struct FileBytes<'a> {
     /// Where the database lies.
     pub path: &'a str,
-    /// Of the log; none where there is no log.
+    /// Of the log; empty if there is no log.
     pub log: Vec<u8>,
     pub db: Vec<u8>,
 }
 
-/// Holds a database that has a log against other programs, as an opening does, which makes a log only where there is none.
-/// Without a log it is open in no such program, and nothing is held.
+/// Locks a database that has a log against other programs, as an opening does, which makes a log only where there is
+/// none. Without a log no such program has it open, and nothing is locked.
 fn hold(rt: &HostRuntime, path: &str, log: &str) -> Result<Option<Files<FileFrom<Wary>>>, Reason> {
     match fs::exists(rt, log) {
         Ok(true) => {}
@@ -40,7 +40,7 @@ fn hold(rt: &HostRuntime, path: &str, log: &str) -> Result<Option<Files<FileFrom
     }
 }
 
-/// When a file was last written to.
+/// Returns when a file was last written to.
 fn written_at(rt: &HostRuntime, path: &str) -> Result<SystemTime, Reason> {
     let found = fs::metadata(rt, path).map_err(|error| Reason::of_file(&error))?;
     if !found.is_file() {
@@ -49,7 +49,7 @@ fn written_at(rt: &HostRuntime, path: &str) -> Result<SystemTime, Reason> {
     found.modified().map_err(|error| Reason::of_file(&error))
 }
 
-/// The bytes of a file, or none where there is none.
+/// Returns the bytes of a file; no bytes if there is no file.
 fn bytes_if_any(rt: &HostRuntime, path: &str) -> io::Result<Vec<u8>> {
     match fs::read(rt, path) {
         Err(error) if error.kind() == ErrorKind::NotFound => Ok(Vec::new(rt.alloc())),
@@ -57,7 +57,7 @@ fn bytes_if_any(rt: &HostRuntime, path: &str) -> io::Result<Vec<u8>> {
     }
 }
 
-/// Refuses a database with a rollback journal that begins with anything but a zero: only SQLite plays it back.
+/// Refuses a database with a rollback journal that begins with anything but a zero: only SQLite can roll it back.
 fn refuse_journal(rt: &HostRuntime, path: &str) -> Result<(), Reason> {
     let journal = format!(in rt.alloc(); "{path}-journal").map_err(|_| Reason::Memory)?;
     match bytes_if_any(rt, journal.as_str()) {
@@ -67,7 +67,7 @@ fn refuse_journal(rt: &HostRuntime, path: &str) -> Result<(), Reason> {
     }
 }
 
-/// The bytes of both files, where no journal lies beside them, before and behind.
+/// Returns the bytes of both files, if no journal lies beside them, before the reading and after it.
 fn read_both<'a>(
     rt: &HostRuntime,
     path: &'a str,
@@ -83,7 +83,7 @@ fn read_both<'a>(
     Ok(FileBytes { path, log, db })
 }
 
-/// The bytes of a database that nothing holds, where it has no log and was not written to since this moment.
+/// Returns the bytes of a database that nothing locks, if it has no log and was not written to since this moment.
 fn read_unheld<'a>(
     rt: &HostRuntime,
     path: &'a str,
@@ -100,7 +100,8 @@ fn read_unheld<'a>(
     Ok(bytes)
 }
 
-/// The bytes of both files as they are at one moment: of those that are held, or that nobody wrote to meanwhile.
+/// Returns the bytes of both files as they are at one moment: of files that are locked, or that nobody wrote to
+/// meanwhile.
 fn read_at_once<'a>(
     rt: &HostRuntime,
     path: &'a str,
@@ -116,9 +117,10 @@ fn read_at_once<'a>(
     }
 }
 
-/// The bytes of the database at the path and of its log, as they are at one moment: what another program writes to
-/// meanwhile is in use. The log lies beside the file to which a link leads.
+/// Returns the bytes of the database at the path and of its log, as they are at one moment. A database that another
+/// program writes to meanwhile is in use. The log lies beside the file to which a link leads.
 pub fn read_database<'a>(rt: &HostRuntime, path: &'a str) -> Result<FileBytes<'a>, Reason>
+    // The bytes are labelled with the path that was asked for.
     ensures { IfOk result (λ bytes. bytes.path.now ≡ path.now) }
 {
     let real = fs::canonicalize(rt, path).map_err(|error| Reason::of_file(&error))?;
@@ -126,7 +128,7 @@ pub fn read_database<'a>(rt: &HostRuntime, path: &'a str) -> Result<FileBytes<'a
     read_at_once(rt, path, real.as_str(), log.as_str())
 }
 
-/// A file in memory with these bytes.
+/// Makes a file in memory with these bytes.
 fn copy_of(alloc: Global, bytes: &[u8]) -> Result<Memory, Reason>
     ensures copy { IfOk result (IsCopyOf bytes.now) }
     ensures refused { IfErr result (λ reason. reason ≡ WantsMemory) }
@@ -141,9 +143,11 @@ fn copy_of(alloc: Global, bytes: &[u8]) -> Result<Memory, Reason>
     }
 }
 
-/// The two files in memory, with these bytes.
+/// Makes the two files in memory, with these bytes.
 pub fn copies_of(alloc: Global, bytes: &FileBytes<'_>) -> Result<Files<Memory>, Reason>
+    // Both files in memory have just the bytes that were read, and can be used.
     ensures copies { IfOk result (AreCopiesOf bytes.now) }
+    // The only refusal is out of memory.
     ensures refused { IfErr result (λ reason. reason ≡ WantsMemory) }
 {
     let log = copy_of(alloc, &bytes.log)?;

@@ -10,7 +10,7 @@ use wu_cli::{Trouble, Work, unopened};
 
 /// What is left of the database that words name.
 pub enum Left<D: Disk> {
-    /// It could not be opened: why, and what is left of its files, if they were opened.
+    /// It could not be opened: the error, and what is left of its files, if they were opened.
     Unopened(Error, Option<Leftover<D>>),
     /// It was closed, and these are its files.
     Closed(Files<D>),
@@ -31,6 +31,8 @@ impl<D: Disk + Drop> Drop for Left<D> {
 
 /// Closes a database, as far as its files let it.
 fn close<D: Disk + Drop>(conn: Connection<FileStore<D>>) -> Left<D>
+    // The files come back closed, with the last commit copied into the database's where the disk
+    // had no fault; or the store with its error.
     ensures { IsLeftByClose conn result }
 {
     match conn.close_files() {
@@ -39,8 +41,9 @@ fn close<D: Disk + Drop>(conn: Connection<FileStore<D>>) -> Left<D>
     }
 }
 
-/// Opens the database, does the work that is asked over it, and closes it. The work has what the files hold, so these are
-/// read before. Where it can't be asked, or the database can't be opened, that is the trouble, and nothing is written.
+/// Opens the database, does the work that is asked over it, and closes it. The work holds what its files held, so these
+/// were read before. Where `asked` is a trouble, or the database cannot be opened, that is returned, and nothing is
+/// written.
 pub fn open_and_perform<S: Start, O: Write>(
     rt: &HostRuntime,
     database: &str,
@@ -48,6 +51,9 @@ pub fn open_and_perform<S: Start, O: Write>(
     start: S,
     out: &mut O,
 ) -> (Result<(), Trouble>, Option<Left<FileFrom<S>>>)
+    // The database of this path is opened, its work is done and written, and it is closed. Or it
+    // cannot be opened, which is reported, and nothing goes out. Where `asked` is a trouble, that
+    // is returned, and nothing is opened.
     ensures { RunsWork O.contents database.now asked out.old out.new result.0 result.1 }
 {
     match asked {

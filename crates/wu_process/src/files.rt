@@ -1,4 +1,4 @@
-//! The files of the host, as lines and scripts name them. That a file holds what is read of it, no clause can say.
+//! The files of the host, as lines and scripts name them. No clause can say that a file holds what is read of it.
 
 ghost use Rattle.wu_process.specs.Asking.{may_hold};
 
@@ -13,7 +13,7 @@ pub struct HostFiles<'a> {
 }
 
 impl<'a> HostFiles<'a> {
-    /// Reads them by this runtime.
+    /// Makes a reader of the host's files by this runtime.
     pub fn new(rt: &'a HostRuntime) -> Self {
         HostFiles { rt }
     }

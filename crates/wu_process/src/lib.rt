@@ -1,7 +1,8 @@
-//! What the program does with a process's words, files and outputs: a line or a script of an operator over a project in
-//! a database file, or with no word after its name the demonstration in memory. What is decided of them, and what is
-//! done over an open database, has its clauses in `wu_arguments` and `wu_cli`; here files are opened and read, and the
-//! clauses hold whatever they are. That they lie where the words say, no clause can say.
+//! What the program does with a process's words, files and outputs. It runs a line or a script over a project in a
+//! database file, or without a word after its name the demonstration in memory.
+//!
+//! `wu_arguments` decides what the words ask for, and `wu_cli` does it over an open database. Here files are opened and
+//! read, and the clauses hold whatever they contain. No clause can say that they lie where the words say.
 #![tactic(auto)]
 
 ghost use Rattle.std.specs.Prelude.{◌≡◌, ◌⊎◌, map, string_bytes};
@@ -35,9 +36,9 @@ use wu_drive::demo;
 pub struct End<D: Disk> {
     /// The status to end with.
     pub status: u8,
-    /// Whether all that there was to tell of a trouble went out.
+    /// Whether all of the text of a trouble went out.
     pub is_told: bool,
-    /// What is left of the database that the words name; None where they ask for no work.
+    /// What is left of the database that the words name; `None` if they ask for no work.
     pub left: Option<Left<D>>,
 }
 
@@ -48,6 +49,9 @@ fn run_words<S: sqlite::Start, O: Write>(
     start: S,
     out: &mut O,
 ) -> (Result<(), Trouble>, Option<Left<FileFrom<S>>>)
+    // Refused words, and a line or a script that cannot be run, are reported, and nothing goes out.
+    // Else the work is done over the database that the words name, or the check, or the
+    // explanation.
     ensures { RunsWords O.contents (map string_bytes words.now)
         out.old out.new result.0 result.1 }
 {
@@ -68,8 +72,10 @@ fn run_words<S: sqlite::Start, O: Write>(
     }
 }
 
-/// Tells of the trouble that ended a run, if one did: the status to end with, and whether all of it went out.
+/// Reports the trouble that ended a run, if one did. Returns the status to end with, and whether all of it went out.
 fn tell<E: Write>(done: Result<(), Trouble>, err: &mut E) -> (u8, bool)
+    // Without a trouble the status is 0 and nothing is written. Else it is the trouble's, whose
+    // text goes out, or a prefix of it.
     ensures { TellsTrouble E.contents err.old err.new done result.0 result.1 }
 {
     match done {
@@ -81,8 +87,9 @@ fn tell<E: Write>(done: Result<(), Trouble>, err: &mut E) -> (u8, bool)
     }
 }
 
-/// Tells of the trouble that ended a run, if one did, and gives how it ended.
+/// Reports the trouble that ended a run, if one did, and returns how it ended.
 fn ended<D: Disk, E: Write>(run: (Result<(), Trouble>, Option<Left<D>>), err: &mut E) -> End<D>
+    // The trouble is reported with its status, and what is left of the database is handed on.
     ensures { EndsSo E.contents err.old err.new run.0 run.1 result }
 {
     let (done, left) = run;
@@ -94,7 +101,7 @@ fn ended<D: Disk, E: Write>(run: (Result<(), Trouble>, Option<Left<D>>), err: &m
     }
 }
 
-/// The demonstration, and the status to end with: 0, or 1 on a fault, which is not told.
+/// Runs the demonstration, and returns the status to end with: 0, or 1 on a fault, which is not reported.
 fn demonstrate<O: Write>(alloc: Global, out: &mut O) -> u8
     ensures { Demonstrates (O.contents out.old) (O.contents out.new) result }
 {
@@ -105,8 +112,8 @@ fn demonstrate<O: Write>(alloc: Global, out: &mut O) -> u8
 }
 
 /// Does what the words of a process ask for, of which the first is the program's name, whatever the files of the
-/// database held at first; with no other word it is the demonstration. What is printed goes to the one writer, and the
-/// text of a trouble to the other. Words that could not be had are told as such.
+/// database held at first. With no other word it runs the demonstration. What is printed goes to `out`, and the text of
+/// a trouble to `err`. Words that could not be read are reported as such.
 pub fn run_with<S: sqlite::Start, O: Write, E: Write>(
     rt: &HostRuntime,
     words: io::Result<Vec<String>>,
@@ -114,6 +121,9 @@ pub fn run_with<S: sqlite::Start, O: Write, E: Write>(
     out: &mut O,
     err: &mut E,
 ) -> End<FileFrom<S>>
+    // Without a word after the program's name the demonstration runs. Else what the words ask for
+    // is done up to the first trouble, which is reported with its status. Words that cannot be read
+    // are reported as no UTF-8 text, or as out of memory, and nothing goes out.
     ensures { RunsProcess O.contents E.contents out.old out.new err.old err.new result words }
 {
     match words {
@@ -127,15 +137,17 @@ pub fn run_with<S: sqlite::Start, O: Write, E: Write>(
     }
 }
 
-/// The words of the command line.
+/// Returns the words of the command line.
 fn words(rt: &HostRuntime) -> io::Result<Vec<String>> {
     Ok(env::args(rt)?.collect(rt.alloc())?)
 }
 
-/// Does what the words of the command line ask for, as `run_with`, with the outputs of the process, over a database file of
-/// which nothing is supposed. Where standard error is a terminal, it shows there meanwhile how many answers have gone
-/// out, and the last one. It answers the status to end with.
+/// Does what the words of the command line ask for, as `run_with`, with the outputs of the process, over a database
+/// file of which nothing is supposed. Where standard error is a terminal, it shows meanwhile how many answers have gone
+/// out, and the last one. Returns the status to end with.
 pub fn run(rt: &HostRuntime) -> u8
+    // The status is that of a call of `run_with` over some words and outputs and any database file,
+    // or 4.
     ensures { EndsAsRun ⟦<FileFrom<Wary> as Disk>⟧
         ⟦<Watched<BufWriter<Stdout>, Stderr> as Write>⟧.contents
         ⟦<Cleared<Stderr> as Write>⟧.contents result

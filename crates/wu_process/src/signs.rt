@@ -1,12 +1,12 @@
-//! Signs of life on a terminal while work goes on: how many answers have gone out, and the last of them. No contract
-//! speaks of the terminal: what it shows is wiped before anything else is written.
+//! The progress line on a terminal: how many answers have gone out, and the last of them. No contract speaks of the
+//! terminal; what it shows is wiped before anything else is written.
 
 ghost use Rattle.std.specs.Prelude.{◌≡◌};
 ghost use Rattle.wu_process.specs.Signs.{handed_on};
 
 use std::io::{self, Write};
 
-/// Takes away what stands on the last line of a terminal.
+/// The bytes that wipe the last line of a terminal.
 const WIPE: &[u8] = b"\r\x1b[K";
 
 /// How many bytes of a line are shown at most.
@@ -21,7 +21,7 @@ struct FirstLine {
 }
 
 impl FirstLine {
-    /// No byte yet.
+    /// Makes a first line without a byte.
     fn new() -> Self {
         FirstLine {
             bytes: [0; MOST_SHOWN],
@@ -43,7 +43,7 @@ impl FirstLine {
         }
     }
 
-    /// The line, where all of it can be shown.
+    /// Returns the line, if all of it can be shown.
     fn shown(&self) -> Option<&[u8]> {
         if self.is_ended && self.len < MOST_SHOWN {
             self.bytes.get(..self.len)
@@ -53,7 +53,7 @@ impl FirstLine {
     }
 }
 
-/// What is told on a terminal; nothing where there is none.
+/// The progress line of a terminal; without a terminal nothing is shown.
 #[derive(Drop)]
 pub struct Signs<T: Drop> {
     terminal: Option<T>,
@@ -63,7 +63,7 @@ pub struct Signs<T: Drop> {
 }
 
 impl<T: Write + Drop> Signs<T> {
-    /// Signs on this terminal, or none.
+    /// Makes the progress line of this terminal, or none.
     pub fn new(terminal: Option<T>) -> Self {
         Signs {
             terminal,
@@ -73,7 +73,7 @@ impl<T: Write + Drop> Signs<T> {
         }
     }
 
-    /// Tells how many answers went out, and the last one; before the first, that the database is opened.
+    /// Shows how many answers went out, and the last one; before the first, that the database is opened.
     fn tell(&mut self) {
         let answers = self.answers;
         let Some(terminal) = &mut self.terminal else {
@@ -101,7 +101,7 @@ impl<T: Write + Drop> Signs<T> {
         }
     }
 
-    /// Takes away what was told.
+    /// Wipes what is shown.
     fn wipe(&mut self) {
         if !self.is_shown {
             return;
@@ -112,7 +112,7 @@ impl<T: Write + Drop> Signs<T> {
         }
     }
 
-    /// Tells of one answer more.
+    /// Counts one more answer, and shows it.
     fn count(&mut self) {
         self.answers = self.answers.saturating_add(1);
         self.tell();
@@ -120,7 +120,7 @@ impl<T: Write + Drop> Signs<T> {
     }
 }
 
-/// A writer of answers, each of which is flushed: then the terminal is told of it.
+/// A writer of answers. Each answer is flushed, and then the progress line counts it.
 #[derive(Drop)]
 pub struct Watched<O: Drop, T: Drop> {
     out: O,
@@ -128,23 +128,24 @@ pub struct Watched<O: Drop, T: Drop> {
 }
 
 impl<O: Write + Drop, T: Write + Drop> Watched<O, T> {
-    /// This output, with these signs.
+    /// Makes a writer of this output, with this progress line.
     pub fn new(out: O, signs: Signs<T>) -> Self {
         Watched { out, signs }
     }
 
-    /// Tells that work begins.
+    /// Shows that work begins.
     pub fn begin(&mut self) {
         self.signs.tell();
     }
 
-    /// Takes away what was told.
+    /// Wipes what is shown.
     pub fn end(&mut self) {
         self.signs.wipe();
     }
 }
 
 impl<O: Write + Drop, T: Write + Drop> Write for Watched<O, T> {
+    // It hands on what it is given, and nothing else.
     ghost contents = { λ w. O.contents w.out };
 
     fn write(&mut self, bytes: &[u8]) -> io::Result<usize> {
@@ -164,8 +165,8 @@ impl<O: Write + Drop, T: Write + Drop> Write for Watched<O, T> {
     }
 }
 
-/// A writer that wipes the last line of a terminal before its first bytes, where it is one. Where it is none, it hands on
-/// all that it is given, and nothing else.
+/// A writer that wipes the last line of a terminal before its first bytes. Without a terminal it hands on all that it
+/// is given, and nothing else.
 #[derive(Drop)]
 pub struct Cleared<E: Drop> {
     out: E,
@@ -173,8 +174,10 @@ pub struct Cleared<E: Drop> {
 }
 
 impl<E: Write + Drop> Cleared<E> {
-    /// This writer, and whether a line of a terminal is to be wiped before its first bytes.
+    /// Makes a writer that wipes a line of the terminal before its first bytes if `is_terminal`.
     pub fn new(out: E, is_terminal: bool) -> Self
+        // Without a terminal the writer holds exactly what the given one holds; with one nothing is
+        // known of its contents.
         ensures { handed_on result.is_to_wipe (E.contents result.out)
             ≡ handed_on is_terminal (E.contents out) }
     {
@@ -188,6 +191,8 @@ impl<E: Write + Drop> Cleared<E> {
 impl<E: Write + Drop> Write for Cleared<E> {
     ghost use Rattle.wu_process.specs.Signs.{handed_on};
 
+    // It hands on what it is given and nothing else, except where a line of a terminal has to be
+    // wiped first.
     ghost contents = { λ w. handed_on w.is_to_wipe (E.contents w.out) };
 
     fn write(&mut self, bytes: &[u8]) -> io::Result<usize> {

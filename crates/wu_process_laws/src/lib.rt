@@ -9,34 +9,46 @@ use sqlite::{FileFrom, Start};
 use std::io::{self, Write};
 use wu_process::{End, run_with};
 
-/// A run that closed its database leaves the world after a beginning of its work, and no stop changes that.
+/// Shows that a run that closed its database leaves the world after a prefix of its commands, and that no crash changes
+/// that.
 pub fn a_run_leaves_a_beginning<S: Start, O: Write, E: Write>(end: &End<FileFrom<S>>)
+    // Each crash image holds the world after the commands done, each with the machine's reply; with
+    // status 0 all are done. What went out reports as many commands as were done, the last text cut
+    // only with `Output`. Or nothing was adopted: the status is that of such a fault, and the files
+    // still hold their world.
     ensures { LeavesItsWork O.contents E.contents end.now }
 {}
 
-/// So does a run whose close failed, as where the disk stopped amid the run; the command that was cut may be in it.
+/// Shows the same of a run whose close failed, as where the disk failed during the run; the command that was cut may
+/// be in it.
 pub fn a_stopped_run_leaves_a_beginning<S: Start, O: Write, E: Write>(end: &End<FileFrom<S>>)
+    // The same holds where the close failed and its store is numbered as its catalog says; the
+    // command that was cut may be done too.
     ensures { LeavesItsWorkUnclosed O.contents E.contents end.now }
 {}
 
-/// A run whose database holds what a stop left of another's goes on from the world that the other left.
+/// Shows that a run whose database holds what a crash left of another's goes on from the world that the other left.
 pub fn a_run_begins_where_one_ended<S: Start, T: Start, O: Write, E: Write>(
     first: &End<FileFrom<S>>,
     second: &End<FileFrom<T>>,
 )
+    // A second run over what a crash left of a first one does its work over the world that the
+    // first left.
     ensures { BeginsWhereOneEnded O.contents E.contents first.now second.now }
 {}
 
-/// So does a run after one whose close failed, as where the disk stopped amid that one.
+/// Shows the same of a run after one whose close failed, as where the disk failed during that one.
 pub fn a_run_begins_where_one_stopped<S: Start, T: Start, O: Write, E: Write>(
     first: &End<FileFrom<S>>,
     second: &End<FileFrom<T>>,
 )
+    // So does a second run after one whose close failed; the world may then have the command that
+    // was cut.
     ensures { BeginsWhereOneStopped O.contents E.contents first.now second.now }
 {}
 
 /// Does what the words of a process ask for, as `run_with`. Where it closed its database, that holds the world after a
-/// beginning of the work that it did.
+/// prefix of the commands.
 pub fn run_and_leave<S: Start, O: Write, E: Write>(
     rt: &HostRuntime,
     words: io::Result<Vec<String>>,
@@ -44,7 +56,10 @@ pub fn run_and_leave<S: Start, O: Write, E: Write>(
     out: &mut O,
     err: &mut E,
 ) -> End<FileFrom<S>>
+    // What the words ask for is done, up to the first trouble, which is reported with its status.
     ensures runs { RunsProcess O.contents E.contents out.old out.new err.old err.new result words }
+    // Each crash image holds the world after the commands done, each with the machine's reply; with
+    // status 0 all are done. Or nothing was adopted, and the files still hold their world.
     ensures left { LeavesItsWork O.contents E.contents result }
 {
     let end = run_with(rt, words, start, out, err);
@@ -52,8 +67,12 @@ pub fn run_and_leave<S: Start, O: Write, E: Write>(
     end
 }
 
-/// What a check tells is true of the files that it read: `ok` of a sound project, which they hold, and else what is told to
-/// be wrong; and of a sound one nothing is told to be wrong.
+/// Shows that what a check reports is true of the files that it read: `ok` of a sound project, and else what is
+/// reported to be wrong. Of a sound project nothing is reported to be wrong.
 pub fn a_check_is_true<O: Write>()
+    // `ok` means that the files hold a sound project of a known version, with the printed numbers.
+    // Of files that hold a sound project a check reports only `ok`, or a fault of memory, of the
+    // disk or of the output. What it reports to be wrong is wrong, where no row is shorter than its
+    // table.
     ensures { EachCheckIsTrue O.contents }
 {}

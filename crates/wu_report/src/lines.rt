@@ -19,10 +19,13 @@ pub trait Line: Drop {
     /// The line, with its end.
     ghost text: { Self → List ℕ };
 
-    /// Writes the line.
+    /// Writes the line. The only fault is `Output`, where some bytes of it did not go out.
     fn write<W: Write>(&self, out: &mut W) -> Result<(), Fault>
+        // With Ok exactly the line is written, and else a prefix of it.
         ensures bytes { WritesTo W.contents out.old out.new (text self.now) result }
+        // What is reported as failed was cut: a line that went out whole never is.
         ensures cut { CutsWhatFails W.contents out.old out.new (text self.now) result }
+        // The only fault is `Output`.
         ensures fault { IsOkUnless result Output };
 }
 
@@ -73,7 +76,7 @@ impl Line for WorkunitLine {
     }
 }
 
-/// The name, or `-`.
+/// Returns the name, or `-`.
 fn name_or_dash(name: &Option<Name>) -> Piece<'_>
     ensures { piece_text result ≡ or_dash (λ text. text) name.now }
 {
@@ -139,7 +142,7 @@ impl Line for HostLine {
     }
 }
 
-/// The bytes in hex, or `-` where there are none.
+/// Returns the bytes in hex, or `-` where there are none.
 fn hex_or_dash(bytes: &Bytes) -> Piece<'_>
     ensures { piece_text result ≡ bytes_text bytes.now }
 {
@@ -196,8 +199,11 @@ impl Line for HostClass {
 
 /// Writes the twelve lines of a summary.
 pub fn write_summary<W: Write>(out: &mut W, summary: &Summary) -> Result<(), Fault>
+    // With Ok exactly the twelve lines of the summary are written, and else a prefix of them.
     ensures bytes { WritesTo W.contents out.old out.new (summary_lines summary.now) result }
+    // What is reported as failed was cut: a summary that went out whole never is.
     ensures cut { CutsWhatFails W.contents out.old out.new (summary_lines summary.now) result }
+    // The only fault is `Output`.
     ensures fault { IsOkUnless result Output }
 {
     write_pieces(

@@ -32,9 +32,9 @@ pub enum Piece<'a> {
     Hex(&'a [u8]),
 }
 
-/// Writes all bytes. A fault, or a `write` that takes no byte, is `Output`: some bytes were not written then.
+/// Writes all bytes. A fault, or a `write` that takes no byte, is `Output`: then some bytes were not written.
 ///
-/// `write_all` does not say what it wrote before it failed; this says that it was a beginning of the bytes.
+/// `write_all` does not say what it wrote before it failed; this says that it was a prefix of the bytes.
 fn write_bytes<W: Write>(out: &mut W, bytes: &[u8]) -> Result<(), Fault>
     ensures bytes { WritesTo W.contents out.old out.new bytes.now result }
     ensures cut { CutsWhatFails W.contents out.old out.new bytes.now result }
@@ -117,10 +117,14 @@ fn write_piece<W: Write>(out: &mut W, piece: &Piece<'_>) -> Result<(), Fault>
     }
 }
 
-/// Writes the pieces in turn.
+/// Writes the pieces in turn, without taking memory.
 pub fn write_pieces<W: Write>(out: &mut W, pieces: &[Piece<'_>]) -> Result<(), Fault>
+    // With Ok exactly the texts of the pieces are written, one after another, and else a prefix of
+    // them.
     ensures bytes { WritesTo W.contents out.old out.new (flat_map piece_text pieces.now) result }
+    // What is reported as failed was cut: a text that went out whole never is.
     ensures cut { CutsWhatFails W.contents out.old out.new (flat_map piece_text pieces.now) result }
+    // The only fault is `Output`.
     ensures fault { IsOkUnless result Output }
 {
     for piece in pieces {
@@ -131,7 +135,9 @@ pub fn write_pieces<W: Write>(out: &mut W, pieces: &[Piece<'_>]) -> Result<(), F
 
 /// Flushes the writer.
 pub fn flush<W: Write>(out: &mut W) -> Result<(), Fault>
+    // What was written stays, and nothing is added.
     ensures bytes { Keeps (W.contents out.old) (W.contents out.new) }
+    // The only fault is `Output`.
     ensures fault { IsOkUnless result Output }
 {
     out.flush().map_err(|_| Fault::Output)

@@ -26,8 +26,10 @@ struct LineWriter<'a, W: Write> {
 impl<T: Line, W: Write> Takes<T> for LineWriter<'_, W> {
     ghost use Rattle.wu_report.specs.Writers.{CutsLine, WritesLine};
 
+    // A line that it takes went out whole.
     ghost takes = { λ old new line. WritesLine W.Write.contents old new (T.Line.text line) };
 
+    // A line that it refuses was cut: some of its bytes did not go out.
     ghost refuses = { λ old new line. CutsLine W.Write.contents old new (T.Line.text line) };
 
     fn take(&mut self, line: &T) -> Result<(), Fault> {
@@ -43,6 +45,9 @@ fn write_listing<S: Alter, L: Listing, W: Write>(
 ) -> Result<(), Fault>
 where
     L::Line: Line,
+    // Over a world with classes its lines are written, in order: all, or a prefix with a fault, and
+    // with `Output` not all of them. The project is only read. Where the values can be read, and
+    // steps have no limit, the fault is never `NotAProject`.
     ensures { WritesView W.Write.contents project.old project.new out.old out.new
         (λ world. flat_map L.Line.Line.text (L.Listing.lines world)) L.Listing.is_readable result }
 {
@@ -52,8 +57,12 @@ where
 
 /// Writes the lines of the summary. Only `Broken` ends the session.
 fn write_counts<S: Alter, W: Write>(project: &mut Project<S>, out: &mut W) -> Result<(), Fault>
+    // Of a world with classes the lines of its summary are written: all, or a prefix with a fault,
+    // and with `Output` not all.
     ensures written { WritesView W.Write.contents project.old project.new out.old out.new
         (λ world. view_text world View.Summary) (λ world. CanBeShown world View.Summary) result }
+    // Whatever the tables hold, a summary that is written counts every row of instances and of
+    // grants.
     ensures counted { CountsShown W.Write.contents project.old project.new out.old out.new result }
 {
     let summary = project.summary()?;
@@ -67,8 +76,12 @@ fn write_view<S: Alter, W: Write>(
     view: View,
     out: &mut W,
 ) -> Result<(), Fault>
+    // Of a world with classes the lines of its view are written: all, or a prefix with a fault, and
+    // with `Output` not all.
     ensures written { WritesView W.Write.contents project.old project.new out.old out.new
         (λ world. view_text world view) (λ world. CanBeShown world view) result }
+    // Whatever the tables hold, a summary that is written counts every row of instances and of
+    // grants.
     ensures counted { view ≡ View.Summary
         → CountsShown W.Write.contents project.old project.new out.old out.new result }
 {
@@ -82,16 +95,25 @@ fn write_view<S: Alter, W: Write>(
     }
 }
 
-/// Writes the lines of a view, and flushes behind them, which no clause tells. It commits nothing; only `Broken` ends
-/// the session.
+/// Writes the lines of a view, and flushes after them; no clause speaks of the flush. It commits nothing, and only
+/// `Broken` ends the session.
 ///
-/// With a fault, what was written is a beginning of the text.
+/// Over an older version the answer is `OldSchema`, and after the end of a session `Ended`; then nothing is written.
+/// With any other fault a prefix of the text may have been written.
 pub fn show<S: Alter, W: Write>(
     alloc: Global,
     project: &mut Project<S>,
     view: View,
     out: &mut W,
 ) -> Result<(), Fault>
+    // The lines of the world's view go out: all, or a prefix with a fault. After the end of a
+    // session the answer is `Ended`, and over an older version `OldSchema`; then nothing is
+    // written. Any other fault is `Output` or one of the store, and without a limit on steps none
+    // is `NotAProject` where the values can be read. The project is only read: a session over a
+    // world goes on over it, and nothing is committed. `Broken` alone ends the session, and means
+    // that the disk failed in this call, or that the connection was not open. An open connection
+    // stays open, except after `Memory` and `Broken`. Whatever the tables hold, a summary counts
+    // every row of instances and of grants.
     ensures { Sees W.contents project.old project.new out.old out.new view result }
 {
     match write_view(alloc, project, view, out) {

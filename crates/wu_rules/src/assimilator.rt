@@ -8,7 +8,7 @@ use crate::validator::output_at;
 use std::alloc::{AllocError, Global};
 use wu_core::{Archived, Assimilate, Bytes, Fault, Moment, Workunit};
 
-/// The canonical output, or no bytes where there is none.
+/// Returns the canonical output, or no bytes without a canonical result.
 fn canonical_output(workunit: &Workunit) -> &[u8]
     ensures { result.now ≡ canonical_output workunit.now }
 {
@@ -18,7 +18,7 @@ fn canonical_output(workunit: &Workunit) -> &[u8]
     }
 }
 
-/// What is kept of the workunit for good.
+/// Returns the archived row of the workunit at this moment.
 fn archived_row(alloc: Global, workunit: &Workunit, now: Moment) -> Result<Archived, AllocError>
     ensures { IfOk result (λ row. row ≡ archived_row workunit.now now) }
 {
@@ -33,17 +33,21 @@ fn archived_row(alloc: Global, workunit: &Workunit, now: Moment) -> Result<Archi
     })
 }
 
-/// Closes a workunit that is ready, and gives what is kept of it for good. Any other stays as it was and gives nothing.
-/// For want of memory nothing changes.
+/// Assimilates a workunit that is READY, and returns the row that is archived permanently. Any other workunit stays as
+/// it was, and the result is `None`. If out of memory, nothing changes.
 #[tactic(auto, unfolding(crate::specs::Assimilation::assimilated, crate::specs::Assimilation::archived))]
 pub fn assimilate(
     alloc: Global,
     workunit: &mut Workunit,
     now: Moment,
 ) -> Result<Option<Archived>, Fault>
+    // On success a READY workunit is DONE at this moment, and any other stays as it was.
     ensures image { OnOk result (workunit.new ≡ assimilated workunit.old now) }
+    // The result is the archived row of a READY workunit, and `None` of any other.
     ensures archived { IfOk result (λ row. row ≡ archived workunit.old now) }
+    // The only fault is `Memory`.
     ensures fault { FailsForMemory result }
+    // On a fault the workunit stays as it was.
     ensures unchanged { OnErr result (workunit.new ≡ workunit.old) }
 {
     if workunit.assimilate != Assimilate::Ready {

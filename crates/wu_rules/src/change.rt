@@ -6,8 +6,9 @@ ghost use Rattle.wu_rules.specs.Instances.{timed_out, closed, given_up, readied_
 use crate::instance::{is_overdue, is_unsent, is_viable};
 use wu_core::{Assimilate, Instance, Instances, Moment, Outcome, ServerState, ValidateState};
 
-/// Ends an instance that waits to be sent, since it is not needed.
+/// Ends an instance that is unsent as DIDNT_NEED.
 pub fn close(instance: &mut Instance)
+    // An unsent instance is over with DIDNT_NEED, and any other stays as it was.
     ensures { instance.new ≡ closed instance.old }
 {
     if is_unsent(instance) {
@@ -16,8 +17,9 @@ pub fn close(instance: &mut Instance)
     }
 }
 
-/// Closes each instance that waits to be sent.
+/// Ends each unsent instance as DIDNT_NEED.
 pub fn close_all(instances: &mut Instances)
+    // Each unsent instance is over with DIDNT_NEED, and each other stays as it was.
     ensures { instances.new ≡ map closed instances.old }
 {
     'each: for instance in instances.as_mut_slice() {
@@ -25,8 +27,10 @@ pub fn close_all(instances: &mut Instances)
     }
 }
 
-/// Ends an instance whose deadline has passed.
+/// Ends an instance whose deadline is before the moment as NO_REPLY.
 pub fn time_out(instance: &mut Instance, now: Moment)
+    // An instance in progress with a deadline before the moment is over with NO_REPLY, and any
+    // other stays as it was.
     ensures { instance.new ≡ timed_out now instance.old }
 {
     if is_overdue(instance, now) {
@@ -35,8 +39,10 @@ pub fn time_out(instance: &mut Instance, now: Moment)
     }
 }
 
-/// Ends each instance whose deadline is before the moment.
+/// Ends each instance whose deadline is before the moment as NO_REPLY.
 pub fn time_out_all(instances: &mut Instances, now: Moment)
+    // Each instance in progress with a deadline before the moment is over with NO_REPLY, and each
+    // other stays as it was.
     ensures { instances.new ≡ map (timed_out now) instances.old }
 {
     'each: for instance in instances.as_mut_slice() {
@@ -44,8 +50,10 @@ pub fn time_out_all(instances: &mut Instances, now: Moment)
     }
 }
 
-/// Ends what a workunit that is given up still waits for.
+/// Ends what a workunit that is given up still waits for, of one instance.
 pub fn give_up(instance: &mut Instance)
+    // A viable success is NO_CHECK, an unsent instance is over with DIDNT_NEED, and any other stays
+    // as it was.
     ensures { instance.new ≡ given_up instance.old }
 {
     if is_viable(instance) {
@@ -57,6 +65,8 @@ pub fn give_up(instance: &mut Instance)
 
 /// Ends what a workunit that is given up still waits for, of each instance.
 pub fn give_up_all(instances: &mut Instances)
+    // Each viable success is NO_CHECK, each unsent instance is over with DIDNT_NEED, and each other
+    // stays as it was.
     ensures { instances.new ≡ map given_up instances.old }
 {
     'each: for instance in instances.as_mut_slice() {
@@ -64,8 +74,9 @@ pub fn give_up_all(instances: &mut Instances)
     }
 }
 
-/// Readies a workunit that waited for a decision for the assimilator.
+/// Makes a workunit without a decision READY for assimilation.
 pub fn ready_assimilate(assimilate: &mut Assimilate)
+    // The state INIT becomes READY, and any other stays.
     ensures { assimilate.new ≡ readied_assimilate assimilate.old }
 {
     if *assimilate == Assimilate::Init {

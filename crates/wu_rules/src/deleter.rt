@@ -7,7 +7,7 @@ ghost use Rattle.wu_rules.specs.Assimilation.{without_output, emptied, is_to_del
 
 use wu_core::{FileDelete, Instance, Instances, Workunit};
 
-/// Empties an output that is ready for deletion.
+/// Empties an output that is READY for deletion.
 fn delete_output(instance: &mut Instance)
     ensures { instance.new ≡ without_output instance.old }
 {
@@ -17,7 +17,7 @@ fn delete_output(instance: &mut Instance)
     }
 }
 
-/// Empties each output that is ready for deletion.
+/// Empties each output that is READY for deletion.
 fn delete_outputs(instances: &mut Instances)
     ensures { instances.new ≡ map without_output instances.old }
 {
@@ -26,9 +26,11 @@ fn delete_outputs(instances: &mut Instances)
     }
 }
 
-/// Empties the input and the outputs that are ready for deletion.
+/// Empties the input and the outputs that are READY for deletion.
 #[tactic(auto, unfolding(crate::specs::Assimilation::emptied))]
 pub fn delete_files(workunit: &mut Workunit)
+    // Each input or output that is READY for deletion is empty and DONE, and all else stays as it
+    // was.
     ensures { workunit.new ≡ emptied workunit.old }
 {
     if workunit.file_delete == FileDelete::Ready {
@@ -38,7 +40,7 @@ pub fn delete_files(workunit: &mut Workunit)
     delete_outputs(&mut workunit.instances);
 }
 
-/// Whether an output is ready for deletion.
+/// Returns whether an output is READY for deletion.
 fn has_output_to_delete(instances: &Instances) -> bool
     ensures { result ≡ list_any (λ i. is_ready_file i.file_delete) instances.now }
 {
@@ -47,9 +49,10 @@ fn has_output_to_delete(instances: &Instances) -> bool
         .any(|instance| instance.file_delete == FileDelete::Ready)
 }
 
-/// Whether an input or an output is ready for deletion.
+/// Returns whether the input or an output is READY for deletion.
 #[tactic(auto, unfolding(crate::specs::Assimilation::is_to_delete))]
 pub fn wants_deletion(workunit: &Workunit) -> bool
+    // The result is true exactly if the input or an output is READY for deletion.
     ensures { result ≡ is_to_delete workunit.now }
 {
     workunit.file_delete == FileDelete::Ready || has_output_to_delete(&workunit.instances)

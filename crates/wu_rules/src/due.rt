@@ -1,4 +1,4 @@
-//! Which workunits a pass changes.
+//! For which workunits a pass is due.
 
 ghost use Rattle.std.specs.Prelude.{◌≡◌, ◌≤◌};
 ghost use Rattle.wu_core.specs.Limits.{longest_age};
@@ -20,7 +20,7 @@ pub enum Pass {
     Purge,
 }
 
-/// Whether the workunit is to be looked at by this moment.
+/// Returns whether a transition is due for the workunit at this moment.
 fn is_awake(workunit: &Workunit, now: Moment) -> bool
     ensures { result ≡ changes Pass.Transition now 0 workunit.now }
 {
@@ -30,9 +30,13 @@ fn is_awake(workunit: &Workunit, now: Moment) -> bool
     }
 }
 
-/// Whether the pass changes the workunit. The least age, 0 to a year of 365 days in seconds, is for the purge alone.
+/// Returns whether the pass is due for the workunit: whether it would change it now. The least age in seconds, at most
+/// 365 days, is used by the purge only.
 pub fn changes(pass: Pass, now: Moment, min_age: u64, workunit: &Workunit) -> bool
+    // The least age is at most 31,536,000 seconds, 365 days.
     requires { min_age ≤ longest_age }
+    // The result is true exactly if the pass, at this moment and with this least age, is due for
+    // the workunit.
     ensures { result ≡ changes pass now min_age workunit.now }
 {
     match pass {

@@ -1,5 +1,4 @@
-//! The rules on one workunit: transitioner, validator, assimilator, file deleter, purge and cancelling; and the
-//! verdicts on what is said to be sent or reported.
+//! The rules on one workunit: transitioner, validator, assimilator, file deleter, purge, cancel, sends and reports.
 #![tactic(auto)]
 
 mod assimilator;

@@ -1,4 +1,4 @@
-//! What each pass would select a workunit by, whatever the moment.
+//! The marks by which each pass selects a workunit, at any moment.
 
 ghost use Rattle.std.specs.Prelude.{◌≡◌};
 ghost use Rattle.wu_rules.specs.Marks.{is_through, marks, purge_from};
@@ -9,7 +9,7 @@ use crate::purge::is_all_spent;
 use crate::waking::wake_of;
 use wu_core::{Assimilate, FileDelete, Marks, Moment, Workunit};
 
-/// Whether the workunit is assimilated, all its instances are over, and its input and outputs are deleted.
+/// Returns whether the workunit is DONE, all its instances are over, and its input and outputs are deleted.
 fn is_through(workunit: &Workunit) -> bool
     ensures { result ≡ is_through workunit.now }
 {
@@ -18,7 +18,7 @@ fn is_through(workunit: &Workunit) -> bool
         && is_all_spent(&workunit.instances)
 }
 
-/// Since when a workunit that is through waits for its purge.
+/// Returns when a workunit that waits only for its purge was assimilated; otherwise `None`.
 fn purge_from(workunit: &Workunit) -> Option<Moment>
     ensures { result ≡ purge_from workunit.now }
 {
@@ -29,9 +29,11 @@ fn purge_from(workunit: &Workunit) -> Option<Moment>
     }
 }
 
-/// What each pass selects the workunit by. A pass selects it at a moment exactly where it would change it then.
+/// Returns the marks by which each pass selects the workunit.
 #[tactic(auto, unfolding(crate::specs::Marks::marks))]
 pub fn marks_of(workunit: &Workunit) -> Marks
+    // The marks are when a transition is due, whether each other pass is, and when a workunit that
+    // waits only for its purge was assimilated.
     ensures { result ≡ marks workunit.now }
 {
     Marks {

@@ -1,4 +1,4 @@
-//! What a scheduler did with one instance: it sent it to a host, or a host reported it.
+//! Sends of instances to hosts, and reports of hosts.
 
 ghost use Rattle.std.specs.Prelude.{◌≡◌, ◌≢◌, ◌+◌, ◌&&◌, not};
 ghost use Rattle.std.specs.List.{list_any};
@@ -17,7 +17,7 @@ use wu_core::{
     ValidateState, Workunit,
 };
 
-/// Whether the instance is this host's.
+/// Returns whether the instance is this host's.
 fn is_of(instance: &Instance, host: &Name) -> bool
     ensures { result ≡ is_of host.now instance.now }
 {
@@ -27,21 +27,21 @@ fn is_of(instance: &Instance, host: &Name) -> bool
     }
 }
 
-/// Whether some instance is this host's.
+/// Returns whether an instance is this host's.
 fn has_one_of(instances: &Instances, host: &Name) -> bool
     ensures { result ≡ list_any (is_of host.now) instances.now }
 {
     instances.iter().any(|instance| is_of(instance, host))
 }
 
-/// Whether the workunit is active, and its class is not this one.
+/// Returns whether the workunit is active and its class is another.
 fn is_bound_elsewhere(workunit: &Workunit, class: u32) -> bool
     ensures { result ≡ is_bound_elsewhere workunit.now class }
 {
     has_active(workunit) && workunit.class != class
 }
 
-/// The verdict on sending the instance of this number to the host of this class.
+/// Returns the verdict on a send of the instance of this number to the host of this class.
 fn send_verdict(workunit: &Workunit, n: u32, host: &Name, class: u32) -> SendVerdict
     ensures { result ≡ send_verdict_in workunit.now n host.now class }
 {
@@ -54,14 +54,14 @@ fn send_verdict(workunit: &Workunit, n: u32, host: &Name, class: u32) -> SendVer
     }
 }
 
-/// When an instance of the workunit is due that is sent at the moment.
+/// Returns the deadline of an instance that is sent at the moment.
 fn deadline_of(workunit: &Workunit, sent_at: Moment) -> Deadline
     ensures { result ≡ sent_at + workunit.now.params.delay_bound }
 {
     sent_at.after(workunit.params.delay_bound())
 }
 
-/// The instance goes to the host.
+/// Makes the instance IN_PROGRESS at the host.
 fn put_in_progress(instance: &mut Instance, host: Name, sent_at: Moment, deadline: Deadline)
     ensures { instance.new ≡ due_at deadline host sent_at instance.old }
 {
@@ -71,14 +71,20 @@ fn put_in_progress(instance: &mut Instance, host: Name, sent_at: Moment, deadlin
     instance.deadline = Some(deadline);
 }
 
-/// Sends the instance of this number to the host of this class: it is in progress from this moment on, due after the
-/// workunit's delay, and the workunit is bound to the class. The instance has to wait to be sent, the host to have none
-/// of its workunit, and the workunit, where it is active, to be of this class; else nothing changes, and the verdict
-/// says why.
+/// Sends the instance of this number to the host of this class. It is then in progress from this moment, due after the
+/// workunit's delay, and the workunit has the class.
+///
+/// The instance has to be unsent, the host may have none of the workunit, and an active workunit has to be of this
+/// class. Otherwise nothing changes, and the verdict says why.
 pub fn send(workunit: &mut Workunit, n: u32, host: Name, class: u32, moment: Moment) -> SendVerdict
+    // The verdict is the first that holds of `Unknown`, `NotUnsent`, `SameHost` and `Class`, or
+    // `Applied`.
     ensures verdict { result ≡ send_verdict_in workunit.old n host class }
+    // If applied, the instance is in progress at the host, due after the workunit's delay, the
+    // workunit has the host's class, and nothing else changes.
     ensures applied { result ≡ send_verdict.Applied
         → workunit.new ≡ sent_in workunit.old n host class moment }
+    // If not applied, the workunit stays as it was.
     ensures skipped { result ≢ send_verdict.Applied → workunit.new ≡ workunit.old }
 {
     let verdict = send_verdict(workunit, n, &host, class);
@@ -91,7 +97,7 @@ pub fn send(workunit: &mut Workunit, n: u32, host: Name, class: u32, moment: Mom
     verdict
 }
 
-/// Whether the instance was sent after the moment.
+/// Returns whether the instance was sent after the moment.
 fn is_sent_after(instance: &Instance, moment: Moment) -> bool
     ensures { result ≡ is_sent_after moment instance.now }
 {
@@ -101,14 +107,14 @@ fn is_sent_after(instance: &Instance, moment: Moment) -> bool
     }
 }
 
-/// Whether the instance has ended, and not for want of a reply.
+/// Returns whether the instance is over, with another outcome than NO_REPLY.
 fn has_ended(instance: &Instance) -> bool
     ensures { result ≡ (is_over instance.now && not (is_no_reply instance.now.outcome)) }
 {
     is_over(instance) && instance.outcome != Outcome::NoReply
 }
 
-/// The verdict on the host's report of the instance.
+/// Returns the verdict on the host's report of the instance.
 fn report_verdict_of(instance: &Instance, host: &Name, moment: Moment) -> ReportVerdict
     ensures { result ≡ report_verdict_of host.now moment instance.now }
 {
@@ -125,7 +131,7 @@ fn report_verdict_of(instance: &Instance, host: &Name, moment: Moment) -> Report
     }
 }
 
-/// The verdict on the host's report of the instance of this number.
+/// Returns the verdict on the host's report of the instance of this number.
 fn report_verdict(workunit: &Workunit, n: u32, host: &Name, moment: Moment) -> ReportVerdict
     ensures { result ≡ report_verdict_in workunit.now n host.now moment }
 {
@@ -135,7 +141,7 @@ fn report_verdict(workunit: &Workunit, n: u32, host: &Name, moment: Moment) -> R
     }
 }
 
-/// The outcome that a status stands for.
+/// Returns the outcome of an instance that is reported with the status.
 fn outcome_of(status: Status) -> Outcome
     ensures { result ≡ outcome_of status }
 {
@@ -146,7 +152,7 @@ fn outcome_of(status: Status) -> Outcome
     }
 }
 
-/// The instance is over with what its host says.
+/// Ends the instance as its host reports it.
 fn end_as(instance: &mut Instance, received_at: Moment, status: Status, output: Bytes)
     ensures { instance.new ≡ reported_as received_at status output instance.old }
 {
@@ -158,9 +164,11 @@ fn end_as(instance: &mut Instance, received_at: Moment, status: Status, output: 
     instance.output = output;
 }
 
-/// Takes the host's report of the instance of this number: it is over at this moment with what the host says, its
-/// output is kept, and it waits for the validator. The host has to be the one that it was sent to, no later than the
-/// moment, and it must not have ended but for want of a reply; else nothing changes, and the verdict says why.
+/// Applies the host's report of the instance of this number. It is then over at this moment with the reported outcome
+/// and output, and waits for the validator.
+///
+/// The instance has to have been sent to this host, not after the moment, and must not be over, except with NO_REPLY.
+/// Otherwise nothing changes, and the verdict says why.
 pub fn report(
     workunit: &mut Workunit,
     n: u32,
@@ -169,9 +177,14 @@ pub fn report(
     status: Status,
     output: Bytes,
 ) -> ReportVerdict
+    // The verdict is the first that holds of `Unknown`, `NotSent`, `WrongHost`, `BeforeSent` and
+    // `Over`, or `Applied`.
     ensures verdict { result ≡ report_verdict_in workunit.old n host.now moment }
+    // If applied, the instance is over with the reported outcome and output and without a verdict,
+    // and nothing else changes.
     ensures applied { result ≡ report_verdict.Applied
         → workunit.new ≡ reported_in workunit.old n moment status output }
+    // If not applied, the workunit stays as it was.
     ensures skipped { result ≢ report_verdict.Applied → workunit.new ≡ workunit.old }
 {
     let verdict = report_verdict(workunit, n, host, moment);

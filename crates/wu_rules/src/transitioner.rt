@@ -16,7 +16,7 @@ use crate::instance::{is_over, is_viable};
 use std::alloc::Global;
 use wu_core::{Assimilate, ErrorMask, Fault, FileDelete, Instance, Instances, Moment, Workunit};
 
-/// What the transitioner is to do with a workunit, once what is overdue has timed out.
+/// What a transition does with the bits of a workunit's mask and with new instances, after timeouts.
 #[derive(Clone, Copy, PartialEq, Eq)]
 pub struct Plan {
     pub has_too_many_errors: bool,
@@ -24,7 +24,7 @@ pub struct Plan {
     pub added: usize,
 }
 
-/// Results that are still wanted, once what is overdue has timed out.
+/// Returns how many results are still needed after timeouts.
 fn needed_count(workunit: &Workunit, now: Moment) -> usize
     ensures { result ≡ needed (timed workunit.now now) }
 {
@@ -32,7 +32,7 @@ fn needed_count(workunit: &Workunit, now: Moment) -> usize
     (workunit.params.target_nresults() as usize).saturating_sub(awaited)
 }
 
-/// Instances that may still be made.
+/// Returns how many instances may still be made.
 fn allowed_count(workunit: &Workunit) -> usize
     ensures value { result ≡ allowed workunit.now }
     ensures room { length workunit.now.instances + result ≤ most_instances }
@@ -41,7 +41,7 @@ fn allowed_count(workunit: &Workunit) -> usize
 }
 
 #[tactic(auto, using(crate::proofs::Timing::timings))]
-/// Whether the workunit waits for nobody and has nothing to validate, once what is overdue has timed out.
+/// Returns whether, after timeouts, no instance is unsent or in progress and the workunit needs no validation.
 fn is_idle(workunit: &Workunit, now: Moment) -> bool
     ensures { result ≡ is_idle (timed workunit.now now) }
 {
@@ -50,11 +50,18 @@ fn is_idle(workunit: &Workunit, now: Moment) -> bool
         && !wants_validation(workunit)
 }
 
-/// What the transitioner is to do with the workunit.
+/// Returns what a transition at this moment does with the bits of the mask and with new instances.
 pub fn plan_of(workunit: &Workunit, now: Moment) -> Plan
+    // `has_too_many_errors` is true exactly if, after timeouts, an undecided workunit has more
+    // errors than `max_error_results`.
     ensures errors { result.has_too_many_errors ≡ has_too_many_errors (timed workunit.now now) }
+    // `has_too_many_total` is true exactly if, after timeouts, an undecided workunit with allowed
+    // errors needs instances, may have none, and waits for nothing.
     ensures total { result.has_too_many_total ≡ has_too_many_total (timed workunit.now now) }
+    // `added` is the lesser of the needed and the allowed instances after timeouts, of an undecided
+    // workunit with allowed errors, and else 0.
     ensures added { result.added ≡ added (timed workunit.now now) }
+    // There are at most 100 instances with the new ones.
     ensures room { length workunit.now.instances + result.added ≤ most_instances }
 {
     let is_undecided = is_undecided(workunit);
@@ -70,17 +77,24 @@ pub fn plan_of(workunit: &Workunit, now: Moment) -> Plan
     }
 }
 
-/// What the transitioner is to do with the workunit whatever the moment.
+/// Returns what a transition does with the bits of the mask and with new instances before any timeout.
 pub fn plan_at_once(workunit: &Workunit) -> Plan
+    // `has_too_many_errors` is true exactly if an undecided workunit has more errors than
+    // `max_error_results`.
     ensures errors { result.has_too_many_errors ≡ has_too_many_errors workunit.now }
+    // `has_too_many_total` is true exactly if an undecided workunit with allowed errors needs
+    // instances, may have none, and waits for nothing.
     ensures total { result.has_too_many_total ≡ has_too_many_total workunit.now }
+    // `added` is the lesser of the needed and the allowed instances, of an undecided workunit with
+    // allowed errors, and else 0.
     ensures added { result.added ≡ added workunit.now }
 {
     plan_of(workunit, Moment::first())
 }
 
-/// Sets the new bits.
+/// Sets the new bits of the mask.
 fn mark(mask: &mut ErrorMask, plan: Plan)
+    // A bit is set exactly if it was, or the plan sets it; the other bits stay.
     ensures { mask.new ≡ record mask.old {
       too_many_error_results = mask.old.too_many_error_results || plan.has_too_many_errors;
       too_many_total_results = mask.old.too_many_total_results || plan.has_too_many_total;
@@ -94,7 +108,7 @@ fn mark(mask: &mut ErrorMask, plan: Plan)
     }
 }
 
-/// Times out what is overdue, makes the new instances and sets the new bits. For want of memory nothing changes.
+/// Ends overdue instances, makes the new instances and sets the new bits. If out of memory, nothing changes.
 fn extend(alloc: Global, workunit: &mut Workunit, now: Moment) -> Result<(), Fault>
     ensures ok { OnOk result (workunit.new ≡ extended (timed workunit.old now)) }
     ensures fault { FailsForMemory result }
@@ -107,7 +121,7 @@ fn extend(alloc: Global, workunit: &mut Workunit, now: Moment) -> Result<(), Fau
     Ok(())
 }
 
-/// Ends what a workunit under a mask still waits for, and readies it for the assimilator.
+/// Ends what a workunit that is given up still waits for, and makes it READY for assimilation.
 fn settle(workunit: &mut Workunit)
     ensures { workunit.new ≡ settled workunit.old }
 {
@@ -117,20 +131,23 @@ fn settle(workunit: &mut Workunit)
     }
 }
 
-/// Whether the instance is over and has nothing left to validate.
+/// Returns whether the instance is over and has nothing left to validate.
 pub fn is_finished(instance: &Instance) -> bool
+    // The result is true exactly if the instance is over and not a viable success.
     ensures { result ≡ is_finished instance.now }
 {
     is_over(instance) && !is_viable(instance)
 }
 
-/// Whether the output of an instance may go.
+/// Returns whether the output of an instance may be deleted.
 pub fn may_output_go(
     canonical: Option<u32>,
     is_all_finished: bool,
     n: usize,
     instance: &Instance,
 ) -> bool
+    // The canonical output may be deleted if all instances are finished, and any other if its own
+    // instance is.
     ensures { result ≡ may_output_go canonical is_all_finished n instance.now }
 {
     match canonical {
@@ -139,7 +156,7 @@ pub fn may_output_go(
     }
 }
 
-/// Names a file that may go for deletion.
+/// Marks a file as READY for deletion, if it may go and is INIT.
 fn ready_file(file_delete: &mut FileDelete, may_go: bool)
     ensures { file_delete.new ≡ readied_file may_go file_delete.old }
 {
@@ -148,28 +165,30 @@ fn ready_file(file_delete: &mut FileDelete, may_go: bool)
     }
 }
 
-/// Names the output of an instance for deletion if it may go.
+/// Marks the output of an instance as READY for deletion, if it may go and is INIT.
 fn ready_output(instance: &mut Instance, may_go: bool)
     ensures { instance.new ≡ output_readied may_go instance.old }
 {
     ready_file(&mut instance.file_delete, may_go);
 }
 
-/// Whether all instances are finished.
+/// Returns whether all instances are finished: over, with nothing left to validate.
 pub fn is_all_finished(instances: &Instances) -> bool
+    // The result is true exactly if each instance is over and not a viable success.
     ensures { result ≡ list_all is_finished instances.now }
 {
     instances.iter().all(is_finished)
 }
 
-/// Whether all instances are over.
+/// Returns whether all instances are over.
 pub fn is_all_over(instances: &Instances) -> bool
+    // The result is true exactly if each instance is over.
     ensures { result ≡ list_all is_over instances.now }
 {
     instances.iter().all(is_over)
 }
 
-/// Names the outputs that may go for deletion.
+/// Marks the outputs that may go as READY for deletion.
 fn ready_outputs(instances: &mut Instances, canonical: Option<u32>)
     ensures { instances.new ≡ outputs_readied canonical instances.old }
 {
@@ -180,7 +199,7 @@ fn ready_outputs(instances: &mut Instances, canonical: Option<u32>)
     }
 }
 
-/// Once the workunit is assimilated, names its input and the outputs that may go for deletion.
+/// Marks the input and the outputs that may go as READY for deletion, if the workunit is DONE.
 fn ready(workunit: &mut Workunit)
     ensures { workunit.new ≡ readied workunit.old }
 {
@@ -191,7 +210,7 @@ fn ready(workunit: &mut Workunit)
     }
 }
 
-/// Frees a workunit that is not active from its class.
+/// Sets the class of a workunit without an active instance to 0.
 fn unbind(workunit: &mut Workunit)
     ensures { workunit.new ≡ unbound workunit.old }
 {
@@ -200,13 +219,17 @@ fn unbind(workunit: &mut Workunit)
     }
 }
 
-/// Times out what is overdue, gives up what bears no more, makes the instances that are wanted, closes what is given
-/// up, names the files that nobody needs any more for deletion, and frees a workunit that is not active from its
-/// class. For want of memory nothing changes.
+/// Ends overdue instances, gives up a workunit at its limits, and makes the instances that are needed. Closes a
+/// workunit that is given up, marks files for deletion, and sets the class of an inactive workunit to 0. If out of
+/// memory, nothing changes.
 #[tactic(auto, unfolding(crate::specs::Transition::transitioned))]
 pub fn transition(alloc: Global, workunit: &mut Workunit, now: Moment) -> Result<(), Fault>
+    // On success the workunit is the rule's image: timeouts, limits, new instances, closing, files
+    // to delete, and class.
     ensures ok { OnOk result (workunit.new ≡ transitioned workunit.old now) }
+    // The only fault is `Memory`.
     ensures fault { FailsForMemory result }
+    // On a fault the workunit stays as it was.
     ensures unchanged { OnErr result (workunit.new ≡ workunit.old) }
 {
     extend(alloc, workunit, now)?;

@@ -15,7 +15,7 @@ use crate::instance::{is_new, is_viable};
 use std::alloc::{AllocError, Global};
 use wu_core::{Fault, FileDelete, Grant, Instance, Instances, Outcome, ValidateState, Workunit};
 
-/// Whether the validator judges the instance: a viable success before the decision, a new one after it.
+/// Returns whether the validator judges the instance: a viable success before the decision, a new one after it.
 fn is_judged(instance: &Instance, is_undecided: bool) -> bool
     ensures { result ≡ is_judged_where is_undecided instance.now }
 {
@@ -26,28 +26,28 @@ fn is_judged(instance: &Instance, is_undecided: bool) -> bool
     }
 }
 
-/// Whether the output of the instance has no bytes.
+/// Returns whether the output of the instance has no bytes.
 fn is_empty(instance: &Instance) -> bool
     ensures { result ≡ is_empty instance.now.output }
 {
     instance.output.is_empty()
 }
 
-/// Whether the validator judges the instance and finds an empty output, which is no result.
+/// Returns whether the validator judges the instance and refuses it, since its output is empty.
 fn is_no_result(instance: &Instance, is_undecided: bool) -> bool
     ensures { result ≡ is_no_result is_undecided instance.now }
 {
     is_judged(instance, is_undecided) && is_empty(instance)
 }
 
-/// Whether the validator judges the instance still, once what is no result is refused.
+/// Returns whether the validator judges the instance after empty outputs are refused.
 fn is_result(instance: &Instance, is_undecided: bool) -> bool
     ensures { result ≡ is_judged_where is_undecided (refused_where is_undecided instance.now) }
 {
     is_judged(instance, is_undecided) && !is_empty(instance)
 }
 
-/// Refuses an instance that is no result, as an error of validation.
+/// Refuses a judged instance with an empty output, as VALIDATE_ERROR and INVALID.
 fn refuse(instance: &mut Instance, is_undecided: bool)
     ensures { instance.new ≡ refused_where is_undecided instance.old }
 {
@@ -57,7 +57,7 @@ fn refuse(instance: &mut Instance, is_undecided: bool)
     }
 }
 
-/// Refuses each instance whose output is empty, of those that are judged now.
+/// Refuses each judged instance with an empty output, as VALIDATE_ERROR and INVALID.
 fn refuse_all(instances: &mut Instances, is_undecided: bool)
     ensures { instances.new ≡ map (refused_where is_undecided) instances.old }
 {
@@ -66,15 +66,15 @@ fn refuse_all(instances: &mut Instances, is_undecided: bool)
     }
 }
 
-/// Whether the output of the instance is this one, byte for byte.
+/// Returns whether the instance has this output, byte for byte.
 fn agrees(instance: &Instance, output: &[u8]) -> bool
     ensures { result ≡ bytes_eq instance.now.output output.now }
 {
     instance.output.as_slice() == output
 }
 
-/// Whether the validator judges the instance before the decision, once what is no result is refused, and finds this
-/// output.
+/// Returns whether the validator judges the instance before the decision, after empty outputs are refused, and whether
+/// it has this output.
 fn is_result_with(instance: &Instance, output: &[u8]) -> bool
     ensures { result ≡ (is_viable (refused_where true instance.now)
         && bytes_eq instance.now.output output.now) }
@@ -82,7 +82,7 @@ fn is_result_with(instance: &Instance, output: &[u8]) -> bool
     is_result(instance, true) && agrees(instance, output)
 }
 
-/// How many viable results have this output, once what is no result is refused.
+/// Returns how many viable successes have this output after empty outputs are refused.
 fn agreeing_count(instances: &[Instance], output: &[u8]) -> usize
     ensures { result ≡ length (filter (λ i. is_viable (refused_where true i)
         && bytes_eq i.output output.now) instances.now) }
@@ -93,9 +93,11 @@ fn agreeing_count(instances: &[Instance], output: &[u8]) -> usize
         .count()
 }
 
-/// Whether enough viable results agree with this one, once what is no result is refused.
+/// Returns whether enough viable successes agree with this one after empty outputs are refused.
 #[tactic(auto, using(crate::proofs::Refusing::agreed_of_left))]
 fn is_agreed(workunit: &Workunit, instance: &Instance) -> bool
+    // The result is true exactly if enough viable successes agree with this one, in the workunit
+    // after empty outputs are refused.
     ensures { let left = with_refused true workunit.now in
         result ≡ is_agreed left (refused_where true instance.now) }
 {
@@ -104,10 +106,13 @@ fn is_agreed(workunit: &Workunit, instance: &Instance) -> bool
         && agreeing_count(workunit.instances.as_slice(), instance.output.as_slice()) >= needed
 }
 
-/// The place of the first viable result on which enough agree, once what is no result is refused.
+/// Returns the number of the first viable success on which enough agree after empty outputs are refused; otherwise
+/// `None`.
 fn first_agreed(workunit: &Workunit) -> Option<usize>
+    // The result is the first place of an instance that is agreed after empty outputs are refused.
     ensures value { let old = workunit.now in let left = with_refused true old in
         result ≡ position_from (λ i. is_agreed left (refused_where true i)) 0 old.instances }
+    // The place is below 100.
     ensures within { IfSome result (λ n. n < most_instances) }
 {
     workunit
@@ -116,7 +121,7 @@ fn first_agreed(workunit: &Workunit) -> Option<usize>
         .position(|instance| is_agreed(workunit, instance))
 }
 
-/// The number of the result that is chosen, if there is one, once what is no result is refused.
+/// Returns the number of the result that is chosen after empty outputs are refused; `None` if there is no consensus.
 fn consensus(workunit: &Workunit) -> Option<usize>
     ensures value { result ≡ consensus (with_refused true workunit.now) }
     ensures within { IfSome result (λ n. n < most_instances) }
@@ -124,8 +129,10 @@ fn consensus(workunit: &Workunit) -> Option<usize>
     first_agreed(workunit)
 }
 
-/// The output of the instance of this number, or no bytes where there is none.
+/// Returns the output of the instance of this number, or no bytes if there is no such instance.
 pub fn output_at(instances: &[Instance], n: usize) -> &[u8]
+    // The result is the output of the instance of this number, or no bytes if there is no such
+    // instance.
     ensures { result.now ≡ output_at instances.now n }
 {
     match instances.get(n) {
@@ -134,7 +141,7 @@ pub fn output_at(instances: &[Instance], n: usize) -> &[u8]
     }
 }
 
-/// Whether the output of the instance of this number was deleted.
+/// Returns whether the output of the instance of this number was deleted.
 fn is_deleted_at(instances: &[Instance], n: usize) -> bool
     ensures { result ≡ is_deleted_at instances.now n }
 {
@@ -144,7 +151,7 @@ fn is_deleted_at(instances: &[Instance], n: usize) -> bool
     }
 }
 
-/// The credit of an instance for its host, if it has one.
+/// Returns the grant of an instance to its host; `None` if it has no host.
 fn grant_of(workunit: &Workunit, n: usize, instance: &Instance) -> Result<Option<Grant>, AllocError>
     requires { n < most_instances }
     ensures { IfOk result (λ grant. grant ≡ grant_of workunit.now n instance.now) }
@@ -160,7 +167,7 @@ fn grant_of(workunit: &Workunit, n: usize, instance: &Instance) -> Result<Option
     }
 }
 
-/// The credit of an instance that is made VALID by this output, once what is no result is refused.
+/// Returns the grant of an instance that this output makes VALID after empty outputs are refused; otherwise `None`.
 fn granted_to(
     workunit: &Workunit,
     output: &[u8],
@@ -188,7 +195,7 @@ fn push_some(list: &mut Vec<Grant>, grant: Option<Grant>) -> Result<(), AllocErr
     Ok(())
 }
 
-/// The grants of the instances that are made VALID by this output, once what is no result is refused.
+/// Returns the grants of the instances that this output makes VALID after empty outputs are refused.
 fn grants_by(alloc: Global, workunit: &Workunit, output: &[u8]) -> Result<Vec<Grant>, AllocError>
     ensures { let left = with_refused (is_none workunit.now.canonical) workunit.now in
         IfOk result (λ list. list.items ≡ grants_by left output.now) }
@@ -201,7 +208,7 @@ fn grants_by(alloc: Global, workunit: &Workunit, output: &[u8]) -> Result<Vec<Gr
     Ok(list)
 }
 
-/// The grants of what came after the decision for this canonical result, once what is no result is refused.
+/// Returns the grants of new successes after the decision for this canonical result, after empty outputs are refused.
 fn grants_after(alloc: Global, workunit: &Workunit, n: usize) -> Result<Vec<Grant>, AllocError>
     ensures { let left = with_refused (is_none workunit.now.canonical) workunit.now in
         IfOk result (λ list. list.items ≡ grants_after left n) }
@@ -214,8 +221,9 @@ fn grants_after(alloc: Global, workunit: &Workunit, n: usize) -> Result<Vec<Gran
     }
 }
 
-/// The grants by the consensus of an undecided workunit, once what is no result is refused.
+/// Returns the grants by the consensus of an undecided workunit after empty outputs are refused.
 fn grants_by_consensus(alloc: Global, workunit: &Workunit) -> Result<Vec<Grant>, AllocError>
+    // The workunit has no canonical result.
     requires { is_none workunit.now.canonical ≡ true }
     ensures { let left = with_refused true workunit.now in
         IfOk result (λ list. list.items ≡ grants_by_consensus left) }
@@ -226,8 +234,9 @@ fn grants_by_consensus(alloc: Global, workunit: &Workunit) -> Result<Vec<Grant>,
     }
 }
 
-/// The grants that are due once what is no result is refused, if there is something to look at then.
+/// Returns the grants that are due if the workunit still needs validation after empty outputs are refused.
 fn grants_of_rest(alloc: Global, workunit: &Workunit) -> Result<Vec<Grant>, AllocError>
+    // The list has the grants that are due in the workunit after empty outputs are refused.
     ensures { let left = with_refused (is_none workunit.now.canonical) workunit.now in
         IfOk result (λ list. list.items ≡ granted_by left left.canonical) }
 {
@@ -237,7 +246,7 @@ fn grants_of_rest(alloc: Global, workunit: &Workunit) -> Result<Vec<Grant>, Allo
     }
 }
 
-/// The verdict on an output that equals the canonical one, or does not.
+/// Returns the verdict on an output that equals the canonical one, or differs from it.
 fn verdict(is_equal: bool) -> ValidateState
     ensures { result ≡ verdict is_equal }
 {
@@ -248,7 +257,7 @@ fn verdict(is_equal: bool) -> ValidateState
     }
 }
 
-/// Judges a viable success, and closes what waits to be sent.
+/// Gives a viable success its verdict, and closes an unsent instance.
 fn judge(instance: &mut Instance, is_equal: bool)
     ensures { instance.new ≡ judged is_equal instance.old }
 {
@@ -259,7 +268,7 @@ fn judge(instance: &mut Instance, is_equal: bool)
     }
 }
 
-/// Judges a success that came after the decision.
+/// Gives a new success after the decision its verdict.
 fn judge_late(instance: &mut Instance, is_gone: bool, is_equal: bool)
     ensures { instance.new ≡ judged_late is_gone is_equal instance.old }
 {
@@ -272,14 +281,14 @@ fn judge_late(instance: &mut Instance, is_gone: bool, is_equal: bool)
     }
 }
 
-/// Whether the outputs of two instances are equal, byte for byte.
+/// Returns whether the outputs of two instances are equal, byte for byte.
 fn agrees_at(instances: &[Instance], k: usize, n: usize) -> bool
     ensures { result ≡ bytes_eq (output_at instances.now k) (output_at instances.now n) }
 {
     output_at(instances, k) == output_at(instances, n)
 }
 
-/// Judges all viable successes by the output of one instance.
+/// Gives all viable successes their verdicts by the output of one instance, and closes unsent instances.
 fn judge_all(instances: &mut Instances, n: usize)
     ensures { instances.new ≡ all_judged n instances.old }
 {
@@ -290,7 +299,8 @@ fn judge_all(instances: &mut Instances, n: usize)
     }
 }
 
-/// Judges all successes that came after the decision by the output of one instance, or finds that it is gone.
+/// Gives all new successes after the decision their verdicts: by the output of one instance, or TOO_LATE if that is
+/// deleted.
 fn judge_all_late(instances: &mut Instances, n: usize, is_gone: bool)
     ensures { instances.new ≡ all_judged_late is_gone n instances.old }
 {
@@ -301,7 +311,7 @@ fn judge_all_late(instances: &mut Instances, n: usize, is_gone: bool)
     }
 }
 
-/// Finds a viable success inconclusive.
+/// Makes a viable success INCONCLUSIVE.
 fn doubt(instance: &mut Instance)
     ensures { instance.new ≡ doubted instance.old }
 {
@@ -310,7 +320,7 @@ fn doubt(instance: &mut Instance)
     }
 }
 
-/// Finds each viable success inconclusive.
+/// Makes each viable success INCONCLUSIVE.
 fn doubt_all(instances: &mut Instances)
     ensures { instances.new ≡ map doubted instances.old }
 {
@@ -319,7 +329,7 @@ fn doubt_all(instances: &mut Instances)
     }
 }
 
-/// Finds a viable success inconclusive, and closes what waits to be sent.
+/// Makes a viable success INCONCLUSIVE, and closes an unsent instance.
 fn doubt_or_close(waiting: &mut Instance)
     ensures { waiting.new ≡ doubted_or_closed waiting.old }
 {
@@ -330,7 +340,7 @@ fn doubt_or_close(waiting: &mut Instance)
     }
 }
 
-/// Finds each viable success inconclusive, and closes what waits to be sent.
+/// Makes each viable success INCONCLUSIVE, and closes each unsent instance.
 fn doubt_or_close_all(instances: &mut Instances)
     ensures { instances.new ≡ map doubted_or_closed instances.old }
 {
@@ -349,8 +359,8 @@ fn agree_on(workunit: &mut Workunit, n: usize)
     judge_all(&mut workunit.instances, n);
 }
 
-/// Leaves the viable successes without a decision: gives the workunit up where they are more than it bears, and wants
-/// one more where they have reached its target.
+/// Leaves the workunit without a decision. Gives it up if its viable successes are more than `max_success_results`, and
+/// otherwise raises a target that they have reached to their number plus one.
 fn leave_open(workunit: &mut Workunit)
     ensures { workunit.new ≡ left_open workunit.old }
 {
@@ -366,7 +376,7 @@ fn leave_open(workunit: &mut Workunit)
     doubt_all(&mut workunit.instances);
 }
 
-/// Judges what came after the decision for this canonical result.
+/// Gives the new successes after the decision for this canonical result their verdicts.
 fn judge_after(workunit: &mut Workunit, n: usize)
     ensures { workunit.new ≡ judged_after workunit.old n }
 {
@@ -374,8 +384,9 @@ fn judge_after(workunit: &mut Workunit, n: usize)
     judge_all_late(&mut workunit.instances, n, is_gone);
 }
 
-/// Decides, or leaves the workunit open.
+/// Decides by the consensus, or leaves the workunit without a decision.
 fn decide(workunit: &mut Workunit)
+    // Empty outputs of viable successes are refused already.
     requires { with_refused true workunit.old ≡ workunit.old }
     ensures { workunit.new ≡ decided workunit.old (consensus workunit.old) }
 {
@@ -385,9 +396,10 @@ fn decide(workunit: &mut Workunit)
     }
 }
 
-/// Looks for a consensus among the results of an undecided workunit, or judges what came after the decision. What is no
-/// result was refused before.
+/// Decides an undecided workunit by its consensus, or judges the new successes after a decision. Empty outputs were
+/// refused before.
 fn conclude(workunit: &mut Workunit)
+    // Empty outputs of the successes that are judged are refused already.
     requires { with_refused (is_none workunit.old.canonical) workunit.old ≡ workunit.old }
     ensures { workunit.new ≡ validated_by workunit.old workunit.old.canonical }
 {
@@ -397,15 +409,22 @@ fn conclude(workunit: &mut Workunit)
     }
 }
 
-/// Refuses the successes that it judges and whose output is empty. Then, where there is still something to look at, it
-/// looks for a consensus among the results of an undecided workunit, or judges what came after the decision, and grants
-/// credit to each result that is found valid. Where there is nothing to look at nothing changes, and nothing does for
-/// want of memory.
+/// Validates the workunit, and returns its grants. First it refuses the successes that it judges and whose output is
+/// empty. If the workunit still needs validation, it then looks for a consensus, or judges the successes after a
+/// decision, and grants credit to each that becomes VALID.
+///
+/// A workunit that needs no validation stays as it was. If out of memory, nothing changes.
 #[tactic(auto, unfolding(crate::specs::Validation::validated, crate::specs::Validation::concluded, crate::specs::Validation::grants, crate::specs::Validation::credited))]
 pub fn validate(alloc: Global, workunit: &mut Workunit) -> Result<Vec<Grant>, Fault>
+    // On success the workunit is the rule's image: empty outputs, quorum, canonical result,
+    // verdicts, raised target, success limit, and late results.
     ensures image { OnOk result (workunit.new ≡ validated workunit.old) }
+    // The result is exactly the rule's grants, each for an instance that this validation makes
+    // VALID.
     ensures grants { IfOk result (λ list. list.items ≡ grants workunit.old) }
+    // The only fault is `Memory`.
     ensures fault { FailsForMemory result }
+    // On a fault the workunit stays as it was.
     ensures unchanged { OnErr result (workunit.new ≡ workunit.old) }
 {
     if !wants_validation(workunit) {

@@ -1,34 +1,35 @@
-//! What becomes of a row of sends or of reports: it is applied to its instance, or skipped for a reason.
+//! Verdicts on rows of sends and reports: a row is applied to its instance, or skipped for a reason.
 
 ghost use Rattle.std.specs.Prelude.{◌≡◌, option_map};
 ghost use Rattle.wu_core.specs.Codes.{Decodes};
 ghost use Rattle.wu_rules.specs.Verdicts.{report_verdict_code, report_verdict_word, send_verdict_code, send_verdict_word};
 
-/// What becomes of a row that says an instance was sent to a host: the first that holds, from `Unknown` on, or
-/// `Applied`.
+/// The verdict on a row of sends: the first reason that holds, from `Unknown` on, or `Applied`.
 #[derive(Clone, Copy, PartialEq, Eq)]
 pub enum SendVerdict {
     Applied = 0,
     /// No such instance is present.
     Unknown = 1,
-    /// The instance doesn't wait to be sent.
+    /// The instance is not UNSENT.
     NotUnsent = 2,
     /// The host has an instance of this workunit already.
     SameHost = 3,
-    /// The workunit is active, and its class is not the host's.
+    /// The workunit has an active instance, and its class is not the host's.
     Class = 4,
 }
 
 impl SendVerdict {
-    /// The number of this project, as a table stores it: 0 to 4.
+    /// Returns the number of the verdict in this project, as a table stores it: 0 to 4.
     pub fn code(self) -> u8
+        // The result is the number of the verdict.
         ensures { result ≡ send_verdict_code self }
     {
         self as u8
     }
 
-    /// The verdict of a stored number, if it is the number of one.
+    /// Returns the verdict of a stored number, or `None` if no verdict has it.
     pub fn from_code(code: u8) -> Option<Self>
+        // The number of a verdict reads as that verdict, and any other number as `None`.
         ensures { Decodes send_verdict_code code result }
     {
         match code {
@@ -41,8 +42,9 @@ impl SendVerdict {
         }
     }
 
-    /// The word that an answer prints for a row that was skipped; a row that was applied has none.
+    /// Returns the word that an answer prints for a row that was skipped; `None` for a row that was applied.
     pub fn word(self) -> Option<&'static str>
+        // A verdict that skips a row has its written word, and `Applied` has none.
         ensures { option_map (λ word. word.now) result ≡ send_verdict_word self }
     {
         match self {
@@ -55,7 +57,7 @@ impl SendVerdict {
     }
 }
 
-/// What becomes of a row that says how an instance ended: the first that holds, from `Unknown` on, or `Applied`.
+/// The verdict on a row of reports: the first reason that holds, from `Unknown` on, or `Applied`.
 #[derive(Clone, Copy, PartialEq, Eq)]
 pub enum ReportVerdict {
     Applied = 0,
@@ -65,22 +67,24 @@ pub enum ReportVerdict {
     NotSent = 2,
     /// The instance was sent to another host.
     WrongHost = 3,
-    /// The instance was sent later than reported.
+    /// The instance was sent after the moment of the report.
     BeforeSent = 4,
-    /// The instance has ended already, otherwise than without a reply.
+    /// The instance is over already, with another outcome than NO_REPLY.
     Over = 5,
 }
 
 impl ReportVerdict {
-    /// The number of this project, as a table stores it: 0 to 5.
+    /// Returns the number of the verdict in this project, as a table stores it: 0 to 5.
     pub fn code(self) -> u8
+        // The result is the number of the verdict.
         ensures { result ≡ report_verdict_code self }
     {
         self as u8
     }
 
-    /// The verdict of a stored number, if it is the number of one.
+    /// Returns the verdict of a stored number, or `None` if no verdict has it.
     pub fn from_code(code: u8) -> Option<Self>
+        // The number of a verdict reads as that verdict, and any other number as `None`.
         ensures { Decodes report_verdict_code code result }
     {
         match code {
@@ -94,8 +98,9 @@ impl ReportVerdict {
         }
     }
 
-    /// The word that an answer prints for a row that was skipped; a row that was applied has none.
+    /// Returns the word that an answer prints for a row that was skipped; `None` for a row that was applied.
     pub fn word(self) -> Option<&'static str>
+        // A verdict that skips a row has its written word, and `Applied` has none.
         ensures { option_map (λ word. word.now) result ≡ report_verdict_word self }
     {
         match self {

@@ -1,4 +1,4 @@
-//! When the transitioner has something to do.
+//! When a transition is due.
 
 ghost use Rattle.std.specs.Prelude.{◌≡◌, ◌≤◌, min};
 ghost use Rattle.std.specs.List.{filter_map, reduce, list_any};
@@ -10,21 +10,21 @@ use crate::instance::{is_in_progress, is_unsent, is_viable};
 use crate::transitioner::{is_all_finished, is_all_over, may_output_go, plan_at_once};
 use wu_core::{Assimilate, FileDelete, Instance, Instances, Workunit};
 
-/// Whether an instance waits to be sent.
+/// Returns whether an instance is unsent.
 fn has_unsent(instances: &Instances) -> bool
     ensures { result ≡ list_any is_unsent instances.now }
 {
     instances.iter().any(is_unsent)
 }
 
-/// Whether an instance is a viable success.
+/// Returns whether an instance is a viable success.
 fn has_viable(instances: &Instances) -> bool
     ensures { result ≡ list_any is_viable instances.now }
 {
     instances.iter().any(is_viable)
 }
 
-/// Whether something is not settled yet under a mask.
+/// Returns whether a workunit that is given up is not closed yet.
 fn is_unsettled(workunit: &Workunit) -> bool
     ensures { result ≡ is_unsettled workunit.now }
 {
@@ -34,7 +34,7 @@ fn is_unsettled(workunit: &Workunit) -> bool
             || has_viable(&workunit.instances))
 }
 
-/// Whether the output of this instance may go and was not yet named for deletion.
+/// Returns whether the output of this instance may go and is INIT.
 fn is_output_to_ready(
     canonical: Option<u32>,
     is_all_finished: bool,
@@ -47,7 +47,7 @@ fn is_output_to_ready(
         && instance.file_delete == FileDelete::Init
 }
 
-/// Whether an output may go that was not yet named for deletion.
+/// Returns whether an output may go that is INIT.
 fn has_output_to_ready(instances: &Instances, canonical: Option<u32>) -> bool
     ensures { result ≡ has_output_to_ready canonical instances.now }
 {
@@ -61,7 +61,7 @@ fn has_output_to_ready(instances: &Instances, canonical: Option<u32>) -> bool
     false
 }
 
-/// Whether something may go, after assimilation, that was not yet named for deletion.
+/// Returns whether, in a workunit that is DONE, a file may go that is INIT.
 fn has_files_to_ready(workunit: &Workunit) -> bool
     ensures { result ≡ has_files_to_ready workunit.now }
 {
@@ -70,14 +70,14 @@ fn has_files_to_ready(workunit: &Workunit) -> bool
             || has_output_to_ready(&workunit.instances, workunit.canonical))
 }
 
-/// Whether the workunit is bound to a class though it is not active.
+/// Returns whether the workunit has a class though it has no active instance.
 fn is_to_unbind(workunit: &Workunit) -> bool
     ensures { result ≡ is_to_unbind workunit.now }
 {
     !has_active(workunit) && workunit.class > 0
 }
 
-/// Whether the transitioner has something to do whatever the moment.
+/// Returns whether a transition is due for the workunit before any timeout.
 fn is_due(workunit: &Workunit) -> bool
     ensures { result ≡ is_due workunit.now }
 {
@@ -90,7 +90,7 @@ fn is_due(workunit: &Workunit) -> bool
         || is_to_unbind(workunit)
 }
 
-/// The first second after the deadline of an instance in progress.
+/// Returns the first second after the deadline of an instance in progress; `None` for any other instance.
 fn overdue_from(instance: &Instance) -> Option<u64>
     ensures { result ≡ overdue_from instance.now }
 {
@@ -100,7 +100,7 @@ fn overdue_from(instance: &Instance) -> Option<u64>
     }
 }
 
-/// The first second after the first deadline of an instance in progress.
+/// Returns the first second after the first deadline of an instance in progress; `None` if none is in progress.
 fn first_overdue(instances: &[Instance]) -> Option<u64>
     ensures { result ≡ reduce min (filter_map overdue_from instances.now) }
 {
@@ -110,10 +110,13 @@ fn first_overdue(instances: &[Instance]) -> Option<u64>
         .min()
 }
 
-/// The first moment at which the transitioner has something to do with the workunit: 0 where it has at once, else when
-/// the first deadline has passed. None where it waits for nothing.
+/// Returns the first moment at which a transition is due for the workunit, in seconds. It is 0 if one is due at once,
+/// and otherwise a second after the first deadline of an instance in progress. Returns `None` if the workunit waits for
+/// nothing.
 #[tactic(auto, unfolding(crate::specs::Waking::wake))]
 pub fn wake_of(workunit: &Workunit) -> Option<u64>
+    // The result is 0 if a transition is due at once, else a second after the first deadline of an
+    // instance in progress, or `None`.
     ensures { result ≡ wake workunit.now }
 {
     if is_due(workunit) {

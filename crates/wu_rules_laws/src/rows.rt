@@ -1,15 +1,21 @@
-//! Laws of what is sent and reported: each function's contract is one, for every workunit and every row.
+//! Laws of sends and reports: each function's contract is one, for every workunit and every row.
 
 ghost use Rattle.wu_rules_laws.specs.Rows.{ReportsAsTold, SendsAsTold};
 
-/// A send is applied exactly where the instance waits, the host has none of its workunit, and that is not bound to
-/// another class; it is then out as the row says, its workunit is of the host's class, and nothing else changes.
+/// Proves which sends are applied, and what they change.
 pub fn sends_as_told()
+    // A send is applied exactly if the instance is UNSENT, the host has none of the workunit, and
+    // an active workunit has the host's class. The instance is then in progress at the host from
+    // that moment, due after `delay_bound` seconds, and the workunit has the host's class. Nothing
+    // else changes.
     ensures { SendsAsTold }
 {}
 
-/// A report is applied exactly where the instance is out at this host by then, or ended for want of a reply; it is then
-/// over as the row says, with its output, and nothing else changes.
+/// Proves which reports are applied, and what they change.
 pub fn reports_as_told()
+    // A report is applied exactly if the instance was sent to the host, not after the moment, and
+    // is not over, or over with NO_REPLY. The instance is then over at that moment with the
+    // reported outcome and output, no verdict, and its output not marked for deletion. Nothing else
+    // changes.
     ensures { ReportsAsTold }
 {}

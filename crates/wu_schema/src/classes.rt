@@ -15,10 +15,16 @@ const CREATE_WORKUNIT_CLASS: &str = "CREATE TABLE workunit_class (
   workunit INTEGER PRIMARY KEY REFERENCES workunit (number) ON DELETE CASCADE,
   class INTEGER NOT NULL) STRICT";
 
-/// The tables of the classes of hosts and of workunits.
+/// Makes the tables of the classes of hosts and of workunits.
 pub fn create_classes<S: Alter>(tx: &mut Transaction<'_, S>) -> Result<(), Error>
+    // Commits nothing, so a crash leaves what it left before; after `Ok` the transaction is still
+    // open.
     ensures writes { StatementFrame S.Store tx.old tx.new result }
+    // After `Ok` the two tables of classes are there and empty, nothing had their names, and what
+    // was there stays.
     ensures makes { Does S.Store tx.old tx.new result (MakesTables class_tables) }
+    // An error that counts as `Broken` means that the disk failed in this call, or that the
+    // connection was not open.
     ensures breaks { BreaksAfter S.Store tx.old.conn.now tx.new.conn.now result }
 {
     execute(tx, CREATE_HOST_CLASS, &[])?;
@@ -27,9 +33,13 @@ pub fn create_classes<S: Alter>(tx: &mut Transaction<'_, S>) -> Result<(), Error
 
 /// Makes the tables of classes, with no row, inside a transaction, beside the tables of an older version.
 ///
-/// The store refuses it where one of the names is taken. What was made before a refusal goes with the transaction.
+/// Returns the store's error if one of the names is taken. What was made before the error goes with the transaction.
 pub fn make_classes<S: Alter>(tx: &mut Transaction<'_, S>) -> Result<(), Error>
+    // Commits nothing, so a crash leaves what it left before; after `Ok` the transaction is still
+    // open.
     ensures writes { StatementFrame S.Store tx.old tx.new result }
+    // After `Ok` the empty tables of classes, and nothing else, are added; each represented world,
+    // a queue and all else stay.
     ensures makes { Does S.Store tx.old tx.new result MakesClasses }
 {
     create_classes(tx)

@@ -20,17 +20,29 @@ use wu_core::Fault;
 
 /// Adds the one row of the project: this version, and 1 as the number of the next workunit.
 fn insert_project<S: Alter>(tx: &mut Transaction<'_, S>, version: i64) -> Result<(), Error>
+    // Commits nothing, so a crash leaves what it left before; after `Ok` the transaction is still
+    // open.
     ensures writes { StatementFrame S.Store tx.old tx.new result }
+    // After `Ok` the table `project` has the row of a fresh project of this version, and every
+    // other table stays.
     ensures puts { Does S.Store tx.old tx.new result (PutsProject version) }
+    // Where no index is on `project`, an error that counts as `Broken` means that the disk failed,
+    // or that the connection was not open.
     ensures breaks { BreaksOver S.Store tx.old.conn.now tx.new.conn.now result HasBareProject }
 {
     execute(tx, INSERT_PROJECT, params![version])
 }
 
-/// The tables of a project and of its workunits.
+/// Makes the tables of a project and of its workunits.
 fn create_work<S: Alter>(tx: &mut Transaction<'_, S>) -> Result<(), Error>
+    // Commits nothing, so a crash leaves what it left before; after `Ok` the transaction is still
+    // open.
     ensures writes { StatementFrame S.Store tx.old tx.new result }
+    // After `Ok` `project`, `workunit` and `result` are there and empty, nothing had their names,
+    // and what was there stays.
     ensures makes { Does S.Store tx.old tx.new result (MakesTables work_tables) }
+    // An error that counts as `Broken` means that the disk failed in this call, or that the
+    // connection was not open.
     ensures breaks { BreaksAfter S.Store tx.old.conn.now tx.new.conn.now result }
 {
     execute(tx, CREATE_PROJECT, &[])?;
@@ -38,10 +50,16 @@ fn create_work<S: Alter>(tx: &mut Transaction<'_, S>) -> Result<(), Error>
     execute(tx, CREATE_RESULT, &[])
 }
 
-/// The tables of what is kept for good.
+/// Makes the tables of what is kept permanently.
 fn create_records<S: Alter>(tx: &mut Transaction<'_, S>) -> Result<(), Error>
+    // Commits nothing, so a crash leaves what it left before; after `Ok` the transaction is still
+    // open.
     ensures writes { StatementFrame S.Store tx.old tx.new result }
+    // After `Ok` the tables of grants, hosts, the archive and imports are there and empty, nothing
+    // had their names, and what was there stays.
     ensures makes { Does S.Store tx.old tx.new result (MakesTables record_tables) }
+    // An error that counts as `Broken` means that the disk failed in this call, or that the
+    // connection was not open.
     ensures breaks { BreaksAfter S.Store tx.old.conn.now tx.new.conn.now result }
 {
     execute(tx, CREATE_CREDIT_GRANT, &[])?;
@@ -50,10 +68,16 @@ fn create_records<S: Alter>(tx: &mut Transaction<'_, S>) -> Result<(), Error>
     execute(tx, CREATE_IMPORT, &[])
 }
 
-/// All tables of the present version but the queue, with the row of a fresh project.
+/// Makes all tables of the present version except the queue, with the row of a fresh project.
 fn create_empty<S: Alter>(tx: &mut Transaction<'_, S>) -> Result<(), Error>
+    // Commits nothing, so a crash leaves what it left before; after `Ok` the transaction is still
+    // open.
     ensures writes { StatementFrame S.Store tx.old tx.new result }
+    // After `Ok` these tables represent the empty world, nothing had their names, nothing else is
+    // added, and what was there stays.
     ensures makes { Does S.Store tx.old tx.new result MakesEmpty }
+    // Over a database that obeys its schema, an error that counts as `Broken` means a failed disk
+    // or a closed connection.
     ensures breaks { BreaksOver S.Store tx.old.conn.now tx.new.conn.now result IsDatabase }
 {
     create_work(tx)?;
@@ -62,10 +86,16 @@ fn create_empty<S: Alter>(tx: &mut Transaction<'_, S>) -> Result<(), Error>
     insert_project(tx, PRESENT_VERSION as i64)
 }
 
-/// All tables of the present version, with the row of a fresh project.
+/// Makes all tables of the present version, with the row of a fresh project.
 fn create_all<S: Alter>(tx: &mut Transaction<'_, S>) -> Result<(), Error>
+    // Commits nothing, so a crash leaves what it left before; after `Ok` the transaction is still
+    // open.
     ensures writes { StatementFrame S.Store tx.old tx.new result }
+    // After `Ok` the tables and an empty queue represent the empty world, nothing had their names,
+    // and what was there stays.
     ensures makes { Does S.Store tx.old tx.new result MakesProject }
+    // Over a database that obeys its schema, an error that counts as `Broken` means a failed disk
+    // or a closed connection.
     ensures breaks { BreaksOver S.Store tx.old.conn.now tx.new.conn.now result IsDatabase }
 {
     create_empty(tx)?;
@@ -86,20 +116,34 @@ impl Work for Creation {
     }
 }
 
-/// Makes a fresh project of the present version in a database where none of its tables is there yet.
+/// Makes a fresh project of the present version in a database where none of its tables is there yet. Tables of other
+/// names stay.
 ///
-/// Tables of other names are left alone. Where a name is taken it answers `NotAProject`, which says that all is as
-/// before; or `Memory`, or `Broken` for a disk that failed in this call or a connection that was not open. `Broken`
-/// tells of nothing else. After these two an open may find the database as it was, or the fresh project.
+/// Returns `NotAProject` if a name is taken; then all is as before. Returns `Memory`, or `Broken` if the disk failed in
+/// this call or the connection was not open. After these two a later open may find the database as it was, or the fresh
+/// project.
 pub fn create<S: Alter>(conn: &mut Connection<S>) -> Result<(), Fault>
+    // The connection is in no transaction.
     requires { conn.old.in_transaction ≡ false }
+    // The connection is in no transaction afterwards.
     ensures mode { conn.new.in_transaction ≡ false }
+    // After `Ok` the new tables represent the empty world with an empty queue, all else is as it
+    // was, and exactly this is committed.
     ensures done { Commits S.Store conn.old conn.new result MakesProject }
+    // After `NotAProject` the connection is open, the tables are as before, and a crash leaves
+    // exactly them.
     ensures refused { Refuses S.Store conn.old conn.new result }
+    // After a fault, while the connection is open, the tables are as before, and a crash leaves
+    // exactly them.
     ensures undone { Undoes S.Store conn.old conn.new result }
+    // A crash leaves what it left before, or the fresh project with all else as it was.
     ensures crash { CrashAllows S.Store conn.old conn.new MakesProject }
+    // A fault is `Memory`, `Broken` or `NotAProject`.
     ensures told { IfErr result IsStoreFault }
+    // `Broken` means that the disk failed in this call, or that the connection was not open.
     ensures breaks { IfErr result (BreaksTruly S.Store conn.old conn.new) }
+    // Where a name of the schema is taken, no project is made: the fault is `NotAProject`,
+    // `Memory`, or `Broken` with its cause.
     ensures taken { RefusesTaken S.Store conn.old conn.new result }
 {
     // what an open connection shows is a database that obeys its schema

@@ -9,9 +9,11 @@ use sqlite_resolve::CompileError;
 use sqlite_syntax::error::ParseError;
 use wu_core::Fault;
 
-/// Want of memory is `Memory`, a failure of the disk or what is too big for the store is `Broken`, and any other
-/// refusal is `NotAProject`.
+/// Returns the fault for an error of the store. Out of memory is `Memory`, a failure of the disk or of size is
+/// `Broken`, and any other error is `NotAProject`.
 pub fn fault_of(error: &Error) -> Fault
+    // Out of memory of store, compiler or parser is `Memory`; I/O failure, corruption, full disk,
+    // closed and too big are `Broken`; others are `NotAProject`.
     ensures { result ≡ fault_of error.now }
 {
     match error {
@@ -30,8 +32,9 @@ pub fn fault_of(error: &Error) -> Fault
     }
 }
 
-/// A commit or a rollback that failed is `Memory` or `Broken`: what it left is not known.
+/// Returns the fault for a commit or a rollback that failed: `Memory` or `Broken`, as what it left is not known.
 pub fn commit_fault_of(error: &Error) -> Fault
+    // It is the fault that `fault_of` returns, but `Broken` in place of `NotAProject`.
     ensures { result ≡ commit_fault_of error.now }
 {
     match fault_of(error) {
@@ -40,7 +43,7 @@ pub fn commit_fault_of(error: &Error) -> Fault
     }
 }
 
-/// Whether the connection still serves, as a fault: the answer `NotAProject` says so. `Broken` says that the disk
+/// Returns `NotAProject` if the connection still serves, and `Memory` or `Broken` if not. `Broken` means that the disk
 /// failed, or that the connection was not open.
 fn probe<S: Alter>(conn: &mut Connection<S>) -> Fault
     ensures mode { conn.old.in_transaction ≡ false → conn.new.in_transaction ≡ false }
@@ -56,20 +59,29 @@ fn probe<S: Alter>(conn: &mut Connection<S>) -> Fault
     Fault::NotAProject
 }
 
-/// The fault of a statement that was refused inside a transaction, which was then rolled back.
+/// Returns the fault for a statement that was refused inside a transaction, which was then rolled back.
 ///
-/// `NotAProject` says that the connection still serves, outside any transaction; after any other fault it may not. Want
-/// of memory is told as such, and so is a failure of the disk or what is too big. A statement that is refused for
-/// another cause is `Broken` only where the disk then failed, or the connection was not open.
+/// After `NotAProject` the connection still serves, outside any transaction; after any other fault it may not. Out of
+/// memory, a failure of the disk and a failure of size are reported as such. For any other error, `Broken` means that
+/// the disk then failed, or that the connection was not open.
 pub fn fault_after<S: Alter>(conn: &mut Connection<S>, error: &Error) -> Fault
+    // A connection that is in no transaction stays so.
     ensures mode { conn.old.in_transaction ≡ false → conn.new.in_transaction ≡ false }
+    // `NotAProject` is returned only for an error that counts as `NotAProject`.
     ensures kind { result ≡ Fault.NotAProject → fault_of error.now ≡ Fault.NotAProject }
+    // An error that counts as `Memory` or `Broken` is returned as that fault.
     ensures failed { IsFailure (fault_of error.now) → result ≡ fault_of error.now }
+    // For an error that counts as `NotAProject`, `Broken` means that the disk failed in this call,
+    // or that the connection was not open.
     ensures refused { fault_of error.now ≡ Fault.NotAProject
         → BreaksTruly S.Store conn.old conn.new result }
+    // The fault is `Memory`, `Broken` or `NotAProject`.
     ensures told { IsStoreFault result }
+    // After `NotAProject` the connection serves, and all is as it was.
     ensures serves { Serves S.Store conn.old conn.new result }
+    // While the connection is open, it shows what it showed, or the last commit.
     ensures back { GoesBack S.Store conn.old conn.new }
+    // Nothing is committed: a crash leaves what it left before.
     ensures crash { CommitsNothing S.Store conn.old conn.new }
 {
     match fault_of(error) {

@@ -1,5 +1,8 @@
-//! The schema of a project's database: its texts, its creation, its version and when its tables stand for a world; and
-//! one transaction.
+//! The schema of a project's database: its texts, its creation, its version, when its tables represent a world, and one
+//! transaction.
+//!
+//! A world is the abstract state of a project. The comments over clauses on a database leave out a premise that all of
+//! these clauses have: the disk is clean. It returns what was written, and nobody else writes the file.
 #![tactic(auto)]
 
 mod asking;

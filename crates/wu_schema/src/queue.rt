@@ -11,7 +11,7 @@ use crate::texts::{
 use crate::transaction::execute;
 use sqlite::{Alter, Error, Transaction};
 
-/// The indexes by which a pass finds the workunits with its mark, in order of number.
+/// Makes the indexes by which a pass finds the workunits with its mark, in order of number.
 fn create_mark_indexes<S: Alter>(tx: &mut Transaction<'_, S>) -> Result<(), Error>
     ensures writes { StatementFrame S.Store tx.old tx.new result }
     ensures makes { Does S.Store tx.old tx.new result (MakesIndexes queue_table mark_indexes) }
@@ -23,7 +23,7 @@ fn create_mark_indexes<S: Alter>(tx: &mut Transaction<'_, S>) -> Result<(), Erro
     execute(tx, CREATE_QUEUE_DELETE, &[])
 }
 
-/// The indexes by which a pass finds the workunits that a moment makes due.
+/// Makes the indexes by which a pass finds the workunits that are due at a moment.
 fn create_moment_indexes<S: Alter>(tx: &mut Transaction<'_, S>) -> Result<(), Error>
     ensures writes { StatementFrame S.Store tx.old tx.new result }
     ensures makes { Does S.Store tx.old tx.new result (MakesIndexes queue_table moment_indexes) }
@@ -36,10 +36,16 @@ fn create_moment_indexes<S: Alter>(tx: &mut Transaction<'_, S>) -> Result<(), Er
 
 /// Makes the queue, with its indexes and no row, inside a transaction.
 ///
-/// The store refuses it where one of the names is taken. What was made before a refusal goes with the transaction.
+/// Returns the store's error if one of the names is taken. What was made before the error goes with the transaction.
 pub fn make_queue<S: Alter>(tx: &mut Transaction<'_, S>) -> Result<(), Error>
+    // Commits nothing, so a crash leaves what it left before; after `Ok` the transaction is still
+    // open.
     ensures writes { StatementFrame S.Store tx.old tx.new result }
+    // After `Ok` the empty queue with its five indexes, and nothing else, is added, nothing had
+    // their names, and each represented world stays.
     ensures makes { Does S.Store tx.old tx.new result MakesQueue }
+    // An error that counts as `Broken` means that the disk failed in this call, or that the
+    // connection was not open.
     ensures breaks { BreaksAfter S.Store tx.old.conn.now tx.new.conn.now result }
 {
     execute(tx, CREATE_QUEUE, &[])?;

@@ -1,4 +1,4 @@
-//! What a stored row means: a value, or `NotAProject` where it is no value of its type.
+//! Readers of stored rows. A row that is no value of its type is refused as `NotAProject`.
 
 ghost use Rattle.std.specs.Prelude.{◌≡◌, ◌⊎◌, ◌<◌, ◌≤◌, ◌^◌, ℕ, ⊤, [], ◌∷◌, ◌-◌, length, map, IfOk, IfErr, SomeIff};
 ghost use Rattle.std.specs.Bool.{Decides};
@@ -24,8 +24,9 @@ use wu_core::{
     Params, ServerState, ValidateState, Workunit,
 };
 
-/// The name in a column.
+/// Reads a name in a column.
 pub fn name_at(alloc: Global, row: &Row, at: usize) -> Result<Name, Fault>
+    // A text that is a name is read as that name, or out of memory; any other column is refused.
     ensures { Restores Text IsName (column row.now at) result }
 {
     let Ok(ValueRef::Text(text)) = row.get_ref(at) else {
@@ -38,7 +39,7 @@ pub fn name_at(alloc: Global, row: &Row, at: usize) -> Result<Name, Fault>
     }
 }
 
-/// The input in a column: at most 4,096 bytes.
+/// Reads an input in a column, at most 4,096 bytes.
 fn input_at(row: &Row, at: usize) -> Result<Bytes, Fault>
     ensures { Restores Blob IsInput (column row.now at) result }
 {
@@ -49,15 +50,17 @@ fn input_at(row: &Row, at: usize) -> Result<Bytes, Fault>
     Ok(Bytes::from_vec(input))
 }
 
-/// The mask of errors in a column.
+/// Reads an error mask in a column.
 pub fn mask_at(row: &Row, at: usize) -> Result<ErrorMask, Fault>
+    // The number of an error mask is read as that mask, or out of memory; any other column is
+    // refused.
     ensures { Restores mask_cell (λ _. ⊤) (column row.now at) result }
 {
     let code: u32 = read_column(row, at)?;
     ErrorMask::from_code(code).ok_or(Fault::NotAProject)
 }
 
-/// Whether a workunit waits for the assimilator, in a column.
+/// Reads in a column whether a workunit waits for the assimilator.
 fn assimilate_at(row: &Row, at: usize) -> Result<Assimilate, Fault>
     ensures { Restores assimilate_cell (λ _. ⊤) (column row.now at) result }
 {
@@ -65,25 +68,33 @@ fn assimilate_at(row: &Row, at: usize) -> Result<Assimilate, Fault>
     Assimilate::from_code(code).ok_or(Fault::NotAProject)
 }
 
-/// Whether a file waits to be deleted, in a column.
+/// Reads in a column whether a file waits to be deleted.
 pub fn file_delete_at(row: &Row, at: usize) -> Result<FileDelete, Fault>
+    // The number of a state of deletion is read as that state, or out of memory; any other column
+    // is refused.
     ensures { Restores file_delete_cell (λ _. ⊤) (column row.now at) result }
 {
     let code: u32 = read_column(row, at)?;
     FileDelete::from_code(code).ok_or(Fault::NotAProject)
 }
 
-/// The number of an instance in a column, or none where it is empty.
+/// Reads the number of an instance in a column, or `None` if it is empty.
 pub fn place_at(row: &Row, at: usize) -> Result<Option<u32>, Fault>
+    // The row has this column.
     requires { at < length row.now }
+    // A number below 2^32 is read as it, and an empty column as `None`, or out of memory; any other
+    // is refused.
     ensures { Restores number_or_null IsPlace (column row.now at) result }
 {
     read_column(row, at)
 }
 
-/// The moment in a column, or none where it is empty.
+/// Reads a moment in a column, or `None` if it is empty.
 pub fn moment_at(row: &Row, at: usize) -> Result<Option<Moment>, Fault>
+    // The row has this column.
     requires { at < length row.now }
+    // A moment is read as it, and an empty column as `None`, or out of memory; any other column is
+    // refused.
     ensures { Restores number_or_null IsMoment (column row.now at) result }
 {
     let seconds: Result<Option<u64>, Fault> = read_column(row, at);
@@ -96,7 +107,7 @@ pub fn moment_at(row: &Row, at: usize) -> Result<Option<Moment>, Fault>
     }
 }
 
-/// How far a workunit is, but for its instances.
+/// How far a workunit is, without its instances.
 #[derive(Clone, Copy)]
 pub struct Progress {
     pub error_mask: ErrorMask,
@@ -106,9 +117,12 @@ pub struct Progress {
     pub done_at: Option<Moment>,
 }
 
-/// The progress in the five columns from the eleventh on: a workunit is assimilated exactly where it has its moment.
+/// Reads the progress in the five columns from the eleventh on. A workunit has its moment exactly if it is assimilated.
 pub fn progress_from(row: &Row) -> Result<Progress, Fault>
+    // The row has at least 15 columns.
     requires { 15 ≤ length row.now }
+    // Columns of a progress with a moment exactly if it is assimilated are read as it, or out of
+    // memory; any others are refused.
     ensures { Restores progress_cells IsProgress (columns row.now 10 5) result }
 {
     let progress = Progress {
@@ -125,15 +139,18 @@ pub fn progress_from(row: &Row) -> Result<Progress, Fault>
     Ok(progress)
 }
 
-/// The whole number in a column.
+/// Reads a whole number in a column.
 pub fn value_at(row: &Row, at: usize) -> Result<i64, Fault>
+    // A whole number is read as it, or out of memory; any other column is refused.
     ensures { Restores Int (λ _. ⊤) (column row.now at) result }
 {
     read_column(row, at)
 }
 
-/// The parameters in the seven columns from the third on.
+/// Reads the parameters in the seven columns from the third on.
 pub fn params_from(row: &Row) -> Result<Params, Fault>
+    // Seven numbers that are parameters in their ranges are read as these, or out of memory; any
+    // others are refused.
     ensures { Restores parameter_cells IsParameters (columns row.now 2 7) result }
 {
     Params::from_values([
@@ -148,8 +165,11 @@ pub fn params_from(row: &Row) -> Result<Params, Fault>
     .ok_or(Fault::NotAProject)
 }
 
-/// The workunit of a row of the table `workunit` with its columns in their order, no class and no instances.
+/// Reads the workunit of a row of the table `workunit` with its columns in their order. It gets class 0 and no
+/// instances.
 pub fn workunit_from(alloc: Global, row: &Row) -> Result<Workunit, Fault>
+    // The row of a workunit with values in their ranges is read as it, or out of memory; any other
+    // row is refused.
     ensures { Restores workunit_row IsStoredWorkunit row.now result }
 {
     if row.column_count() != 15 {
@@ -175,7 +195,7 @@ pub fn workunit_from(alloc: Global, row: &Row) -> Result<Workunit, Fault>
     })
 }
 
-/// How an instance stands.
+/// The states of an instance.
 #[derive(Clone, Copy)]
 struct States {
     server_state: ServerState,
@@ -192,31 +212,37 @@ struct Moments {
     received_at: Option<Moment>,
 }
 
-/// Where an instance is, in a column.
+/// Reads the state of an instance in a column: unsent, in progress or over.
 pub fn server_state_at(row: &Row, at: usize) -> Result<ServerState, Fault>
+    // The number of a server state is read as that state, or out of memory; any other column is
+    // refused.
     ensures { Restores server_state_cell (λ _. ⊤) (column row.now at) result }
 {
     let code: u32 = read_column(row, at)?;
     ServerState::from_code(code).ok_or(Fault::NotAProject)
 }
 
-/// How an instance ended, in a column.
+/// Reads the outcome of an instance in a column.
 pub fn outcome_at(row: &Row, at: usize) -> Result<Outcome, Fault>
+    // The number of an outcome is read as that outcome, or out of memory; any other column is
+    // refused.
     ensures { Restores outcome_cell (λ _. ⊤) (column row.now at) result }
 {
     let code: u32 = read_column(row, at)?;
     Outcome::from_code(code).ok_or(Fault::NotAProject)
 }
 
-/// The verdict of an instance in a column.
+/// Reads the validator's verdict on an instance in a column.
 pub fn validate_state_at(row: &Row, at: usize) -> Result<ValidateState, Fault>
+    // The number of a verdict of the validator is read as that verdict, or out of memory; any other
+    // column is refused.
     ensures { Restores validate_state_cell (λ _. ⊤) (column row.now at) result }
 {
     let code: u32 = read_column(row, at)?;
     ValidateState::from_code(code).ok_or(Fault::NotAProject)
 }
 
-/// The states in the first four columns.
+/// Reads the states in the first four columns.
 fn states_from(row: &Row) -> Result<States, Fault>
     ensures { Restores state_cells (λ _. ⊤) (columns row.now 0 4) result }
 {
@@ -228,9 +254,12 @@ fn states_from(row: &Row) -> Result<States, Fault>
     })
 }
 
-/// The deadline in a column, or none where it is empty.
+/// Reads a deadline in a column, or `None` if it is empty.
 pub fn deadline_at(row: &Row, at: usize) -> Result<Option<Deadline>, Fault>
+    // The row has this column.
     requires { at < length row.now }
+    // A deadline is read as it, and an empty column as `None`, or out of memory; any other column
+    // is refused.
     ensures { Restores number_or_null IsDeadline (column row.now at) result }
 {
     let seconds: Result<Option<u64>, Fault> = read_column(row, at);
@@ -243,7 +272,7 @@ pub fn deadline_at(row: &Row, at: usize) -> Result<Option<Deadline>, Fault>
     }
 }
 
-/// The moments in the three columns from the sixth on.
+/// Reads the moments in the three columns from the sixth on.
 fn moments_from(row: &Row) -> Result<Moments, Fault>
     requires { 8 ≤ length row.now }
     ensures { Restores moment_cells HasMoments (columns row.now 5 3) result }
@@ -255,9 +284,12 @@ fn moments_from(row: &Row) -> Result<Moments, Fault>
     })
 }
 
-/// The host in a column, or none where it is empty.
+/// Reads the name of a host in a column, or `None` if it is empty.
 pub fn host_at(alloc: Global, row: &Row, at: usize) -> Result<Option<Name>, Fault>
+    // The row has this column.
     requires { at < length row.now }
+    // A name is read as it, and an empty column as `None`, or out of memory; any other column is
+    // refused.
     ensures { Restores text_or_null IsHost (column row.now at) result }
 {
     match row.get_ref(at) {
@@ -266,8 +298,9 @@ pub fn host_at(alloc: Global, row: &Row, at: usize) -> Result<Option<Name>, Faul
     }
 }
 
-/// The output in a column: at most 65,536 bytes.
+/// Reads an output in a column, at most 65,536 bytes.
 pub fn output_at(row: &Row, at: usize) -> Result<Bytes, Fault>
+    // At most 65,536 bytes are read as they are, or out of memory; any other column is refused.
     ensures { Restores Blob IsOutput (column row.now at) result }
 {
     let output: Vec<u8> = read_column(row, at)?;
@@ -277,8 +310,10 @@ pub fn output_at(row: &Row, at: usize) -> Result<Bytes, Fault>
     Ok(Bytes::from_vec(output))
 }
 
-/// Whether host, sending and deadline are there together, and as the states want it.
+/// Returns whether host, time of sending and deadline are there together, and as the states require.
 pub fn is_formed(instance: &Instance) -> bool
+    // It is true exactly where host, sending time and deadline are all there or none: none while
+    // unsent, all in progress and after success.
     ensures { Decides result (IsInstance instance.now) }
 {
     let has_host = instance.host.is_some();
@@ -293,9 +328,12 @@ pub fn is_formed(instance: &Instance) -> bool
         && !(is_success && !has_host)
 }
 
-/// The instance in the first eight columns, those of the table `result` from the third on, without its output.
+/// Reads the instance in the first eight columns, those of the table `result` from the third on, without its output.
 pub fn bare_instance_from(alloc: Global, row: &Row) -> Result<Instance, Fault>
+    // The row has at least 8 columns.
     requires { 8 ≤ length row.now }
+    // Columns of a well-formed instance with values in their ranges are read as it, without output,
+    // or out of memory; any others are refused.
     ensures { Restores bare_instance_row IsBareInstance (columns row.now 0 8) result }
 {
     let states = states_from(row)?;
@@ -319,8 +357,10 @@ pub fn bare_instance_from(alloc: Global, row: &Row) -> Result<Instance, Fault>
     }
 }
 
-/// The instance of a row of the table `result` with its columns from the third on, in their order.
+/// Reads the instance of a row of the table `result` with its columns from the third on, in their order.
 pub fn instance_from(alloc: Global, row: &Row) -> Result<Instance, Fault>
+    // The row of a well-formed instance with values in their ranges is read as it, or out of
+    // memory; any other row is refused.
     ensures { Restores instance_row IsStoredInstance row.now result }
 {
     if row.column_count() != 9 {
@@ -332,24 +372,29 @@ pub fn instance_from(alloc: Global, row: &Row) -> Result<Instance, Fault>
     Ok(instance)
 }
 
-/// The number of an instance.
+/// Reads the number of an instance in a column.
 pub fn instance_number_at(row: &Row, at: usize) -> Result<u32, Fault>
+    // A number below 2^32 is read as it, or out of memory; any other column is refused.
     ensures { Restores number (λ n. n < 2 ^ 32) (column row.now at) result }
 {
     read_column(row, at)
 }
 
-/// The moment in a column, which is not empty.
+/// Reads a moment in a column, which may not be empty.
 pub fn stamp_at(row: &Row, at: usize) -> Result<Moment, Fault>
+    // A moment is read as it, or out of memory; any other column is refused.
     ensures { Restores number (λ seconds. seconds ≤ last_moment) (column row.now at) result }
 {
     let seconds = number_at(row, at)?;
     Moment::new(seconds).ok_or(Fault::NotAProject)
 }
 
-/// The archived workunit in the six columns from the second on, behind its place.
+/// Reads the archived workunit in the six columns from the second on, after its place.
 pub fn placed_archived_from(alloc: Global, row: &Row) -> Result<Archived, Fault>
+    // The row has 7 columns.
     requires { length row.now ≡ 7 }
+    // Columns of an archived workunit with values in their ranges are read as it, or out of memory;
+    // any others are refused.
     ensures { Restores archived_cells IsStoredArchived (columns row.now 1 6) result }
 {
     let number = number_at(row, 1)?;
@@ -368,8 +413,10 @@ pub fn placed_archived_from(alloc: Global, row: &Row) -> Result<Archived, Fault>
     })
 }
 
-/// The class in a column.
+/// Reads a class in a column, at most 65,535.
 pub fn class_at(row: &Row, at: usize) -> Result<u32, Fault>
+    // A number up to the highest class is read as it, or out of memory; any other column is
+    // refused.
     ensures { Restores number IsClass (column row.now at) result }
 {
     let class: u32 = read_column(row, at)?;
@@ -379,15 +426,16 @@ pub fn class_at(row: &Row, at: usize) -> Result<u32, Fault>
     Ok(class)
 }
 
-/// The bytes in a column.
+/// Reads the bytes in a column.
 pub fn bytes_at(row: &Row, at: usize) -> Result<Bytes, Fault>
+    // Bytes are read as they are, or out of memory; any other column is refused.
     ensures { Restores Blob (λ _. ⊤) (column row.now at) result }
 {
     let bytes: Vec<u8> = read_column(row, at)?;
     Ok(Bytes::from_vec(bytes))
 }
 
-/// The greatest number of a skip of an import of this kind.
+/// Returns the greatest number of a skip in an import of this kind.
 fn last_skip(kind: ImportKind) -> u8
     ensures { result ≡ last_skip kind }
 {
@@ -398,7 +446,7 @@ fn last_skip(kind: ImportKind) -> u8
     }
 }
 
-/// The verdict of a digit, if an import of this kind may have it.
+/// Returns the verdict of a digit, or `None` if an import of this kind may not have it.
 fn verdict_of(kind: ImportKind, digit: u8) -> Option<u8>
     ensures { SomeIff result ((48 ≤ digit) × (digit - 48 ≤ last_skip kind)) (digit - 48) }
 {
@@ -408,7 +456,7 @@ fn verdict_of(kind: ImportKind, digit: u8) -> Option<u8>
     }
 }
 
-/// The verdicts of a text with one digit for each row.
+/// Reads the verdicts of a text with one digit for each row.
 fn verdicts_from(alloc: Global, kind: ImportKind, digits: &[u8]) -> Result<Bytes, Fault>
     ensures { Restores verdict_digits (AreVerdicts kind) digits.now result }
 {
@@ -422,8 +470,10 @@ fn verdicts_from(alloc: Global, kind: ImportKind, digits: &[u8]) -> Result<Bytes
     Ok(Bytes::from_vec(verdicts))
 }
 
-/// The verdicts of an import's rows in a column, each one of its kind.
+/// Reads the verdicts of an import's rows in a column, each one that an import of this kind may have.
 pub fn verdicts_at(alloc: Global, kind: ImportKind, row: &Row, at: usize) -> Result<Bytes, Fault>
+    // A text of digits that are verdicts of this kind of import is read as these, or out of memory;
+    // any other column is refused.
     ensures { Restores verdicts_cell (AreVerdicts kind) (column row.now at) result }
 {
     let Ok(ValueRef::Text(digits)) = row.get_ref(at) else {
@@ -443,8 +493,10 @@ pub struct StoredImport {
     pub verdicts: Bytes,
 }
 
-/// The import of a row with its template, content, first number and verdicts.
+/// Reads the import of a row with its template, content, first number and verdicts.
 pub fn import_from(alloc: Global, kind: ImportKind, row: &Row) -> Result<StoredImport, Fault>
+    // A row of template, content, first number and valid digits is read as that import, or out of
+    // memory; any other row is refused.
     ensures { Restores stored_import_row (IsStoredImport kind) row.now result }
 {
     if row.column_count() != 4 {
@@ -462,8 +514,11 @@ pub fn import_from(alloc: Global, kind: ImportKind, row: &Row) -> Result<StoredI
     })
 }
 
-/// The next number of a project's row: from 1 to one more than there may be workunits ever.
+/// Reads the next number in a row of that column. It is at least 1 and at most one more than there may be workunits
+/// ever.
 pub fn next_number_from(row: &Row) -> Result<u64, Fault>
+    // A row of one number from 1 to 1,000,000,001 is read as it, or out of memory; any other row is
+    // refused.
     ensures reads { Restores (λ next. number next ∷ []) IsNextNumber row.now result }
 {
     if row.column_count() != 1 {

@@ -17,8 +17,13 @@ pub fn execute<S: Alter>(
     sql: &str,
     params: &[ValueRef<'_>],
 ) -> Result<(), Error>
+    // Commits nothing, so a crash leaves what it left before; after `Ok` the transaction is still
+    // open.
     ensures writes { StatementFrame S.Store tx.old tx.new result }
+    // After `Ok` the statement ran with these parameters in the transaction.
     ensures ran { RunsText S.Store tx.old tx.new result sql.now (bound params.now) }
+    // An error is the one with which the statement was refused, or means that the transaction had
+    // ended before.
     ensures refused { RefusesText S.Store tx.old tx.new result sql.now (bound params.now) }
 {
     tx.execute(sql, params)?;
@@ -30,24 +35,30 @@ pub trait Work {
     /// What it makes of a database.
     ghost makes: { Self → Database → Database → Type 0 };
 
-    /// Over which databases an error that is told as `Broken` tells of a disk that failed. Over none, if it says none.
+    /// The databases over which an error that counts as `Broken` means that the disk failed, or that the connection was
+    /// not open. By default there are none.
     ghost breaks_over: { Self → Database → Type 0 } = { λ _ _. ⊥ };
 
-    /// Makes the changes; it begins and ends no transaction.
+    /// Makes the changes. It begins and ends no transaction.
     fn run<S: Alter>(&self, tx: &mut Transaction<'_, S>) -> Result<(), Error>
+        // Commits nothing, so a crash leaves what it left before; after `Ok` the transaction is
+        // open if it was.
         ensures works { TransactionFrame S.Store tx.old tx.new result }
+        // After `Ok` the changes of `makes` are made of what the transaction showed.
         ensures makes { Does S.Store tx.old tx.new result (makes self.now) }
+        // Over a database of `breaks_over`, an error that counts as `Broken` means that the disk
+        // failed, or that the connection was not open.
         ensures breaks { BreaksOver S.Store tx.old.conn.now tx.new.conn.now result
             (breaks_over self.now) };
 }
 
-/// What stopped a transaction: a statement, which rolled it back, or its commit.
+/// What failed in a transaction: a statement, after which it was rolled back, or its commit.
 enum Stopped {
     Statement(Error),
     Commit(Error),
 }
 
-/// Does the work in one transaction and commits it; where a statement fails, it is rolled back.
+/// Does the work in one transaction and commits it. Rolls it back if a statement fails.
 fn run_and_commit<S: Alter, W: Work>(conn: &mut Connection<S>, work: &W) -> Result<(), Stopped>
     requires { conn.old.in_transaction ≡ false }
     ensures mode { conn.new.in_transaction ≡ false }
@@ -68,17 +79,29 @@ fn run_and_commit<S: Alter, W: Work>(conn: &mut Connection<S>, work: &W) -> Resu
 
 /// Does all of the work in one transaction.
 ///
-/// `NotAProject` says that a statement was refused, and that all is as before. After `Memory` or `Broken` the tables
-/// are as before while the connection is open, and an open may find what it could have found before, or what the work
+/// After `NotAProject`, with which a statement is refused, all is as before. After `Memory` or `Broken` the tables are
+/// as before while the connection is open; a later open may find what it could have found before, or what the work
 /// makes.
 pub fn transact<S: Alter, W: Work>(conn: &mut Connection<S>, work: &W) -> Result<(), Fault>
+    // The connection is in no transaction.
     requires { conn.old.in_transaction ≡ false }
+    // The connection is in no transaction afterwards.
     ensures mode { conn.new.in_transaction ≡ false }
+    // After `Ok` the work is done and committed, the connection is open, and a crash leaves exactly
+    // this.
     ensures done { Commits S.Store conn.old conn.new result (W.makes work.now) }
+    // After `NotAProject` the connection is open, the tables are as before, and a crash leaves
+    // exactly them.
     ensures refused { Refuses S.Store conn.old conn.new result }
+    // After a fault, while the connection is open, the tables are as before, and a crash leaves
+    // exactly them.
     ensures undone { Undoes S.Store conn.old conn.new result }
+    // A fault is `Memory`, `Broken` or `NotAProject`.
     ensures told { IfErr result IsStoreFault }
+    // A crash leaves what it left before, or what the work makes.
     ensures crash { CrashAllows S.Store conn.old conn.new (W.makes work.now) }
+    // Over a database of `breaks_over`, `Broken` means that the disk failed in this call, or that
+    // the connection was not open.
     ensures breaks { BreaksFor S.Store conn.old conn.new result (W.breaks_over work.now) }
 {
     match run_and_commit(conn, work) {

@@ -1,22 +1,27 @@
-//! Laws of sound worlds: totals, views, lists of commands and lives.
+//! Laws of sound worlds: totals, views, lists of commands and histories of sessions.
 
 ghost use Rattle.wu_sound_laws.specs.Laws.{BeginningsStaySound, BoundsTotals, CanAllBeShown, HaveValues, LivesStaySound, SessionsHaveValues};
 
 use wu_drive::Command;
 use wu_machine::laws::has_values;
 
-/// All credit, and the total of each host, is at most 10^17.
+/// Shows that in a sound world all credit, and the total of each host, is at most 10^17.
 pub fn bounds_totals()
+    // A sound world has at most 10^11 grants; all credit, and the total of each host, is at most
+    // 10^17.
     ensures { BoundsTotals }
 {}
 
-/// Each view of a sound world of the present version can be read.
+/// Shows that each view of a sound world of the present version can be read.
 pub fn can_all_be_shown()
+    // Each view of a sound world of the present version is of readable values.
     ensures { CanAllBeShown }
 {}
 
-/// The values of each command are in their ranges.
+/// Shows that the values of each command are in their ranges.
 pub fn commands_have_values(commands: &[Command])
+    // The values of each command are in their ranges: an import has a name, and a pass a moment in
+    // range.
     ensures { HaveValues commands.now }
 {
     for command in commands {
@@ -24,17 +29,21 @@ pub fn commands_have_values(commands: &[Command])
     }
 }
 
-/// What a beginning of a list of commands makes of a sound world is sound.
+/// Shows that a prefix of a list of commands leaves a sound world sound.
 pub fn beginnings_stay_sound()
+    // A prefix of a list of commands leaves a sound world sound, if their values are in range.
     ensures { BeginningsStaySound }
 {}
 
-/// A session accepts requests whose values are in their ranges.
+/// Shows that a session accepts only requests whose values are in their ranges.
 pub fn sessions_have_values()
+    // The values of all that a session of such commands accepts are in their ranges.
     ensures { SessionsHaveValues }
 {}
 
-/// What a life makes of a sound world is sound.
+/// Shows that a history of sessions leaves a sound world sound.
 pub fn lives_stay_sound()
+    // A history of sessions leaves a sound world sound, whichever of its cut commands were found
+    // done.
     ensures { LivesStaySound }
 {}

@@ -1,4 +1,4 @@
-//! Where a life of a project starts: two files are opened, and the project in them adopted.
+//! Where a session starts: two files are opened, and the project in them is adopted.
 
 ghost use Rattle.std.specs.Prelude.{false, IfSome, IsTrue};
 ghost use Rattle.sqlite.specs.Files.{file_state};
@@ -14,7 +14,7 @@ use sqlite_disk::{Crash, Disk};
 use std::alloc::Global;
 use wu_passes::Project;
 
-/// Begins a session over the project in a database, whose version it then knows. `None` where the adoption fails.
+/// Begins a session over the project in a database, whose version it then knows. Returns `None` if the adoption fails.
 fn begin_session<S: Alter + Drop>(conn: Connection<S>) -> Option<Project<S>>
     ensures begins { IfSome result IsSessionOpen }
     ensures adopted { IfSome result (λ project. Adopts (state S.Store conn) (state_of project)) }
@@ -26,12 +26,17 @@ fn begin_session<S: Alter + Drop>(conn: Connection<S>) -> Option<Project<S>>
     }
 }
 
-/// Begins a session over the project in two files, whose version it then knows. `None` where the adoption fails.
+/// Begins a session over the project in two files, whose version it then knows. Returns `None` if the adoption fails.
 ///
-/// It is one function for all: that two files serve as a store is proved again in each that begins one over any store.
+/// It is one function for all its callers: that two files serve as a store is proved again in each that begins a
+/// session over any store.
 pub fn begin<D: Disk + Drop>(conn: Connection<FileStore<D>>) -> Option<Project<FileStore<D>>>
+    // The session has not ended.
     ensures begins { IfSome result IsSessionOpen }
+    // A found project is kept untouched, else a fresh one is made; the connection was open and is,
+    // without a limit on steps.
     ensures adopted { IfSome result (λ project. Adopts (file_state conn) (state_of project)) }
+    // Whatever world the tables represent, the session knows the version of it.
     ensures knows { IfSome result KnowsTables }
 {
     begin_session(conn)
@@ -51,20 +56,30 @@ fn adopt_and_release<S: Alter + Drop>(conn: Connection<S>) -> Connection<S>
 
 /// Opens two files and begins a session over the project in them.
 ///
-/// Over blank files it is a fresh project, which stands for the empty world; over files that hold the tables of a world
-/// it stands for that world. `None` where the open or the adoption fails.
+/// Over files without a byte in the database it is a fresh project, which represents the empty world. Over files that
+/// hold the tables of a world it represents that world. Returns `None` if the opening or the adoption fails.
 pub fn open_and_adopt<D: Disk + Drop>(
     alloc: Global,
     files: Files<D>,
     options: Options,
 ) -> Option<Project<FileStore<D>>>
+    // The file of the log can be used.
     requires log { IsTrue (D.Disk.is_usable files.log) }
+    // The file of the database can be used.
     requires db { IsTrue (D.Disk.is_usable files.db) }
+    // The session has not ended.
     ensures begins { IfSome result IsSessionOpen }
+    // The session has no limit on steps.
     ensures unlimited { IfSome result IsUnlimited }
+    // The connection is open.
     ensures opens { IfSome result IsOpen }
+    // Whatever world the tables represent, the session knows the version of it.
     ensures knows { IfSome result KnowsTables }
+    // Over a database without a byte the session begins from the empty world, and further commands
+    // go on from there.
     ensures blank { IfSome result (BeginsEmpty D.Disk files) }
+    // Over files that hold the tables of a world the session goes on from it, and knows its
+    // version.
     ensures found { IfSome result (GoesFromTables D.Disk files) }
 {
     match Connection::open_files(alloc, files, options) {
@@ -73,21 +88,26 @@ pub fn open_and_adopt<D: Disk + Drop>(
     }
 }
 
-/// Adopts the project of a database; then the machine stops, the two files are opened again, and the project in them is
-/// adopted.
+/// Adopts the project of a database; then the machine crashes, the two files are opened again, and the project in them
+/// is adopted.
 ///
-/// A disk may fail at any call and from then on, so a stop amid the first adoption is one of these stops too. Where no
-/// project was, it begins from the empty world; where one was, it goes on from its world. `None` where the open or the
-/// second adoption fails.
+/// A disk may fail at any call and from then on, so a crash during the first adoption is one of these too. Where no
+/// project was, the session begins from the empty world; where one was, it goes on from its world. Returns `None` if
+/// the opening or the second adoption fails.
 pub fn adopt_stop_and_adopt<D: Crash + Drop>(
     alloc: Global,
     conn: Connection<FileStore<D>>,
     options: Options,
 ) -> Option<Project<FileStore<D>>>
+    // The session has not ended.
     ensures begins { IfSome result IsSessionOpen }
+    // A disk with no fault by now had none before the first adoption.
     ensures clean { IfSome result (λ project. WasClean (file_state conn) (state_of project)) }
+    // Whatever world the tables represent, the session knows the version of it.
     ensures knows { IfSome result KnowsTables }
+    // Where no project was, the session begins from the empty world.
     ensures free { IfSome result (BeginsAgain conn) }
+    // Where a project was, the session goes on from its world, and knows its version.
     ensures found { IfSome result (GoesAgain conn) }
 {
     match stop_and_open(alloc, adopt_and_release(conn), options) {

@@ -1,6 +1,6 @@
-//! What an opening that failed leaves of its two files: after a stop it is opened again.
+//! What an opening that failed leaves of its two files: after a crash it is opened again.
 //!
-//! A disk may fail at any call and from then on, so a stop amid an opening is one of these stops.
+//! A disk may fail at any call and from then on, so a crash during an opening is one of these crashes.
 
 ghost use Rattle.std.specs.Prelude.{IfSome};
 ghost use Rattle.wu_passes.specs.Projects.{IsSessionOpen, IsOpen, IsUnlimited, KnowsTables};
@@ -12,22 +12,31 @@ use sqlite_disk::Crash;
 use std::alloc::Global;
 use wu_passes::Project;
 
-/// The machine stops after an opening that failed; what that left of the two files is opened again, and the project in
-/// them adopted.
+/// Crashes the machine after an opening that failed. Opens what that left of the two files again, and adopts the
+/// project in them.
 ///
-/// Whatever is left of files that hold no database, a fresh project begins; and of those that hold a world in pages
-/// without sums, the session goes on from it. Where a store is left, this is said of one whose trees are numbered as
-/// the catalog says, which `open_files` does not tell. `None` where the second opening or the adoption fails.
+/// Over what is left of files that hold no database, a fresh project begins. Over what is left of files that hold a
+/// world, in pages without sums, the session goes on from it. Where a store is left, this holds if its trees are
+/// numbered as its catalog says, which `open_files` does not promise. Returns `None` if the second opening or the
+/// adoption fails.
 pub fn stop_and_open_left<D: Crash + Drop>(
     alloc: Global,
     left: Leftover<D>,
     options: Options,
 ) -> Option<Project<FileStore<D>>>
+    // The session has not ended.
     ensures begins { IfSome result IsSessionOpen }
+    // The session has no limit on steps.
     ensures unlimited { IfSome result IsUnlimited }
+    // The connection is open.
     ensures opens { IfSome result IsOpen }
+    // Whatever world the tables represent, the session knows the version of it.
     ensures knows { IfSome result KnowsTables }
+    // Where a crash leaves no byte in the database, the session begins from the empty world. A
+    // store that is left has to be numbered.
     ensures blank { IfSome result (BeginsAfter left) }
+    // Where a crash leaves files that hold a world, the session goes on from it, of a known
+    // version. A store that is left has to be numbered.
     ensures found { IfSome result (GoesAfter left) }
 {
     let Files { mut log, mut db } = left.into_files();

@@ -1,4 +1,4 @@
-//! The laws of a project through stops: what an opening finds after a stop, also amid an adoption, an opening or a
+//! The laws of a project through crashes: what an opening finds after a crash, also during an adoption, an opening or a
 //! close.
 #![tactic(auto)]
 

@@ -22,7 +22,7 @@ use wu_core::{Archived, Grant, ImportKind, Instance, Marks, Name, Workunit};
 use wu_rules::marks_of;
 use wu_schema::make_queue;
 
-/// What is kept for good of an import: its content, which is lent, and its first answer.
+/// What is kept permanently of an import: its content, which is borrowed, and its first answer.
 #[derive(Drop)]
 pub struct Import<'a> {
     pub kind: ImportKind,
@@ -34,7 +34,7 @@ pub struct Import<'a> {
     pub verdicts: Verdicts,
 }
 
-/// What some grants to one host come to.
+/// The sum of some grants to one host.
 #[derive(Drop)]
 pub struct HostSum {
     pub name: Name,
@@ -44,7 +44,10 @@ pub struct HostSum {
     pub grants: u64,
 }
 
-/// One change of a project's tables.
+/// One change of a project's tables. It is right for a world if its premises hold there: a new number is above all; a
+/// replaced workunit is the present one; places are the next ones; sums are those of the grants; an import may be kept;
+/// an upgrade has the version and the marks of a world without classes. `Add`, `Replace` and `Class` need a world with
+/// classes.
 pub enum Change<'a> {
     /// A workunit of a new number is added, with its instances.
     Add(Workunit),
@@ -52,9 +55,10 @@ pub enum Change<'a> {
     Replace(Workunit, Workunit),
     /// The workunit of this number goes, with its instances.
     Remove(u64),
-    /// Grants are kept at places in a row from this one on, and these sums, which are theirs, are added to their hosts'.
+    /// Grants are kept at consecutive places from this one on, and these sums, which are theirs, are added to their
+    /// hosts'.
     Grants(u64, Vec<Grant>, Vec<HostSum>),
-    /// What is kept for good of a workunit is kept at this place of the archived rows.
+    /// What is kept permanently of a workunit is added at this place of the archived rows.
     Archive(u64, Archived),
     /// The number of the next workunit is set.
     Next(u64),
@@ -62,8 +66,8 @@ pub enum Change<'a> {
     Keep(Import<'a>),
     /// The class of a host is set.
     Class(Name, u32),
-    /// The schema of this older version gets what it lacks of the present one: the queue, with these marks, each of the
-    /// workunit of this number, where it has none, and the tables of classes, with class 0 for each of these workunits.
+    /// A project of this older version gets what the present one has more: the queue with these marks, each of the
+    /// workunit of this number, if it has none; and the tables of classes, with class 0 for each of these workunits.
     Upgrade(u64, Vec<(u64, Marks)>),
 }
 
@@ -86,10 +90,13 @@ impl Drop for Change<'_> {
     }
 }
 
-/// Adds the rows of a workunit's instances, numbered from 0. Its own row is there without them.
+/// Adds the rows of a workunit's instances, numbered from 0. The workunit's own row is there without them.
 fn insert_instances<S: Alter>(tx: &mut Transaction<'_, S>, workunit: &Workunit) -> Result<(), Error>
     ensures works { TransactionFrame S.Store tx.old tx.new result }
+    // After `Ok`, where the tables represented the world with the workunit without instances, they
+    // represent it with the whole workunit.
     ensures adds { Does S.Store tx.old tx.new result (AddsInstances workunit.now) }
+    // After `Ok`, a queue beside such a world stays.
     ensures queue { Does S.Store tx.old tx.new result (LeavesQueue workunit.now) }
 {
     let instances = workunit.instances.as_slice();
@@ -104,6 +111,8 @@ fn insert_instances<S: Alter>(tx: &mut Transaction<'_, S>, workunit: &Workunit) 
 /// Adds a workunit at its place in order of number, with its instances, and its marks in the queue.
 fn add<S: Alter>(tx: &mut Transaction<'_, S>, workunit: &Workunit) -> Result<(), Error>
     ensures writes { StatementFrame S.Store tx.old tx.new result }
+    // After `Ok`, a represented world with classes has the workunit at its place by number, with
+    // its instances, class and marks.
     ensures adds { Does S.Store tx.old tx.new result (Places workunit.now) }
 {
     insert_workunit(tx, workunit)?;
@@ -111,23 +120,29 @@ fn add<S: Alter>(tx: &mut Transaction<'_, S>, workunit: &Workunit) -> Result<(),
     insert_marks(tx, workunit.number, &marks_of(workunit))
 }
 
-/// Puts a workunit in the place of the present one of its number by deleting that one, with its instances and marks.
+/// Puts a workunit in the place of the present one of its number. Deletes that one with its instances and marks, and
+/// adds the new one.
 fn replace_whole<S: Alter>(tx: &mut Transaction<'_, S>, workunit: &Workunit) -> Result<(), Error>
     ensures writes { StatementFrame S.Store tx.old tx.new result }
+    // After `Ok`, a represented world with classes and a workunit of this number has this one in
+    // its place.
     ensures replaces { Does S.Store tx.old tx.new result (ReplacesAny workunit.now) }
 {
     delete_workunit(tx, workunit.number)?;
     add(tx, workunit)
 }
 
-/// Sets the row of a workunit, where it is not as it was.
+/// Sets the row of a workunit, unless it is as it was.
 fn put_row<S: Alter>(
     tx: &mut Transaction<'_, S>,
     was: &Workunit,
     workunit: &Workunit,
 ) -> Result<(), Error>
     ensures works { TransactionFrame S.Store tx.old tx.new result }
+    // After `Ok`, where the first workunit is the present one of its number, its row is the
+    // second's; instances, class and queue stay.
     ensures puts { Does S.Store tx.old tx.new result (PutsRow was.now workunit.now) }
+    // Where the row is as it was, nothing is written and the call succeeds.
     ensures idle { bare was.now ≡ bare workunit.now → DoesNothing tx.old tx.new result }
 {
     if is_same_row(was, workunit) {
@@ -136,14 +151,17 @@ fn put_row<S: Alter>(
     set_workunit(tx, workunit)
 }
 
-/// Sets the class of a workunit, where it is not as it was.
+/// Sets the class of a workunit, unless it is as it was.
 fn put_class<S: Alter>(
     tx: &mut Transaction<'_, S>,
     was: &Workunit,
     workunit: &Workunit,
 ) -> Result<(), Error>
     ensures works { TransactionFrame S.Store tx.old tx.new result }
+    // After `Ok`, where the row is already the second workunit's, its class is too, in a world with
+    // classes; a queue stays.
     ensures puts { Does S.Store tx.old tx.new result (PutsClassOf was.now workunit.now) }
+    // Where the class is as it was, nothing is written and the call succeeds.
     ensures idle { was.now.class ≡ workunit.now.class → DoesNothing tx.old tx.new result }
 {
     if was.class == workunit.class {
@@ -152,7 +170,7 @@ fn put_class<S: Alter>(
     set_class(tx, workunit.number, workunit.class)
 }
 
-/// Sets the instance of this number where it is not as it was, or adds it where there was none.
+/// Sets the instance of this number, unless it is as it was. Adds it if there was none.
 fn put_instance<S: Alter>(
     tx: &mut Transaction<'_, S>,
     workunit: u64,
@@ -161,8 +179,11 @@ fn put_instance<S: Alter>(
     instance: &Instance,
 ) -> Result<(), Error>
     ensures works { TransactionFrame S.Store tx.old tx.new result }
+    // After `Ok`, where this instance, or none and it is the next, was at the place, the new one
+    // is; a queue stays.
     ensures puts { Does S.Store tx.old tx.new result
         (PutsInstance workunit n (option_map (λ i. i.now) was.entry) instance.now) }
+    // Where the instance is as it was, nothing is written and the call succeeds.
     ensures idle { option_map (λ i. i.now) was.entry ≡ Some instance.now
         → DoesNothing tx.old tx.new result }
 {
@@ -178,14 +199,17 @@ fn put_instance<S: Alter>(
     }
 }
 
-/// Makes the instances of a workunit what they are to be: those that are not as they were are set, new ones are added.
+/// Makes the instances of a workunit what they are to be: sets those that are not as they were, and adds new ones.
 fn put_instances<S: Alter>(
     tx: &mut Transaction<'_, S>,
     was: &[Instance],
     workunit: &Workunit,
 ) -> Result<(), Error>
     ensures works { TransactionFrame S.Store tx.old tx.new result }
+    // After `Ok`, where the workunit had the first instances, and no more than its own, it has its
+    // own; a queue stays.
     ensures puts { Does S.Store tx.old tx.new result (PutsInstances workunit.now was.now) }
+    // Where the instances are as they were, nothing is written and the call succeeds.
     ensures idle { was.now ≡ workunit.now.instances → DoesNothing tx.old tx.new result }
 {
     let instances = workunit.instances.as_slice();
@@ -197,14 +221,17 @@ fn put_instances<S: Alter>(
     Ok(())
 }
 
-/// Sets the marks of a workunit, where they are not as they were.
+/// Sets the marks of a workunit, unless they are as they were.
 fn put_marks<S: Alter>(
     tx: &mut Transaction<'_, S>,
     was: &Workunit,
     workunit: &Workunit,
 ) -> Result<(), Error>
     ensures works { TransactionFrame S.Store tx.old tx.new result }
+    // After `Ok`, where the queue had the first workunit's marks, it has the second's; the world
+    // stays.
     ensures puts { Does S.Store tx.old tx.new result (PutsMarks was.now workunit.now) }
+    // Where the marks are as they were, nothing is written and the call succeeds.
     ensures idle { marks was.now ≡ marks workunit.now → DoesNothing tx.old tx.new result }
 {
     let marks = marks_of(workunit);
@@ -214,15 +241,18 @@ fn put_marks<S: Alter>(
     set_marks(tx, workunit.number, &marks)
 }
 
-/// Puts a workunit in the place of the present one, with its instances and marks: what is not as it was is written where
-/// it stands. A workunit never has fewer instances than before; one that had would be deleted and added anew.
+/// Puts a workunit in the place of the present one, with its instances and marks. Writes only what is not as it was. A
+/// workunit never has fewer instances than before; one that had would be deleted and added again.
 fn replace<S: Alter>(
     tx: &mut Transaction<'_, S>,
     was: &Workunit,
     workunit: &Workunit,
 ) -> Result<(), Error>
     ensures works { TransactionFrame S.Store tx.old tx.new result }
+    // After `Ok`, a represented world with classes and the first workunit has the second in its
+    // place, with class, instances and marks.
     ensures replaces { Does S.Store tx.old tx.new result (Replaces was.now workunit.now) }
+    // Where the workunit is as it was, nothing is written and the call succeeds.
     ensures idle { was.now ≡ workunit.now → DoesNothing tx.old tx.new result }
 {
     if workunit.instances.len() < was.instances.len() {
@@ -234,9 +264,11 @@ fn replace<S: Alter>(
     put_marks(tx, was, workunit)
 }
 
-/// Puts these rows into a queue that has none, in their order.
+/// Adds these rows to a queue that has none, in their order.
 fn fill_queue<S: Alter>(tx: &mut Transaction<'_, S>, rows: &[(u64, Marks)]) -> Result<(), Error>
     ensures works { TransactionFrame S.Store tx.old tx.new result }
+    // After `Ok`, an empty queue beside a represented world whose marks these are has exactly these
+    // rows; the world stays.
     ensures fills { Does S.Store tx.old tx.new result (FillsQueue rows.now) }
 {
     for row in rows {
@@ -245,14 +277,17 @@ fn fill_queue<S: Alter>(tx: &mut Transaction<'_, S>, rows: &[(u64, Marks)]) -> R
     Ok(())
 }
 
-/// Makes the queue with these rows, where this older version has none.
+/// Makes the queue with these rows, if this older version has none.
 fn upgrade_queue<S: Alter>(
     tx: &mut Transaction<'_, S>,
     from: u64,
     rows: &[(u64, Marks)],
 ) -> Result<(), Error>
     ensures works { TransactionFrame S.Store tx.old tx.new result }
+    // After `Ok`, a represented world of this version whose marks these are has a queue with
+    // exactly these rows.
     ensures upgrades { Does S.Store tx.old tx.new result (UpgradesQueue from rows.now) }
+    // From version 2 on nothing is written and the call succeeds.
     ensures idle { 2 ≤ from → DoesNothing tx.old tx.new result }
 {
     if from >= QUEUE_VERSION {
@@ -269,19 +304,23 @@ fn upgrade<S: Alter>(
     rows: &[(u64, Marks)],
 ) -> Result<(), Error>
     ensures writes { StatementFrame S.Store tx.old tx.new result }
+    // After `Ok`, a represented world of this version without classes, whose marks these are, is at
+    // version 3 with its queue.
     ensures upgrades { Does S.Store tx.old tx.new result (Upgrades from rows.now) }
 {
     upgrade_queue(tx, from, rows)?;
     upgrade_classes(tx, rows)
 }
 
-/// Puts the rows of grants at places in a row, from this one on.
+/// Adds the rows of grants at consecutive places, from this one on.
 fn insert_grants<S: Alter>(
     tx: &mut Transaction<'_, S>,
     place: u64,
     grants: &[Grant],
 ) -> Result<(), Error>
     ensures works { TransactionFrame S.Store tx.old tx.new result }
+    // After `Ok`, where the place is the next one, the table of grants has these after the others;
+    // every other table stays.
     ensures puts { Does S.Store tx.old tx.new result (PutsGrants place grants.now) }
 {
     let mut seq = place;
@@ -295,6 +334,8 @@ fn insert_grants<S: Alter>(
 /// Adds each of these sums to those of its host.
 fn add_sums<S: Alter>(tx: &mut Transaction<'_, S>, sums: &[HostSum]) -> Result<(), Error>
     ensures works { TransactionFrame S.Store tx.old tx.new result }
+    // After `Ok`, rows of hosts that represented grants represent them with any more of these sums;
+    // tables that no action leads to stay.
     ensures credits { Does S.Store tx.old tx.new result (Credits sums.now) }
 {
     for sum in sums {
@@ -303,8 +344,8 @@ fn add_sums<S: Alter>(tx: &mut Transaction<'_, S>, sums: &[HostSum]) -> Result<(
     Ok(())
 }
 
-/// Adds grants at places in a row, from this one on, and these sums to their hosts'. In between the tables stand for no
-/// world.
+/// Adds grants at consecutive places, from this one on, and these sums to their hosts'. In between the tables represent
+/// no world.
 fn add_grants<S: Alter>(
     tx: &mut Transaction<'_, S>,
     place: u64,
@@ -312,7 +353,10 @@ fn add_grants<S: Alter>(
     sums: &[HostSum],
 ) -> Result<(), Error>
     ensures works { TransactionFrame S.Store tx.old tx.new result }
+    // After `Ok`, where the place is the next one and the sums are theirs, each represented world
+    // has these grants, and hosts their sums.
     ensures adds { Does S.Store tx.old tx.new result (AddsGrants place grants.now sums.now) }
+    // After `Ok` a queue beside a represented world has the same rows.
     ensures queue { Does S.Store tx.old tx.new result KeepsQueue }
 {
     insert_grants(tx, place, grants)?;
@@ -322,6 +366,8 @@ fn add_grants<S: Alter>(
 /// Makes one change.
 fn make<S: Alter>(tx: &mut Transaction<'_, S>, change: &Change<'_>) -> Result<(), Error>
     ensures works { TransactionFrame S.Store tx.old tx.new result }
+    // After `Ok`, if the change is right for a represented world, the tables and the queue
+    // represent that world with it made.
     ensures makes { Does S.Store tx.old tx.new result (MakesWorlds (change.now ∷ [])) }
 {
     match change {
@@ -344,7 +390,12 @@ fn make<S: Alter>(tx: &mut Transaction<'_, S>, change: &Change<'_>) -> Result<()
 
 /// Makes all changes inside a transaction, one after another.
 pub fn apply<S: Alter>(tx: &mut Transaction<'_, S>, changes: &[Change<'_>]) -> Result<(), Error>
+    // Commits nothing, so a crash leaves what it left before; after `Ok` the transaction is open if
+    // it was.
     ensures works { TransactionFrame S.Store tx.old tx.new result }
+    // After `Ok`, if the changes are right for a represented world, the tables represent that world
+    // with all of them made. From version 2 on the queue then has the marks of each workunit, and
+    // no other rows.
     ensures makes { Does S.Store tx.old tx.new result (MakesWorlds changes.now) }
 {
     for change in changes {

@@ -14,15 +14,21 @@ use wu_schema::{execute, make_classes};
 /// The version of the schema that has classes.
 const CLASS_VERSION: u64 = 3;
 
-/// Adds the class of a workunit, at its place in order of number. The table's key refuses a number that is there, and its
-/// reference one that no workunit has.
+/// Adds the class of a workunit, at its place in order of number. The table's key refuses a number that is there, and
+/// its reference one that no workunit has.
 pub fn insert_class<S: Alter>(
     tx: &mut Transaction<'_, S>,
     workunit: u64,
     class: u32,
 ) -> Result<(), Error>
+    // Commits nothing, so a crash leaves what it left before; after `Ok` the transaction is still
+    // open.
     ensures writes { StatementFrame S.Store tx.old tx.new result }
+    // After `Ok` the table of workunits' classes has this number and class, and every other table
+    // stays.
     ensures puts { Does S.Store tx.old tx.new result (PutsClass workunit class) }
+    // After `Ok`, tables of classes beside a world of an older version have this class at its
+    // place; the world and a queue stay.
     ensures adds { Does S.Store tx.old tx.new result (AddsClass workunit class) }
 {
     let workunit = signed(workunit)?;
@@ -33,9 +39,11 @@ pub fn insert_class<S: Alter>(
     )
 }
 
-/// Puts class 0 for the workunit of each of these rows into tables of classes that have none, in their order.
+/// Adds class 0 for the workunit of each of these rows to tables of classes that have none, in their order.
 fn fill_classes<S: Alter>(tx: &mut Transaction<'_, S>, rows: &[(u64, Marks)]) -> Result<(), Error>
     ensures works { TransactionFrame S.Store tx.old tx.new result }
+    // After `Ok`, empty tables of classes beside an older world whose marks these are have class 0
+    // for each workunit; all else stays.
     ensures fills { Does S.Store tx.old tx.new result (FillsClasses rows.now) }
 {
     for row in rows {
@@ -44,13 +52,17 @@ fn fill_classes<S: Alter>(tx: &mut Transaction<'_, S>, rows: &[(u64, Marks)]) ->
     Ok(())
 }
 
-/// Makes the tables of classes beside an older version, with class 0 for the workunit of each of these rows, and sets the
+/// Makes the tables of classes beside an older version, with class 0 for the workunit of each of these rows. Sets the
 /// version that has them.
 pub fn upgrade_classes<S: Alter>(
     tx: &mut Transaction<'_, S>,
     rows: &[(u64, Marks)],
 ) -> Result<(), Error>
+    // Commits nothing, so a crash leaves what it left before; after `Ok` the transaction is still
+    // open.
     ensures writes { StatementFrame S.Store tx.old tx.new result }
+    // After `Ok`, a represented older world whose marks these are is at version 3, with class 0 for
+    // each workunit; a queue stays.
     ensures upgrades { Does S.Store tx.old tx.new result (UpgradesClasses rows.now) }
 {
     make_classes(tx)?;
@@ -64,7 +76,11 @@ pub fn set_class<S: Alter>(
     workunit: u64,
     class: u32,
 ) -> Result<(), Error>
+    // Commits nothing, so a crash leaves what it left before; after `Ok` the transaction is still
+    // open.
     ensures writes { StatementFrame S.Store tx.old tx.new result }
+    // After `Ok`, in a represented world with classes the workunit of this number has this class;
+    // all else and a queue stay.
     ensures sets { Does S.Store tx.old tx.new result
         (ChangesClasses (with_set_class workunit class)) }
 {
@@ -76,13 +92,17 @@ pub fn set_class<S: Alter>(
     )
 }
 
-/// Sets the class of a host: its row, if it has one, gives way to a new one.
+/// Sets the class of a host: deletes its row, if it has one, and adds a new one.
 pub fn put_host_class<S: Alter>(
     tx: &mut Transaction<'_, S>,
     host: &Name,
     class: u32,
 ) -> Result<(), Error>
+    // Commits nothing, so a crash leaves what it left before; after `Ok` the transaction is still
+    // open.
     ensures writes { StatementFrame S.Store tx.old tx.new result }
+    // After `Ok`, in a represented world with classes the host has this class; each other host, all
+    // else and a queue stay.
     ensures sets { Does S.Store tx.old tx.new result
         (ChangesClasses (with_host_class host.now class)) }
 {
@@ -98,17 +118,26 @@ pub fn put_host_class<S: Alter>(
     )
 }
 
-/// The class of the workunit of this number, or none where it is not there.
+/// Returns the class of the workunit of this number, or `None` if it is not there.
 ///
-/// `NotAProject` where its row is no class, or the number is not below 2^63.
+/// Returns `NotAProject` if its row is no class, or if the number is not below 2^63.
 pub fn class_of_workunit<S: Alter>(
     conn: &mut Connection<S>,
     number: u64,
 ) -> Result<Option<u32>, Fault>
+    // Begins no transaction and commits nothing; except after `Memory` and `Broken` all is as
+    // before; `Broken` means a failed disk or a closed connection.
     ensures asks { Asks S.Store conn.old conn.new result }
+    // For a number below 2^63 the connection is open afterwards, except after `Memory` and
+    // `Broken`.
     ensures opens { number < 2 ^ 63 → ServesUnlessFailed S.Store conn.new result }
+    // A fault is `Memory`, `Broken` or `NotAProject`.
     ensures fault { IfErr result IsStoreFault }
+    // In each represented world with classes it is the class of the workunit of this number, or
+    // `None` if there is none.
     ensures found { AnswersClass S.Store conn.old conn.new result (class_numbered number) }
+    // Over a represented world with classes, that class in range, with no limit on steps and a
+    // number below 2^63, `NotAProject` is not returned.
     ensures unrefused { number < 2 ^ 63
         → NotRefusedClass S.Store conn.old conn.new result (LoadsClass number) }
 {
@@ -124,12 +153,20 @@ pub fn class_of_workunit<S: Alter>(
     }
 }
 
-/// The class of the host of this name: 0 where no file named it. `NotAProject` where its row is no class.
+/// Returns the class of the host of this name: 0 if no file named it. Returns `NotAProject` if its row is no class.
 pub fn class_of<S: Alter>(conn: &mut Connection<S>, host: &Name) -> Result<u32, Fault>
+    // Begins no transaction and commits nothing; except after `Memory` and `Broken` all is as
+    // before; `Broken` means a failed disk or a closed connection.
     ensures asks { Asks S.Store conn.old conn.new result }
+    // The connection is open afterwards, except after `Memory` and `Broken`.
     ensures opens { ServesUnlessFailed S.Store conn.new result }
+    // A fault is `Memory`, `Broken` or `NotAProject`.
     ensures fault { IfErr result IsStoreFault }
+    // It is the class that the host has in each represented world with classes, 0 where no file
+    // named it.
     ensures found { AnswersClass S.Store conn.old conn.new result (class_named host.now) }
+    // Over a represented world with classes, that class in range, with no limit on steps,
+    // `NotAProject` is not returned.
     ensures unrefused { NotRefusedClass S.Store conn.old conn.new result
         (LoadsHostClass host.now) }
 {

@@ -6,7 +6,7 @@ ghost use Rattle.wu_store.specs.Differences.{HasSameDecision, HasSameJob, HasSam
 
 use wu_core::{Bytes, ErrorMask, Instance, Marks, Name, Params, Workunit};
 
-/// Whether two workunits have the same parameters.
+/// Returns whether two workunits have the same parameters.
 fn is_same_params(a: &Params, b: &Params) -> bool
     ensures { IsTrue result ↔ (a.now ≡ b.now) }
 {
@@ -19,21 +19,21 @@ fn is_same_params(a: &Params, b: &Params) -> bool
         && a.credit() == b.credit()
 }
 
-/// Whether both are the same bytes.
+/// Returns whether both are the same bytes.
 fn is_same_bytes(a: &Bytes, b: &Bytes) -> bool
     ensures { IsTrue result ↔ (a.now ≡ b.now) }
 {
     a.as_slice() == b.as_slice()
 }
 
-/// Whether both are the same name.
+/// Returns whether both are the same name.
 fn is_same_name(a: &Name, b: &Name) -> bool
     ensures { IsTrue result ↔ (a.now ≡ b.now) }
 {
     a.as_str() == b.as_str()
 }
 
-/// Whether both are the same host, or none.
+/// Returns whether both are the same host, or both are none.
 fn is_same_host(a: &Option<Name>, b: &Option<Name>) -> bool
     ensures { IsTrue result ↔ (a.now ≡ b.now) }
 {
@@ -44,7 +44,7 @@ fn is_same_host(a: &Option<Name>, b: &Option<Name>) -> bool
     }
 }
 
-/// Whether what a batch gave is the same of both.
+/// Returns whether a batch gave the same number, name, parameters and input for both.
 fn is_same_job(a: &Workunit, b: &Workunit) -> bool
     ensures { IsTrue result ↔ HasSameJob a.now b.now }
 {
@@ -54,7 +54,7 @@ fn is_same_job(a: &Workunit, b: &Workunit) -> bool
         && is_same_bytes(&a.input, &b.input)
 }
 
-/// Whether both are the same mask.
+/// Returns whether both are the same mask.
 fn is_same_mask(a: ErrorMask, b: ErrorMask) -> bool
     ensures { IsTrue result ↔ (a ≡ b) }
 {
@@ -66,14 +66,14 @@ fn is_same_mask(a: ErrorMask, b: ErrorMask) -> bool
         && a.no_canonical_result == b.no_canonical_result
 }
 
-/// Whether both are the same number of a canonical result, or none.
+/// Returns whether both are the same number of a canonical result, or both are none.
 fn is_same_canonical(a: Option<u32>, b: Option<u32>) -> bool
     ensures { IsTrue result ↔ (a ≡ b) }
 {
     a == b
 }
 
-/// Whether what was decided is the same of both.
+/// Returns whether the same was decided on both.
 fn is_same_decision(a: &Workunit, b: &Workunit) -> bool
     ensures { IsTrue result ↔ HasSameDecision a.now b.now }
 {
@@ -82,21 +82,23 @@ fn is_same_decision(a: &Workunit, b: &Workunit) -> bool
         && a.assimilate == b.assimilate
 }
 
-/// Whether both are as far.
+/// Returns whether both have the same state of deletion and the same moment of assimilation.
 fn is_same_progress(a: &Workunit, b: &Workunit) -> bool
     ensures { IsTrue result ↔ HasSameProgress a.now b.now }
 {
     a.file_delete == b.file_delete && a.done_at == b.done_at
 }
 
-/// Whether two workunits have the same row.
+/// Returns whether two workunits have the same row.
 pub fn is_same_row(a: &Workunit, b: &Workunit) -> bool
+    // It is true exactly where both are the same workunit except for their instances and their
+    // class.
     ensures { IsTrue result ↔ (bare a.now ≡ bare b.now) }
 {
     is_same_job(a, b) && is_same_decision(a, b) && is_same_progress(a, b)
 }
 
-/// Whether both stand the same.
+/// Returns whether both have the same states.
 fn is_same_states(a: &Instance, b: &Instance) -> bool
     ensures { IsTrue result ↔ HasSameStates a.now b.now }
 {
@@ -106,7 +108,7 @@ fn is_same_states(a: &Instance, b: &Instance) -> bool
         && a.file_delete == b.file_delete
 }
 
-/// Whether the same was reported of both.
+/// Returns whether both have the same host, moments and output.
 fn is_same_report(a: &Instance, b: &Instance) -> bool
     ensures { IsTrue result ↔ HasSameReport a.now b.now }
 {
@@ -117,15 +119,17 @@ fn is_same_report(a: &Instance, b: &Instance) -> bool
         && is_same_bytes(&a.output, &b.output)
 }
 
-/// Whether two instances are the same.
+/// Returns whether two instances are the same.
 pub fn is_same_instance(a: &Instance, b: &Instance) -> bool
+    // It is true exactly where both are the same instance.
     ensures { IsTrue result ↔ (a.now ≡ b.now) }
 {
     is_same_states(a, b) && is_same_report(a, b)
 }
 
-/// Whether two workunits have the same marks.
+/// Returns whether two workunits have the same marks.
 pub fn is_same_marks(a: &Marks, b: &Marks) -> bool
+    // It is true exactly where both are the same marks.
     ensures { IsTrue result ↔ (a.now ≡ b.now) }
 {
     a.wake == b.wake

@@ -20,16 +20,24 @@ use wu_core::{Fault, Marks, Moment, Workunit};
 use wu_rules::{Pass, marks_of};
 use wu_schema::number_at;
 
-/// The present workunit of the least number, with its instances, or none, where there are no classes: that of 0, or the
-/// first above it.
+/// Returns the workunit of the least number, with its instances, or `None` if there is none, in a project without
+/// classes. It is that of number 0, or the first above it.
 pub(crate) fn first<S: Alter>(
     conn: &mut Connection<S>,
     alloc: Global,
 ) -> Result<Option<Workunit>, Fault>
+    // Begins no transaction and commits nothing; except after `Memory` and `Broken` all is as
+    // before; `Broken` means a failed disk or a closed connection.
     ensures asks { Asks S.Store conn.old conn.new result }
+    // The connection is open afterwards, except after `Memory` and `Broken`.
     ensures opens { ServesUnlessFailed S.Store conn.new result }
+    // A fault is `Memory`, `Broken` or `NotAProject`.
     ensures fault { IfErr result IsStoreFault }
+    // In each represented world without classes it is the workunit of the least number, or `None`
+    // if there is none.
     ensures found { ForEachWorld S.Store conn.old conn.new (FindsFirst result) }
+    // Over a represented world without classes, its workunits readable, with no limit on steps,
+    // `NotAProject` is not returned.
     ensures unrefused { NotRefusedIn S.Store conn.old conn.new result AreEarly }
 {
     match load_early(conn, alloc, 0)? {
@@ -38,18 +46,27 @@ pub(crate) fn first<S: Alter>(
     }
 }
 
-/// The present workunit of the least number above this one, with its instances, or none, where there are no classes.
+/// Returns the workunit of the least number above this one, with its instances, or `None` if there is none, in a
+/// project without classes.
 ///
-/// `NotAProject` where a row is no value, or where its number is not above this one.
+/// Returns `NotAProject` if a row is no value, or if its number is not above this one.
 pub(crate) fn next_after<S: Alter>(
     conn: &mut Connection<S>,
     alloc: Global,
     number: u64,
 ) -> Result<Option<Workunit>, Fault>
+    // Fewer 64-bit numbers are left from that of the answer on than from this one on.
     ensures shrinks { IfOk result (λ next. numbers_left next < 2 ^ 64 - number) }
+    // Begins no transaction and commits nothing; except after `Memory` and `Broken` all is as
+    // before; `Broken` means a failed disk or a closed connection.
     ensures asks { Asks S.Store conn.old conn.new result }
+    // A fault is `Memory`, `Broken` or `NotAProject`.
     ensures fault { IfErr result IsStoreFault }
+    // In each represented world without classes it is the first workunit above this number, or
+    // `None` if there is none.
     ensures found { ForEachWorld S.Store conn.old conn.new (FindsAbove number result) }
+    // Over a represented world without classes, that workunit readable, with no limit on steps and
+    // a number below 2^63, `NotAProject` is not returned.
     ensures unrefused { NotRefusedIn S.Store conn.old conn.new result (LoadsAbove number) }
 {
     let Some(next) = load_above(conn, alloc, number)? else {
@@ -71,17 +88,25 @@ fn add_marks(rows: &mut Vec<(u64, Marks)>, workunit: &Workunit) -> Result<(), Fa
     Ok(())
 }
 
-/// The marks of all workunits, each with its number, in order of number, where there are no classes.
+/// Returns the marks of all workunits, each with its number, in order of number, of a project without classes.
 ///
-/// One workunit after another is loaded, and only its marks are kept.
+/// Loads one workunit after another, and keeps only its marks.
 pub fn load_marks<S: Alter>(
     conn: &mut Connection<S>,
     alloc: Global,
 ) -> Result<Vec<(u64, Marks)>, Fault>
+    // Begins no transaction and commits nothing; except after `Memory` and `Broken` all is as
+    // before; `Broken` means a failed disk or a closed connection.
     ensures asks { Asks S.Store conn.old conn.new result }
+    // The connection is open afterwards, except after `Memory` and `Broken`.
     ensures opens { ServesUnlessFailed S.Store conn.new result }
+    // A fault is `Memory`, `Broken` or `NotAProject`.
     ensures fault { IfErr result IsStoreFault }
+    // In each represented world without classes these are the numbers of all workunits with their
+    // marks, in order of number.
     ensures marks { ForEachWorld S.Store conn.old conn.new (FindsMarks result) }
+    // Over a represented world without classes, its workunits readable, with no limit on steps,
+    // `NotAProject` is not returned.
     ensures unrefused { NotRefusedIn S.Store conn.old conn.new result AreEarly }
 {
     let mut rows = Vec::new(alloc);
@@ -93,7 +118,7 @@ pub fn load_marks<S: Alter>(
     Ok(rows)
 }
 
-/// The moment so many seconds before this one, if there is one.
+/// Returns the moment so many seconds before this one, or `None` if there is none.
 fn moment_before(now: Moment, seconds: u64) -> Option<Moment>
     ensures since { IfSome result (λ since. since + seconds ≡ now) }
     ensures none { result ≡ None → now < seconds }
@@ -104,11 +129,13 @@ fn moment_before(now: Moment, seconds: u64) -> Option<Moment>
     Moment::new(now.seconds() - seconds)
 }
 
-/// The moment by which a mark has to have come, where the pass goes by moments: for a purge the one so long before, if
-/// there is one.
+/// Returns the moment by which a mark has to have come, for a pass that goes by moments. For a purge it is the one so
+/// long before, or `None` if there is none.
 fn moment_due(pass: Pass, now: Moment, min_age: u64) -> Option<Moment>
+    // With a moment, the pass selects exactly those marks that are set or have come by it.
     ensures by { IfSome result (λ by. (marks : Marks)
         → is_marked pass by marks ≡ selects pass now min_age marks) }
+    // Without a moment the pass selects no marks.
     ensures none { result ≡ None → (marks : Marks) → selects pass now min_age marks ≡ false }
 {
     match pass {
@@ -117,7 +144,7 @@ fn moment_due(pass: Pass, now: Moment, min_age: u64) -> Option<Moment>
     }
 }
 
-/// The rows of the numbers of the workunits that the queue has for a pass, in order, as far as the limit goes.
+/// Returns the rows of the numbers of the workunits that the queue has for a pass, in order, up to the limit.
 fn due_rows<S: Alter>(
     conn: &mut Connection<S>,
     pass: Pass,
@@ -127,6 +154,8 @@ fn due_rows<S: Alter>(
 ) -> Result<Vec<Row>, Fault>
     ensures asks { Asks S.Store conn.old conn.new result }
     ensures opens { limit < 2 ^ 63 → ServesUnlessFailed S.Store conn.new result }
+    // These are the numbers of the queue's first workunits whose marks the pass selects, in order,
+    // up to the limit.
     ensures answers { AnswersQueue S.Store conn.old conn.new result
         (first_marked limit (selects pass now min_age)) }
     ensures fault { IfErr result IsStoreFault }
@@ -139,12 +168,16 @@ fn due_rows<S: Alter>(
     }
 }
 
-/// The workunit of the number in a row of the queue. `NotAProject` where none is present.
+/// Returns the workunit of the number in a row of the queue. Returns `NotAProject` if there is none.
 fn present<S: Alter>(conn: &mut Connection<S>, alloc: Global, row: &Row) -> Result<Workunit, Fault>
     ensures asks { Asks S.Store conn.old conn.new result }
     ensures fault { IfErr result IsStoreFault }
     ensures formed { IfOk result IsWorkunit }
+    // In each represented world with classes where the row has the number of a workunit, it is that
+    // workunit.
     ensures found { ForEachWorld S.Store conn.old conn.new (FindsPresent row.now result) }
+    // Over such a world with that workunit readable, and with no limit on steps, `NotAProject` is
+    // not returned.
     ensures unrefused { NotRefusedIn S.Store conn.old conn.new result (IsRowOfStorable row.now) }
 {
     let number = number_at(row, 0)?;
@@ -154,7 +187,7 @@ fn present<S: Alter>(conn: &mut Connection<S>, alloc: Global, row: &Row) -> Resu
     }
 }
 
-/// The same rows, which are never more than the limit. `NotAProject` where there are more.
+/// Returns the same rows as `due_rows`, which are never more than the limit. Returns `NotAProject` if there are more.
 fn first_due_rows<S: Alter>(
     conn: &mut Connection<S>,
     pass: Pass,
@@ -177,8 +210,9 @@ fn first_due_rows<S: Alter>(
     Ok(rows)
 }
 
-/// The numbers in these rows of the queue, in their order. `NotAProject` where a row has none.
+/// Returns the numbers in these rows of the queue, in their order. Returns `NotAProject` if a row has none.
 fn numbers_in(alloc: Global, rows: &[Row]) -> Result<Vec<u64>, Fault>
+    // Rows of one number each are read as these numbers, or out of memory.
     ensures numbers { FindsNumbers rows.now result }
     ensures fault { IfErr result IsReadFault }
     ensures long { IfOk result (λ found. length found.items ≡ length rows.now) }
@@ -191,7 +225,8 @@ fn numbers_in(alloc: Global, rows: &[Row]) -> Result<Vec<u64>, Fault>
     Ok(found)
 }
 
-/// The workunits of the numbers in these rows of the queue, in their order. `NotAProject` where one is not present.
+/// Returns the workunits of the numbers in these rows of the queue, in their order. Returns `NotAProject` if one is not
+/// present.
 fn load_all<S: Alter>(
     conn: &mut Connection<S>,
     alloc: Global,
@@ -200,8 +235,12 @@ fn load_all<S: Alter>(
     ensures asks { Asks S.Store conn.old conn.new result }
     ensures fault { IfErr result IsStoreFault }
     ensures formed { IfOk result (λ found. All IsWorkunit found.items) }
+    // In each represented world with classes where the rows have the numbers of workunits, these
+    // are those workunits.
     ensures found { ForEachWorld S.Store conn.old conn.new (FindsAllPresent rows.now result) }
     ensures long { IfOk result (λ found. length found.items ≡ length rows.now) }
+    // Over such a world with those workunits readable, and with no limit on steps, `NotAProject` is
+    // not returned.
     ensures unrefused { NotRefusedIn S.Store conn.old conn.new result
         (AreRowsOfStorable rows.now) }
 {
@@ -213,9 +252,9 @@ fn load_all<S: Alter>(
     Ok(found)
 }
 
-/// The workunits that the pass changes, in order of number: the first ones, up to the limit.
+/// Returns the workunits that the pass changes, in order of number: the first ones, up to the limit.
 ///
-/// The queue tells their numbers, and those workunits alone are loaded. `NotAProject` where a row is no value, a
+/// Finds their numbers in the queue, and loads those workunits alone. Returns `NotAProject` if a row is no value, a
 /// workunit is not well formed, or the limit is not below 2^63.
 pub fn load_due<S: Alter>(
     conn: &mut Connection<S>,
@@ -225,13 +264,23 @@ pub fn load_due<S: Alter>(
     min_age: u64,
     limit: u64,
 ) -> Result<Vec<Workunit>, Fault>
+    // Begins no transaction and commits nothing; except after `Memory` and `Broken` all is as
+    // before; `Broken` means a failed disk or a closed connection.
     ensures asks { Asks S.Store conn.old conn.new result }
+    // For a limit below 2^63 the connection is open afterwards, except after `Memory` and `Broken`.
     ensures opens { limit < 2 ^ 63 → ServesUnlessFailed S.Store conn.new result }
+    // A fault is `Memory`, `Broken` or `NotAProject`.
     ensures fault { IfErr result IsStoreFault }
+    // In each represented world with classes and its queue these are the first workunits that the
+    // pass changes, up to the limit.
     ensures due { ForEachQueued S.Store conn.old conn.new
         (FindsDue pass now min_age limit result) }
+    // Each of the workunits is well formed, whatever the tables hold.
     ensures formed { IfOk result (λ due. All IsWorkunit due.items) }
+    // There are at most as many as the limit.
     ensures few { IfOk result (λ due. length due.items ≤ limit) }
+    // Over a represented world with classes, its queue and readable workunits, with no limit on
+    // steps and a limit below 2^63, `NotAProject` is not returned.
     ensures unrefused { limit < 2 ^ 63
         → NotRefusedQueued S.Store conn.old conn.new result AreStorable }
 {
@@ -239,9 +288,9 @@ pub fn load_due<S: Alter>(
     load_all(conn, alloc, rows.as_slice())
 }
 
-/// The numbers of the workunits that the pass changes, in order: the first ones, up to the limit.
+/// Returns the numbers of the workunits that the pass changes, in order: the first ones, up to the limit.
 ///
-/// The queue tells them, and no workunit is loaded. `NotAProject` where the limit is not below 2^63.
+/// Finds them in the queue, and loads no workunit. Returns `NotAProject` if the limit is not below 2^63.
 pub fn due_numbers<S: Alter>(
     conn: &mut Connection<S>,
     alloc: Global,
@@ -250,12 +299,21 @@ pub fn due_numbers<S: Alter>(
     min_age: u64,
     limit: u64,
 ) -> Result<Vec<u64>, Fault>
+    // Begins no transaction and commits nothing; except after `Memory` and `Broken` all is as
+    // before; `Broken` means a failed disk or a closed connection.
     ensures asks { Asks S.Store conn.old conn.new result }
+    // For a limit below 2^63 the connection is open afterwards, except after `Memory` and `Broken`.
     ensures opens { limit < 2 ^ 63 → ServesUnlessFailed S.Store conn.new result }
+    // A fault is `Memory`, `Broken` or `NotAProject`.
     ensures fault { IfErr result IsStoreFault }
+    // In each represented world with classes and its queue these are the numbers of the first
+    // workunits that the pass changes, up to the limit.
     ensures due { ForEachQueued S.Store conn.old conn.new
         (FindsDueNumbers pass now min_age limit result) }
+    // There are at most as many as the limit.
     ensures few { IfOk result (λ due. length due.items ≤ limit) }
+    // Over a represented world with classes and its queue, with no limit on steps and a limit below
+    // 2^63, `NotAProject` is not returned.
     ensures unrefused { limit < 2 ^ 63
         → NotRefusedQueued S.Store conn.old conn.new result (λ _. ⊤) }
 {

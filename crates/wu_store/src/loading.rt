@@ -17,8 +17,11 @@ use wu_core::{Fault, ImportKind, Instances, MOST_INSTANCES, Name, Workunit};
 use wu_schema::rows::{StoredImport, import_from, instance_from, next_number_from, workunit_from};
 use wu_schema::{query, read_column};
 
-/// The instances of such rows of the table `result`, in their order: those of one workunit, which has at most 100.
+/// Reads the instances of such rows of the table `result`, in their order: those of one workunit, which has at most
+/// 100.
 fn instances_from(alloc: Global, rows: &[Row]) -> Result<Instances, Fault>
+    // Rows of at most 100 well-formed instances with values in range are read as these, or out of
+    // memory; any others are refused.
     ensures { Restores (map instance_row) AreStoredInstances rows.now result }
 {
     if rows.len() > MOST_INSTANCES as usize {
@@ -31,16 +34,22 @@ fn instances_from(alloc: Global, rows: &[Row]) -> Result<Instances, Fault>
     Ok(Instances::from_vec(instances))
 }
 
-/// The instances of the workunit of this number, in their order; none where it is not there.
+/// Returns the instances of the workunit of this number, in their order, or none if the workunit is not there.
 fn instances_of<S: Alter>(
     conn: &mut Connection<S>,
     alloc: Global,
     workunit: u64,
 ) -> Result<Instances, Fault>
+    // Begins no transaction and commits nothing; except after `Memory` and `Broken` all is as
+    // before; `Broken` means a failed disk or a closed connection.
     ensures asks { Asks S.Store conn.old conn.new result }
     ensures fault { IfErr result IsStoreFault }
     ensures stored { IfOk result AreStoredInstances }
+    // In each represented world these are the instances of the workunit of this number, or none if
+    // it is not there.
     ensures found { ForEachWorld S.Store conn.old conn.new (FindsInstances workunit result) }
+    // Over a represented world, those instances readable, with no limit on steps and a number below
+    // 2^63, `NotAProject` is not returned.
     ensures unrefused { NotRefusedIn S.Store conn.old conn.new result (LoadsInstances workunit) }
 {
     let key = key_of(workunit)?;
@@ -52,7 +61,7 @@ fn instances_of<S: Alter>(
     instances_from(alloc, &rows)
 }
 
-/// Whether there are no more instances than the workunit may have, and a canonical one is among them.
+/// Returns whether there are no more instances than the workunit may have, and a canonical one is among them.
 fn has_its_instances(workunit: &Workunit) -> bool
     ensures { IsTrue result ↔ HasItsInstances workunit.now }
 {
@@ -63,8 +72,8 @@ fn has_its_instances(workunit: &Workunit) -> bool
     workunit.instances.len() <= workunit.params.max_total_results() as usize && is_canonical_there
 }
 
-/// The workunit of a row, with its instances and without its class; none where there is no row. `NotAProject` where it
-/// is not well formed.
+/// Returns the workunit of a row, with its instances and without its class, or `None` if there is no row. Returns
+/// `NotAProject` if it is not well formed.
 fn loaded<S: Alter>(
     conn: &mut Connection<S>,
     alloc: Global,
@@ -73,6 +82,8 @@ fn loaded<S: Alter>(
     ensures asks { Asks S.Store conn.old conn.new result }
     ensures fault { IfErr result IsStoreFault }
     ensures formed { LoadsFormed result }
+    // In each represented world with the workunit of that row it is this one with its instances and
+    // class 0; `None` without a row.
     ensures found { ForEachWorld S.Store conn.old conn.new (FindsClassless row result) }
     ensures unrefused { NotRefusedIn S.Store conn.old conn.new result (IsLoadableIfThere row) }
 {
@@ -88,8 +99,8 @@ fn loaded<S: Alter>(
     }
 }
 
-/// The workunit of a row, with its class and its instances; none where there is no row. `NotAProject` where it has no
-/// class, or is not well formed.
+/// Returns the workunit of a row, with its class and its instances, or `None` if there is no row. Returns `NotAProject`
+/// if it has no class, or is not well formed.
 fn whole<S: Alter>(
     conn: &mut Connection<S>,
     alloc: Global,
@@ -98,6 +109,8 @@ fn whole<S: Alter>(
     ensures asks { Asks S.Store conn.old conn.new result }
     ensures fault { IfErr result IsStoreFault }
     ensures formed { LoadsFormed result }
+    // In each represented world with classes and the workunit of that row it is this one; `None`
+    // without a row.
     ensures found { ForEachWorld S.Store conn.old conn.new (FindsIfThere row result) }
     ensures unrefused { NotRefusedIn S.Store conn.old conn.new result (IsWholeIfThere row) }
 {
@@ -113,11 +126,14 @@ fn whole<S: Alter>(
     }
 }
 
-/// The row of the present workunit of this number, if there is one. `NotAProject` where the number is not below 2^63.
+/// Returns the row of the workunit of this number, or `None` if there is none. Returns `NotAProject` if the number is
+/// not below 2^63.
 fn numbered_row<S: Alter>(conn: &mut Connection<S>, number: u64) -> Result<Option<Row>, Fault>
     ensures asks { Asks S.Store conn.old conn.new result }
     ensures opens { number < 2 ^ 63 → ServesUnlessFailed S.Store conn.new result }
     ensures fault { IfErr result IsStoreFault }
+    // It is the row that the workunit of this number has in each represented world, or `None` if
+    // there is none.
     ensures answers { Answers S.Store conn.old conn.new result (row_numbered number) }
     ensures unrefused { NotRefusedIn S.Store conn.old conn.new result (λ _. number < 2 ^ 63) }
 {
@@ -129,57 +145,88 @@ fn numbered_row<S: Alter>(conn: &mut Connection<S>, number: u64) -> Result<Optio
     )
 }
 
-/// The present workunit of this number, with its class and its instances, or none.
+/// Returns the workunit of this number, with its class and its instances, or `None` if there is none.
 ///
-/// `NotAProject` where a row is no value, the workunit is not well formed, or the number is not below 2^63.
+/// Returns `NotAProject` if a row is no value, the workunit is not well formed, or the number is not below 2^63.
 pub fn load<S: Alter>(
     conn: &mut Connection<S>,
     alloc: Global,
     number: u64,
 ) -> Result<Option<Workunit>, Fault>
+    // Begins no transaction and commits nothing; except after `Memory` and `Broken` all is as
+    // before; `Broken` means a failed disk or a closed connection.
     ensures asks { Asks S.Store conn.old conn.new result }
+    // For a number below 2^63 the connection is open afterwards, except after `Memory` and
+    // `Broken`.
     ensures opens { number < 2 ^ 63 → ServesUnlessFailed S.Store conn.new result }
+    // A fault is `Memory`, `Broken` or `NotAProject`.
     ensures fault { IfErr result IsStoreFault }
+    // A workunit that is returned is well formed, whatever the tables hold.
     ensures formed { LoadsFormed result }
+    // In each represented world with classes it is the workunit of this number with class and
+    // instances, or `None` if there is none.
     ensures found { ForEachWorld S.Store conn.old conn.new (FindsNumbered number result) }
+    // Over a represented world with classes, that workunit readable, with no limit on steps and a
+    // number below 2^63, `NotAProject` is not returned.
     ensures unrefused { NotRefusedIn S.Store conn.old conn.new result (LoadsNumbered number) }
 {
     let row = numbered_row(conn, number)?;
     whole(conn, alloc, row)
 }
 
-/// The present workunit of this number, with its instances, or none, where there are no classes.
+/// Returns the workunit of this number, with its instances, or `None` if there is none, in a project without classes.
 ///
-/// `NotAProject` where a row is no value, the workunit is not well formed, or the number is not below 2^63.
+/// Returns `NotAProject` if a row is no value, the workunit is not well formed, or the number is not below 2^63.
 pub fn load_early<S: Alter>(
     conn: &mut Connection<S>,
     alloc: Global,
     number: u64,
 ) -> Result<Option<Workunit>, Fault>
+    // Begins no transaction and commits nothing; except after `Memory` and `Broken` all is as
+    // before; `Broken` means a failed disk or a closed connection.
     ensures asks { Asks S.Store conn.old conn.new result }
+    // For a number below 2^63 the connection is open afterwards, except after `Memory` and
+    // `Broken`.
     ensures opens { number < 2 ^ 63 → ServesUnlessFailed S.Store conn.new result }
+    // A fault is `Memory`, `Broken` or `NotAProject`.
     ensures fault { IfErr result IsStoreFault }
+    // A workunit that is returned is well formed, whatever the tables hold.
     ensures formed { LoadsFormed result }
+    // In each represented world without classes it is the workunit of this number with its
+    // instances, or `None` if there is none.
     ensures found { ForEachWorld S.Store conn.old conn.new (FindsEarly number result) }
+    // Over a represented world without classes, that workunit readable, with no limit on steps and
+    // a number below 2^63, `NotAProject` is not returned.
     ensures unrefused { NotRefusedIn S.Store conn.old conn.new result (LoadsEarly number) }
 {
     let row = numbered_row(conn, number)?;
     loaded(conn, alloc, row)
 }
 
-/// The present workunit of the least number above this one, with its instances, or none, where there are no classes.
+/// Returns the workunit of the least number above this one, with its instances, or `None` if there is none, in a
+/// project without classes.
 ///
-/// `NotAProject` where a row is no value, the workunit is not well formed, or the number is not below 2^63.
+/// Returns `NotAProject` if a row is no value, the workunit is not well formed, or the number is not below 2^63.
 pub fn load_above<S: Alter>(
     conn: &mut Connection<S>,
     alloc: Global,
     number: u64,
 ) -> Result<Option<Workunit>, Fault>
+    // Begins no transaction and commits nothing; except after `Memory` and `Broken` all is as
+    // before; `Broken` means a failed disk or a closed connection.
     ensures asks { Asks S.Store conn.old conn.new result }
+    // For a number below 2^63 the connection is open afterwards, except after `Memory` and
+    // `Broken`.
     ensures opens { number < 2 ^ 63 → ServesUnlessFailed S.Store conn.new result }
+    // A fault is `Memory`, `Broken` or `NotAProject`.
     ensures fault { IfErr result IsStoreFault }
+    // A workunit that is returned is well formed, whatever the tables hold.
     ensures formed { LoadsFormed result }
+    // In each represented world without classes it is the first workunit above this number with its
+    // instances, or `None` if there is none.
     ensures found { ForEachWorld S.Store conn.old conn.new (FindsAbove number result) }
+    // Over a represented world without classes, that workunit readable, with no limit on steps and
+    // a number below 2^63, `NotAProject` is not returned.
     ensures unrefused { NotRefusedIn S.Store conn.old conn.new result (LoadsAbove number) }
 {
     let key = key_of(number)?;
@@ -191,18 +238,27 @@ pub fn load_above<S: Alter>(
     loaded(conn, alloc, row)
 }
 
-/// The present workunit of this name, with its class and its instances, or none. `NotAProject` where a row is no value,
-/// or the workunit is not well formed.
+/// Returns the workunit of this name, with its class and its instances, or `None` if there is none. Returns
+/// `NotAProject` if a row is no value, or if the workunit is not well formed.
 pub fn load_named<S: Alter>(
     conn: &mut Connection<S>,
     alloc: Global,
     name: &Name,
 ) -> Result<Option<Workunit>, Fault>
+    // Begins no transaction and commits nothing; except after `Memory` and `Broken` all is as
+    // before; `Broken` means a failed disk or a closed connection.
     ensures asks { Asks S.Store conn.old conn.new result }
+    // The connection is open afterwards, except after `Memory` and `Broken`.
     ensures opens { ServesUnlessFailed S.Store conn.new result }
+    // A fault is `Memory`, `Broken` or `NotAProject`.
     ensures fault { IfErr result IsStoreFault }
+    // A workunit that is returned is well formed, whatever the tables hold.
     ensures formed { LoadsFormed result }
+    // In each represented world with classes it is the workunit of this name with class and
+    // instances, or `None` if there is none.
     ensures found { ForEachWorld S.Store conn.old conn.new (FindsNamed name.now result) }
+    // Over a represented world with classes, that workunit readable, with no limit on steps,
+    // `NotAProject` is not returned.
     ensures unrefused { NotRefusedIn S.Store conn.old conn.new result (LoadsNamed name.now) }
 {
     let row = ask_row(
@@ -213,17 +269,25 @@ pub fn load_named<S: Alter>(
     whole(conn, alloc, row)
 }
 
-/// The import of this kind and name, if there was one. `NotAProject` where its row is no value.
+/// Returns the import of this kind and name, or `None` if there was none. Returns `NotAProject` if its row is no value.
 pub fn import_of<S: Alter>(
     conn: &mut Connection<S>,
     alloc: Global,
     kind: ImportKind,
     name: &Name,
 ) -> Result<Option<StoredImport>, Fault>
+    // Begins no transaction and commits nothing; except after `Memory` and `Broken` all is as
+    // before; `Broken` means a failed disk or a closed connection.
     ensures asks { Asks S.Store conn.old conn.new result }
+    // The connection is open afterwards, except after `Memory` and `Broken`.
     ensures opens { ServesUnlessFailed S.Store conn.new result }
+    // A fault is `Memory`, `Broken` or `NotAProject`.
     ensures fault { IfErr result IsStoreFault }
+    // In each represented world it is the stored import of this kind and name: content and first
+    // answer; or `None` if there is none.
     ensures found { ForEachWorld S.Store conn.old conn.new (FindsEarlier kind name.now result) }
+    // Over a represented world where that import's verdicts are of its kind, with no limit on
+    // steps, `NotAProject` is not returned.
     ensures unrefused { NotRefusedIn S.Store conn.old conn.new result (LoadsImport kind name.now) }
 {
     let rows = query(
@@ -237,13 +301,22 @@ pub fn import_of<S: Alter>(
     }
 }
 
-/// The number that the next workunit gets, from 1 to one past the last. `NotAProject` where its row has no such number.
+/// Returns the number that the next workunit gets, from 1 to one past the last. Returns `NotAProject` if its row has no
+/// such number.
 pub fn next_number<S: Alter>(conn: &mut Connection<S>) -> Result<u64, Fault>
+    // The number is from 1 to one more than there may be workunits ever.
     ensures within { IfOk result IsNextNumber }
+    // Begins no transaction and commits nothing; except after `Memory` and `Broken` all is as
+    // before; `Broken` means a failed disk or a closed connection.
     ensures asks { Asks S.Store conn.old conn.new result }
+    // The connection is open afterwards, except after `Memory` and `Broken`.
     ensures opens { ServesUnlessFailed S.Store conn.new result }
+    // A fault is `Memory`, `Broken` or `NotAProject`.
     ensures fault { IfErr result IsStoreFault }
+    // It is the next number of each represented world.
     ensures next { ForEachWorld S.Store conn.old conn.new (KnowsNext result) }
+    // Over a represented world with such a next number and no limit on steps, `NotAProject` is not
+    // returned.
     ensures unrefused { NotRefusedIn S.Store conn.old conn.new result LoadsNext }
 {
     let row = ask_row(conn, "SELECT next_number FROM project", &[])?;
@@ -253,9 +326,11 @@ pub fn next_number<S: Alter>(conn: &mut Connection<S>) -> Result<u64, Fault>
     }
 }
 
-/// The place behind the last one, whose row this is; where there is none, the first, which is 1.
-/// `NotAProject` where the row has no place.
+/// Returns the place after the last one, whose row this is, or 1 if there is no row. Returns `NotAProject` if the row
+/// has no place.
 fn place_behind(last: Option<Row>) -> Result<u64, Fault>
+    // The row of a place from 1 on is read as the next place, and no row as 1; any other row is
+    // refused.
     ensures reads { Restores row_before (λ place. 1 ≤ place) last result }
     ensures within { IfOk result IsPlaceToGive }
 {
@@ -272,13 +347,20 @@ fn place_behind(last: Option<Row>) -> Result<u64, Fault>
     Ok(place as u64 + 1)
 }
 
-/// The place that the next grant gets, from 1. `NotAProject` where the last row's is no place.
+/// Returns the place that the next grant gets, from 1. Returns `NotAProject` if the last row has no place.
 pub fn next_grant_place<S: Alter>(conn: &mut Connection<S>) -> Result<u64, Fault>
+    // The place is from 1 to 2^63.
     ensures within { IfOk result IsPlaceToGive }
+    // Begins no transaction and commits nothing; except after `Memory` and `Broken` all is as
+    // before; `Broken` means a failed disk or a closed connection.
     ensures asks { Asks S.Store conn.old conn.new result }
+    // The connection is open afterwards, except after `Memory` and `Broken`.
     ensures opens { ServesUnlessFailed S.Store conn.new result }
+    // A fault is `Memory`, `Broken` or `NotAProject`.
     ensures fault { IfErr result IsStoreFault }
+    // It is the place after all grants of each represented world, counted from 1.
     ensures place { ForEachWorld S.Store conn.old conn.new (KnowsGrantPlace result) }
+    // Over a represented world, with no limit on steps, `NotAProject` is not returned.
     ensures unrefused { NotRefusedIn S.Store conn.old conn.new result (λ _. ⊤) }
 {
     let last = ask_row(
@@ -289,13 +371,20 @@ pub fn next_grant_place<S: Alter>(conn: &mut Connection<S>) -> Result<u64, Fault
     place_behind(last)
 }
 
-/// The place that the next archived workunit gets, from 1. `NotAProject` where the last row's is no place.
+/// Returns the place that the next archived workunit gets, from 1. Returns `NotAProject` if the last row has no place.
 pub fn next_archived_place<S: Alter>(conn: &mut Connection<S>) -> Result<u64, Fault>
+    // The place is from 1 to 2^63.
     ensures within { IfOk result IsPlaceToGive }
+    // Begins no transaction and commits nothing; except after `Memory` and `Broken` all is as
+    // before; `Broken` means a failed disk or a closed connection.
     ensures asks { Asks S.Store conn.old conn.new result }
+    // The connection is open afterwards, except after `Memory` and `Broken`.
     ensures opens { ServesUnlessFailed S.Store conn.new result }
+    // A fault is `Memory`, `Broken` or `NotAProject`.
     ensures fault { IfErr result IsStoreFault }
+    // It is the place after all archived rows of each represented world, counted from 1.
     ensures place { ForEachWorld S.Store conn.old conn.new (KnowsArchivedPlace result) }
+    // Over a represented world, with no limit on steps, `NotAProject` is not returned.
     ensures unrefused { NotRefusedIn S.Store conn.old conn.new result (λ _. ⊤) }
 {
     let last = ask_row(

@@ -1,4 +1,4 @@
-//! The statements that set a row where it stands, each text in one function.
+//! The statements that set a row in its place, each text in one function.
 
 ghost use Rattle.wu_schema.specs.Calls.{Does, StatementFrame};
 ghost use Rattle.wu_store.specs.Changes.{InstanceLeavesMarks, LeavesMarks, SetsInstance, SetsRow};
@@ -10,8 +10,13 @@ use wu_core::{Instance, Marks, Workunit};
 
 /// Sets the row of the workunit of this number. Its instances stay.
 pub fn set_workunit<S: Alter>(tx: &mut Transaction<'_, S>, workunit: &Workunit) -> Result<(), Error>
+    // Commits nothing, so a crash leaves what it left before; after `Ok` the transaction is still
+    // open.
     ensures writes { StatementFrame S.Store tx.old tx.new result }
+    // After `Ok`, where a workunit of a represented world has this number, its row is this one; its
+    // instances and class stay.
     ensures sets { Does S.Store tx.old tx.new result (SetsRow workunit.now) }
+    // After `Ok`, where a workunit of a represented world has this number, a queue beside it stays.
     ensures queue { Does S.Store tx.old tx.new result (LeavesMarks workunit.now.number) }
 {
     run_workunit(
@@ -28,8 +33,14 @@ pub fn set_instance<S: Alter>(
     n: u32,
     instance: &Instance,
 ) -> Result<(), Error>
+    // Commits nothing, so a crash leaves what it left before; after `Ok` the transaction is still
+    // open.
     ensures writes { StatementFrame S.Store tx.old tx.new result }
+    // After `Ok`, where a workunit of a represented world has this instance's number, the instance
+    // is in its place, and all else stays.
     ensures sets { Does S.Store tx.old tx.new result (SetsInstance workunit n instance.now) }
+    // After `Ok`, where a workunit of a represented world has an instance of this number, a queue
+    // beside it stays.
     ensures queue { Does S.Store tx.old tx.new result (InstanceLeavesMarks workunit n) }
 {
     run_instance(
@@ -47,9 +58,14 @@ pub fn set_marks<S: Alter>(
     workunit: u64,
     marks: &Marks,
 ) -> Result<(), Error>
+    // Commits nothing, so a crash leaves what it left before; after `Ok` the transaction is still
+    // open.
     ensures writes { StatementFrame S.Store tx.old tx.new result }
+    // After `Ok`, the queue beside a represented world has these marks in place of the workunit's,
+    // and all its other rows.
     ensures sets { Does S.Store tx.old tx.new result
         (ChangesQueue (with_set_marks workunit marks.now)) }
+    // After `Ok`, a represented world beside a queue stays.
     ensures stays { Does S.Store tx.old tx.new result KeepsWorld }
 {
     run_marks(

@@ -21,26 +21,33 @@ use wu_core::{Archived, Deadline, Fault, Grant, Instance, Marks, Moment, Name, W
 use wu_rules::Pass;
 use wu_schema::{execute, query};
 
-/// A number of the schema, none of which is above a signed 64-bit number's range.
+/// Returns a number of the schema as a signed 64-bit number. A number from 2^63 on is an error; the schema has none.
 pub fn signed(number: u64) -> Result<i64, Error>
+    // The result is the same number.
     ensures value { IfOk result (λ n. n ≡ pos number) }
+    // `Ok` means that the number is below 2^63.
     ensures within { IfOk result (λ _. number < 2 ^ 63) }
+    // An error means that the number is 2^63 or more.
     ensures beyond { IfErr result (λ _. 2 ^ 63 ≤ number) }
 {
     i64::try_from(number).map_err(|_| Error::IntegralValueOutOfRange(0))
 }
 
-/// A number as a key of the schema. From 2^63 on it is `NotAProject`, as no row has it.
+/// Returns a number as a key of the schema. Returns `NotAProject` from 2^63 on, as no row has such a key.
 pub fn key_of(number: u64) -> Result<i64, Fault>
+    // The result is the same number.
     ensures value { IfOk result (λ n. n ≡ pos number) }
+    // `Ok` means that the number is below 2^63.
     ensures within { IfOk result (λ _. number < 2 ^ 63) }
+    // A fault means that the number is 2^63 or more.
     ensures beyond { IfErr result (λ _. 2 ^ 63 ≤ number) }
+    // A fault is `NotAProject`.
     ensures refused { IfErr result (λ fault. fault ≡ NotAProject) }
 {
     i64::try_from(number).map_err(|_| Fault::NotAProject)
 }
 
-/// The seconds of a moment.
+/// Returns the seconds of a moment.
 fn seconds(moment: Moment) -> i64
     ensures value { result ≡ pos moment }
     ensures within { moment < 2 ^ 63 }
@@ -48,7 +55,7 @@ fn seconds(moment: Moment) -> i64
     moment.seconds() as i64
 }
 
-/// The seconds of a moment, where there is one.
+/// Returns the seconds of a moment, or `None` if there is none.
 fn seconds_of(moment: Option<Moment>) -> Option<i64>
     ensures { result ≡ option_map pos moment }
 {
@@ -58,7 +65,7 @@ fn seconds_of(moment: Option<Moment>) -> Option<i64>
     }
 }
 
-/// The seconds of a deadline, where there is one.
+/// Returns the seconds of a deadline, or `None` if there is none.
 fn deadline_of(deadline: Option<Deadline>) -> Option<i64>
     ensures { result ≡ option_map pos deadline }
 {
@@ -68,7 +75,7 @@ fn deadline_of(deadline: Option<Deadline>) -> Option<i64>
     }
 }
 
-/// A number of the schema, where there is one.
+/// Returns a number of the schema as a signed 64-bit number, or `None` if there is none.
 fn signed_of(number: Option<u64>) -> Result<Option<i64>, Error>
     ensures { IfOk result (λ n. n ≡ option_map pos number) }
 {
@@ -78,7 +85,7 @@ fn signed_of(number: Option<u64>) -> Result<Option<i64>, Error>
     }
 }
 
-/// The text of a host's name, where there is one.
+/// Returns the text of a host's name, or `None` if there is none.
 fn host_of(host: &Option<Name>) -> Option<&str>
     ensures { option_map (λ text. text.now) result ≡ host.now }
 {
@@ -88,28 +95,42 @@ fn host_of(host: &Option<Name>) -> Option<&str>
     }
 }
 
-/// The last row that a question answers, or none.
+/// Returns the last row of the answer to a question, or `None` if it has no row.
 pub fn ask_row<S: Alter>(
     conn: &mut Connection<S>,
     sql: &str,
     params: &[ValueRef<'_>],
 ) -> Result<Option<Row>, Fault>
+    // A SELECT begins no transaction and commits nothing; except after `Memory` and `Broken` all is
+    // as before; `Broken` means a failed disk or closed connection.
     ensures asks { IsSelect sql.now → Asks S.Store conn.old conn.new result }
+    // After a SELECT the connection is open, except after `Memory` and `Broken`.
     ensures opens { IsSelect sql.now → ServesUnlessFailed S.Store conn.new result }
+    // After `Ok` it is the last row of the store's answer to the question, or `None` if there is no
+    // row.
     ensures shows { ShowsLast S.Store conn.old conn.new result sql.now (bound params.now) }
+    // A fault is that of an error with which the store refuses the question.
     ensures fails { FailsAll S.Store conn.old conn.new result sql.now (bound params.now) }
+    // A fault is `Memory`, `Broken` or `NotAProject`.
     ensures told { IfErr result IsStoreFault }
 {
     let mut rows = query(conn, sql, params)?;
     Ok(rows.pop())
 }
 
-/// Whether a workunit of this name is present.
+/// Returns whether a workunit of this name is present.
 pub fn has_workunit<S: Alter>(conn: &mut Connection<S>, name: &Name) -> Result<bool, Fault>
+    // Begins no transaction and commits nothing; except after `Memory` and `Broken` all is as
+    // before; `Broken` means a failed disk or a closed connection.
     ensures asks { Asks S.Store conn.old conn.new result }
+    // The connection is open afterwards, except after `Memory` and `Broken`.
     ensures opens { ServesUnlessFailed S.Store conn.new result }
+    // `true` means that each represented world has a workunit of this name, and `false` that none
+    // has.
     ensures answers { Answers S.Store conn.old conn.new result (has_name name.now) }
+    // A fault is `Memory`, `Broken` or `NotAProject`.
     ensures fault { IfErr result IsStoreFault }
+    // Over a represented world, with no limit on steps, `NotAProject` is not returned.
     ensures unrefused { NotRefusedIn S.Store conn.old conn.new result (λ _. ⊤) }
 {
     let rows = query(
@@ -120,12 +141,19 @@ pub fn has_workunit<S: Alter>(conn: &mut Connection<S>, name: &Name) -> Result<b
     Ok(!rows.is_empty())
 }
 
-/// Whether a workunit of this name was archived.
+/// Returns whether a workunit of this name was archived.
 pub fn has_archived<S: Alter>(conn: &mut Connection<S>, name: &Name) -> Result<bool, Fault>
+    // Begins no transaction and commits nothing; except after `Memory` and `Broken` all is as
+    // before; `Broken` means a failed disk or a closed connection.
     ensures asks { Asks S.Store conn.old conn.new result }
+    // The connection is open afterwards, except after `Memory` and `Broken`.
     ensures opens { ServesUnlessFailed S.Store conn.new result }
+    // `true` means that each represented world has an archived workunit of this name, and `false`
+    // that none has.
     ensures answers { Answers S.Store conn.old conn.new result (was_archived name.now) }
+    // A fault is `Memory`, `Broken` or `NotAProject`.
     ensures fault { IfErr result IsStoreFault }
+    // Over a represented world, with no limit on steps, `NotAProject` is not returned.
     ensures unrefused { NotRefusedIn S.Store conn.old conn.new result (λ _. ⊤) }
 {
     let rows = query(
@@ -136,8 +164,8 @@ pub fn has_archived<S: Alter>(conn: &mut Connection<S>, name: &Name) -> Result<b
     Ok(!rows.is_empty())
 }
 
-/// The question by which a pass finds the numbers of workunits in the queue: those whose mark for it is set or has come,
-/// in order, as far as a limit goes.
+/// Returns the question by which a pass finds the numbers of workunits in the queue: those whose mark for it is set or
+/// has come, in order, up to a limit.
 fn marked_text(pass: Pass) -> &'static str
     ensures { result.now ≡ marked_text pass }
 {
@@ -158,7 +186,7 @@ fn marked_text(pass: Pass) -> &'static str
     }
 }
 
-/// What the question compares a mark with: a moment, or 1, as which the table keeps a mark that is set.
+/// Returns what the question compares a mark with: a moment, or 1, as which the table keeps a mark that is set.
 fn wanted_mark(pass: Pass, by: Moment) -> i64
     ensures value { result ≡ pos (wanted_mark pass by) }
     ensures within { wanted_mark pass by < 2 ^ 63 }
@@ -169,19 +197,26 @@ fn wanted_mark(pass: Pass, by: Moment) -> i64
     }
 }
 
-/// The rows of the numbers of the first workunits in the queue whose mark for a pass is set, or has come by a moment, in
-/// order, as far as the limit goes. A limit from 2^63 on is `NotAProject`.
+/// Returns the rows of the numbers of the first workunits in the queue whose mark for a pass is set, or has come by a
+/// moment. They are in order, up to the limit. Returns `NotAProject` if the limit is not below 2^63.
 pub fn marked_rows<S: Alter>(
     conn: &mut Connection<S>,
     pass: Pass,
     by: Moment,
     limit: u64,
 ) -> Result<Vec<Row>, Fault>
+    // Begins no transaction and commits nothing; except after `Memory` and `Broken` all is as
+    // before; `Broken` means a failed disk or a closed connection.
     ensures asks { Asks S.Store conn.old conn.new result }
+    // For a limit below 2^63 the connection is open afterwards, except after `Memory` and `Broken`.
     ensures opens { limit < 2 ^ 63 → ServesUnlessFailed S.Store conn.new result }
+    // These are the numbers of the queue's first workunits whose mark is set, or has come by the
+    // moment, in order, up to the limit.
     ensures answers { AnswersQueue S.Store conn.old conn.new result
         (first_marked limit (is_marked pass by)) }
+    // A fault is `Memory`, `Broken` or `NotAProject`.
     ensures fault { IfErr result IsStoreFault }
+    // Over a queue, with no limit on steps and a limit below 2^63, `NotAProject` is not returned.
     ensures unrefused { limit < 2 ^ 63 → NotRefusedQueue S.Store conn.old conn.new result }
 {
     let limit = key_of(limit)?;
@@ -189,13 +224,16 @@ pub fn marked_rows<S: Alter>(
     query(conn, marked_text(pass), params![mark, limit])
 }
 
-/// Runs a statement whose parameters are the cells of a workunit's row.
+/// Runs a statement with the columns of a workunit's row as its parameters.
 pub fn run_workunit<S: Alter>(
     tx: &mut Transaction<'_, S>,
     sql: &str,
     workunit: &Workunit,
 ) -> Result<(), Error>
+    // Commits nothing, so a crash leaves what it left before; after `Ok` the transaction is still
+    // open.
     ensures writes { StatementFrame S.Store tx.old tx.new result }
+    // After `Ok` the statement ran with the workunit's row as its parameters.
     ensures ran { RunsText S.Store tx.old tx.new result sql.now (workunit_row workunit.now) }
 {
     let params = workunit.params;
@@ -224,14 +262,19 @@ pub fn run_workunit<S: Alter>(
     )
 }
 
-/// Adds the row of a workunit at its place in order of number, and that of its class, without its instances. The table's
-/// key refuses a number that is there.
+/// Adds the row of a workunit at its place in order of number, and that of its class, without its instances. The
+/// table's key refuses a number that is there.
 pub fn insert_workunit<S: Alter>(
     tx: &mut Transaction<'_, S>,
     workunit: &Workunit,
 ) -> Result<(), Error>
+    // Commits nothing, so a crash leaves what it left before; after `Ok` the transaction is still
+    // open.
     ensures writes { StatementFrame S.Store tx.old tx.new result }
+    // `Ok` means that no workunit of a represented world had this number.
     ensures free { Does S.Store tx.old tx.new result (WasFree workunit.now.number) }
+    // After `Ok`, a represented world with classes has the workunit at its place by number, with
+    // its class and no instances; a queue stays.
     ensures puts { Does S.Store tx.old tx.new result
         (ChangesClasses (with_placed (without_instances workunit.now))) }
 {
@@ -243,7 +286,7 @@ pub fn insert_workunit<S: Alter>(
     insert_class(tx, workunit.number, workunit.class)
 }
 
-/// Runs a statement whose parameters are a workunit's number, the number of an instance and its cells.
+/// Runs a statement whose parameters are a workunit's number, the number of an instance and its columns.
 pub fn run_instance<S: Alter>(
     tx: &mut Transaction<'_, S>,
     sql: &str,
@@ -251,7 +294,10 @@ pub fn run_instance<S: Alter>(
     n: u32,
     instance: &Instance,
 ) -> Result<(), Error>
+    // Commits nothing, so a crash leaves what it left before; after `Ok` the transaction is still
+    // open.
     ensures writes { StatementFrame S.Store tx.old tx.new result }
+    // After `Ok` the statement ran with both numbers and the instance's columns as its parameters.
     ensures ran { RunsText S.Store tx.old tx.new result sql.now
         (instance_cells workunit n instance.now) }
 {
@@ -286,8 +332,13 @@ pub fn insert_instance<S: Alter>(
     n: u32,
     instance: &Instance,
 ) -> Result<(), Error>
+    // Commits nothing, so a crash leaves what it left before; after `Ok` the transaction is still
+    // open.
     ensures writes { StatementFrame S.Store tx.old tx.new result }
+    // After `Ok`, where the number is the next one of its workunit, each represented world has the
+    // instance after the others.
     ensures puts { Does S.Store tx.old tx.new result (AddsInstance workunit n instance.now) }
+    // After `Ok` a queue beside a represented world has the same rows.
     ensures queue { Does S.Store tx.old tx.new result KeepsQueue }
 {
     run_instance(
@@ -301,8 +352,14 @@ pub fn insert_instance<S: Alter>(
 
 /// Deletes the workunit of this number, if there is one, with its instances and its marks in the queue.
 pub fn delete_workunit<S: Alter>(tx: &mut Transaction<'_, S>, number: u64) -> Result<(), Error>
+    // Commits nothing, so a crash leaves what it left before; after `Ok` the transaction is still
+    // open.
     ensures writes { StatementFrame S.Store tx.old tx.new result }
+    // After `Ok`, each represented world lacks the workunit of this number with its instances, and
+    // nothing else.
     ensures deletes { Changes S.Store tx.old tx.new result (without_workunit number) }
+    // After `Ok`, a queue beside a represented world lacks the marks of this number, and nothing
+    // else.
     ensures queue { Does S.Store tx.old tx.new result
         (ChangesQueue (without_marks number)) }
 {
@@ -314,14 +371,19 @@ pub fn delete_workunit<S: Alter>(tx: &mut Transaction<'_, S>, number: u64) -> Re
     )
 }
 
-/// Adds the row of a grant at the next place of those that are there. Its host's sums are as they were.
+/// Adds the row of a grant at the next place of those that are there. The sums of its host stay.
 pub fn insert_grant<S: Alter>(
     tx: &mut Transaction<'_, S>,
     seq: u64,
     grant: &Grant,
 ) -> Result<(), Error>
+    // Commits nothing, so a crash leaves what it left before; after `Ok` the transaction is still
+    // open.
     ensures writes { StatementFrame S.Store tx.old tx.new result }
+    // `Ok` means that the place is below 2^63.
     ensures within { OnOk result (seq < 2 ^ 63) }
+    // After `Ok`, where the place is the next one, the table of grants has this one after the
+    // others, and every other table stays.
     ensures puts { Does S.Store tx.old tx.new result (PutsGrants seq (grant.now ∷ [])) }
 {
     let seq = signed(seq)?;
@@ -334,9 +396,13 @@ pub fn insert_grant<S: Alter>(
     )
 }
 
-/// Adds a sum to those of its host, which it has from then on where it had none. A total past 64 bits is refused.
+/// Adds a sum to those of its host, or begins them if it had none. A total of 2^63 or more is refused.
 pub fn add_sum<S: Alter>(tx: &mut Transaction<'_, S>, sum: &HostSum) -> Result<(), Error>
+    // Commits nothing, so a crash leaves what it left before; after `Ok` the transaction is still
+    // open.
     ensures writes { StatementFrame S.Store tx.old tx.new result }
+    // After `Ok`, rows of hosts that represented grants represent them with any more of this sum;
+    // tables that no action leads to stay.
     ensures credits { Does S.Store tx.old tx.new result (Credits (sum.now ∷ [])) }
 {
     let total = signed(sum.total)?;
@@ -354,8 +420,13 @@ pub fn insert_archived<S: Alter>(
     seq: u64,
     archived: &Archived,
 ) -> Result<(), Error>
+    // Commits nothing, so a crash leaves what it left before; after `Ok` the transaction is still
+    // open.
     ensures writes { StatementFrame S.Store tx.old tx.new result }
+    // After `Ok`, where the place is the next one, each represented world has the row after its
+    // other archived rows.
     ensures puts { Does S.Store tx.old tx.new result (AddsArchived seq archived.now) }
+    // After `Ok` a queue beside a represented world has the same rows.
     ensures queue { Does S.Store tx.old tx.new result KeepsQueue }
 {
     let seq = signed(seq)?;
@@ -376,14 +447,20 @@ pub fn insert_archived<S: Alter>(
     )
 }
 
-/// Adds the row of an import. One of its kind and name is refused.
+/// Adds the row of an import. An import of a kind and name that are there is refused.
 pub fn insert_import<S: Alter>(
     tx: &mut Transaction<'_, S>,
     import: &Import<'_>,
 ) -> Result<(), Error>
+    // Commits nothing, so a crash leaves what it left before; after `Ok` the transaction is still
+    // open.
     ensures writes { StatementFrame S.Store tx.old tx.new result }
+    // After `Ok`, each represented world has this import too, if it may be kept; it had none of
+    // this kind and name. It may be kept if a template means a batch, and a first number means that
+    // a batch made workunits.
     ensures puts { Does S.Store tx.old tx.new result
         (AddsImport (import_of_change import.now)) }
+    // After `Ok` a queue beside a represented world has the same rows.
     ensures queue { Does S.Store tx.old tx.new result KeepsQueue }
 {
     let first_number = signed(import.first_number)?;
@@ -408,7 +485,10 @@ pub fn run_marks<S: Alter>(
     workunit: u64,
     marks: &Marks,
 ) -> Result<(), Error>
+    // Commits nothing, so a crash leaves what it left before; after `Ok` the transaction is still
+    // open.
     ensures writes { StatementFrame S.Store tx.old tx.new result }
+    // After `Ok` the statement ran with the number and the marks as its parameters.
     ensures ran { RunsText S.Store tx.old tx.new result sql.now
         (number workunit ∷ marks_cells marks.now) }
 {
@@ -436,9 +516,14 @@ pub fn insert_marks<S: Alter>(
     workunit: u64,
     marks: &Marks,
 ) -> Result<(), Error>
+    // Commits nothing, so a crash leaves what it left before; after `Ok` the transaction is still
+    // open.
     ensures writes { StatementFrame S.Store tx.old tx.new result }
+    // After `Ok`, a queue beside a represented world has these marks at the workunit's place by
+    // number.
     ensures puts { Does S.Store tx.old tx.new result
         (ChangesQueue (with_marks workunit marks.now)) }
+    // After `Ok`, a represented world beside a queue stays.
     ensures stays { Does S.Store tx.old tx.new result KeepsWorld }
 {
     run_marks(
@@ -451,8 +536,12 @@ pub fn insert_marks<S: Alter>(
 
 /// Sets the project's next number.
 pub fn set_next_number<S: Alter>(tx: &mut Transaction<'_, S>, next_number: u64) -> Result<(), Error>
+    // Commits nothing, so a crash leaves what it left before; after `Ok` the transaction is still
+    // open.
     ensures writes { StatementFrame S.Store tx.old tx.new result }
+    // After `Ok`, each represented world has this next number, and nothing else of it changes.
     ensures sets { Changes S.Store tx.old tx.new result (with_next next_number) }
+    // After `Ok` a queue beside a represented world has the same rows.
     ensures queue { Does S.Store tx.old tx.new result KeepsQueue }
 {
     let next_number = signed(next_number)?;
@@ -465,8 +554,13 @@ pub fn set_next_number<S: Alter>(tx: &mut Transaction<'_, S>, next_number: u64) 
 
 /// Sets the version of the project's schema.
 pub fn set_version<S: Alter>(tx: &mut Transaction<'_, S>, version: u64) -> Result<(), Error>
+    // Commits nothing, so a crash leaves what it left before; after `Ok` the transaction is still
+    // open.
     ensures writes { StatementFrame S.Store tx.old tx.new result }
+    // After `Ok` for version 3, a represented older world beside tables with class 0 for each of
+    // its workunits is of that version.
     ensures sets { Does S.Store tx.old tx.new result (SetsVersion version) }
+    // After `Ok` a queue beside a represented world has the same rows.
     ensures queue { Does S.Store tx.old tx.new result KeepsQueue }
 {
     let version = signed(version)?;

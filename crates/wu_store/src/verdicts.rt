@@ -32,7 +32,7 @@ impl Model for Verdicts {
     ghost invariant = { λ verdicts. verdict_digits (verdicts_of (string_bytes verdicts.digits)) ≡ string_bytes verdicts.digits };
 }
 
-/// The digit of a verdict of at most 9.
+/// Returns the digit of a verdict of at most 9.
 fn digit_of(verdict: u8) -> char
     ensures digit { verdict ≤ 9 → result ≡ 48 + verdict }
     ensures short { result < 128 }
@@ -52,9 +52,11 @@ fn digit_of(verdict: u8) -> char
 }
 
 impl Verdicts {
-    /// These verdicts, each at most 9.
+    /// Makes verdicts of these numbers, each at most 9. Returns `Memory` if out of memory.
     pub fn from_slice(alloc: Global, verdicts: &[u8]) -> Result<Self, Fault>
+        // Each verdict is at most 9.
         requires { All (λ verdict. verdict ≤ 9) verdicts.now }
+        // The result is these verdicts, or out of memory.
         ensures { IsOrWantsMemory result (Ok verdicts.now) }
     {
         let mut digits = String::new(alloc);
@@ -64,8 +66,9 @@ impl Verdicts {
         Ok(Verdicts { digits })
     }
 
-    /// The text that the table keeps.
+    /// Returns the text that the table keeps.
     pub(crate) fn digits(&self) -> &str
+        // The text has one digit for each verdict, in order.
         ensures { result.now ≡ verdict_digits self.now }
     {
         self.digits.as_str()

@@ -12,7 +12,7 @@ use sqlite_sql::ops::{BinaryOp, CompareOp};
 use sqlite_value::keys::{Collation, Order};
 use sqlite_value::value::{Bytes, Value};
 
-/// Whether the column has the form.
+/// Returns whether the column has the form.
 fn is_column(column: &Column, form: &ColumnForm) -> bool
     ensures { IsTrue result ↔ (column.now ≡ column_of form.now) }
 {
@@ -28,7 +28,7 @@ fn is_column(column: &Column, form: &ColumnForm) -> bool
         && column.collation == Collation::Binary
 }
 
-/// Whether the columns have the forms.
+/// Returns whether the columns have the forms.
 fn are_columns(columns: &[Column], forms: &[ColumnForm]) -> bool
     ensures { IsTrue result ↔ (columns.now ≡ map column_of forms.now) }
 {
@@ -39,7 +39,7 @@ fn are_columns(columns: &[Column], forms: &[ColumnForm]) -> bool
             .all(|(column, form)| is_column(column, form))
 }
 
-/// Whether these are the names.
+/// Returns whether these are the names.
 fn are_names(names: &[Bytes], wanted: &[&str]) -> bool
     ensures { IsTrue result ↔ (names.now ≡ map (λ name. name.now) wanted.now) }
 {
@@ -50,7 +50,7 @@ fn are_names(names: &[Bytes], wanted: &[&str]) -> bool
             .all(|(name, wanted)| name.as_slice() == wanted.as_bytes())
 }
 
-/// Whether the reference has the form.
+/// Returns whether the reference has the form.
 fn is_reference(reference: &Reference, form: &ReferenceForm) -> bool
     ensures { IsTrue result ↔ (reference.now ≡ reference_of form.now) }
 {
@@ -62,7 +62,7 @@ fn is_reference(reference: &Reference, form: &ReferenceForm) -> bool
         && !reference.is_deferred
 }
 
-/// Whether the references have the forms.
+/// Returns whether the references have the forms.
 fn are_references(references: &[Reference], forms: &[ReferenceForm]) -> bool
     ensures { IsTrue result ↔ (references.now ≡ map reference_of forms.now) }
 {
@@ -73,7 +73,7 @@ fn are_references(references: &[Reference], forms: &[ReferenceForm]) -> bool
             .all(|(reference, form)| is_reference(reference, form))
 }
 
-/// Whether these are the places of the keys.
+/// Returns whether these are the places of the keys.
 fn are_places(keys: &[Items<usize>], wanted: &[&[usize]]) -> bool
     ensures { IsTrue result ↔ (keys.now ≡ places_of wanted.now) }
 {
@@ -84,7 +84,7 @@ fn are_places(keys: &[Items<usize>], wanted: &[&[usize]]) -> bool
             .all(|(places, wanted)| places.as_slice() == *wanted)
 }
 
-/// Whether each of so many keys ascends by its bytes.
+/// Returns whether each of so many keys ascends by its bytes.
 fn are_plain(orders: &[Order], keys: &[&[usize]]) -> bool
     ensures { IsTrue result ↔ (orders.now ≡ orders_of keys.now) }
 {
@@ -95,21 +95,21 @@ fn are_plain(orders: &[Order], keys: &[&[usize]]) -> bool
             .all(|(order, _)| *order == Order::PLAIN)
 }
 
-/// Whether the expression at this place is the rowid.
+/// Returns whether the expression at this place is the rowid.
 fn is_rowid(ops: &[Op], at: usize) -> bool
     ensures { IsTrue result ↔ (op_at ops.now at ≡ Op.Column 1 0) }
 {
     matches!(ops.get(at), Some(Op::Column(1, 0)))
 }
 
-/// Whether the expression at this place is the number 1.
+/// Returns whether the expression at this place is the number 1.
 fn is_number_one(ops: &[Op], at: usize) -> bool
     ensures { IsTrue result ↔ (op_at ops.now at ≡ Op.Literal (Value.Int (pos 1))) }
 {
     matches!(ops.get(at), Some(Op::Literal(Value::Int(1))))
 }
 
-/// Whether a binary expression of these parts says that the rowid is 1.
+/// Returns whether a binary expression of these parts says that the rowid is 1.
 fn says_one(ops: &[Op], op: BinaryOp, left: usize, right: usize) -> bool
     ensures { IsTrue result ↔ SaysOne ops.now op left right }
 {
@@ -118,7 +118,7 @@ fn says_one(ops: &[Op], op: BinaryOp, left: usize, right: usize) -> bool
         && is_number_one(ops, right)
 }
 
-/// Whether the expression at this place says that the rowid is 1.
+/// Returns whether the expression at this place says that the rowid is 1.
 fn is_one(ops: &[Op], at: usize) -> bool
     ensures { IsTrue result ↔ (term_in ops.now at ≡ is_one) }
 {
@@ -128,7 +128,7 @@ fn is_one(ops: &[Op], at: usize) -> bool
     }
 }
 
-/// Whether the checks are none, or that the rowid is 1.
+/// Returns whether there is no check, or exactly the one that the rowid is 1, as `is_single` says.
 fn are_checks(checks: &Terms, is_single: bool) -> bool
     ensures { IsTrue result ↔ (checks.now ≡ checks_of is_single) }
 {
@@ -139,15 +139,17 @@ fn are_checks(checks: &Terms, is_single: bool) -> bool
     }
 }
 
-/// Whether no default reads the time.
+/// Returns whether no default reads the time.
 fn are_no_stamps(stamps: &Stamps) -> bool
     ensures { IsTrue result ↔ (stamps.now ≡ no_stamps) }
 {
     stamps.places.is_empty() && stamps.terms.roots.is_empty() && stamps.formats.is_empty()
 }
 
-/// Whether the keys of the table have the form.
+/// Returns whether the keys of the table have the form.
 fn has_keys(table: &Table, form: &TableForm) -> bool
+    // It is true exactly where key, primary key and further keys are those of the form, compared by
+    // bytes in rising order.
     ensures { IsTrue result ↔ HasKeys table.now form.now }
 {
     table.key == form.key
@@ -156,8 +158,10 @@ fn has_keys(table: &Table, form: &TableForm) -> bool
         && are_plain(table.orders.as_slice(), form.uniques)
 }
 
-/// Whether the rules of the table have the form.
+/// Returns whether the rules of the table have the form.
 fn has_rules(table: &Table, form: &TableForm) -> bool
+    // It is true exactly where checks and references are those of the form, with no computed
+    // column, time of default or counter.
     ensures { IsTrue result ↔ HasRules table.now form.now }
 {
     are_checks(&table.checks, form.is_single)
@@ -167,8 +171,10 @@ fn has_rules(table: &Table, form: &TableForm) -> bool
         && !table.is_counted
 }
 
-/// Whether the table has the form, in the tree where it is.
+/// Returns whether the table has the form, in the tree where it is.
 pub fn is_like(table: &Table, form: &TableForm) -> bool
+    // It is true exactly where the table is the one that the form describes, in the table's own
+    // tree.
     ensures { IsTrue result ↔ (table.now ≡ table_of form.now table.now.tree) }
 {
     table.name.as_slice() == form.name.as_bytes()

@@ -19,7 +19,7 @@ pub struct ReferenceForm {
     pub parent_columns: &'static [&'static str],
 }
 
-/// What a table is but for its tree. A row is its rowid and then its columns, so a column's place is one more than its
+/// What a table is, without its tree. A row is its rowid and then its columns, so a column's place is one more than its
 /// number, and the rowid's is 0.
 #[derive(Clone, Copy)]
 pub struct TableForm {

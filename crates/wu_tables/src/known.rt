@@ -203,9 +203,11 @@ const QUEUE: TableForm = TableForm {
 };
 
 impl ProjectTable {
-    /// Its form.
+    /// Returns the form of the table.
     pub fn form(self) -> TableForm
+        // The form has the name of the table.
         ensures name { result.name.now ≡ name_of self }
+        // In any tree the form describes the table as the program makes it.
         ensures table { (tree : ℕ) → table_of result tree ≡ table_at self tree }
     {
         match self {
@@ -221,8 +223,10 @@ impl ProjectTable {
         }
     }
 
-    /// Whether a project of this version has it.
+    /// Returns whether a project of this version has the table.
     pub fn is_of(self, version: u64) -> bool
+        // It is true for the tables of classes from version 3 on, and for each other table in every
+        // version.
         ensures { IsTrue result ↔ IsTableOf version self }
     {
         match self {
@@ -232,9 +236,11 @@ impl ProjectTable {
     }
 }
 
-/// The form of the queue of version 2.
+/// Returns the form of the queue of version 2.
 pub fn queue_form() -> TableForm
+    // The form has the name `queue`.
     ensures name { result.name.now ≡ codes "queue" }
+    // In any tree the form describes the queue as the program makes it.
     ensures table { (tree : ℕ) → table_of result tree ≡ queue_at tree }
 {
     QUEUE

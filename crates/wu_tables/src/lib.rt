@@ -1,4 +1,4 @@
-//! Whether the tables of a project stand in a schema as the program makes them.
+//! Whether the tables of a project are in a schema as the program makes them.
 #![tactic(auto)]
 
 mod compare;

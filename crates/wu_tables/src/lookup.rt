@@ -14,7 +14,7 @@ use sqlite_value::keys::{Collation, Order};
 /// The first tree that no table is stored in.
 const TREES: u32 = 2_147_483_648;
 
-/// Whether no table but one of this form has the tree.
+/// Returns whether no table except one of this form has the tree.
 fn owns_tree(schema: &Schema, tree: u32, form: &TableForm) -> bool
     ensures { IsTrue result ↔ OwnsTree schema.now (table_of form.now tree) }
 {
@@ -25,15 +25,18 @@ fn owns_tree(schema: &Schema, tree: u32, form: &TableForm) -> bool
         .all(|table| table.tree != tree || is_like(table, form))
 }
 
-/// Whether the table has the form, in a stored tree that no other table has.
+/// Returns whether the table has the form, in a stored tree that no other table has.
 fn stands(schema: &Schema, table: &Table, form: &TableForm) -> bool
+    // It is true exactly where the table has the form, in a stored tree that no other table has.
     ensures { IsTrue result ↔ Stands schema.now table.now form.now }
 {
     is_like(table, form) && table.tree < TREES && owns_tree(schema, table.tree, form)
 }
 
-/// The tree of the table that has the name of the form, where it has the form.
+/// Returns the tree of the table that has the name of the form, or `None` if that table has not the form.
 pub fn tree_of(schema: &Schema, form: &TableForm) -> Option<u32>
+    // A tree is returned exactly where the name finds a table of this form, in a stored tree that
+    // no other table has.
     ensures { Finds (IsIn schema.now form.now.name.now (table_of form.now)) result }
 {
     let at = schema.table_named(form.name.as_bytes())?;
@@ -45,7 +48,8 @@ pub fn tree_of(schema: &Schema, form: &TableForm) -> Option<u32>
     }
 }
 
-/// Whether the index, if it is a unique one on the names of the hosts in this tree, compares their bytes.
+/// Returns whether the index compares the bytes of hosts' names, if it is a unique one on the names of the hosts in
+/// this tree.
 fn is_by_bytes(index: &Index, hosts: u32) -> bool
     ensures { IsTrue result ↔ IsByBytes hosts index.now }
 {
@@ -55,8 +59,10 @@ fn is_by_bytes(index: &Index, hosts: u32) -> bool
         || index.order.first().collation == Collation::Binary
 }
 
-/// Whether each unique index on the names of the hosts in this tree compares their bytes.
+/// Returns whether each unique index on the names of the hosts in this tree compares their bytes.
 pub fn are_by_bytes(schema: &Schema, hosts: u32) -> bool
+    // It is true exactly where each unique index on the names of these hosts alone compares their
+    // bytes.
     ensures { IsTrue result ↔ AreByBytes schema.now hosts }
 {
     schema
@@ -66,7 +72,7 @@ pub fn are_by_bytes(schema: &Schema, hosts: u32) -> bool
         .all(|index| is_by_bytes(index, hosts))
 }
 
-/// Whether the index has this name and these columns, and is on the table in this tree.
+/// Returns whether the index has this name and these columns, and is on the table in this tree.
 fn is_index(index: &Index, table: u32, name: &str, columns: &[usize]) -> bool
     ensures { IsTrue result ↔ (index.now ≡ index_at (name.now, columns.now) table index.now.tree) }
 {
@@ -77,8 +83,10 @@ fn is_index(index: &Index, table: u32, name: &str, columns: &[usize]) -> bool
         && !index.is_unique
 }
 
-/// Whether the table in this tree has an index of this name on these columns.
+/// Returns whether the table in this tree has an index of this name on these columns.
 pub fn is_indexed(schema: &Schema, table: u32, name: &str, columns: &[usize]) -> bool
+    // It is true exactly where an ascending index, not unique, of this name and these columns is on
+    // the table in this tree.
     ensures { IsTrue result ↔ IsIndexed schema.now table (name.now, columns.now) }
 {
     schema

@@ -42,7 +42,7 @@ impl Model for Trees {
     } };
 }
 
-/// What stands against the tables of a project in a schema.
+/// Why a schema has not the tables of a project.
 #[derive(Clone, Copy, PartialEq, Eq)]
 pub enum Misfit {
     /// No table has this one's name.
@@ -53,9 +53,12 @@ pub enum Misfit {
     HostNames,
 }
 
-/// The tree of a table of a project, or why it is not there; 0 for one that the version does not have.
+/// Returns the tree of a table of a project, or why it is not there; 0 for a table that the version does not have.
 fn project_tree(schema: &Schema, version: u64, which: ProjectTable) -> Result<u32, Misfit>
+    // After `Ok` the table is in this tree, in its form, if the version has it.
     ensures found { IfOk result (IsThere version schema.now which) }
+    // The misfit is true: the version has the table, and its name finds no table, or one that
+    // differs.
     ensures told { IfErr result (StandsAgainst version schema.now) }
 {
     if !which.is_of(version) {
@@ -71,7 +74,7 @@ fn project_tree(schema: &Schema, version: u64, which: ProjectTable) -> Result<u3
     }
 }
 
-/// Where the tables of a project are, or what stands against them.
+/// Returns where the tables of a project are, or what differs.
 fn find_trees(schema: &Schema, version: u64) -> Result<Trees, Misfit>
     ensures found { IfOk result (HasTables version schema.now) }
     ensures told { IfErr result (StandsAgainst version schema.now) }
@@ -94,13 +97,18 @@ fn find_trees(schema: &Schema, version: u64) -> Result<Trees, Misfit>
     }
 }
 
-/// Where the tables of a project of this version are, the queue aside: found exactly where all are there, each in its form
-/// and in a tree of its own, and each unique index on the names of hosts compares their bytes; else what stands against
-/// them.
+/// Returns where the tables of a project of this version are, without the queue. They are found exactly if each is
+/// there in its form and in a tree of its own, and each unique index on the names of hosts compares their bytes. Else
+/// it returns what differs.
 pub fn project_trees(schema: &Schema, version: u64) -> Result<Trees, Misfit>
+    // After `Ok` all tables of this version are in these trees, in their forms, and unique indexes
+    // compare hosts' names by bytes.
     ensures found { IfOk result (HasTables version schema.now) }
+    // A misfit means that no trees have all tables of this version so.
     ensures missing { IfErr result (λ _. (trees : ProjectTrees)
         → HasTables version schema.now trees → ⊥) }
+    // The misfit is true: no table has the name, the one that has it differs, or a unique index
+    // compares hosts' names otherwise.
     ensures told { IfErr result (StandsAgainst version schema.now) }
 {
     find_trees(schema, version)

@@ -9,7 +9,7 @@ use crate::known::queue_form;
 use crate::lookup::{is_indexed, tree_of};
 use sqlite_schema::schema::Schema;
 
-/// Whether the table in this tree has the five indexes of the queue.
+/// Returns whether the table in this tree has the five indexes of the queue.
 fn has_indexes(schema: &Schema, tree: u32) -> bool
     ensures { IsTrue result ↔ AllByRecursion (IsIndexed schema.now tree) queue_indexes }
 {
@@ -20,8 +20,10 @@ fn has_indexes(schema: &Schema, tree: u32) -> bool
         && is_indexed(schema, tree, "queue_purge", &[6])
 }
 
-/// Where the queue is: found exactly where it is there in its form and a tree of its own, with its five indexes.
+/// Returns where the queue is, or `None` if it is not there in its form and a tree of its own, with its five indexes.
 pub fn queue_tree(schema: &Schema) -> Option<u32>
+    // A tree is returned exactly where the queue is there in its form, in a tree of its own, with
+    // its five indexes.
     ensures { Finds (HasQueueIn schema.now) result }
 {
     let tree = tree_of(schema, &queue_form())?;

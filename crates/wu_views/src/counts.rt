@@ -15,7 +15,7 @@ use wu_schema::rows::server_state_at;
 use wu_schema::{fault_of, number_at, version_of};
 use wu_store::{next_archived_place, next_number};
 
-/// How many workunits are present.
+/// Returns how many workunits are present.
 fn count_workunits<S: Alter>(conn: &mut Connection<S>) -> Result<u64, Fault>
     ensures asks { Asks S.Store conn.old conn.new result }
     ensures opens { ServesUnlessFailed S.Store conn.new result }
@@ -26,7 +26,7 @@ fn count_workunits<S: Alter>(conn: &mut Connection<S>) -> Result<u64, Fault>
     ask_count(conn, "SELECT count(*) FROM workunit", &[])
 }
 
-/// How many files were imported, each once.
+/// Returns how many files were imported, each once.
 fn count_imports<S: Alter>(conn: &mut Connection<S>) -> Result<u64, Fault>
     ensures asks { Asks S.Store conn.old conn.new result }
     ensures opens { ServesUnlessFailed S.Store conn.new result }
@@ -37,7 +37,7 @@ fn count_imports<S: Alter>(conn: &mut Connection<S>) -> Result<u64, Fault>
     ask_count(conn, "SELECT count(*) FROM import", &[])
 }
 
-/// How many hosts have a class.
+/// Returns how many hosts have a class.
 fn count_classes<S: Alter>(conn: &mut Connection<S>) -> Result<u64, Fault>
     ensures asks { Asks S.Store conn.old conn.new result }
     ensures opens { ServesUnlessFailed S.Store conn.new result }
@@ -57,9 +57,11 @@ struct Results {
     over: u64,
 }
 
-/// How many there are with one more, which is in this state.
+/// Returns the counts with one more instance, which is in this state.
 fn with_state(so_far: Results, state: ServerState) -> Results
+    // One more can be counted within 64 bits.
     requires { HasRoom so_far }
+    // Where the counts are those of some states, the result has those with this state more.
     ensures { AddsState so_far state result }
 {
     let all = so_far.all + 1;
@@ -83,13 +85,21 @@ fn with_state(so_far: Results, state: ServerState) -> Results
     }
 }
 
-/// They are counted while their rows are read, one at a time. `NotAProject` where a row has no state.
+/// Counts the instances by state while their rows are read, one at a time. Returns `NotAProject` if a row has no state.
 fn count_results<S: Alter>(conn: &mut Connection<S>) -> Result<Results, Fault>
+    // Begins no transaction and commits nothing; except after `Memory` and `Broken` all is as
+    // before; `Broken` means a failed disk or a closed connection.
     ensures asks { Asks S.Store conn.old conn.new result }
+    // The connection is open afterwards, except after `Memory` and `Broken`.
     ensures opens { ServesUnlessFailed S.Store conn.new result }
+    // A fault is `Memory`, `Broken` or `NotAProject`.
     ensures fault { IfErr result IsStoreFault }
+    // After `Ok` each row of `result`, whatever the tables hold, has a state, and is counted in all
+    // and in its state.
     ensures counted { CountsResults S.Store conn.old conn.new result }
+    // In each represented world these are the numbers of all instances, and of those in each state.
     ensures found { ForEachWorld S.Store conn.old conn.new (FindsAt results_of result) }
+    // Over a represented world, with no limit on steps, `NotAProject` is not returned.
     ensures unrefused { NotRefusedIn S.Store conn.old conn.new result (λ _. ⊤) }
 {
     let mut found = Results {
@@ -124,11 +134,19 @@ struct Others {
     classes: u64,
 }
 
+/// Returns how many workunits, archived workunits, imports and hosts with a class there are.
 fn count_others<S: Alter>(conn: &mut Connection<S>) -> Result<Others, Fault>
+    // Begins no transaction and commits nothing; except after `Memory` and `Broken` all is as
+    // before; `Broken` means a failed disk or a closed connection.
     ensures asks { Asks S.Store conn.old conn.new result }
+    // The connection is open afterwards, except after `Memory` and `Broken`.
     ensures opens { ServesUnlessFailed S.Store conn.new result }
+    // A fault is `Memory`, `Broken` or `NotAProject`.
     ensures fault { IfErr result IsStoreFault }
+    // In each represented world with classes these are the numbers of workunits, archived rows,
+    // imports and hosts with a class.
     ensures found { ForEachClassed S.Store conn.old conn.new (FindsAt others_of result) }
+    // Over such a world, with no limit on steps, `NotAProject` is not returned.
     ensures unrefused { NotRefusedClass S.Store conn.old conn.new result (λ _. ⊤) }
 {
     let workunits = count_workunits(conn)?;
@@ -150,14 +168,23 @@ struct Granted {
     credit: u64,
 }
 
-/// They are counted and their credit is summed while their rows are read, one at a time. `NotAProject` where a row has no
-/// credit, or where the sum is not below 2^64.
+/// Counts the grants and adds up their credit while their rows are read, one at a time. Returns `NotAProject` if a row
+/// has no credit, or if the sum is not below 2^64.
 fn count_grants<S: Alter>(conn: &mut Connection<S>) -> Result<Granted, Fault>
+    // Begins no transaction and commits nothing; except after `Memory` and `Broken` all is as
+    // before; `Broken` means a failed disk or a closed connection.
     ensures asks { Asks S.Store conn.old conn.new result }
+    // The connection is open afterwards, except after `Memory` and `Broken`.
     ensures opens { ServesUnlessFailed S.Store conn.new result }
+    // A fault is `Memory`, `Broken` or `NotAProject`.
     ensures fault { IfErr result IsStoreFault }
+    // After `Ok` each row of `credit_grant`, whatever the tables hold, has a number, and is counted
+    // and summed.
     ensures counted { CountsGrants S.Store conn.old conn.new result }
+    // In each represented world these are the number of all grants and their credit.
     ensures found { ForEachWorld S.Store conn.old conn.new (FindsAt granted_of result) }
+    // Over a represented world with all credit below 2^64, with no limit on steps, `NotAProject` is
+    // not returned.
     ensures unrefused { NotRefusedIn S.Store conn.old conn.new result IsCreditCountable }
 {
     let mut grants = 0;
@@ -183,7 +210,7 @@ fn count_grants<S: Alter>(conn: &mut Connection<S>) -> Result<Granted, Fault>
     Err(Fault::Memory)
 }
 
-/// The version of the project's schema. `NotAProject` where no project is.
+/// Returns the version of the project's schema. Returns `NotAProject` if there is no project.
 fn version<S: Alter>(conn: &mut Connection<S>) -> Result<u64, Fault>
     ensures asks { Asks S.Store conn.old conn.new result }
     ensures opens { ServesUnlessFailed S.Store conn.new result }
@@ -205,11 +232,19 @@ struct Numbers {
     next_number: u64,
 }
 
+/// Returns the numbers of the project's row.
 fn read_numbers<S: Alter>(conn: &mut Connection<S>) -> Result<Numbers, Fault>
+    // Begins no transaction and commits nothing; except after `Memory` and `Broken` all is as
+    // before; `Broken` means a failed disk or a closed connection.
     ensures asks { Asks S.Store conn.old conn.new result }
+    // The connection is open afterwards, except after `Memory` and `Broken`.
     ensures opens { ServesUnlessFailed S.Store conn.new result }
+    // A fault is `Memory`, `Broken` or `NotAProject`.
     ensures fault { IfErr result IsStoreFault }
+    // In each represented world these are the version and the next number.
     ensures found { ForEachWorld S.Store conn.old conn.new (FindsAt project_numbers result) }
+    // Over a represented world with both in range, with no limit on steps, `NotAProject` is not
+    // returned.
     ensures unrefused { NotRefusedIn S.Store conn.old conn.new result HasNumbers }
 {
     let version = version(conn)?;
@@ -220,15 +255,27 @@ fn read_numbers<S: Alter>(conn: &mut Connection<S>) -> Result<Numbers, Fault>
     })
 }
 
-/// How much a project with classes holds. `NotAProject` where a row is no value, or where the credit of all grants is not below
-/// 2^64.
+/// Returns how much a project with classes holds.
+///
+/// Returns `NotAProject` if a row is no value, or if the credit of all grants is not below 2^64.
 pub fn summary<S: Alter>(conn: &mut Connection<S>) -> Result<Summary, Fault>
+    // Begins no transaction and commits nothing; except after `Memory` and `Broken` all is as
+    // before; `Broken` means a failed disk or a closed connection.
     ensures asks { Asks S.Store conn.old conn.new result }
+    // The connection is open afterwards, except after `Memory` and `Broken`.
     ensures opens { ServesUnlessFailed S.Store conn.new result }
+    // A fault is `Memory`, `Broken` or `NotAProject`.
     ensures fault { IfErr result IsStoreFault }
+    // After `Ok` each row of `result`, whatever the tables hold, has a state, and is counted in all
+    // and in its state.
     ensures counted { CountsSummary S.Store conn.old conn.new result }
+    // After `Ok` each row of `credit_grant`, whatever the tables hold, has a number, and is counted
+    // and summed.
     ensures summed { SumsSummary S.Store conn.old conn.new result }
+    // In each represented world with classes it is the summary of that world.
     ensures found { ForEachClassed S.Store conn.old conn.new (FindsAt summary_of result) }
+    // Over such a world with version, next number and all credit in range, with no limit on steps,
+    // `NotAProject` is not returned.
     ensures unrefused { NotRefusedClass S.Store conn.old conn.new result IsCountable }
 {
     let numbers = read_numbers(conn)?;

@@ -1,4 +1,7 @@
 //! The rows of a project's views, one after another, and the numbers of its summary.
+//!
+//! The comments over clauses on a database leave out a premise that all of these clauses have: the disk is clean. It
+//! returns what was written, and nobody else writes the file.
 #![tactic(auto)]
 
 mod counts;

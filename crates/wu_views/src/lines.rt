@@ -17,8 +17,9 @@ use wu_schema::rows::{
     bare_instance_from, class_at, instance_number_at, name_at, params_from, progress_from,
 };
 
-/// The length of an input in a column: at most 4,096 bytes.
+/// Reads the length of an input in a column, at most 4,096 bytes.
 fn input_length_at(row: &Row, at: usize) -> Result<u64, Fault>
+    // A number up to 4,096 is read as it, or out of memory; any other column is refused.
     ensures { Restores number IsInputLength (column row.now at) result }
 {
     let length = number_at(row, at)?;
@@ -28,8 +29,9 @@ fn input_length_at(row: &Row, at: usize) -> Result<u64, Fault>
     Ok(length)
 }
 
-/// The length of an output in a column: at most 65,536 bytes.
+/// Reads the length of an output in a column, at most 65,536 bytes.
 fn output_length_at(row: &Row, at: usize) -> Result<u64, Fault>
+    // A number up to 65,536 is read as it, or out of memory; any other column is refused.
     ensures { Restores number IsOutputLength (column row.now at) result }
 {
     let length = number_at(row, at)?;
@@ -61,9 +63,13 @@ pub struct WorkunitLine {
 impl WorkunitLine {
     ghost use Rattle.wu_views.specs.Lines.{IsStoredLine, line_row};
 
-    /// The line of a row of sixteen columns: those of the table of workunits, with the length of the input in place of
-    /// the input, and the class. A row that is that of none is `NotAProject`.
+    /// Reads the line of a row of sixteen columns: those of the table of workunits, with the length of the input in
+    /// place of the input, and the class.
+    ///
+    /// Returns `NotAProject` if the row is that of no workunit.
     pub(crate) fn read(alloc: Global, row: &Row) -> Result<Self, Fault>
+        // The row of a workunit's line with values in their ranges is read as it, or out of memory;
+        // any other row is refused.
         ensures { Restores line_row IsStoredLine row.now result }
     {
         if row.column_count() != 16 {
@@ -115,10 +121,13 @@ pub struct ResultLine {
 impl ResultLine {
     ghost use Rattle.wu_views.specs.Lines.{IsStoredResult, result_line_row};
 
-    /// The line of a row of eleven columns: those of the table of results from the third on but for the output, the
-    /// instance's number, the name of its workunit, and the length of the output. A row that is that of none is
-    /// `NotAProject`.
+    /// Reads the line of a row of eleven columns: those of the table of results from the third on without the output,
+    /// the instance's number, the name of its workunit, and the length of the output.
+    ///
+    /// Returns `NotAProject` if the row is that of no instance.
     pub(crate) fn read(alloc: Global, row: &Row) -> Result<Self, Fault>
+        // The row of an instance's line with values in their ranges is read as it, or out of
+        // memory; any other row is refused.
         ensures { Restores result_line_row IsStoredResult row.now result }
     {
         if row.column_count() != 11 {
@@ -164,8 +173,10 @@ pub struct HostLine {
     pub grants: u64,
 }
 
-/// The line of the host of a row of the table `host` with its columns in their order.
+/// Reads the line of the host of a row of the table `host` with its columns in their order.
 pub(crate) fn host_from(alloc: Global, row: &Row) -> Result<HostLine, Fault>
+    // A row of a name and two numbers is read as that host's line, or out of memory; any other row
+    // is refused.
     ensures { Restores host_row IsStoredHost row.now result }
 {
     if row.column_count() != 3 {
@@ -181,8 +192,10 @@ pub(crate) fn host_from(alloc: Global, row: &Row) -> Result<HostLine, Fault>
     })
 }
 
-/// The host of a row of the table `host_class` with its columns in their order, and its class.
+/// Reads the host of a row of the table `host_class` with its columns in their order, and its class.
 pub(crate) fn class_from(alloc: Global, row: &Row) -> Result<HostClass, Fault>
+    // A row of a name and a class is read as that host and class, or out of memory; any other row
+    // is refused.
     ensures { Restores class_cells IsOfClass row.now result }
 {
     if row.column_count() != 2 {

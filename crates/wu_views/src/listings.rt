@@ -36,15 +36,20 @@ pub trait Listing {
     /// The lines of such a world can be read.
     ghost is_readable: { World → Type 0 };
 
-    /// The question, which has no parameters.
+    /// Returns the question, which has no parameters.
     fn question<S: Alter>() -> &'static str
+        // Over a represented world with classes the SELECT has a row for each line, in order; with
+        // no limit on steps only failures refuse it.
         ensures { Lists S.Store result.now is_row_of lines };
 
-    /// The line of a row of the answer. A row that is that of none is `NotAProject`.
+    /// Reads the line of a row of the answer. Returns `NotAProject` if the row is that of no line.
     fn read(alloc: Global, row: &Row) -> Result<Self::Line, Fault>
+        // The row of a line of a world is read as that line, where reading succeeds.
         ensures line { (world : World) (line : Self.Line) → is_row_of world row.now line
             → IfOk result (λ read. read ≡ line) }
+        // The row of a line of a readable world is never refused as `NotAProject`.
         ensures unrefused { (world : World) (line : Self.Line) → is_row_of world row.now line
             → is_readable world → IfErr result (λ fault. fault ≢ NotAProject) }
+        // A fault is `Memory` or `NotAProject`.
         ensures fault { IfErr result IsReadFault };
 }

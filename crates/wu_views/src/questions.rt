@@ -13,8 +13,10 @@ use wu_core::Fault;
 use wu_schema::number_at;
 use wu_store::ask_row;
 
-/// A count of rows. `Memory` where it is 2^63 - 1, which stands for each greater number too.
+/// Reads a count of rows. Returns `Memory` if it is 2^63 - 1, as which a greater number is counted too.
 fn count_at(row: &Row, at: usize) -> Result<u64, Fault>
+    // A cell of a count is read as that count; it is out of memory from 2^63 - 1 on, and another
+    // cell is refused.
     ensures { ReadsCount (column row.now at) result }
 {
     let count = number_at(row, at)?;
@@ -25,16 +27,24 @@ fn count_at(row: &Row, at: usize) -> Result<u64, Fault>
     }
 }
 
-/// What a question counts whose answer is one count. `NotAProject` where it is anything else.
+/// Returns what a question counts whose answer is one count. Returns `NotAProject` if the answer is anything else.
 pub fn ask_count<S: Alter>(
     conn: &mut Connection<S>,
     sql: &str,
     params: &[ValueRef<'_>],
 ) -> Result<u64, Fault>
+    // A SELECT begins no transaction and commits nothing; except after `Memory` and `Broken` all is
+    // as before; `Broken` means a failed disk or closed connection.
     ensures asks { IsSelect sql.now → Asks S.Store conn.old conn.new result }
+    // After a SELECT the connection is open, except after `Memory` and `Broken`.
     ensures opens { IsSelect sql.now → ServesUnlessFailed S.Store conn.new result }
+    // After `Ok` it is the number that the store's answer to the question counts, where that is one
+    // count.
     ensures shows { ShowsCount S.Store conn.old conn.new result sql.now (bound params.now) }
+    // A fault is out of memory, or that of an error of the question, or means that the answer is no
+    // count.
     ensures fails { FailsCount S.Store conn.old conn.new result sql.now (bound params.now) }
+    // A fault is `Memory`, `Broken` or `NotAProject`.
     ensures told { IfErr result IsStoreFault }
 {
     let row = ask_row(conn, sql, params)?;

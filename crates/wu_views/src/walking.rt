@@ -19,21 +19,29 @@ pub trait Takes<T> {
     /// At this line it takes no more.
     ghost refuses: { Self → Self → T → Type 0 };
 
-    /// Takes a line. `Output` where it takes no more.
+    /// Takes a line. Returns `Output` if it takes no more.
     fn take(&mut self, line: &T) -> Result<(), Fault>
+        // After `Ok` the line is taken, as `takes` says; a fault means that it takes no more at
+        // this line.
         ensures taken { MatchResult result (λ _. takes self.old self.new line.now)
             (λ _. refuses self.old self.new line.now) }
+        // The only fault is `Output`.
         ensures fault { IsOkUnless result Output };
 }
 
-/// Hands each line of a view to what takes them, as the database hands out its row: no list of rows is held.
+/// Hands each line of a view to what takes them, as the database hands out its row. It holds no list of rows.
 ///
-/// `NotAProject` where a row is no line; `Output` where no more lines are taken.
+/// Returns `NotAProject` if a row is no line, and `Output` if no more lines are taken.
 pub fn walk<S: Alter, L: Listing, K: Takes<L::Line>>(
     conn: &mut Connection<S>,
     alloc: Global,
     taker: &mut K,
 ) -> Result<(), Fault>
+    // Hands on the lines of each represented world with classes, in order and each once: all, or
+    // the first ones up to a fault. Whatever the tables hold, it hands on one line after another;
+    // over a shut connection, none. `Output` means exactly that the taker takes no more; each other
+    // fault is of the store. It only reads: except after `Memory` and `Broken` all is as before and
+    // the connection open. Where the lines are readable, with no limit on steps, no row is refused.
     ensures { Walked S.Store L.Listing.lines L.Listing.is_readable K.Takes.takes K.Takes.refuses
         conn.old conn.new taker.old taker.new result }
 {

@@ -26,8 +26,8 @@ use wu_plans::{
 use wu_schema::{PRESENT_VERSION, check_version, create, version_of};
 use wu_store::Change;
 
-/// Finds the project of the database, or makes a fresh one where none of its tables is there: the version of its
-/// schema. A limit on steps is taken off.
+/// Finds the project of the database, or makes a fresh one where none of its tables is there. Returns the version of
+/// its schema. A limit on steps is taken off.
 ///
 /// A connection inside a transaction stays as it was.
 fn find_or_create<S: Alter>(conn: &mut Connection<S>) -> Result<u64, Fault>
@@ -52,7 +52,7 @@ fn find_or_create<S: Alter>(conn: &mut Connection<S>) -> Result<u64, Fault>
     Ok(version)
 }
 
-/// The version, where it is older than the present one.
+/// Returns the version where it is older than the present one, and else `None`.
 fn older_than_present(version: u64) -> Option<u64>
     ensures { result ≡ older_than_present version }
 {
@@ -63,15 +63,17 @@ fn older_than_present(version: u64) -> Option<u64>
     }
 }
 
-/// Whether the command is an upgrade.
+/// Returns whether the command is an upgrade.
 fn is_upgrade(command: &Command) -> bool
     ensures { result ≡ is_upgrade (request_of command.now) }
 {
     matches!(command, Command::Upgrade)
 }
 
-/// Whether the limit and the least age of a pass are in range. Any other command has none.
+/// Returns whether the limit and the least age of a pass are in range. Any other command has none.
 fn has_right_limits(command: &Command) -> bool
+    // A pass has right limits if its limit is from 1 to 1000 and its least age at most a year; any
+    // other command always.
     ensures { result ≡ has_right_limits (request_of command.now) }
 {
     match command {
@@ -88,7 +90,7 @@ fn has_right_limits(command: &Command) -> bool
     }
 }
 
-/// What a command over tables of this version will answer and what it changes, or its first refusal.
+/// Returns what a command over tables of this version will answer and what it changes, or its first refusal.
 fn plan_at<'a, S: Alter>(
     conn: &mut Connection<S>,
     alloc: Global,
@@ -131,8 +133,8 @@ fn plan_at<'a, S: Alter>(
     }
 }
 
-/// What a command will answer and what it changes, or its first refusal. Over tables of an older version than the
-/// present one each but an upgrade is refused.
+/// Returns what a command will answer and what it changes, or its first refusal. Over tables of an older version than
+/// the present one each command but an upgrade is refused.
 fn plan<'a, S: Alter>(
     conn: &mut Connection<S>,
     alloc: Global,
@@ -157,18 +159,35 @@ impl<S: Alter> Project<S> {
     /// Begins a session over the project in a database, and takes a limit on steps off the connection.
     ///
     /// A project that is found is not touched, whatever comes of it, also one of an older version. A database with none
-    /// of the project's tables gets them, in one transaction; tables of other names are left alone. A later version is
-    /// `NewSchema`, where it is stored. `NotAProject` is a connection inside a transaction, a taken name, or a table
-    /// `project` with other rows. With each refusal the connection comes back, and is open but after `Memory` and
-    /// `Broken`.
+    /// of the project's tables gets them, in one transaction. Tables of other names are left alone.
+    ///
+    /// A later version than the present one is `NewSchema`. `NotAProject` is a connection inside a transaction, a taken
+    /// name, or a table `project` with other rows. With each refusal the connection comes back. It is open, except
+    /// after `Memory` and `Broken`.
     pub fn adopt(mut conn: Connection<S>) -> Result<Self, (Connection<S>, Fault)>
+        // A connection inside a transaction comes back as it was, with `NotAProject`.
         ensures busy { conn.in_transaction ≡ true → result ≡ Err (conn, Fault.NotAProject) }
+        // A session that begins has not ended.
         ensures begins { IfOk result IsSessionOpen }
+        // A project that was there is found, of a known version, and is not touched. Where none
+        // was, its tables are made beside all else that is there, and represent the empty world. A
+        // session over a world goes on over it. The connection was open and is, without a limit on
+        // steps. A crash leaves what it could have left before, or the fresh project.
         ensures adopted { IfOk result (λ project. Adopts (state S.Store conn) (state_of project)) }
+        // The fault is one of the store, or a later version that is stored. `Broken` means that the
+        // disk failed in this call, or that the connection was not open. Where no project was, it
+        // is `NotAProject`, `Memory` or such a `Broken`; over the one row of a project,
+        // `NewSchema`, `Memory` or `Broken`. `NotAProject` leaves all as it was, and a project that
+        // was there is not touched. An open connection shows what it showed, or the last commit. A
+        // crash leaves what it could have left before, or the fresh project. The connection is
+        // open, except after `Memory` and `Broken`, or where it was inside a transaction.
         ensures refused { IfErr result (λ refusal.
             RefusesAdoption (state S.Store conn) (state S.Store refusal.0) refusal.1) }
+        // Where the project found has an older version the session is over that one, and else over
+        // no older one.
         ensures version { IfOk result (λ project.
             StartsOver (state S.Store conn) (state_of project) (older_version project)) }
+        // Whatever world the tables represent, the session knows the version of it.
         ensures knows { IfOk result KnowsTables }
     {
         match find_or_create(&mut conn) {
@@ -181,8 +200,9 @@ impl<S: Alter> Project<S> {
         }
     }
 
-    /// Whether the session has ended.
+    /// Returns whether the session has ended.
     pub fn ended(&self) -> bool
+        // The answer is whether the session has ended.
         ensures { result ≡ has_ended self.now }
     {
         self.has_ended
@@ -190,7 +210,9 @@ impl<S: Alter> Project<S> {
 
     /// Ends the session, and gives its connection back, in no transaction.
     pub fn release(self) -> Connection<S>
+        // The connection is the session's, unchanged.
         ensures same { result ≡ connection_of self }
+        // The connection is not inside a transaction.
         ensures idle { result.in_transaction ≡ false }
     {
         let Project {
@@ -203,17 +225,31 @@ impl<S: Alter> Project<S> {
 
     /// Ends the session, and begins another over its connection.
     ///
-    /// Where a fault ended it and left the connection open, the new one goes on over the world from before, and only
+    /// Where a fault ended it and left the connection open, the new one goes on over the world from before. Then only
     /// `Memory` and `Broken` refuse it.
     pub fn begin_again(self) -> Result<Self, (Connection<S>, Fault)>
+        // A session that begins has not ended.
         ensures begins { IfOk result IsSessionOpen }
+        // A project that was there is found, of a known version, and is not touched. Where none
+        // was, its tables are made beside all else that is there, and represent the empty world.
+        // The connection was open and is, without a limit on steps.
         ensures adopted { IfOk result (λ project. Adopts (state_of self) (state_of project)) }
+        // The fault is one of the store, or a later version that is stored. `NotAProject` leaves
+        // all as it was, and a project that was there is not touched. An open connection shows what
+        // it showed, or the last commit.
         ensures refused { IfErr result (λ refusal.
             RefusesAdoption (state_of self) (state S.Store refusal.0) refusal.1) }
+        // Where the project found has an older version the session is over that one, and else over
+        // no older one.
         ensures version { IfOk result (λ project.
             StartsOver (state_of self) (state_of project) (older_version project)) }
+        // Whatever world the tables represent, the session knows the version of it.
         ensures knows { IfOk result KnowsTables }
+        // Where a fault ended the old session and left its connection open, the new session goes on
+        // over the world from before.
         ensures goes { IfOk result (GoesOnAgain self) }
+        // Where a fault ended the old session and left its connection open, only `Memory` and
+        // `Broken` refuse, and the world stays.
         ensures fails { IfErr result (FailsAgain self) }
     {
         Self::adopt(self.release())
@@ -221,22 +257,49 @@ impl<S: Alter> Project<S> {
 
     /// Runs a command: its changes in one transaction, then its answer.
     ///
-    /// Over an older version each command but an upgrade is `OldSchema`, whatever its limits. Then a pass whose limit or
-    /// least age is out of range is `BadLimit`. Nothing is touched for either. All else is computed before the
-    /// transaction begins; a fault before it leaves the project as it was, and only `Broken` ends the session there. A
-    /// statement that is refused within it is `NotAProject`, and is rolled back; `Memory` and `Broken` from within end
-    /// the session. An open connection stays open, but where the disk fails in this call. A command that the machine
-    /// makes nothing of, such as an import that comes again, begins no transaction. What is done leaves the session over
-    /// no older version; a fault leaves it over the one that it was.
+    /// Over an older version each command but an upgrade is `OldSchema`, whatever its limits. Then a pass whose limit
+    /// or least age is out of range is `BadLimit`. Nothing is touched for either.
+    ///
+    /// All else is computed before the transaction begins. A fault before it leaves the project as it was, and only
+    /// `Broken` ends the session there. A statement that is refused within it is `NotAProject`, and is rolled back.
+    /// `Memory` and `Broken` from within it end the session.
+    ///
+    /// An open connection stays open, unless the disk fails in this call. A command of which the machine makes nothing,
+    /// such as a repeated import, begins no transaction. After an answer the session is over no older version; a fault
+    /// leaves it over the same version.
     pub fn run(&mut self, alloc: Global, command: &Command) -> Result<Answer, Fault>
+        // After the end of a session it answers `Ended`, and touches nothing.
         ensures ended { IsSessionEnded self.old → AnswersEnded self.old self.new result }
+        // The session ends only with `Memory` or `Broken`, and always with `Broken`; until then it
+        // never answers `Ended`. Only a disk that fails in this call shuts an open connection, and
+        // nothing opens one that is shut. After an answer the session is over no older version; a
+        // fault leaves it over the same one. The limit on steps stays, and no fault of the disk is
+        // forgotten.
         ensures session { KeepsSession self.old self.new result }
+        // The connection is open afterwards, except after `Memory` and `Broken`, and after a
+        // command that is refused for its version or its limits.
         ensures opens { IsSessionOpen self.old → ServesRight self.old self.new command.now result }
+        // Over an older version each command but an upgrade is `OldSchema`; over the present one a
+        // pass with wrong limits is `BadLimit`. Nothing is touched.
         ensures refused { IsSessionOpen self.old
             → RefusesEarly self.old self.new command.now result }
+        // An answer is the machine's reply, and the tables then represent the machine's step. A
+        // crash leaves that alone, or all is as it was where nothing is made. A fault is the
+        // machine's refusal, or one of the store: the tables represent the same world while the
+        // connection is open. A crash then leaves no more than it could before and, where the
+        // session ended, the step. A connection that the end of its session left open shows the
+        // world from before, all committed, and a crash leaves it alone.
         ensures runs { IsSessionOpen self.old → RunsOver self.old self.new command.now result }
+        // A fault that ends the session is `Broken` of a failed disk or a connection that was not
+        // open. Or it is `Memory` or `Broken` where the machine makes something of the world. Any
+        // other fault is the machine's refusal, `Memory`, or `NotAProject` of a statement that
+        // writes.
         ensures why { IsSessionOpen self.old → TellsWhy self.old self.new command.now result }
+        // A command that fails, but not with `Memory` or `Broken`, changes no table, nor what a
+        // crash may leave.
         ensures untouched { LeavesUntouched self.old self.new result }
+        // Where the machine makes nothing of the world, a command that is answered changes no
+        // table, nor what a crash may leave.
         ensures idle { IsSessionOpen self.old → LeavesIdle self.old self.new command.now result }
     {
         if self.has_ended {
@@ -256,7 +319,7 @@ impl<S: Alter> Project<S> {
         }
     }
 
-    /// The older version for which a command is refused, if there is one.
+    /// Returns the older version for which a command is refused, if there is one.
     fn older_for(&self, command: &Command) -> Option<u64>
         ensures { result ≡ refused_for (request_of command.now) (older_version self.now) }
     {
@@ -267,12 +330,14 @@ impl<S: Alter> Project<S> {
         }
     }
 
-    /// What a command will answer and what it changes: all of it that comes before its transaction.
+    /// Returns what a command will answer and what it changes: all of it that comes before its transaction.
     ///
-    /// `Broken` ends the session here, and nothing else does: not want of memory, whatever the command.
+    /// `Broken` ends the session here, and nothing else does, not even out of memory.
     fn prepare<'a>(&mut self, alloc: Global, command: &'a Command) -> Result<Plan<'a>, Fault>
         requires still { IsSessionOpen self.old }
         requires right { has_right_limits (request_of command.now) ≡ true }
+        // Before the transaction only `Broken` ends the session, and it always does; the session
+        // stays over its version.
         ensures session { KeepsAsking self.old self.new result }
         ensures asks { AsksOn self.old self.new result }
         ensures opens { ServesOn self.new result }
@@ -297,8 +362,12 @@ impl<S: Alter> Project<S> {
     /// Makes the changes of a plan, if there are any, and gives its answer.
     fn carry_out(&mut self, answer: Answer, changes: &[Change<'_>]) -> Result<Answer, Fault>
         requires { IsSessionOpen self.old }
+        // The session ends only with `Memory` or `Broken`, and always with `Broken`. Only a disk
+        // that fails in this call shuts an open connection.
         ensures session { KeepsSession self.old self.new result }
         ensures opens { IsTrue (state_of self.old).is_open → ServesOn self.new result }
+        // A fault that ends the session is `Memory` or `Broken`; one that does not is
+        // `NotAProject`.
         ensures cause { IfErr result (IsCutBy (has_ended self.new)) }
         ensures done { CarriesOut self.old self.new answer changes.now result }
         ensures from { CarriesOutFrom self.old self.new answer changes.now result }
@@ -334,8 +403,11 @@ impl<S: Alter> Project<S> {
 
     /// Ends the session.
     pub fn end_session(&mut self)
+        // Afterwards the session has ended.
         ensures over { IsSessionEnded self.new }
+        // The connection stays as it was.
         ensures same { connection_of self.new ≡ connection_of self.old }
+        // The session stays over the version that it was over.
         ensures version { KeepsVersion self.old self.new }
     {
         self.has_ended = true;

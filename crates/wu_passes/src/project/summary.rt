@@ -11,20 +11,33 @@ use wu_views::{Summary, summary};
 impl<S: Alter> Project<S> {
     ghost use Rattle.wu_passes.specs.Projects.{AnswersFirst, AsksOn, CountsRows, IsPresentSession, IsSessionOpen, KeepsAsking, ServesOn, Summarizes, SummarizesUnrefused};
 
-    /// How much the project holds. It changes no table; `Broken` ends the session.
+    /// Returns how much the project holds. It changes no table; `Broken` ends the session.
     ///
-    /// `NotAProject` where a row is no value, or where the credit of all grants is not below 2^64. Over an older
-    /// version it is `OldSchema`, and nothing is read.
+    /// `NotAProject` means that a row is no value, or that the credit of all grants is not below 2^64. Over an older
+    /// version the answer is `OldSchema`, and nothing is read.
     pub fn summary(&mut self) -> Result<Summary, Fault>
+        // After the end of a session the answer is `Ended`, and over an older version `OldSchema`;
+        // nothing is touched.
         ensures early { AnswersFirst self.old self.new result }
+        // Only `Broken` ends the session, and it always does; the session stays over its version.
         ensures session { KeepsAsking self.old self.new result }
+        // It only reads: nothing is committed or changed, and `Broken` means a failed disk or a
+        // connection that was not open.
         ensures asks { AsksOn self.old self.new result }
+        // Over the present version the connection is open afterwards, except after `Memory` and
+        // `Broken`.
         ensures opens { IsSessionOpen self.old → IsPresentSession self.old
             → ServesOn self.new result }
+        // Over the present version a fault is `Memory`, `Broken` or `NotAProject`.
         ensures fault { IsSessionOpen self.old → IsPresentSession self.old
             → IfErr result IsStoreFault }
+        // Without a limit on steps, the summary of a world whose numbers can be read is never
+        // `NotAProject`.
         ensures unrefused { IsSessionOpen self.old → SummarizesUnrefused self.old self.new result }
+        // With Ok the numbers are those of the world that the tables represent, where it has
+        // classes.
         ensures summary { Summarizes self.old self.new result }
+        // Whatever the tables hold, the summary counts every row of instances and of grants.
         ensures counted { CountsRows self.old self.new result }
     {
         if self.has_ended {

@@ -16,15 +16,22 @@ impl<S: Alter> Project<S> {
     ghost use Rattle.wu_views.specs.Lines.{archived_lines, AreHostsNamed, class_lines, host_lines, result_lines, workunit_lines};
     ghost use Rattle.wu_passes.specs.Walks.{WalksOver};
 
-    /// Hands each line of a view to what takes them, before the next row is asked for: no list of rows is held.
+    /// Hands each line of a view to a taker, before the next row is asked for: no list of rows is held.
     ///
-    /// `NotAProject` where a row is no value, and `Output` where no more lines are taken. Over an older version it is
-    /// `OldSchema`. It ends no session: after `Broken` its caller calls `end_session`.
+    /// `NotAProject` means that a row is no value, and `Output` that the taker takes no more lines. Over an older
+    /// version the answer is `OldSchema`. It ends no session: after `Broken` its caller calls `end_session`.
     pub fn walk<L: Listing, K: Takes<L::Line>>(
         &mut self,
         alloc: Global,
         taker: &mut K,
     ) -> Result<(), Fault>
+        // The taker gets the lines of the world in order, each once: all, or the first ones up to a
+        // fault. After the end of a session the answer is `Ended`, and over an older version
+        // `OldSchema`; then nothing is touched. `Output` means that the taker takes no more. Any
+        // other fault is one of the store, and without a limit on steps none is `NotAProject` where
+        // the values can be read. `Broken` means that the disk failed in this call, or that the
+        // connection was not open; over a shut one no line is handed on. The project is only read,
+        // and the session ends or goes on as before.
         ensures { WalksOver L.Listing.lines L.Listing.is_readable K.Takes.takes K.Takes.refuses
             self.old self.new taker.old taker.new result }
     {
@@ -43,6 +50,7 @@ impl<S: Alter> Project<S> {
         alloc: Global,
         taker: &mut K,
     ) -> Result<(), Fault>
+        // All that holds of `walk` holds, of one line for each workunit, in order of number.
         ensures { WalksOver workunit_lines AreStorable K.Takes.takes K.Takes.refuses
             self.old self.new taker.old taker.new result }
     {
@@ -55,6 +63,8 @@ impl<S: Alter> Project<S> {
         alloc: Global,
         taker: &mut K,
     ) -> Result<(), Fault>
+        // All that holds of `walk` holds, of one line for each instance, in order of workunit and
+        // own number.
         ensures { WalksOver result_lines AreStorable K.Takes.takes K.Takes.refuses
             self.old self.new taker.old taker.new result }
     {
@@ -67,6 +77,8 @@ impl<S: Alter> Project<S> {
         alloc: Global,
         taker: &mut K,
     ) -> Result<(), Fault>
+        // All that holds of `walk` holds, of one line for each host with grants, in order of names'
+        // bytes.
         ensures { WalksOver host_lines AreHostsNamed K.Takes.takes K.Takes.refuses
             self.old self.new taker.old taker.new result }
     {
@@ -79,6 +91,8 @@ impl<S: Alter> Project<S> {
         alloc: Global,
         taker: &mut K,
     ) -> Result<(), Fault>
+        // All that holds of `walk` holds, of one line for each archived workunit, in order of
+        // archiving.
         ensures { WalksOver archived_lines IsArchiveStorable K.Takes.takes K.Takes.refuses
             self.old self.new taker.old taker.new result }
     {
@@ -91,6 +105,8 @@ impl<S: Alter> Project<S> {
         alloc: Global,
         taker: &mut K,
     ) -> Result<(), Fault>
+        // All that holds of `walk` holds, of one line for each host with a class, in order of
+        // names' bytes.
         ensures { WalksOver class_lines (λ (world : World). AreClassed world.classes) K.Takes.takes K.Takes.refuses
             self.old self.new taker.old taker.new result }
     {
