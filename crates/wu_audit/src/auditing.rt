@@ -253,7 +253,7 @@ fn first_wrong(alloc: Global, loaded: &Loaded) -> Result<Option<Wrong>, AllocErr
 /// Returns the first violation in the written order, or `None` if the world is sound. Returns `Memory` if out of
 /// memory.
 pub fn audit(alloc: Global, loaded: &Loaded) -> Result<Option<Wrong>, Fault>
-    // `None` is returned exactly for a sound world.
+    // Unless it is out of memory, `None` is returned exactly for a sound world.
     ensures exact { IfOk result (λ wrong. IsNone wrong ↔ IsSound loaded.now) }
     // A violation is the first in the written order: it is at the first such row, and everything
     // asked before it holds.

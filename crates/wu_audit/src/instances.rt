@@ -13,7 +13,7 @@ use wu_core::{
 
 /// Returns whether the instance is over with a result.
 pub(crate) fn is_success(instance: &Instance) -> bool
-    // It is true exactly where the definition says that the instance is a success.
+    // It is true exactly where the instance is `OVER` with outcome `SUCCESS`.
     ensures { result ≡ is_success instance.now }
 {
     instance.server_state == ServerState::Over && instance.outcome == Outcome::Success

@@ -19,7 +19,7 @@ pub struct Trees {
     pub host: u32,
     pub archived: u32,
     pub import: u32,
-    /// 0 where the version has none, as in the next.
+    /// 0 if the version has no classes, as is the next field.
     pub host_class: u32,
     pub workunit_class: u32,
 }
@@ -42,7 +42,7 @@ impl Model for Trees {
     } };
 }
 
-/// Why a schema has not the tables of a project.
+/// Why the tables of a project are not in a schema.
 #[derive(Clone, Copy, PartialEq, Eq)]
 pub enum Misfit {
     /// No table has this one's name.

@@ -13,10 +13,10 @@ pub trait Takes<T> {
     ghost use Rattle.std.specs.Prelude.{IsOkUnless, MatchResult};
     ghost use Rattle.wu_core.specs.declared.fault.Fault.TheVariants.{Output};
 
-    /// With this line it comes from one state to the other.
+    /// The states before and after it takes this line.
     ghost takes: { Self → Self → T → Type 0 };
 
-    /// At this line it takes no more.
+    /// The states before and after it refuses this line, and takes no more.
     ghost refuses: { Self → Self → T → Type 0 };
 
     /// Takes a line. Returns `Output` if it takes no more.
