@@ -81,3 +81,25 @@ number_at_most a b = int_at_most (pos a) (pos b) ∙ tests
   where
     tests : not (nat_lt b a) ≡ nat_le a b
     tests = grind (arith, nat_tests)
+
+-- one number is at least another
+pub number_at_least : (a b : ℕ) → is_true (binary (by.Compare compare.Ge Binary) (Int (pos a)) (Int (pos b))) ≡ nat_le b a
+unfolding binary
+number_at_least a b = true_if (test compare.Ge (value_cmp (Int (pos a)) (Int (pos b)))) ∙ ap (test compare.Ge) (value_cmp-Int (pos a) (pos b)) ∙ tested (int_cmp (pos a) (pos b)) ∙ ap not (chosen (nat_lt a b) (nat_lt b a)) ∙ tests
+  where
+    is_less : Ordering → Bool
+    is_less Less = true
+    is_less _ = false
+
+    tested : (o : Ordering) → test compare.Ge o ≡ not (is_less o)
+    tested Less = refl
+    tested Equal = refl
+    tested Greater = refl
+
+    chosen : (c d : Bool) → is_less (cond c Less (cond d Greater Equal)) ≡ c
+    chosen true d = refl
+    chosen false true = refl
+    chosen false false = refl
+
+    tests : not (nat_lt a b) ≡ nat_le b a
+    tests = grind (arith, nat_tests)

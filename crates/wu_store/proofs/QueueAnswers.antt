@@ -1,5 +1,5 @@
 -- What the selections of the passes answer of the queue.
-use Rattle.wu_schema.proofs.Words.{Binary, Bool, Fault, FailsToQuery, Ghosts, Held, IfErr, List, None, NotAProject, Option, Result, Row, Shown, Some, State, Value, Vec, [], ap, binary, col, codes, column, equal, filter, fault_of, holds, is_true, length, list_all, map, map-map, nat_le, number, number_or_null, refl, state, subst, sym, take, true, false, ℕ, ◌∙◌, ◌∷◌, ◌≡◌, ◌≢◌}
+use Rattle.wu_schema.proofs.Words.{Binary, Bool, Fault, FailsToQuery, Ghosts, Held, IfErr, List, Name, None, NotAProject, Option, Result, Row, Shown, Some, State, Term, Vec, [], ap, arith, binary, col, codes, column, equal, filter, fault_of, holds, inl, inr, is_true, length, list_all, map, map-map, nat_le, nat_tests, number, number_or_null, refl, state, subst, sym, take, true, false, ℕ, ◌&&◌, ◌∙◌, ◌∷◌, ◌≡◌, ◌≢◌, ◌⊎◌}
 use Rattle.std.specs.Option.{option_map_or}
 use Rattle.sqlite_sql.specs.declared.ops.BinaryOp.TheVariants as by
 use Rattle.sqlite_sql.specs.declared.ops.CompareOp.{CompareOp}
@@ -12,17 +12,18 @@ use Rattle.wu_schema.specs.Asking.{Asks, FailsAll, IsSelect, ServesUnlessFailed,
 use Rattle.wu_schema.specs.Queue.{HasQueue}
 use Rattle.wu_schema.specs.Stored.{flag, stored_marks}
 use Rattle.wu_schema.specs.Tables.{queue_at}
+use Rattle.sqlite.specs.Query.{page}
 use Rattle.wu_schema.proofs.AnswerLemmas.{shown_answers}
 use Rattle.wu_schema.proofs.ReadLemmas.{if_ok, if_err}
-use Rattle.wu_schema.proofs.SelectLemmas.{Asked, Fits, IsTyped, compiles, parsed_of, select_of, tests_of}
+use Rattle.wu_schema.proofs.SelectLemmas.{Asked, Fits, IsTyped, Test, compiles, parsed_of, select_of, tests_of}
 use Rattle.wu_schema.proofs.ToldLemmas.{asked_told}
 use Rattle.wu_store.specs.Loading.{IsStoreFault}
-use Rattle.wu_store.specs.Queues.{AnswersQueue, NotRefusedQueue, first_marked, is_marked, marked_text, wanted_mark}
+use Rattle.wu_store.specs.Queues.{AnswersQueue, NotRefusedQueue, first_marked, is_marked, marked_text}
 use Rattle.wu_store.proofs.AskLemmas.{never_refused}
-use Rattle.wu_store.proofs.EqualLemmas.{number_at_most, number_equal}
-use Rattle.wu_store.proofs.OrderAnswers.{sure_in_order}
+use Rattle.wu_store.proofs.EqualLemmas.{number_at_least, number_at_most, number_equal}
+use Rattle.wu_store.proofs.OrderAnswers.{sorted, sure_in_order}
 use Rattle.wu_store.proofs.ReadAnswers.{kept_mapped}
-use Rattle.wu_store.proofs.SelectTexts.{mark_how, mark_place, marked_asked, pass_asked, pass_fits}
+use Rattle.wu_store.proofs.SelectTexts.{limit_place, mark_parameters, mark_tests, marked_asked, pass_asked, pass_fits}
 
 -- what a selection does and answers, and that it is not refused
 pub record HasAskedQueue {S A : Type 0} (g : Ghosts S) (old new : Held S) (result : Result (Vec Row A) Fault) (answer : List (ℕ × Marks) → List Row) : Type 0 where
@@ -32,10 +33,7 @@ pub record HasAskedQueue {S A : Type 0} (g : Ghosts S) (old new : Held S) (resul
   pub fault : IfErr result IsStoreFault
   pub unrefused : NotRefusedQueue g old new result
 
-module _ (asked : Asked) (fits : (tree : ℕ) → Fits (codes "queue") (queue_at tree) asked) (v : Value) (n : ℕ) where
-  abbrev params : Row
-  params = v ∷ number n ∷ []
-
+module _ (asked : Asked) (fits : (tree : ℕ) → Fits (codes "queue") (queue_at tree) asked) (params : Row) where
   abbrev passing : ℕ → Row → Bool
   passing tree r = list_all (holds (params ∷ r ∷ [])) (tests_of (codes "queue") (queue_at tree) asked)
 
@@ -59,17 +57,18 @@ module _ (asked : Asked) (fits : (tree : ℕ) → Fits (codes "queue") (queue_at
       unrefused = λ clean marked q limit. if_err r _ _ (never_told marked q limit) (fails clean);
     }
 
--- ---- by one column
+-- ---- by the marks of a workunit, up to a limit
 
-module _ (text : List ℕ) (place : ℕ) (how : CompareOp) (fits : (tree : ℕ) → Fits (codes "queue") (queue_at tree) (marked_asked text place how)) (v : Value) (n : ℕ) (passes : Marks → Bool)
-    (same : (tree : ℕ) (p : ℕ × Marks) → passing (marked_asked text place how) fits v n tree (stored_marks p) ≡ passes p.1) where
-  pub marks_found : (old new : State) (rows : List Row) → Shown text (v ∷ number n ∷ []) old new rows → (marked : List (ℕ × Marks)) → HasQueue old.now marked → rows ≡ first_marked n passes marked
+module _ (text : List ℕ) (parameters : List Name) (tests : List Test) (place : ℕ) (fits : (tree : ℕ) → Fits (codes "queue") (queue_at tree) (marked_asked text parameters tests place)) (given : Row) (n : ℕ) (passes : Marks → Bool)
+    (ends : (tree : ℕ) (ts : List Term) (rows : List Row) → page (sorted tree ts (col 1 0 ∷ []) 0 false (col 0 place) given) given rows ≡ take n rows)
+    (same : (tree : ℕ) (p : ℕ × Marks) → passing (marked_asked text parameters tests place) fits given tree (stored_marks p) ≡ passes p.1) where
+  pub marks_found : (old new : State) (rows : List Row) → Shown text given old new rows → (marked : List (ℕ × Marks)) → HasQueue old.now marked → rows ≡ first_marked n passes marked
   marks_found old new rows h marked q =
-      let asked = marked_asked text place how in
-      let given : Row = v ∷ number n ∷ [] in
+      let asked = marked_asked text parameters tests place in
       let read = shown_answers text given old new _ _ _ (compiles old.now.schema (codes "queue") q.table.0 (queue_at q.tree) q.table.1 asked (fits q.tree)) rows h in
-      let kept = passing asked fits v n q.tree in
-      sure_in_order q.tree (tests_of (codes "queue") (queue_at q.tree) asked) (col 1 0 ∷ []) (col 0 1) given old.now rows q.table.1.low q.rows.shaped.0 read.answer
+      let kept = passing asked fits given q.tree in
+      sure_in_order q.tree (tests_of (codes "queue") (queue_at q.tree) asked) (col 1 0 ∷ []) (col 0 place) given old.now rows q.table.1.low q.rows.shaped.0 read.answer
+      ∙ ends q.tree (tests_of (codes "queue") (queue_at q.tree) asked) _
       ∙ ap (λ rs. take n (map (λ (r : Row). column r 0 ∷ []) (filter kept rs))) q.rows.same
       ∙ ap (λ rs. take n (map (λ (r : Row). column r 0 ∷ []) rs)) (kept_mapped kept (λ (p : ℕ × Marks). passes p.1) stored_marks marked (same q.tree))
       ∙ ap (take n) (map-map (λ (r : Row). column r 0 ∷ []) stored_marks (filter (λ (p : ℕ × Marks). passes p.1) marked))
@@ -79,17 +78,54 @@ pub is_flag : (b : Bool) → equal Binary (flag b) (number 1) ≡ b
 is_flag true = number_equal 1 1
 is_flag false = number_equal 0 1
 
--- a moment that has come
-pub has_come : (o : Option ℕ) (now : ℕ) → is_true (binary (by.Compare compare.Le Binary) (number_or_null o) (number now)) ≡ option_map_or (λ moment. nat_le moment now) o false
+lowest : (n : ℕ) → nat_le 0 n ≡ true
+lowest n = grind (arith, nat_tests)
+
+-- a moment that has come, of those from the first one on
+pub has_come : (o : Option ℕ) (now : ℕ) → (is_true (binary (by.Compare compare.Ge Binary) (number_or_null o) (number 0)) && (is_true (binary (by.Compare compare.Le Binary) (number_or_null o) (number now)) && true)) ≡ option_map_or (λ moment. nat_le moment now) o false
 unfolding binary
 has_come None now = refl
-has_come (Some n) now = number_at_most n now
+has_come (Some n) now = ap (λ b. b && (is_true (binary (by.Compare compare.Le Binary) (number n) (number now)) && true)) (number_at_least n 0 ∙ lowest n) ∙ one_test _ ∙ number_at_most n now
 
 -- ---- the question of a pass
 
 module _ (by n : ℕ) where
-  abbrev given_of : Pass → Row
-  given_of pass = number (wanted_mark pass by) ∷ number n ∷ []
+  abbrev pub given_of : Pass → Row
+  given_of Transition = number 0 ∷ number by ∷ number n ∷ []
+  given_of Validate = number 1 ∷ number n ∷ []
+  given_of Assimilate = number 1 ∷ number n ∷ []
+  given_of Delete = number 1 ∷ number n ∷ []
+  given_of Purge = number 0 ∷ number by ∷ number n ∷ []
+
+  -- of a pass that goes by moments
+  pub moments_given : (pass : Pass) → (pass ≡ Transition) ⊎ (pass ≡ Purge) → number 0 ∷ number by ∷ number n ∷ [] ≡ given_of pass
+  moments_given Transition is = refl
+  moments_given Validate (inl is) = absurd (cc)
+  moments_given Validate (inr is) = absurd (cc)
+  moments_given Assimilate (inl is) = absurd (cc)
+  moments_given Assimilate (inr is) = absurd (cc)
+  moments_given Delete (inl is) = absurd (cc)
+  moments_given Delete (inr is) = absurd (cc)
+  moments_given Purge is = refl
+
+  -- and of one that does not
+  pub flags_given : (pass : Pass) → (pass ≡ Validate) ⊎ (pass ≡ Assimilate) ⊎ (pass ≡ Delete) → number 1 ∷ number n ∷ [] ≡ given_of pass
+  flags_given Transition (inl is) = absurd (cc)
+  flags_given Transition (inr (inl is)) = absurd (cc)
+  flags_given Transition (inr (inr is)) = absurd (cc)
+  flags_given Validate is = refl
+  flags_given Assimilate is = refl
+  flags_given Delete is = refl
+  flags_given Purge (inl is) = absurd (cc)
+  flags_given Purge (inr (inl is)) = absurd (cc)
+  flags_given Purge (inr (inr is)) = absurd (cc)
+
+  few_as : (pass : Pass) → length (given_of pass) ≡ length (mark_parameters pass)
+  few_as Transition = refl
+  few_as Validate = refl
+  few_as Assimilate = refl
+  few_as Delete = refl
+  few_as Purge = refl
 
   typed_as : (pass : Pass) (tree : ℕ) → IsTyped (codes "queue") (queue_at tree) (pass_asked pass) (given_of pass)
   typed_as Transition tree = refl
@@ -98,17 +134,24 @@ module _ (by n : ℕ) where
   typed_as Delete tree = refl
   typed_as Purge tree = refl
 
-  passes_as : (pass : Pass) (tree : ℕ) (p : ℕ × Marks) → passing (pass_asked pass) (pass_fits pass) (number (wanted_mark pass by)) n tree (stored_marks p) ≡ is_marked pass by p.1
-  passes_as Transition tree p = one_test _ ∙ has_come p.1.wake by
+  ends_as : (pass : Pass) (tree : ℕ) (ts : List Term) (rows : List Row) → page (sorted tree ts (col 1 0 ∷ []) 0 false (col 0 (limit_place pass)) (given_of pass)) (given_of pass) rows ≡ take n rows
+  ends_as Transition tree ts rows = refl
+  ends_as Validate tree ts rows = refl
+  ends_as Assimilate tree ts rows = refl
+  ends_as Delete tree ts rows = refl
+  ends_as Purge tree ts rows = refl
+
+  passes_as : (pass : Pass) (tree : ℕ) (p : ℕ × Marks) → passing (pass_asked pass) (pass_fits pass) (given_of pass) tree (stored_marks p) ≡ is_marked pass by p.1
+  passes_as Transition tree p = has_come p.1.wake by
   passes_as Validate tree p = one_test _ ∙ is_flag p.1.to_validate
   passes_as Assimilate tree p = one_test _ ∙ is_flag p.1.to_assimilate
   passes_as Delete tree p = one_test _ ∙ is_flag p.1.to_delete
-  passes_as Purge tree p = one_test _ ∙ has_come p.1.purge_from by
+  passes_as Purge tree p = has_come p.1.purge_from by
 
   module _ {S A : Type 0} (g : Ghosts S) (old new : Held S) (r : Result (Vec Row A) Fault) (pass : Pass) where
     pub pass_asks : (text : List ℕ) → text ≡ marked_text pass → (given : Row) → given ≡ given_of pass
         → (IsSelect text → Asks g old new r) → (IsSelect text → ServesUnlessFailed g new r) → ShowsAll g old new r text given → FailsAll g old new r text given → IfErr r IsStoreFault → HasAskedQueue g old new r (first_marked n (is_marked pass by))
     pass_asks text is given same asks opens shows fails told =
         let there = subst (λ (t : List ℕ). (IsSelect t → Asks g old new r) × (IsSelect t → ServesUnlessFailed g new r) × ShowsAll g old new r t given × FailsAll g old new r t given) is (asks, opens, shows, fails) in
-        asked_queue (pass_asked pass) (pass_fits pass) (number (wanted_mark pass by)) n g old new given same refl (typed_as pass) (first_marked n (is_marked pass by))
-        (λ rows h marked s. marks_found (marked_text pass) (mark_place pass) (mark_how pass) (pass_fits pass) (number (wanted_mark pass by)) n (is_marked pass by) (passes_as pass) (state g old) (state g new) rows h marked s) r there.0 there.1 there.2 there.3 told
+        asked_queue (pass_asked pass) (pass_fits pass) (given_of pass) g old new given same (few_as pass) (typed_as pass) (first_marked n (is_marked pass by))
+        (λ rows h marked s. marks_found (marked_text pass) (mark_parameters pass) (mark_tests pass) (limit_place pass) (pass_fits pass) (given_of pass) n (is_marked pass by) (ends_as pass) (passes_as pass) (state g old) (state g new) rows h marked s) r there.0 there.1 there.2 there.3 told

@@ -1,12 +1,11 @@
 -- The SELECTs: each text, what it asks for, and that it fits its table.
-use Rattle.wu_schema.proofs.Words.{Expr-F, Int, List, None, Some, Term, [], archived_at, arith, codes, col, everything, import_at, lit, negsuc, pos, project_at, refl, result_at, roll-Expr, workunit_at, ℕ, ◌∷◌, ◌++◌}
-use Rattle.sqlite_sql.specs.declared.ops.CompareOp.{CompareOp}
+use Rattle.wu_schema.proofs.Words.{Expr-F, Int, List, Name, None, Some, Term, [], archived_at, arith, codes, col, everything, import_at, lit, negsuc, pos, project_at, refl, result_at, roll-Expr, suc, workunit_at, ℕ, ◌∷◌, ◌++◌}
 use Rattle.sqlite_sql.specs.declared.ops.CompareOp.TheVariants as compare
 use Rattle.wu_schema.specs.Tables.{queue_at}
 use Rattle.wu_rules.specs.declared.due.Pass.{Pass}
 use Rattle.wu_rules.specs.declared.due.Pass.TheVariants.{Transition, Validate, Assimilate, Delete, Purge}
 use Rattle.wu_store.specs.Queues.{marked_text}
-pub use Rattle.wu_schema.proofs.SelectLemmas.{CompilesTo, compiles_to, Asked, Fits}
+pub use Rattle.wu_schema.proofs.SelectLemmas.{CompilesTo, compiles_to, Asked, Fits, Test}
 use Rattle.wu_schema.proofs.ExprLemmas.{same, more, parameter}
 
 -- ---- the columns of a workunit and of an instance, as each statement that has all of them lists them
@@ -130,47 +129,54 @@ instances_shows = col 1 3 ∷ col 1 4 ∷ col 1 5 ∷ col 1 6 ∷ col 1 7 ∷ co
 
 -- ---- the workunits of a pass, by a mark
 
--- the first so many numbers in the queue, by one column of theirs
-abbrev pub marked_asked : List ℕ → ℕ → CompareOp → Asked
-marked_asked text place how = record { text = text; parameters = codes "?1" ∷ codes "?2" ∷ []; shown = 0 ∷ []; tests = (place, how, 0) ∷ []; order = Some 0; limit = Some (parameter 2); upto = col 0 1 }
+-- the first so many numbers in the queue, by tests of their marks, and with the limit's place among what is given
+abbrev pub marked_asked : List ℕ → List Name → List Test → ℕ → Asked
+marked_asked text parameters tests place = record { text = text; parameters = parameters; shown = 0 ∷ []; tests = tests; order = Some 0; limit = Some (parameter (suc place)); upto = col 0 place }
 
-pub validate_fits : (tree : ℕ) → Fits (codes "queue") (queue_at tree) (marked_asked (marked_text Validate) 2 compare.Eq)
+-- how the mark for a pass is tested: it is set, or a moment up to one
+abbrev pub mark_tests : Pass → List Test
+mark_tests Transition = (1, compare.Ge, 0) ∷ (1, compare.Le, 1) ∷ []
+mark_tests Validate = (2, compare.Eq, 0) ∷ []
+mark_tests Assimilate = (3, compare.Eq, 0) ∷ []
+mark_tests Delete = (4, compare.Eq, 0) ∷ []
+mark_tests Purge = (5, compare.Ge, 0) ∷ (5, compare.Le, 1) ∷ []
+
+abbrev pub mark_parameters : Pass → List Name
+mark_parameters Transition = codes "?1" ∷ codes "?2" ∷ codes "?3" ∷ []
+mark_parameters Validate = codes "?1" ∷ codes "?2" ∷ []
+mark_parameters Assimilate = codes "?1" ∷ codes "?2" ∷ []
+mark_parameters Delete = codes "?1" ∷ codes "?2" ∷ []
+mark_parameters Purge = codes "?1" ∷ codes "?2" ∷ codes "?3" ∷ []
+
+abbrev pub limit_place : Pass → ℕ
+limit_place Transition = 2
+limit_place Validate = 1
+limit_place Assimilate = 1
+limit_place Delete = 1
+limit_place Purge = 2
+
+abbrev pub pass_asked : Pass → Asked
+pass_asked pass = marked_asked (marked_text pass) (mark_parameters pass) (mark_tests pass) (limit_place pass)
+
+pub wake_fits : (tree : ℕ) → Fits (codes "queue") (queue_at tree) (pass_asked Transition)
+unfolding everything
+wake_fits tree = record { shown = refl; tests = refl; strict = refl; order = refl; height = (697, refl); few = omega arith; limit = λ schema. refl; read = refl; typed = refl }
+
+pub validate_fits : (tree : ℕ) → Fits (codes "queue") (queue_at tree) (pass_asked Validate)
 unfolding everything
 validate_fits tree = record { shown = refl; tests = refl; strict = refl; order = refl; height = (698, refl); few = omega arith; limit = λ schema. refl; read = refl; typed = refl }
 
-pub assimilate_fits : (tree : ℕ) → Fits (codes "queue") (queue_at tree) (marked_asked (marked_text Assimilate) 3 compare.Eq)
+pub assimilate_fits : (tree : ℕ) → Fits (codes "queue") (queue_at tree) (pass_asked Assimilate)
 unfolding everything
 assimilate_fits tree = record { shown = refl; tests = refl; strict = refl; order = refl; height = (698, refl); few = omega arith; limit = λ schema. refl; read = refl; typed = refl }
 
-pub delete_fits : (tree : ℕ) → Fits (codes "queue") (queue_at tree) (marked_asked (marked_text Delete) 4 compare.Eq)
+pub delete_fits : (tree : ℕ) → Fits (codes "queue") (queue_at tree) (pass_asked Delete)
 unfolding everything
 delete_fits tree = record { shown = refl; tests = refl; strict = refl; order = refl; height = (698, refl); few = omega arith; limit = λ schema. refl; read = refl; typed = refl }
 
-pub wake_fits : (tree : ℕ) → Fits (codes "queue") (queue_at tree) (marked_asked (marked_text Transition) 1 compare.Le)
+pub purge_fits : (tree : ℕ) → Fits (codes "queue") (queue_at tree) (pass_asked Purge)
 unfolding everything
-wake_fits tree = record { shown = refl; tests = refl; strict = refl; order = refl; height = (698, refl); few = omega arith; limit = λ schema. refl; read = refl; typed = refl }
-
-pub purge_fits : (tree : ℕ) → Fits (codes "queue") (queue_at tree) (marked_asked (marked_text Purge) 5 compare.Le)
-unfolding everything
-purge_fits tree = record { shown = refl; tests = refl; strict = refl; order = refl; height = (698, refl); few = omega arith; limit = λ schema. refl; read = refl; typed = refl }
-
--- the column of the mark for a pass, and how it is compared
-abbrev pub mark_place : Pass → ℕ
-mark_place Transition = 1
-mark_place Validate = 2
-mark_place Assimilate = 3
-mark_place Delete = 4
-mark_place Purge = 5
-
-abbrev pub mark_how : Pass → CompareOp
-mark_how Transition = compare.Le
-mark_how Validate = compare.Eq
-mark_how Assimilate = compare.Eq
-mark_how Delete = compare.Eq
-mark_how Purge = compare.Le
-
-abbrev pub pass_asked : Pass → Asked
-pass_asked pass = marked_asked (marked_text pass) (mark_place pass) (mark_how pass)
+purge_fits tree = record { shown = refl; tests = refl; strict = refl; order = refl; height = (697, refl); few = omega arith; limit = λ schema. refl; read = refl; typed = refl }
 
 pub pass_fits : (pass : Pass) (tree : ℕ) → Fits (codes "queue") (queue_at tree) (pass_asked pass)
 pass_fits Transition tree = wake_fits tree

@@ -69,19 +69,11 @@ is_marked Purge by marks = waits_since by marks
 
 -- the question for such workunits
 abbrev pub marked_text : Pass → List ℕ
-marked_text Transition = codes "SELECT workunit FROM queue WHERE wake <= ?1 ORDER BY workunit LIMIT ?2"
+marked_text Transition = codes "SELECT workunit FROM queue WHERE wake >= ?1 AND wake <= ?2 ORDER BY workunit LIMIT ?3"
 marked_text Validate = codes "SELECT workunit FROM queue WHERE to_validate = ?1 ORDER BY workunit LIMIT ?2"
 marked_text Assimilate = codes "SELECT workunit FROM queue WHERE to_assimilate = ?1 ORDER BY workunit LIMIT ?2"
 marked_text Delete = codes "SELECT workunit FROM queue WHERE to_delete = ?1 ORDER BY workunit LIMIT ?2"
-marked_text Purge = codes "SELECT workunit FROM queue WHERE purge_from <= ?1 ORDER BY workunit LIMIT ?2"
-
--- what it compares the mark with
-abbrev pub wanted_mark : Pass → ℕ → ℕ
-wanted_mark Transition by = by
-wanted_mark Validate by = 1
-wanted_mark Assimilate by = 1
-wanted_mark Delete by = 1
-wanted_mark Purge by = by
+marked_text Purge = codes "SELECT workunit FROM queue WHERE purge_from >= ?1 AND purge_from <= ?2 ORDER BY workunit LIMIT ?3"
 
 -- the answer is what a queue that is there has
 abbrev pub AnswersQueue : {S A : Type 0} → Ghosts S → Held S → Held S → Result (Vec Row A) Fault → (List (ℕ × Marks) → List Row) → Type 0

@@ -10,7 +10,7 @@ ghost use Rattle.wu_schema.specs.Asking.{Asks, FailsAll, IsSelect};
 ghost use Rattle.wu_schema.specs.Calls.{Answers, StatementFrame, Does, Changes, RunsText};
 ghost use Rattle.wu_schema.specs.Stored.{instance_cells, marks_cells, number, workunit_row};
 ghost use Rattle.wu_store.specs.Loading.{IsStoreFault, NotRefusedIn, ServesUnlessFailed};
-ghost use Rattle.wu_store.specs.Queues.{AnswersQueue, ChangesQueue, first_marked, is_marked, KeepsQueue, KeepsWorld, marked_text, NotRefusedQueue, wanted_mark, with_marks, without_marks};
+ghost use Rattle.wu_store.specs.Queues.{AnswersQueue, ChangesQueue, first_marked, is_marked, KeepsQueue, KeepsWorld, marked_text, NotRefusedQueue, with_marks, without_marks};
 ghost use Rattle.wu_store.specs.Answers.{has_name, ShowsLast, was_archived};
 
 use crate::changes::{HostSum, Import};
@@ -170,8 +170,9 @@ fn marked_text(pass: Pass) -> &'static str
     ensures { result.now ≡ marked_text pass }
 {
     match pass {
-        Pass::Transition =>
-            "SELECT workunit FROM queue WHERE wake <= ?1 ORDER BY workunit LIMIT ?2",
+        Pass::Transition => {
+            "SELECT workunit FROM queue WHERE wake >= ?1 AND wake <= ?2 ORDER BY workunit LIMIT ?3"
+        }
         Pass::Validate => {
             "SELECT workunit FROM queue WHERE to_validate = ?1 ORDER BY workunit LIMIT ?2"
         }
@@ -181,19 +182,8 @@ fn marked_text(pass: Pass) -> &'static str
         Pass::Delete =>
             "SELECT workunit FROM queue WHERE to_delete = ?1 ORDER BY workunit LIMIT ?2",
         Pass::Purge => {
-            "SELECT workunit FROM queue WHERE purge_from <= ?1 ORDER BY workunit LIMIT ?2"
+            "SELECT workunit FROM queue WHERE purge_from >= ?1 AND purge_from <= ?2 ORDER BY workunit LIMIT ?3"
         }
-    }
-}
-
-/// Returns what the question compares a mark with: a moment, or 1, as which the table keeps a mark that is set.
-fn wanted_mark(pass: Pass, by: Moment) -> i64
-    ensures value { result ≡ pos (wanted_mark pass by) }
-    ensures within { wanted_mark pass by < 2 ^ 63 }
-{
-    match pass {
-        Pass::Transition | Pass::Purge => seconds(by),
-        Pass::Validate | Pass::Assimilate | Pass::Delete => 1,
     }
 }
 
@@ -220,8 +210,18 @@ pub fn marked_rows<S: Alter>(
     ensures unrefused { limit < 2 ^ 63 → NotRefusedQueue S.Store conn.old conn.new result }
 {
     let limit = key_of(limit)?;
-    let mark = wanted_mark(pass, by);
-    query(conn, marked_text(pass), params![mark, limit])
+    let text = marked_text(pass);
+    match pass {
+        // An index has NULL before all numbers: without a lower end the range would have each row without a mark.
+        Pass::Transition | Pass::Purge => {
+            query(
+                conn,
+                text,
+                params![seconds(Moment::first()), seconds(by), limit],
+            )
+        }
+        Pass::Validate | Pass::Assimilate | Pass::Delete => query(conn, text, params![true, limit]),
+    }
 }
 
 /// Runs a statement with the columns of a workunit's row as its parameters.
