@@ -5,19 +5,11 @@ ghost use Rattle.wu_core.specs.Formed.{IsInstance};
 ghost use Rattle.wu_core.specs.Storable.{MayBeInstance, IsStoredInstance, IsHost, AreMoments};
 ghost use Rattle.wu_audit.specs.Parts.{MayHaveVerdict};
 ghost use Rattle.wu_rules.specs.Consistent.{IsPossible};
-ghost use Rattle.wu_rules.specs.Instances.{is_success};
 
 use wu_core::{
     FileDelete, Instance, LONGEST_OUTPUT, Moment, Name, Outcome, ServerState, ValidateState,
 };
-
-/// Returns whether the instance is over with a result.
-pub(crate) fn is_success(instance: &Instance) -> bool
-    // It is true exactly where the instance is `OVER` with outcome `SUCCESS`.
-    ensures { result ≡ is_success instance.now }
-{
-    instance.server_state == ServerState::Over && instance.outcome == Outcome::Success
-}
+use wu_rules::is_success;
 
 /// Returns whether host, time of sending and deadline are there together, and as the states require.
 pub fn is_formed_instance(instance: &Instance) -> bool

@@ -6,9 +6,7 @@ ghost use Rattle.wu_audit.specs.Against.{FirstAgainst};
 ghost use Rattle.wu_audit.specs.Places.{Ascends, IsBoundOf, IsPlaceOf};
 ghost use Rattle.wu_audit.specs.Records.{IsArchivedOf, IsBackedGrant, IsBackedRow, IsGrantOf};
 
-use wu_core::{
-    Archived, Assimilate, ErrorMask, Grant, Instance, Moment, Name, ValidateState, Workunit,
-};
+use wu_core::{Archived, Assimilate, Grant, Instance, Moment, Name, ValidateState, Workunit};
 
 /// Returns the first place of a workunit with this number or a higher one.
 fn bound_of(workunits: &[Workunit], number: u64) -> usize
@@ -34,7 +32,7 @@ fn place_of(workunits: &[Workunit], number: u64) -> Option<usize>
 }
 
 /// Returns whether the instance is this host's.
-fn is_of(instance: &Instance, host: &Name) -> bool
+fn is_hosted_by(instance: &Instance, host: &Name) -> bool
     ensures { IsTrue result ↔ (instance.now.host ≡ Some host.now) }
 {
     match &instance.host {
@@ -53,7 +51,7 @@ fn is_grant_of(workunit: &Workunit, grant: &Grant) -> bool
         return false;
     };
     instance.validate_state == ValidateState::Valid
-        && is_of(instance, &grant.host)
+        && is_hosted_by(instance, &grant.host)
         && grant.credit == u64::from(workunit.params.credit())
 }
 
@@ -94,13 +92,6 @@ fn is_same_place(one: Option<u32>, other: Option<u32>) -> bool
     one == other
 }
 
-/// Returns whether two masks have the same bits.
-fn is_same_mask(one: ErrorMask, other: ErrorMask) -> bool
-    ensures { IsTrue result ↔ (one ≡ other) }
-{
-    one.code() == other.code()
-}
-
 /// Returns whether the moment of a workunit is this one.
 fn is_done_at(done_at: Option<Moment>, moment: Moment) -> bool
     ensures { IsTrue result ↔ (done_at ≡ Some moment) }
@@ -116,7 +107,7 @@ fn is_row_of(workunit: &Workunit, row: &Archived) -> bool
     ensures { IsTrue result ↔ IsRowOf workunit.now row.now }
 {
     is_same_place(row.canonical, workunit.canonical)
-        && is_same_mask(row.error_mask, workunit.error_mask)
+        && row.error_mask == workunit.error_mask
         && is_done_at(workunit.done_at, row.done_at)
 }
 

@@ -53,23 +53,11 @@ pub fn has_possible_mask(archived: &Archived) -> bool
     !mask.couldnt_send_result && !mask.no_canonical_result
 }
 
-/// Returns the greatest number of a skip in a file of this kind.
-fn last_skip(kind: ImportKind) -> u8
-    ensures { result ≡ last_skip kind }
-{
-    match kind {
-        ImportKind::Batch => 0,
-        ImportKind::Sent => 4,
-        ImportKind::Reported => 5,
-        ImportKind::Classes => 0,
-    }
-}
-
 /// Returns whether each verdict is a number of one on a file of this kind.
 fn are_verdicts(kind: ImportKind, verdicts: &[u8]) -> bool
     ensures { IsTrue result ↔ AreVerdicts kind verdicts.now }
 {
-    let last_skip = last_skip(kind);
+    let last_skip = kind.last_skip();
     verdicts.iter().all(|verdict| *verdict <= last_skip)
 }
 

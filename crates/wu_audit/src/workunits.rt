@@ -11,11 +11,12 @@ ghost use Rattle.wu_rules.specs.Counts.{is_clear};
 ghost use Rattle.wu_rules.specs.Instances.{is_unsent};
 ghost use Rattle.wu_audit.specs.Parts.{IsCanonicalPlace, IsCanonicalValid, IsClasslessUnsent, IsDoneWithMoment, IsInOneState, IsSettable, IsValidSuccess};
 
-use crate::instances::{is_formed_instance, is_possible_instance, is_stored_instance, is_success};
+use crate::instances::{is_formed_instance, is_possible_instance, is_stored_instance};
 use wu_core::{
-    Assimilate, ErrorMask, FileDelete, HIGHEST_CLASS, Instance, Instances, LONGEST_INPUT, Moment,
-    Params, ServerState, ValidateState, Workunit,
+    Assimilate, FileDelete, HIGHEST_CLASS, Instance, Instances, LONGEST_INPUT, Moment, Params,
+    ValidateState, Workunit,
 };
+use wu_rules::{has_unsent, is_clear, is_success, is_undecided};
 
 /// Makes known that the parameters of a workunit are in their ranges.
 fn know_parameters(params: Params)
@@ -37,24 +38,6 @@ fn is_all_formed(instances: &Instances) -> bool
     instances
         .iter()
         .all(|instance| is_formed_instance(instance))
-}
-
-/// Returns whether the canonical instance, if there is one, is there.
-fn is_canonical_there(workunit: &Workunit) -> bool
-    ensures { IsTrue result ↔ IsCanonicalPlace workunit.now }
-{
-    match workunit.canonical {
-        Some(n) => (n as usize) < workunit.instances.len(),
-        None => true,
-    }
-}
-
-/// Returns whether there are no more instances than the workunit may have, and its canonical one is among them.
-fn has_its_instances(workunit: &Workunit) -> bool
-    ensures { IsTrue result ↔ HasItsInstances workunit.now }
-{
-    workunit.instances.len() <= workunit.params.max_total_results() as usize
-        && is_canonical_there(workunit)
 }
 
 /// Makes known that the moment of a workunit is in its range.
@@ -80,7 +63,7 @@ pub fn is_formed_workunit(workunit: &Workunit) -> bool
     ensures { IsTrue result ↔ IsWorkunit workunit.now }
 {
     know_parameters(workunit.params);
-    is_all_formed(&workunit.instances) && has_its_instances(workunit) && is_stamped(workunit)
+    is_all_formed(&workunit.instances) && workunit.has_its_instances() && is_stamped(workunit)
 }
 
 /// Returns whether a row of an instance may represent each instance.
@@ -123,7 +106,7 @@ pub fn is_storable_workunit(workunit: &Workunit) -> bool
         && is_stored_workunit(workunit)
         && workunit.class <= HIGHEST_CLASS
         && is_all_stored(&workunit.instances)
-        && has_its_instances(workunit)
+        && workunit.has_its_instances()
 }
 
 /// Returns whether each instance is in a state that this project sets.
@@ -133,22 +116,6 @@ fn is_all_possible(instances: &Instances) -> bool
     instances
         .iter()
         .all(|instance| is_possible_instance(instance))
-}
-
-/// Returns whether an instance waits to be sent.
-fn has_unsent(instances: &Instances) -> bool
-    ensures { result ≡ list_any is_unsent instances.now }
-{
-    instances
-        .iter()
-        .any(|instance| instance.server_state == ServerState::Unsent)
-}
-
-/// Returns whether no bit of the mask is set.
-fn is_clear(mask: ErrorMask) -> bool
-    ensures { result ≡ is_clear mask }
-{
-    mask.code() == 0
 }
 
 /// Returns whether the instance is a success that was found valid.
@@ -194,13 +161,6 @@ fn is_settable(workunit: &Workunit) -> bool
         && !workunit.error_mask.couldnt_send_result
         && !workunit.error_mask.no_canonical_result
         && is_classless_unsent(workunit)
-}
-
-/// Returns whether the workunit has neither a canonical result nor an error.
-fn is_undecided(workunit: &Workunit) -> bool
-    ensures { result ≡ (is_clear workunit.now.error_mask && is_none workunit.now.canonical) }
-{
-    is_clear(workunit.error_mask) && workunit.canonical.is_none()
 }
 
 /// Returns whether the workunit is undecided, given up or decided, and not two of them.

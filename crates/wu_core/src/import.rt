@@ -2,6 +2,7 @@
 
 ghost use Rattle.std.specs.Prelude.{◌≡◌};
 ghost use Rattle.wu_core.specs.Codes.{Decodes, import_kind_code};
+ghost use Rattle.wu_core.specs.World.{last_skip};
 
 /// What an imported file holds.
 #[derive(Clone, Copy, PartialEq, Eq)]
@@ -32,6 +33,18 @@ impl ImportKind {
             3 => Some(ImportKind::Reported),
             4 => Some(ImportKind::Classes),
             _ => None,
+        }
+    }
+
+    /// Returns the highest number of a verdict on a row of such a file: 0 where no row is skipped.
+    pub fn last_skip(self) -> u8
+        // Sends have four reasons to skip a row, reports five, batches and classes none.
+        ensures { result ≡ last_skip self }
+    {
+        match self {
+            ImportKind::Batch | ImportKind::Classes => 0,
+            ImportKind::Sent => 4,
+            ImportKind::Reported => 5,
         }
     }
 }

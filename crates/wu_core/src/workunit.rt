@@ -4,6 +4,7 @@ ghost use Rattle.std.specs.Prelude.{◌≡◌, ◌↔◌, ◌+◌, ◌≤◌, []
 ghost use Rattle.std.specs.Iterator.Adapters.{IterYieldsInOrder};
 ghost use Rattle.std.specs.Slice.Iter.{iter_rest};
 ghost use Rattle.wu_core.specs.Limits.{most_instances};
+ghost use Rattle.wu_core.specs.Storable.{HasItsInstances};
 ghost use Rattle.wu_core.specs.Workunit.{fresh};
 
 use crate::bytes::Bytes;
@@ -218,6 +219,20 @@ pub struct Workunit {
     /// is in progress or a viable success.
     pub class: u32,
     pub instances: Instances,
+}
+
+impl Workunit {
+    /// Returns whether there are no more instances than the workunit may have, and a canonical one is among them.
+    pub fn has_its_instances(&self) -> bool
+        // The answer is true exactly where the workunit has its instances.
+        ensures { IsTrue result ↔ HasItsInstances self.now }
+    {
+        let is_canonical_there = match self.canonical {
+            Some(n) => (n as usize) < self.instances.len(),
+            None => true,
+        };
+        self.instances.len() <= self.params.max_total_results() as usize && is_canonical_there
+    }
 }
 
 /// A host and its class. The results of hosts of one class can be compared.

@@ -18,14 +18,15 @@ mod waking;
 
 pub use assimilator::assimilate;
 pub use canceller::cancel;
-pub use count::wants_validation;
+pub use count::{is_clear, is_undecided, wants_validation};
 pub use deleter::{delete_files, wants_deletion};
 pub use due::{Pass, changes};
+pub use instance::is_success;
 pub use marks::marks_of;
 pub use purge::purgeable;
 pub use scheduler::{report, send};
 pub use transitioner::transition;
 pub use validator::validate;
 pub use verdicts::{ReportVerdict, SendVerdict};
-pub use waking::wake_of;
+pub use waking::{has_unsent, wake_of};
 pub use wu_core::Marks;

@@ -11,7 +11,8 @@ use crate::transitioner::{is_all_finished, is_all_over, may_output_go, plan_at_o
 use wu_core::{Assimilate, FileDelete, Instance, Instances, Workunit};
 
 /// Returns whether an instance is unsent.
-fn has_unsent(instances: &Instances) -> bool
+pub fn has_unsent(instances: &Instances) -> bool
+    // It is true exactly where an instance is `UNSENT`.
     ensures { result ≡ list_any is_unsent instances.now }
 {
     instances.iter().any(is_unsent)

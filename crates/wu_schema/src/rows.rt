@@ -435,23 +435,12 @@ pub fn bytes_at(row: &Row, at: usize) -> Result<Bytes, Fault>
     Ok(Bytes::from_vec(bytes))
 }
 
-/// Returns the greatest number of a skip in an import of this kind.
-fn last_skip(kind: ImportKind) -> u8
-    ensures { result ≡ last_skip kind }
-{
-    match kind {
-        ImportKind::Batch | ImportKind::Classes => 0,
-        ImportKind::Sent => 4,
-        ImportKind::Reported => 5,
-    }
-}
-
 /// Returns the verdict of a digit, or `None` if an import of this kind may not have it.
 fn verdict_of(kind: ImportKind, digit: u8) -> Option<u8>
     ensures { SomeIff result ((48 ≤ digit) × (digit - 48 ≤ last_skip kind)) (digit - 48) }
 {
     match digit.checked_sub(b'0') {
-        Some(verdict) if verdict <= last_skip(kind) => Some(verdict),
+        Some(verdict) if verdict <= kind.last_skip() => Some(verdict),
         _ => None,
     }
 }

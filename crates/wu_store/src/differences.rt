@@ -4,7 +4,7 @@ ghost use Rattle.std.specs.Prelude.{◌≡◌, ◌↔◌, IsTrue};
 ghost use Rattle.wu_core.specs.Storable.{bare};
 ghost use Rattle.wu_store.specs.Differences.{HasSameDecision, HasSameJob, HasSameProgress, HasSameReport, HasSameStates};
 
-use wu_core::{Bytes, ErrorMask, Instance, Marks, Name, Params, Workunit};
+use wu_core::{Bytes, Instance, Marks, Name, Params, Workunit};
 
 /// Returns whether two workunits have the same parameters.
 fn is_same_params(a: &Params, b: &Params) -> bool
@@ -54,18 +54,6 @@ fn is_same_job(a: &Workunit, b: &Workunit) -> bool
         && is_same_bytes(&a.input, &b.input)
 }
 
-/// Returns whether both are the same mask.
-fn is_same_mask(a: ErrorMask, b: ErrorMask) -> bool
-    ensures { IsTrue result ↔ (a ≡ b) }
-{
-    a.couldnt_send_result == b.couldnt_send_result
-        && a.too_many_error_results == b.too_many_error_results
-        && a.too_many_success_results == b.too_many_success_results
-        && a.too_many_total_results == b.too_many_total_results
-        && a.cancelled == b.cancelled
-        && a.no_canonical_result == b.no_canonical_result
-}
-
 /// Returns whether both are the same number of a canonical result, or both are none.
 fn is_same_canonical(a: Option<u32>, b: Option<u32>) -> bool
     ensures { IsTrue result ↔ (a ≡ b) }
@@ -77,7 +65,7 @@ fn is_same_canonical(a: Option<u32>, b: Option<u32>) -> bool
 fn is_same_decision(a: &Workunit, b: &Workunit) -> bool
     ensures { IsTrue result ↔ HasSameDecision a.now b.now }
 {
-    is_same_mask(a.error_mask, b.error_mask)
+    a.error_mask == b.error_mask
         && is_same_canonical(a.canonical, b.canonical)
         && a.assimilate == b.assimilate
 }

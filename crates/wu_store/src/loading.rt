@@ -7,7 +7,7 @@ ghost use Rattle.wu_schema.specs.Calls.{Answers};
 ghost use Rattle.wu_schema.specs.Restoring.{Restores};
 ghost use Rattle.wu_schema.specs.Stored.{instance_row};
 ghost use Rattle.wu_store.specs.Answers.{row_before, row_numbered};
-ghost use Rattle.wu_core.specs.Storable.{AreStoredInstances, HasItsInstances, IsNextNumber, LoadsNext};
+ghost use Rattle.wu_core.specs.Storable.{AreStoredInstances, IsNextNumber, LoadsNext};
 
 use crate::classes::class_of_workunit;
 use crate::statements::{ask_row, key_of};
@@ -61,17 +61,6 @@ fn instances_of<S: Alter>(
     instances_from(alloc, &rows)
 }
 
-/// Returns whether there are no more instances than the workunit may have, and a canonical one is among them.
-fn has_its_instances(workunit: &Workunit) -> bool
-    ensures { IsTrue result ↔ HasItsInstances workunit.now }
-{
-    let is_canonical_there = match workunit.canonical {
-        Some(n) => (n as usize) < workunit.instances.len(),
-        None => true,
-    };
-    workunit.instances.len() <= workunit.params.max_total_results() as usize && is_canonical_there
-}
-
 /// Returns the workunit of a row, with its instances and without its class, or `None` if there is no row. Returns
 /// `NotAProject` if it is not well formed.
 fn loaded<S: Alter>(
@@ -92,7 +81,7 @@ fn loaded<S: Alter>(
     };
     let mut workunit = workunit_from(alloc, &row)?;
     workunit.instances = instances_of(conn, alloc, workunit.number)?;
-    if has_its_instances(&workunit) {
+    if workunit.has_its_instances() {
         Ok(Some(workunit))
     } else {
         Err(Fault::NotAProject)
