@@ -16,6 +16,10 @@ pub enum Usage {
     Refused(Word),
     /// What is to be shown is no view.
     UnknownView,
+    /// What is to be explained is no topic.
+    UnknownTopic,
+    /// The words of the process are no UTF-8 text.
+    NotText,
     /// `clap` took the words, and found no subcommand, no value of an option that has to be given, or no number of 64
     /// bits where one has to be given. Only tests show that this never happens.
     Incomplete,

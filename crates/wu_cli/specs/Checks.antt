@@ -2,7 +2,7 @@
 use Rattle.std.specs.Prelude.{ℕ, List, ◌++◌, codes}
 use Rattle.std.specs.Fmt.{decimal}
 use Rattle.std.specs.declared.io.ErrorKind.{ErrorKind}
-use Rattle.std.specs.declared.io.ErrorKind.TheVariants.{NotFound, OutOfMemory, WouldBlock}
+use Rattle.std.specs.declared.io.ErrorKind.TheVariants.{NotFound, OutOfMemory, PermissionDenied, WouldBlock}
 use Rattle.sqlite.specs.declared.error.Error.{Error}
 use Rattle.sqlite.specs.declared.error.Error.TheVariants.{SqliteFailure}
 use Rattle.sqlite.specs.declared.error.ErrorCode.TheVariants as code
@@ -75,8 +75,10 @@ finding_line (finding.Marks place) = codes "queue row " ++ decimal place ++ code
 
 abbrev pub reason_line : Reason → List ℕ
 reason_line reason.NoFile = codes "cannot open the database: there is no such file" ++ line_end
+reason_line reason.LogAlone = codes "cannot open the database: its log is there, and its file is gone" ++ line_end
 reason_line reason.InUse = codes "cannot open the database: it is in use" ++ line_end
 reason_line reason.NoDatabase = codes "cannot open the database: it is no database that this program reads" ++ line_end
+reason_line reason.OtherKind = codes "cannot open the database: it has auto-vacuum or texts in UTF-16" ++ line_end
 reason_line reason.Damaged = codes "cannot open the database: it is damaged" ++ line_end
 reason_line reason.FailingDisk = codes "cannot open the database: the disk failed" ++ line_end
 reason_line reason.FullDisk = codes "cannot open the database: the disk is full" ++ line_end
@@ -108,4 +110,5 @@ reason_of_file _ = reason.Refused
 -- and on reading one
 abbrev pub reason_of_reading : ErrorKind → Reason
 reason_of_reading OutOfMemory = reason.Memory
+reason_of_reading PermissionDenied = reason.Refused
 reason_of_reading _ = reason.FailingDisk

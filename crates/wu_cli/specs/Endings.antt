@@ -21,12 +21,6 @@ use Rattle.wu_arguments.specs.declared.usage.Usage.TheVariants as usage
 abbrev pub fault_line : Fault → List ℕ
 fault_line fault = fault_text fault ++ line_end
 
-abbrev pub usage_text : Usage → List ℕ
-usage_text (usage.Refused text) = text
-usage_text usage.UnknownView = codes "unknown view" ++ line_end
-usage_text usage.Incomplete = codes "a value is missing" ++ line_end
-usage_text usage.Memory = fault_line fault.Memory
-
 abbrev pub unopened_line : List ℕ
 unopened_line = codes "cannot open the database" ++ line_end
 
@@ -45,6 +39,15 @@ abbrev pub cause_text : LineCause → List ℕ
 cause_text cause.OpenQuote = codes "a quote is not closed" ++ line_end
 cause_text cause.NotText = codes "the words are no UTF-8 text" ++ line_end
 cause_text cause.TooManyLines = codes "a script has at most 1000 lines" ++ line_end
+
+-- why words are no line
+abbrev pub usage_text : Usage → List ℕ
+usage_text (usage.Refused text) = text
+usage_text usage.UnknownView = codes "unknown view" ++ line_end
+usage_text usage.UnknownTopic = codes "unknown topic: lintelthyme explain lists them" ++ line_end
+usage_text usage.NotText = cause_text cause.NotText
+usage_text usage.Incomplete = codes "a value is missing" ++ line_end
+usage_text usage.Memory = fault_line fault.Memory
 
 -- what stands in no script
 abbrev pub outsider_line : Outsider → List ℕ

@@ -1,14 +1,13 @@
 -- What ends a run of the program before all of it is done: its text on standard error, and its status.
-use Rattle.std.specs.Prelude.{◌≡◌, ◌⊎◌, ℕ, List}
+use Rattle.std.specs.Prelude.{ℕ, List}
 use Rattle.std.specs.declared.io.ErrorKind.{ErrorKind}
 use Rattle.std.specs.declared.io.ErrorKind.TheVariants.{OutOfMemory}
 use Rattle.wu_core.specs.declared.fault.Fault.{Fault}
 use Rattle.wu_core.specs.declared.fault.Fault.TheVariants as fault
-use Rattle.wu_feed.specs.declared.script.LineCause.TheVariants.{NotText}
-use Rattle.wu_arguments.specs.declared.usage.Usage.TheVariants.{Refused}
+use Rattle.wu_arguments.specs.declared.usage.Usage.TheVariants.{NotText}
 use Rattle.wu_arguments.specs.Statuses.{fault_status, refusal_status, usage_status}
 use Rattle.wu_cli.specs.Checks.{finding_line, reason_line, reason_status}
-use Rattle.wu_cli.specs.Endings.{bad_line_text, cause_text, fault_line, line_fault_text, unopened_line, usage_text}
+use Rattle.wu_cli.specs.Endings.{bad_line_text, fault_line, line_fault_text, unopened_line, usage_text}
 use Rattle.wu_cli.specs.declared.trouble.Trouble.{Trouble}
 use Rattle.wu_cli.specs.declared.trouble.Trouble.TheVariants as trouble
 
@@ -38,7 +37,7 @@ trouble_of_opening _ = trouble.Unopened
 
 -- ---- the words of a process
 
--- want of memory; or else the words are no text, as it is told of a script's line, unless memory is wanted for that
-abbrev pub IsUnheard : ErrorKind → Trouble → Type 0
-IsUnheard OutOfMemory told = told ≡ trouble.Fault fault.Memory
-IsUnheard _ told = (told ≡ trouble.Usage (Refused (cause_text NotText))) ⊎ (told ≡ trouble.Fault fault.Memory)
+-- want of memory; or else the words are no text
+abbrev pub unheard : ErrorKind → Trouble
+unheard OutOfMemory = trouble.Fault fault.Memory
+unheard _ = trouble.Usage NotText

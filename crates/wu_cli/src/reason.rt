@@ -12,10 +12,14 @@ use std::io::{self, ErrorKind};
 pub enum Reason {
     /// No file lies at the path.
     NoFile,
+    /// No file lies at the path, but a log lies beside it.
+    LogAlone,
     /// Another program has it open.
     InUse,
     /// It is no database, or one that the store does not read.
     NoDatabase,
+    /// It is a database of SQLite with auto-vacuum, or with texts in UTF-16.
+    OtherKind,
     Damaged,
     FailingDisk,
     FullDisk,
@@ -55,13 +59,14 @@ impl Reason {
         }
     }
 
-    /// Returns the reason why the system does not read a file that is open.
+    /// Returns the reason why the system does not read a file.
     pub fn of_reading(error: &io::Error) -> Reason
-        // An error on reading a file is `Memory`, or else `FailingDisk`.
+        // An error on reading a file is `Memory`, `Refused` without permission, or else `FailingDisk`.
         ensures { result ≡ reason_of_reading (error_kind error.now) }
     {
         match error.kind() {
             ErrorKind::OutOfMemory => Reason::Memory,
+            ErrorKind::PermissionDenied => Reason::Refused,
             _ => Reason::FailingDisk,
         }
     }
@@ -84,9 +89,14 @@ impl Reason {
     {
         match self {
             Reason::NoFile => "cannot open the database: there is no such file\n",
+            Reason::LogAlone =>
+                "cannot open the database: its log is there, and its file is gone\n",
             Reason::InUse => "cannot open the database: it is in use\n",
             Reason::NoDatabase => {
                 "cannot open the database: it is no database that this program reads\n"
+            }
+            Reason::OtherKind => {
+                "cannot open the database: it has auto-vacuum or texts in UTF-16\n"
             }
             Reason::Damaged => "cannot open the database: it is damaged\n",
             Reason::FailingDisk => "cannot open the database: the disk failed\n",

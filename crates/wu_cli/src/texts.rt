@@ -123,6 +123,8 @@ pub(crate) fn text_of_usage<W: Write>(out: &mut W, usage: &Usage) -> Result<(), 
     match usage {
         Usage::Refused(text) => write_flushed(out, &[Piece::Text(text.as_str())]),
         Usage::UnknownView => plain(out, "unknown view"),
+        Usage::UnknownTopic => plain(out, "unknown topic: lintelthyme explain lists them"),
+        Usage::NotText => text_of_cause(out, LineCause::NotText),
         Usage::Incomplete => plain(out, "a value is missing"),
         Usage::Memory => line_of_fault(out, Fault::Memory),
     }

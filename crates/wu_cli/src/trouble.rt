@@ -4,7 +4,7 @@ ghost use Rattle.std.specs.Prelude.{◌≡◌};
 ghost use Rattle.wu_core.specs.declared.fault.Fault.TheVariants as fault;
 ghost use Rattle.wu_cli.specs.declared.trouble.Trouble.TheVariants as trouble;
 ghost use Rattle.wu_cli.specs.Endings.{WritesAll};
-ghost use Rattle.wu_cli.specs.Troubles.{IsUnheard, trouble_of_opening, trouble_status, trouble_text};
+ghost use Rattle.wu_cli.specs.Troubles.{trouble_of_opening, trouble_status, trouble_text, unheard};
 ghost use Rattle.wu_report.specs.Writing.{WritesTo};
 ghost use Rattle.std.specs.IoError.{error_kind};
 ghost use Rattle.wu_schema.specs.Faults.{fault_of};
@@ -15,9 +15,9 @@ use crate::texts::{
     line_of_bad_line, line_of_fault, line_of_line_fault, plain, text_of_usage, write_text,
 };
 use sqlite::Error;
-use std::alloc::{AllocError, AllocFailed, Global};
+use std::alloc::{AllocError, AllocFailed};
 use std::io::{self, ErrorKind, Write};
-use wu_arguments::{BadLine, LineFault, UNOPENED, Usage, Word, fault_status};
+use wu_arguments::{BadLine, LineFault, UNOPENED, Usage, fault_status};
 use wu_check::Finding;
 use wu_core::Fault;
 use wu_schema::fault_of;
@@ -138,18 +138,15 @@ fn write_trouble<E: Write>(trouble: &Trouble, err: &mut E) -> Result<(), Fault>
     }
 }
 
-/// Returns why the words of a process could not be read: out of memory, or they are no UTF-8 text, which is refused
-/// with status 2.
-pub fn unheard(alloc: Global, error: &io::Error) -> Trouble
-    // The trouble is out of memory or, for any other error, that the words are no UTF-8 text.
-    ensures { IsUnheard (error_kind error.now) result }
+/// Returns why the words of a process could not be had: out of memory, or they are no UTF-8 text, which ends with status
+/// 2. It takes no memory.
+pub fn unheard(error: &io::Error) -> Trouble
+    // Out of memory is reported as that, and any other error as words that are no text.
+    ensures { result ≡ unheard (error_kind error.now) }
 {
-    if error.kind() == ErrorKind::OutOfMemory {
-        return Trouble::Fault(Fault::Memory);
-    }
-    match Word::from_text(alloc, "the words are no UTF-8 text\n") {
-        Ok(text) => Trouble::Usage(Usage::Refused(text)),
-        Err(_) => Trouble::Fault(Fault::Memory),
+    match error.kind() {
+        ErrorKind::OutOfMemory => Trouble::Fault(Fault::Memory),
+        _ => Trouble::Usage(Usage::NotText),
     }
 }
 

@@ -32,11 +32,16 @@ runs_order contents words order (Ok work) old new done (Some left) ordered asks 
   asked = record { ordered = ordered; asks = asks };
   runs = runs;
 }
-runs_order contents words order (Ok work) old new done None ordered asks runs = absurd runs
+runs_order contents words order (Ok work) old new done None ordered asks (trouble, barred, told, unwritten) = inl (record {
+  trouble = trouble;
+  refused = inr (record { order = order; work = work; asked = record { ordered = ordered; asks = asks }; barred = barred });
+  told = told;
+  unwritten = unwritten;
+})
 runs_order contents words order (Err trouble) old new done (Some left) ordered asks runs = absurd runs
 runs_order contents words order (Err trouble) old new done None ordered asks (told, unwritten) = inl (record {
   trouble = trouble;
-  refused = inr (order, ordered, asks);
+  refused = inl (inr (order, ordered, asks));
   told = told;
   unwritten = unwritten;
 })

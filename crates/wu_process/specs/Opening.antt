@@ -19,10 +19,17 @@ use Rattle.sqlite.specs.declared.file.Leftover.{Leftover}
 use Rattle.sqlite.specs.declared.error.Error.{Error}
 use Rattle.sqlite.specs.declared.error.Error.TheVariants.{SqliteFailure}
 use Rattle.sqlite.specs.declared.error.ErrorCode.TheVariants.{CannotOpen, DatabaseBusy, OutOfMemory}
+use Rattle.wu_cli.specs.declared.trouble.Trouble.{Trouble}
+use Rattle.wu_cli.specs.declared.trouble.Trouble.TheVariants as trouble
+use Rattle.wu_core.specs.declared.fault.Fault.TheVariants.{Memory}
 
 -- a path that names a database in memory, which no opening of files takes
 abbrev pub in_memory : List ℕ
 in_memory = codes ":memory:"
+
+-- what is told where nothing is opened, for what lies at the path or beside it, or as there was no memory to see that
+abbrev pub IsBar : Trouble → Type 0
+IsBar told = (told ≡ trouble.Unopened) ⊎ (told ≡ trouble.Fault Memory)
 
 -- what an opening may tell before it has opened the two files
 abbrev pub IsEarly : Error → Type 0

@@ -10,8 +10,7 @@ use Rattle.sqlite_disk.specs.declared.modelled.Modelled.{Modelled}
 use Rattle.sqlite_disk.specs.declared.start.Start as start
 use Rattle.sqlite_std_file.specs.declared.host.Host.{Host}
 use Rattle.wu_drive.specs.Demonstration.{IsDemonstrated}
-use Rattle.wu_cli.specs.Troubles.{IsUnheard}
-use Rattle.wu_cli.specs.declared.trouble.Trouble.{Trouble}
+use Rattle.wu_cli.specs.Troubles.{unheard}
 use Rattle.wu_process.specs.Running.{Obeys, TellsTrouble}
 use Rattle.wu_process.specs.declared.End.{End}
 
@@ -30,7 +29,7 @@ module _ {S W E : Type 0} {c : calls.Ghosts Host} {s : start.Ghosts S} {g : Ghos
   abbrev pub RunsProcess : Result (Vec (String Global) Global) Error → Type 0
   RunsProcess (Ok words) = RunsGiven words
   RunsProcess (Err error) =
-      (told : Trouble) × IsUnheard (error_kind error) told × TellsTrouble {T = Unit {0}} told_of err_old err_new (Err told) end.status end.is_told × (new ≡ old)
+      TellsTrouble {T = Unit {0}} told_of err_old err_new (Err (unheard (error_kind error))) end.status end.is_told × (new ≡ old)
 
 -- the process ends with the status of such a run, over some words, outputs of these types and a database file of which
 -- nothing is supposed

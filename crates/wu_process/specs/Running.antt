@@ -26,7 +26,7 @@ use Rattle.wu_cli.specs.declared.work.Work.{Work}
 use Rattle.wu_process.specs.Asking.{AsksFor, database_in, RefusesWords}
 use Rattle.wu_process.specs.Checks.{ChecksPath}
 use Rattle.wu_process.specs.Closing.{IsLeftByClose}
-use Rattle.wu_process.specs.Opening.{IsOpenedAt, IsUnopened}
+use Rattle.wu_process.specs.Opening.{IsBar, IsOpenedAt, IsUnopened}
 use Rattle.wu_process.specs.declared.database.Left.{Left}
 use Rattle.wu_process.specs.declared.database.Left.TheVariants as left
 use Rattle.wu_process.specs.declared.End.{End}
@@ -52,10 +52,21 @@ module _ {D W : Type 0} {g : Ghosts D} (contents : W → Option (List ℕ)) wher
     pub prints : PrintsOver over_files contents conn again old new work done
     pub closed : IsLeftByClose again left
 
--- the words ask for no work: the trouble of that is told, and nothing goes out
+-- nothing is opened: this is told, and nothing goes out
+abbrev pub Bars : {W : Type 0} → W → W → Result (Unit {0}) Trouble → Type 0
+Bars old new done = (told : Trouble) × IsBar told × (done ≡ Err told) × (new ≡ old)
+
+-- the words ask for work, and its database is not opened, for what lies at its path or beside it
+pub record BarsWords (words : List (List ℕ)) (told : Trouble) : Type 0 where
+  pub order : Order
+  pub work : Work
+  pub asked : AsksFor words order work
+  pub barred : IsBar told
+
+-- the words ask for no work, or for none that can be begun: the trouble of that is told, and nothing goes out
 pub record RunsNothing {W : Type 0} (words : List (List ℕ)) (old new : W) (done : Result (Unit {0}) Trouble) : Type 0 where
   pub trouble : Trouble
-  pub refused : RefusesWords words trouble
+  pub refused : RefusesWords words trouble ⊎ BarsWords words trouble
   pub told : done ≡ Err trouble
   pub unwritten : new ≡ old
 
@@ -83,10 +94,11 @@ module _ {S W : Type 0} {c : calls.Ghosts Host} {s : start.Ghosts S} {g : Ghosts
   OpensAndDoes path work old new done (left.Unopened error rest) = DoesUnopened path old new done error rest
   OpensAndDoes path work old new done other = DoesOpened path work old new done other
 
-  -- what is asked is done over the database of this path, or it can't be asked, and nothing is done or goes out
+  -- what is asked is done over the database of this path; or it can't be asked, or the database is not opened, for what
+  -- lies there, and nothing is done or goes out
   abbrev pub RunsWork : List ℕ → Result Work Trouble → W → W → Result (Unit {0}) Trouble → Option (Left (Modelled Host S c s) g) → Type 0
   RunsWork path (Ok work) old new done (Some left) = OpensAndDoes path work old new done left
-  RunsWork path (Ok work) old new done None = ⊥
+  RunsWork path (Ok work) old new done None = Bars old new done
   RunsWork path (Err trouble) old new done (Some left) = ⊥
   RunsWork path (Err trouble) old new done None = (done ≡ Err trouble) × (new ≡ old)
 

@@ -4,6 +4,7 @@ ghost use Rattle.std.specs.Prelude.{◌≡◌, IfErr, IfOk};
 ghost use Rattle.wu_cli.specs.declared.reason.Reason.TheVariants.{Memory as WantsMemory};
 ghost use Rattle.wu_process.specs.Copies.{AreCopiesOf, IsCopyOf};
 
+use crate::beside::{has_log, is_foreign};
 use sqlite::{FileFrom, Files};
 use sqlite_disk::{Disk, Memory, Wary};
 use sqlite_std_file::OpenError;
@@ -67,6 +68,25 @@ fn refuse_journal(rt: &HostRuntime, path: &str) -> Result<(), Reason> {
     }
 }
 
+/// Where the header of a database has the largest root page, which is 0 unless the file shrinks by itself, and the
+/// encoding of its texts, which is 1 for UTF-8.
+const LARGEST_ROOT: Range<usize> = 52..56;
+
+const ENCODING: Range<usize> = 56..60;
+
+/// Refuses a database of a kind that the store does not read: with auto-vacuum, or with texts in UTF-16. One that has no
+/// header yet is not refused.
+fn refuse_other_kind(db: &[u8]) -> Result<(), Reason> {
+    let has_vacuum = db.get(LARGEST_ROOT).is_some_and(|root| root != [0; 4]);
+    let has_utf16 = db
+        .get(ENCODING)
+        .is_some_and(|it| it != [0; 4] && it != [0, 0, 0, 1]);
+    if has_vacuum || has_utf16 {
+        return Err(Reason::OtherKind);
+    }
+    Ok(())
+}
+
 /// Returns the bytes of both files, if no journal lies beside them, before the reading and after it.
 fn read_both<'a>(
     rt: &HostRuntime,
@@ -117,15 +137,36 @@ fn read_at_once<'a>(
     }
 }
 
-/// Returns the bytes of the database at the path and of its log, as they are at one moment. A database that another
-/// program writes to meanwhile is in use. The log lies beside the file to which a link leads.
+/// Returns why a path leads to no file: where its log is there, the database has gone without it.
+fn lost(rt: &HostRuntime, path: &str, error: &io::Error) -> Reason {
+    match has_log(rt, path) {
+        Ok(true) if error.kind() == ErrorKind::NotFound => Reason::LogAlone,
+        Ok(_) => Reason::of_file(error),
+        Err(_) => Reason::Memory,
+    }
+}
+
+/// Refuses a file without a log that begins as no database does, before more of it is read.
+fn refuse_foreign(rt: &HostRuntime, path: &str) -> Result<(), Reason> {
+    let is_alone = !has_log(rt, path).map_err(|_| Reason::Memory)?;
+    if is_alone && is_foreign(rt, path).map_err(|_| Reason::Memory)? {
+        return Err(Reason::NoDatabase);
+    }
+    Ok(())
+}
+
+/// Reads the bytes of the database at the path and of its log, as they are at one moment. A file that another program
+/// writes to meanwhile is in use. The log lies beside the file to which a link leads.
 pub fn read_database<'a>(rt: &HostRuntime, path: &'a str) -> Result<FileBytes<'a>, Reason>
-    // The bytes are labelled with the path that was asked for.
+    // What is read is that of the path.
     ensures { IfOk result (λ bytes. bytes.path.now ≡ path.now) }
 {
-    let real = fs::canonicalize(rt, path).map_err(|error| Reason::of_file(&error))?;
+    let real = fs::canonicalize(rt, path).map_err(|error| lost(rt, path, &error))?;
     let log = format!(in rt.alloc(); "{}-wal", real.as_str()).map_err(|_| Reason::Memory)?;
-    read_at_once(rt, path, real.as_str(), log.as_str())
+    refuse_foreign(rt, real.as_str())?;
+    let bytes = read_at_once(rt, path, real.as_str(), log.as_str())?;
+    refuse_other_kind(&bytes.db)?;
+    Ok(bytes)
 }
 
 /// Makes a file in memory with these bytes.

@@ -1,8 +1,9 @@
 //! The database that words name: it is opened, the work done over it, and it is closed.
 
 ghost use Rattle.wu_process.specs.Closing.{IsLeftByClose};
-ghost use Rattle.wu_process.specs.Running.{RunsWork};
+ghost use Rattle.wu_process.specs.Running.{OpensAndDoes, RunsWork};
 
+use crate::beside::bar;
 use sqlite::{Connection, Error, FileFrom, FileStore, Files, Leftover, Start};
 use sqlite_disk::Disk;
 use std::io::Write;
@@ -41,9 +42,33 @@ fn close<D: Disk + Drop>(conn: Connection<FileStore<D>>) -> Left<D>
     }
 }
 
+/// Opens a database, does the work over it, and closes it. Where the database cannot be opened, that is returned, and
+/// nothing is written.
+fn open_and_do<S: Start, O: Write>(
+    rt: &HostRuntime,
+    database: &str,
+    work: Work,
+    start: S,
+    out: &mut O,
+) -> (Result<(), Trouble>, Left<FileFrom<S>>)
+    // The work is done over the opened database, which is then closed; or nothing is opened, and that is reported.
+    ensures { OpensAndDoes O.contents database.now work out.old out.new result.0 result.1 }
+{
+    match Connection::open_from(rt, database, false, start) {
+        Ok(conn) => {
+            let (conn, done) = work.perform_over(rt.alloc(), conn, out);
+            (done, close(conn))
+        }
+        Err((error, left)) => {
+            let trouble = unopened(&error);
+            (Err(trouble), Left::Unopened(error, left))
+        }
+    }
+}
+
 /// Opens the database, does the work that is asked over it, and closes it. The work holds what its files held, so these
-/// were read before. Where `asked` is a trouble, or the database cannot be opened, that is returned, and nothing is
-/// written.
+/// were read before. Where `asked` is a trouble, or the database must not or cannot be opened, that is returned, and
+/// nothing is written.
 pub fn open_and_perform<S: Start, O: Write>(
     rt: &HostRuntime,
     database: &str,
@@ -57,15 +82,12 @@ pub fn open_and_perform<S: Start, O: Write>(
     ensures { RunsWork O.contents database.now asked out.old out.new result.0 result.1 }
 {
     match asked {
-        Ok(work) => match Connection::open_from(rt, database, false, start) {
-            Ok(conn) => {
-                let (conn, done) = work.perform_over(rt.alloc(), conn, out);
-                (done, Some(close(conn)))
+        Ok(work) => match bar(rt, database) {
+            Ok(()) => {
+                let (done, left) = open_and_do(rt, database, work, start, out);
+                (done, Some(left))
             }
-            Err((error, left)) => {
-                let trouble = unopened(&error);
-                (Err(trouble), Some(Left::Unopened(error, left)))
-            }
+            Err(barred) => (Err(barred), None),
         },
         Err(trouble) => (Err(trouble), None),
     }

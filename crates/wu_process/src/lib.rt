@@ -10,6 +10,7 @@ ghost use Rattle.wu_arguments.specs.Statuses.{fault_status};
 ghost use Rattle.wu_process.specs.Running.{EndsSo, RunsWords, TellsTrouble};
 ghost use Rattle.wu_process.specs.Processes.{Demonstrates, EndsAsRun, RunsProcess};
 
+mod beside;
 mod check;
 mod copy;
 mod database;
@@ -67,7 +68,7 @@ fn run_words<S: sqlite::Start, O: Write>(
             open_and_perform(rt, script.db.as_str(), asked, start, out)
         }
         Ok(Order::Check(path)) => (check_path(rt, path.as_str(), out), None),
-        Ok(Order::Explain(topic)) => (explain(alloc, &topic, out), None),
+        Ok(Order::Explain(topic)) => (explain(&topic, out), None),
         Err(usage) => (Err(Trouble::Usage(usage)), None),
     }
 }
@@ -133,7 +134,7 @@ pub fn run_with<S: sqlite::Start, O: Write, E: Write>(
             left: None,
         },
         Ok(words) => ended(run_words(rt, words.as_slice(), start, out), err),
-        Err(error) => ended((Err(unheard(rt.alloc(), &error)), None), err),
+        Err(error) => ended((Err(unheard(&error)), None), err),
     }
 }
 

@@ -111,6 +111,8 @@ fault_told fault.Ended none = absurd (omega (arith, none))
 usage_told : (u : Usage) → usage_status u ≡ 0 → ⊥
 usage_told (usage.Refused word) none = absurd (omega (arith, none))
 usage_told usage.UnknownView none = absurd (omega (arith, none))
+usage_told usage.UnknownTopic none = absurd (omega (arith, none))
+usage_told usage.NotText none = absurd (omega (arith, none))
 usage_told usage.Incomplete none = absurd (omega (arith, none))
 usage_told usage.Memory none = absurd (omega (arith, none))
 
@@ -123,8 +125,10 @@ refusal_told (refusal.Fault f) none = fault_told f none
 
 reason_told : (r : Reason) → reason_status r ≡ 0 → ⊥
 reason_told reason.NoFile none = absurd (omega (arith, none))
+reason_told reason.LogAlone none = absurd (omega (arith, none))
 reason_told reason.InUse none = absurd (omega (arith, none))
 reason_told reason.NoDatabase none = absurd (omega (arith, none))
+reason_told reason.OtherKind none = absurd (omega (arith, none))
 reason_told reason.Damaged none = absurd (omega (arith, none))
 reason_told reason.FailingDisk none = absurd (omega (arith, none))
 reason_told reason.FullDisk none = absurd (omega (arith, none))

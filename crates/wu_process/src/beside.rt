@@ -1,0 +1,64 @@
+//! What lies at the path of a database and beside it, which may forbid its opening. No clause can say what files there are.
+
+ghost use Rattle.std.specs.Prelude.{IfErr};
+ghost use Rattle.wu_process.specs.Opening.{IsBar};
+
+use crate::files::HostFiles;
+use std::alloc::AllocError;
+use std::fs;
+use std::io::ErrorKind;
+use wu_arguments::ReadFile;
+use wu_cli::Trouble;
+use wu_core::Fault;
+
+/// The bytes with which each database begins.
+const HEADER: &[u8] = b"SQLite format 3\0";
+
+/// Returns whether the path names a log or a journal of a database, and no database.
+fn is_of_another(path: &str) -> bool {
+    path.ends_with("-wal") || path.ends_with("-journal")
+}
+
+/// Returns whether a file with content lies at the path.
+fn has_bytes(rt: &HostRuntime, path: &str) -> bool {
+    match fs::metadata(rt, path) {
+        Ok(found) => found.len() > 0,
+        Err(_) => false,
+    }
+}
+
+/// Returns whether a log or a journal with content lies beside the path.
+pub fn has_log(rt: &HostRuntime, path: &str) -> Result<bool, AllocError> {
+    let log = format!(in rt.alloc(); "{path}-wal")?;
+    let journal = format!(in rt.alloc(); "{path}-journal")?;
+    Ok(has_bytes(rt, log.as_str()) || has_bytes(rt, journal.as_str()))
+}
+
+/// Returns whether the file at the path begins as no database does. An empty file can become one, and of a file that
+/// cannot be read it is not known. The only fault is `Memory`.
+pub fn is_foreign(rt: &HostRuntime, path: &str) -> Result<bool, Fault> {
+    match HostFiles::new(rt).read(path, HEADER.len() - 1)? {
+        Some(bytes) => Ok(!bytes.is_empty() && bytes.as_slice() != HEADER),
+        None => Ok(false),
+    }
+}
+
+/// Refuses a database that must not be opened, because the opening would destroy or make files that are not its own:
+/// where the path names a log, where a log or a journal has lost its database, and where a file without a log is no
+/// database. Out of memory is reported as `Memory`.
+pub fn bar(rt: &HostRuntime, path: &str) -> Result<(), Trouble>
+    // A refusal is reported as a database that cannot be opened, or as out of memory.
+    ensures { IfErr result IsBar }
+{
+    let is_barred = match fs::canonicalize(rt, path) {
+        Ok(real) => !has_log(rt, real.as_str())? && is_foreign(rt, path)?,
+        Err(error) if error.kind() == ErrorKind::OutOfMemory => return Err(Trouble::Fault(
+            Fault::Memory,
+        )),
+        Err(_) => has_log(rt, path)?,
+    };
+    if is_barred || is_of_another(path) {
+        return Err(Trouble::Unopened);
+    }
+    Ok(())
+}
