@@ -107,7 +107,7 @@ fn is_row_of(workunit: &Workunit, row: &Archived) -> bool
     ensures { IsTrue result ↔ IsRowOf workunit.now row.now }
 {
     is_same_place(row.canonical, workunit.canonical)
-        && row.error_mask == workunit.error_mask
+        && row.error_mask.is_same(workunit.error_mask)
         && is_done_at(workunit.done_at, row.done_at)
 }
 

@@ -45,6 +45,14 @@ impl ErrorMask {
         self == ErrorMask::none()
     }
 
+    /// Returns whether the same bits are set in both masks.
+    pub fn is_same(self, other: ErrorMask) -> bool
+        // It is true exactly where the masks are the same.
+        ensures { IsTrue result ↔ (self ≡ other) }
+    {
+        self.code() == other.code()
+    }
+
     /// Returns BOINC's number: the sum of the bits that are set, 0 to 63.
     pub fn code(self) -> u32
         // The result is the sum of the bits that are set.

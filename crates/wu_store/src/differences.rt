@@ -65,7 +65,7 @@ fn is_same_canonical(a: Option<u32>, b: Option<u32>) -> bool
 fn is_same_decision(a: &Workunit, b: &Workunit) -> bool
     ensures { IsTrue result ↔ HasSameDecision a.now b.now }
 {
-    a.error_mask == b.error_mask
+    a.error_mask.is_same(b.error_mask)
         && is_same_canonical(a.canonical, b.canonical)
         && a.assimilate == b.assimilate
 }
