@@ -18,6 +18,7 @@ module _ (rows : List Row) (asked : Subcommand) where
   line_made : (asking : Asking) (result : Result Order Usage) → HasValues rows asked asking → IfOk result (IsLineIn rows asking) → IfOk result (IsOrder rows asked)
   line_made asking (Ok (order.Line line)) values (db, same) = (db, subst (HasValues rows asked) (sym same) values)
   line_made asking (Ok (order.Script script)) values is = absurd is
+  line_made asking (Ok (order.Session path)) values is = absurd is
   line_made asking (Ok (order.Check path)) values is = absurd is
   line_made asking (Ok (order.Explain topic)) values is = absurd is
   line_made asking (Err usage) values is = tt

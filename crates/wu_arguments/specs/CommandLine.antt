@@ -15,7 +15,7 @@ use Rattle.wu_arguments.specs.declared.option.LineOption.TheVariants.{Database, 
 use Rattle.wu_arguments.specs.declared.option.OptionValue.{OptionValue}
 use Rattle.wu_arguments.specs.declared.option.OptionValue.TheVariants.{Text, TextIfAny, Number, Word}
 use Rattle.wu_arguments.specs.declared.subcommand.Subcommand.{Subcommand}
-use Rattle.wu_arguments.specs.declared.subcommand.Subcommand.TheVariants.{Import, Pass, Cancel, Cycle, Show, Upgrade, Script, Check, Explain}
+use Rattle.wu_arguments.specs.declared.subcommand.Subcommand.TheVariants.{Import, Pass, Cancel, Cycle, Show, Upgrade, Script, Session, Check, Explain}
 
 -- an option's name, without its two hyphens
 abbrev pub option_name : LineOption → List ℕ
@@ -84,6 +84,7 @@ subcommand_name Cycle = codes "cycle"
 subcommand_name Show = codes "show"
 subcommand_name Upgrade = codes "upgrade"
 subcommand_name Script = codes "script"
+subcommand_name Session = codes "session"
 subcommand_name Check = codes "check"
 subcommand_name Explain = codes "explain"
 
@@ -105,6 +106,7 @@ options_of Cycle = Database ∷ Now ∷ Limit ∷ MinAge ∷ []
 options_of Show = Database ∷ View ∷ []
 options_of Upgrade = Database ∷ []
 options_of Script = Database ∷ File ∷ []
+options_of Session = Database ∷ []
 options_of Check = Checked ∷ []
 options_of Explain = Topic ∷ Detail ∷ []
 
@@ -112,7 +114,7 @@ abbrev pub all_subcommands : List Subcommand
 all_subcommands =
     Import kind.Batch ∷ Import kind.Sent ∷ Import kind.Reported ∷ Import kind.Classes
     ∷ Pass pass.Transition ∷ Pass pass.Validate ∷ Pass pass.Assimilate ∷ Pass pass.Delete ∷ Pass pass.Purge
-    ∷ Cancel ∷ Cycle ∷ Show ∷ Upgrade ∷ Script ∷ Check ∷ Explain ∷ []
+    ∷ Cancel ∷ Cycle ∷ Show ∷ Upgrade ∷ Script ∷ Session ∷ Check ∷ Explain ∷ []
 
 -- the subcommand of this name
 abbrev pub subcommand_named : List ℕ → Option Subcommand

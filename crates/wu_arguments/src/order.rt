@@ -26,6 +26,8 @@ pub enum Order {
     Line(Line),
     /// The lines of a script.
     Script(ScriptFile),
+    /// The lines of standard input, over the project in the database at this path.
+    Session(Word),
     /// A check of the database at this path.
     Check(Word),
     /// An explanation.

@@ -15,6 +15,7 @@ use wu_feed::LineCause;
 #[derive(Clone, Copy, PartialEq, Eq)]
 pub enum Outsider {
     Script,
+    Session,
     Check,
     Explanation,
 }

@@ -47,6 +47,7 @@ fn line_of_words(alloc: Global, db: &str, words: Words) -> Result<Line, Refusal>
     match read_words(alloc, words.as_slice())? {
         Order::Line(line) => Ok(line),
         Order::Script(_) => Err(Refusal::Outsider(Outsider::Script)),
+        Order::Session(_) => Err(Refusal::Outsider(Outsider::Session)),
         Order::Check(_) => Err(Refusal::Outsider(Outsider::Check)),
         Order::Explain(_) => Err(Refusal::Outsider(Outsider::Explanation)),
     }

@@ -30,12 +30,13 @@ pub enum Subcommand {
     Show,
     Upgrade,
     Script,
+    Session,
     Check,
     Explain,
 }
 
 /// All subcommands, in the order of help.
-pub const SUBCOMMANDS: [Subcommand; 16] = [
+pub const SUBCOMMANDS: [Subcommand; 17] = [
     Subcommand::Import(ImportKind::Batch),
     Subcommand::Import(ImportKind::Sent),
     Subcommand::Import(ImportKind::Reported),
@@ -50,6 +51,7 @@ pub const SUBCOMMANDS: [Subcommand; 16] = [
     Subcommand::Show,
     Subcommand::Upgrade,
     Subcommand::Script,
+    Subcommand::Session,
     Subcommand::Check,
     Subcommand::Explain,
 ];
@@ -162,6 +164,12 @@ impl Subcommand {
                 about: "Run the commands of a file in one opening, up to the first fault",
                 example: "Example: lintelthyme script --db project.db --file day.txt",
             },
+            Subcommand::Session => SubcommandForm {
+                name: "session",
+                options: &[LineOption::Database],
+                about: "Run each line of standard input as it comes, in one opening, up to the end of input",
+                example: "Example: lintelthyme session --db project.db",
+            },
             Subcommand::Check => SubcommandForm {
                 name: "check",
                 options: &[LineOption::Checked],
@@ -179,7 +187,7 @@ impl Subcommand {
 
     /// Returns the subcommand of this name.
     pub fn named(name: &str) -> Option<Subcommand>
-        // Each of the sixteen names gives its subcommand, and any other text `None`.
+        // Each of the seventeen names gives its subcommand, and any other text `None`.
         ensures { result ≡ subcommand_named name.now }
     {
         for one in SUBCOMMANDS {

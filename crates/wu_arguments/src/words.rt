@@ -180,6 +180,7 @@ fn order_of(alloc: Global, subcommand: Subcommand, found: &ArgMatches<'_>) -> Re
         Subcommand::Show => line(alloc, Asking::Show(view(found)?), found),
         Subcommand::Upgrade => line(alloc, Asking::Upgrade, found),
         Subcommand::Script => script(alloc, found),
+        Subcommand::Session => Ok(Order::Session(text(alloc, found, LineOption::Database)?)),
         Subcommand::Check => Ok(Order::Check(text(alloc, found, LineOption::Checked)?)),
         Subcommand::Explain => explain(alloc, found),
     }
