@@ -17,12 +17,14 @@ use Rattle.wu_arguments.specs.declared.option.OptionValue.TheVariants.{Number}
 use Rattle.wu_arguments.specs.declared.subcommand.Subcommand.{Subcommand}
 use Rattle.wu_arguments.specs.declared.subcommand.Subcommand.TheVariants.{Show}
 use Rattle.wu_arguments.specs.declared.usage.Usage.{Usage}
-use Rattle.wu_arguments.specs.declared.usage.Usage.TheVariants.{Refused, UnknownView, Incomplete, Memory}
+use Rattle.wu_arguments.specs.declared.usage.Usage.TheVariants.{Refused, UnknownView, UnknownTopic, NotText, Incomplete, Memory}
 
 -- an error of clap is told as a refusal, unless it is want of memory
 abbrev pub IsTold : Error → Usage → Type 0
 IsTold error (Refused text) = kind_of error ≢ OutOfMemory
 IsTold error UnknownView = ⊥
+IsTold error UnknownTopic = ⊥
+IsTold error NotText = ⊥
 IsTold error Incomplete = ⊥
 IsTold error Memory = ⊤
 
@@ -30,6 +32,8 @@ IsTold error Memory = ⊤
 abbrev pub IsRefusalBy : App → List (List ℕ) → Usage → Type 0
 IsRefusalBy app words (Refused text) = fault_of app words ≢ []
 IsRefusalBy app words UnknownView = ⊥
+IsRefusalBy app words UnknownTopic = ⊥
+IsRefusalBy app words NotText = ⊥
 IsRefusalBy app words Incomplete = ⊥
 IsRefusalBy app words Memory = ⊤
 
@@ -105,6 +109,8 @@ IsIncomplete (Some found) = LacksOfNamed found.1 (subcommand_named found.0)
 abbrev pub Explains : List (List ℕ) → Usage → Type 0
 Explains words (Refused text) = fault_of program words ≢ []
 Explains words UnknownView = (found : List Row) × (subcommand_of program words ≡ Some (subcommand_name Show, found)) × IsViewIn found None
+Explains words UnknownTopic = ⊥
+Explains words NotText = ⊥
 Explains words Incomplete = (fault_of program words ≡ []) × IsIncomplete (subcommand_of program words)
 Explains words Memory = ⊤
 
