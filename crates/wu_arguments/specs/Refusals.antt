@@ -17,7 +17,7 @@ use Rattle.wu_arguments.specs.declared.option.OptionValue.TheVariants.{Number}
 use Rattle.wu_arguments.specs.declared.subcommand.Subcommand.{Subcommand}
 use Rattle.wu_arguments.specs.declared.subcommand.Subcommand.TheVariants.{Show}
 use Rattle.wu_arguments.specs.declared.usage.Usage.{Usage}
-use Rattle.wu_arguments.specs.declared.usage.Usage.TheVariants.{Refused, UnknownView, UnknownTopic, NotText, Incomplete, Memory}
+use Rattle.wu_arguments.specs.declared.usage.Usage.TheVariants.{Refused, UnknownView, UnknownTopic, NotText, LongLine, Incomplete, Memory}
 
 -- an error of clap is told as a refusal, unless it is want of memory
 abbrev pub IsTold : Error → Usage → Type 0
@@ -25,6 +25,7 @@ IsTold error (Refused text) = kind_of error ≢ OutOfMemory
 IsTold error UnknownView = ⊥
 IsTold error UnknownTopic = ⊥
 IsTold error NotText = ⊥
+IsTold error LongLine = ⊥
 IsTold error Incomplete = ⊥
 IsTold error Memory = ⊤
 
@@ -34,6 +35,7 @@ IsRefusalBy app words (Refused text) = fault_of app words ≢ []
 IsRefusalBy app words UnknownView = ⊥
 IsRefusalBy app words UnknownTopic = ⊥
 IsRefusalBy app words NotText = ⊥
+IsRefusalBy app words LongLine = ⊥
 IsRefusalBy app words Incomplete = ⊥
 IsRefusalBy app words Memory = ⊤
 
@@ -111,6 +113,7 @@ Explains words (Refused text) = fault_of program words ≢ []
 Explains words UnknownView = (found : List Row) × (subcommand_of program words ≡ Some (subcommand_name Show, found)) × IsViewIn found None
 Explains words UnknownTopic = ⊥
 Explains words NotText = ⊥
+Explains words LongLine = ⊥
 Explains words Incomplete = (fault_of program words ≡ []) × IsIncomplete (subcommand_of program words)
 Explains words Memory = ⊤
 

@@ -65,6 +65,18 @@ impl Drop for BadLine {
 }
 
 impl BadLine {
+    /// Returns why it can't be run.
+    pub fn into_why(self) -> Refusal
+        // The result is the cause of the bad line.
+        ensures { result ≡ self.why }
+    {
+        let BadLine {
+            number: _number,
+            why,
+        } = self;
+        why
+    }
+
     /// Returns the status that the program ends with for this line.
     pub fn status(&self) -> u8
         // The status is that of why the line cannot be run.

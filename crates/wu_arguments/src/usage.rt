@@ -20,6 +20,8 @@ pub enum Usage {
     UnknownTopic,
     /// The words of the process are no UTF-8 text.
     NotText,
+    /// A line of a session is too long.
+    LongLine,
     /// `clap` took the words, and found no subcommand, no value of an option that has to be given, or no number of 64
     /// bits where one has to be given. Only tests show that this never happens.
     Incomplete,

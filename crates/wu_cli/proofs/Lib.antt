@@ -4,3 +4,4 @@ mod RepeatLemmas
 pub mod PrintLemmas
 pub mod TellingLemmas
 pub mod WorkLemmas
+pub mod SessionLemmas

@@ -45,6 +45,7 @@ abbrev pub usage_text : Usage → List ℕ
 usage_text (usage.Refused text) = text
 usage_text usage.UnknownView = codes "unknown view" ++ line_end
 usage_text usage.UnknownTopic = codes "unknown topic: lintelthyme explain lists them" ++ line_end
+usage_text usage.LongLine = codes "line too long" ++ line_end
 usage_text usage.NotText = cause_text cause.NotText
 usage_text usage.Incomplete = codes "a value is missing" ++ line_end
 usage_text usage.Memory = fault_line fault.Memory

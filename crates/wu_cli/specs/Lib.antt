@@ -9,3 +9,4 @@ pub mod Troubles
 pub mod Working
 pub mod Printing
 pub mod Telling
+pub mod Sessions

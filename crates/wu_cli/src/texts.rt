@@ -124,6 +124,7 @@ pub(crate) fn text_of_usage<W: Write>(out: &mut W, usage: &Usage) -> Result<(), 
         Usage::Refused(text) => write_flushed(out, &[Piece::Text(text.as_str())]),
         Usage::UnknownView => plain(out, "unknown view"),
         Usage::UnknownTopic => plain(out, "unknown topic: lintelthyme explain lists them"),
+        Usage::LongLine => plain(out, "line too long"),
         Usage::NotText => text_of_cause(out, LineCause::NotText),
         Usage::Incomplete => plain(out, "a value is missing"),
         Usage::Memory => line_of_fault(out, Fault::Memory),
@@ -179,7 +180,7 @@ fn outsider_line(outsider: Outsider) -> &'static str
 }
 
 /// Writes why a line of a script cannot be run.
-fn text_of_refusal<W: Write>(out: &mut W, why: &Refusal) -> Result<(), Fault>
+pub(crate) fn text_of_refusal<W: Write>(out: &mut W, why: &Refusal) -> Result<(), Fault>
     ensures { WritesTo W.contents out.old out.new (refusal_text why.now) result }
 {
     match why {

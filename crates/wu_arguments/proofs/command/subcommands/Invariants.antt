@@ -1,4 +1,4 @@
-use Rattle.std.proofs.Common.{◌≡◌, map, take}
+use Rattle.std.proofs.Common.{◌≡◌, length, map, take}
 use Rattle.std.specs.Prelude.{vec_capacity, vec_len}
 use Rattle.wu_arguments.specs.CommandLine.{all_subcommands, local_shape, shape_and_globals}
 use Rattle.wu_arguments.proofs.command.subcommands.Given as goal
@@ -7,5 +7,5 @@ abbrev pub invariant-loop-one : goal.invariant-loop-one
 invariant-loop-one l = record {
   are : map shape_and_globals l.all.items ≡ map local_shape (take l.one-index all_subcommands);
   len : vec_len l.all ≡ l.one-index;
-  capacity : vec_capacity l.all ≡ 16;
+  capacity : vec_capacity l.all ≡ length all_subcommands;
 }

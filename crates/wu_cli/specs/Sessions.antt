@@ -1,0 +1,138 @@
+-- A session: lines that come one after another, what is done for each, and what goes out.
+use Rattle.std.specs.Prelude.{◌≡◌, ◌⊎◌, ℕ, Bool, true, false, List, [], ◌∷◌, ◌++◌, codes, if◌then◌else◌, is_some, slice_get, ◌==◌, Option, Some, None, Result, Ok, Err, Vec}
+use Rattle.std.specs.Fmt.{decimal}
+use Rattle.std.specs.List.{before_first}
+use Rattle.sqlite_trees.specs.declared.store.Store.{Ghosts}
+use Rattle.wu_core.specs.declared.fault.Fault.{Fault}
+use Rattle.wu_core.specs.declared.fault.Fault.TheVariants.{Memory, Output}
+use Rattle.wu_feed.specs.Scripts.{script_of}
+use Rattle.wu_feed.specs.declared.script.ScriptLine.{ScriptLine}
+use Rattle.wu_passes.specs.declared.project.Project.{Project}
+use Rattle.wu_passes.specs.Projects.{has_ended}
+use Rattle.wu_report.specs.Texts.{line_end}
+use Rattle.wu_report.specs.Writing.{WritesTo}
+use Rattle.wu_arguments.specs.Statuses.{fault_status, refusal_status}
+use Rattle.wu_arguments.specs.Steps.{GivesSteps}
+use Rattle.wu_arguments.specs.declared.refusal.Refusal.{Refusal}
+use Rattle.wu_arguments.specs.declared.refusal.Refusal.TheVariants as refusal
+use Rattle.wu_arguments.specs.declared.step.BadLine.{BadLine}
+use Rattle.wu_arguments.specs.declared.step.LineFault.{LineFault}
+use Rattle.wu_arguments.specs.declared.step.Step.{Step}
+use Rattle.wu_arguments.specs.declared.usage.Usage.TheVariants as usage
+use Rattle.wu_cli.specs.Endings.{refusal_text}
+use Rattle.wu_cli.specs.Printing.{PrintsSteps}
+use Rattle.wu_cli.specs.Scripting.{PerformsScript}
+use Rattle.wu_cli.specs.Telling.{DrivesSteps, LengthensBySteps}
+
+-- ---- the texts
+
+-- the first line of a text, without its end
+abbrev pub first_line : List ℕ → List ℕ
+first_line text = before_first (λ byte. byte == 10) text
+
+-- why a line was not done: of what clap prints the first line alone
+abbrev pub cause_line : Refusal → List ℕ
+cause_line (refusal.Words (usage.Refused text)) = first_line text ++ line_end
+cause_line why = refusal_text why
+
+-- The front of a line that reports why a line was not done, with its status.
+abbrev pub status_front : ℕ → List ℕ
+status_front status = codes "= " ++ decimal status ++ codes " "
+
+-- The line that reports why a line was not done.
+abbrev pub refused_line : Refusal → List ℕ
+refused_line why = status_front (refusal_status why) ++ cause_line why
+
+-- The line that ends the answer to a line; nothing if it has no command.
+abbrev pub end_text : Result Bool Refusal → List ℕ
+end_text (Ok false) = []
+end_text (Ok true) = codes "= 0" ++ line_end
+end_text (Err why) = refused_line why
+
+-- What was heard: the text of a line, or why none could be had.
+abbrev pub heard_text : {A : Type 0} → Result (Vec ℕ A) Refusal → Result (List ℕ) Refusal
+heard_text (Ok text) = Ok text.items
+heard_text (Err why) = Err why
+
+-- ---- one line
+
+module _ (gives : List ℕ → ℕ → Option (List ℕ) → Type 0) (db : List ℕ) where
+  -- the steps of the script that the text is by itself, or why it cannot be run
+  abbrev pub StepsOfText : List ℕ → Result (List Step) Refusal → Type 0
+  StepsOfText text (Ok steps) = (lines : List ScriptLine) × (script_of text ≡ Ok lines) × GivesSteps gives db lines (Ok steps)
+  StepsOfText text (Err why) =
+      ((fault : Fault) × ((fault ≡ Memory) ⊎ (script_of text ≡ Err fault)) × (why ≡ refusal.Fault fault))
+      ⊎ ((lines : List ScriptLine) × (bad : BadLine) × (script_of text ≡ Ok lines) × GivesSteps gives db lines (Err bad) × (why ≡ bad.why))
+
+module _ {S W : Type 0} {store : Ghosts S} (contents : W → Option (List ℕ)) where
+  -- all that is known of the steps of a script
+  pub record DoesSteps (old new : Project S store) (out_old out_new : W) (steps : List Step) (end : Option LineFault) : Type 0 where
+    pub does : PerformsScript contents old new out_old out_new steps end
+    pub drives : DrivesSteps contents old new out_old out_new steps end
+    pub lives : LengthensBySteps contents old new out_old out_new steps end
+    pub prints : PrintsSteps contents old new out_old out_new steps end
+
+  module _ (gives : List ℕ → ℕ → Option (List ℕ) → Type 0) (db : List ℕ) where
+    -- the steps of a text are done, if it has any; or it cannot be run, and nothing is done or goes out; or a step of it
+    -- came to a fault
+    abbrev pub DoesText : Project S store → Project S store → W → W → List ℕ → Result Bool Refusal → Type 0
+    DoesText old new out_old out_new text (Ok has) =
+        (steps : List Step) × StepsOfText gives db text (Ok steps) × DoesSteps old new out_old out_new steps None × (has ≡ is_some (slice_get steps 0))
+    DoesText old new out_old out_new text (Err why) =
+        (StepsOfText gives db text (Err why) × (new ≡ old) × (out_new ≡ out_old))
+        ⊎ ((steps : List Step) × (end : LineFault) × StepsOfText gives db text (Ok steps) × DoesSteps old new out_old out_new steps (Some end) × (why ≡ refusal.Fault end.fault))
+
+    -- so for a line that was heard; one that was not is not done
+    abbrev pub DoesHeard : Project S store → Project S store → W → W → Result (List ℕ) Refusal → Result Bool Refusal → Type 0
+    DoesHeard old new out_old out_new (Ok text) done = DoesText old new out_old out_new text done
+    DoesHeard old new out_old out_new (Err why) done = (done ≡ Err why) × (new ≡ old) × (out_new ≡ out_old)
+
+-- ---- line by line
+
+-- The status of a line that was done, or of the refusal of one that was not.
+abbrev pub status_of_done : Result Bool Refusal → ℕ
+status_of_done (Ok has) = 0
+status_of_done (Err why) = refusal_status why
+
+-- Whether the text of a line was cut.
+abbrev pub is_cut : Result Bool Refusal → Bool
+is_cut (Err (refusal.Fault Output)) = true
+is_cut _ = false
+
+-- The status with which a session ends after a line, or `None` if it goes on: where an output fails, or the project's
+-- session has ended.
+abbrev pub ends_with : Result (Unit {0}) Fault → Bool → Result Bool Refusal → Option ℕ
+ends_with (Err fault) ended done = Some (fault_status Output)
+ends_with (Ok told) ended done = if is_cut done then Some (fault_status Output) else if ended then Some (status_of_done done) else None
+
+module _ {S W : Type 0} {store : Ghosts S} (contents : W → Option (List ℕ)) (gives : List ℕ → ℕ → Option (List ℕ) → Type 0) (db : List ℕ) where
+  -- What was heard is done or refused, and then the line that ends its answer goes out, or a prefix of it if the output
+  -- fails. The session goes on, or ends with a status.
+  pub record AnswersHeard (old new : Project S store) (out_old out_new : W) (heard : Result (List ℕ) Refusal) (ends : Option ℕ) : Type 0 where
+    pub done : Result Bool Refusal
+    pub out_done : W
+    pub does : DoesHeard contents gives db old new out_old out_done heard done
+    pub told : Result (Unit {0}) Fault
+    pub wrote : WritesTo contents out_done out_new (end_text done) told
+    pub next : ends ≡ ends_with told (has_ended new) done
+
+  -- Each that was heard is answered, over what the one before it left, and the session goes on.
+  unfoldable pub AnswersEach : Project S store → Project S store → W → W → List (Result (List ℕ) Refusal) → Type 0
+  AnswersEach old new out_old out_new [] = (new ≡ old) × (out_new ≡ out_old)
+  AnswersEach old new out_old out_new (heard ∷ more) =
+      (mid : Project S store) × (out_mid : W) × AnswersHeard old mid out_old out_mid heard None × AnswersEach mid new out_mid out_new more
+
+  -- The last that was heard is answered, and the session ends with this status; or what could not be read ends it.
+  pub record EndsSession (old new : Project S store) (out_old out_new : W) (status : ℕ) : Type 0 where
+    pub last : Result (List ℕ) Refusal
+    pub ends : Option ℕ
+    pub answered : AnswersHeard old new out_old out_new last ends
+    pub status_is : (ends ≡ Some status) ⊎ ((why : Refusal) × (ends ≡ None) × (last ≡ Err why) × (status ≡ refusal_status why))
+
+  -- Lines are answered one after another, up to the end of the input or to one that ends the session.
+  pub record RunsSession (old new : Project S store) (out_old out_new : W) (status : ℕ) : Type 0 where
+    pub heard : List (Result (List ℕ) Refusal)
+    pub mid : Project S store
+    pub out_mid : W
+    pub each : AnswersEach old mid out_old out_mid heard
+    pub end : ((status ≡ 0) × (new ≡ mid) × (out_new ≡ out_mid)) ⊎ EndsSession mid new out_mid out_new status
