@@ -16,7 +16,7 @@ use wu_cli::Reason;
 /// The bytes of the files of a database.
 #[derive(Drop)]
 pub struct FileBytes<'a> {
-    /// Where the database lies.
+    /// The path of the database.
     pub path: &'a str,
     /// Of the log; empty if there is no log.
     pub log: Vec<u8>,
@@ -120,7 +120,7 @@ fn read_at_once<'a>(
 /// Returns the bytes of the database at the path and of its log, as they are at one moment. A database that another
 /// program writes to meanwhile is in use. The log lies beside the file to which a link leads.
 pub fn read_database<'a>(rt: &HostRuntime, path: &'a str) -> Result<FileBytes<'a>, Reason>
-    // The bytes are labelled with the path that was asked for.
+    // The bytes carry the path that was asked for. What the bytes are is not stated.
     ensures { IfOk result (λ bytes. bytes.path.now ≡ path.now) }
 {
     let real = fs::canonicalize(rt, path).map_err(|error| Reason::of_file(&error))?;
