@@ -12,7 +12,7 @@ use Rattle.wu_loader.specs.declared.rows.States.{States}
 abbrev pub kind_cell : ImportKind → Value
 kind_cell kind = number (import_kind_code kind)
 
--- the columns of an instance's states, and those of its moments
+-- The columns of an instance's states, and of its moments.
 abbrev pub state_cells : States → Row
 state_cells s =
     number (server_state_code s.server_state) ∷ number (outcome_code s.outcome) ∷ number (validate_state_code s.validate_state)

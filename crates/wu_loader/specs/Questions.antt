@@ -8,7 +8,7 @@ use Rattle.wu_loader.specs.Shown.{keyed, unkeyed}
 use Rattle.wu_loader.specs.declared.finding.Table.{Table}
 use Rattle.wu_loader.specs.declared.finding.Table.TheVariants as table
 
--- all rows of a table: in order of the key where that is the rowid, else in any order
+-- The question for all rows of a table: in order of the key if that is the rowid, else in any order.
 abbrev pub question : Table → List ℕ
 question table.Project = codes "SELECT one, version, next_number FROM project ORDER BY one"
 question table.Workunit =
@@ -22,13 +22,13 @@ question table.Import = codes "SELECT kind, name, template, content, first_numbe
 question table.HostClass = codes "SELECT host, class FROM host_class"
 question table.WorkunitClass = codes "SELECT workunit, class FROM workunit_class ORDER BY workunit"
 
--- a version has the table
+-- The version has the table.
 abbrev pub IsTableIn : ℕ → Table → Type 0
 IsTableIn version table.HostClass = IsClassedVersion version
 IsTableIn version table.WorkunitClass = IsClassedVersion version
 IsTableIn version _ = ⊤
 
--- these are the rows that are shown
+-- These rows are shown of the table.
 abbrev pub ShowsTable : Table → Trees → ProjectTrees → List Row → Type 0
 ShowsTable table.Project db trees rows = rows ≡ map (keyed 3) (db trees.project)
 ShowsTable table.Workunit db trees rows = rows ≡ map (keyed 15) (db trees.workunit)

@@ -17,7 +17,7 @@ use wu_cli::Reason;
 /// The bytes of the files of a database.
 #[derive(Drop)]
 pub struct FileBytes<'a> {
-    /// Where the database lies.
+    /// The path of the database.
     pub path: &'a str,
     /// Of the log; empty if there is no log.
     pub log: Vec<u8>,
@@ -158,7 +158,7 @@ fn refuse_foreign(rt: &HostRuntime, path: &str) -> Result<(), Reason> {
 /// Reads the bytes of the database at the path and of its log, as they are at one moment. A file that another program
 /// writes to meanwhile is in use. The log lies beside the file to which a link leads.
 pub fn read_database<'a>(rt: &HostRuntime, path: &'a str) -> Result<FileBytes<'a>, Reason>
-    // What is read is that of the path.
+    // The bytes carry the path that was asked for. What the bytes are is not stated.
     ensures { IfOk result (λ bytes. bytes.path.now ≡ path.now) }
 {
     let real = fs::canonicalize(rt, path).map_err(|error| lost(rt, path, &error))?;

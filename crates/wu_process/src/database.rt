@@ -32,8 +32,8 @@ impl<D: Disk + Drop> Drop for Left<D> {
 
 /// Closes a database, as far as its files let it.
 fn close<D: Disk + Drop>(conn: Connection<FileStore<D>>) -> Left<D>
-    // The files come back closed, with the last commit copied into the database's where the disk
-    // had no fault; or the store with its error.
+    // The files come back closed, with the last commit in the database file if the disk is clean.
+    // Or the store comes back, with the error.
     ensures { IsLeftByClose conn result }
 {
     match conn.close_files() {
@@ -67,8 +67,8 @@ fn open_and_do<S: Start, O: Write>(
 }
 
 /// Opens the database, does the work that is asked over it, and closes it. The work holds what its files held, so these
-/// were read before. Where `asked` is a trouble, or the database must not or cannot be opened, that is returned, and
-/// nothing is written.
+/// were read before. If `asked` is a trouble, or the database must not or cannot be opened, that is returned, and nothing
+/// is written.
 pub fn open_and_perform<S: Start, O: Write>(
     rt: &HostRuntime,
     database: &str,
@@ -77,8 +77,8 @@ pub fn open_and_perform<S: Start, O: Write>(
     out: &mut O,
 ) -> (Result<(), Trouble>, Option<Left<FileFrom<S>>>)
     // The database of this path is opened, its work is done and written, and it is closed. Or it
-    // cannot be opened, which is reported, and nothing goes out. Where `asked` is a trouble, that
-    // is returned, and nothing is opened.
+    // cannot be opened, which is reported, and nothing goes out. If `asked` is a trouble, that is
+    // returned, and nothing is opened.
     ensures { RunsWork O.contents database.now asked out.old out.new result.0 result.1 }
 {
     match asked {
