@@ -46,7 +46,9 @@ def functions(path, source):
             if clause:
                 clauses.append((clause[1], clause[2] or "", at + 1, comment_over(lines, at, "//")))
             at += 1
-            if at < len(lines) and HEAD.match(lines[at]) or at > number and lines[at - 1].rstrip().endswith(";"):
+            # a declaration of a trait ends so, and has no body
+            is_over = lines[at - 1].rstrip().endswith(";") and not lines[at - 1].strip().startswith("//")
+            if is_over or at < len(lines) and HEAD.match(lines[at]):
                 break
         is_public = head[2] == "pub " or within_trait
         yield owner, head[3], is_public, number + 1, comment_over(lines, number, "///"), clauses
