@@ -1,11 +1,11 @@
 -- What is wrong with a world: the table, the place in it, and the words.
 use Rattle.std.specs.Prelude.{ℕ, List, Option, Some, None, codes}
-use Rattle.wu_audit.specs.declared.wrong.Table.{Table}
-use Rattle.wu_audit.specs.declared.wrong.Table.TheVariants as table
+use Rattle.wu_audit.specs.declared.wrong.AuditTable.{AuditTable}
+use Rattle.wu_audit.specs.declared.wrong.AuditTable.TheVariants as table
 use Rattle.wu_audit.specs.declared.wrong.Wrong.{Wrong}
 use Rattle.wu_audit.specs.declared.wrong.Wrong.TheVariants as wrong
 
-abbrev pub table_word : Table → List ℕ
+abbrev pub table_word : AuditTable → List ℕ
 table_word table.Project = codes "project"
 table_word table.Workunit = codes "workunit"
 table_word table.CreditGrant = codes "credit_grant"
@@ -14,7 +14,7 @@ table_word table.Import = codes "import"
 table_word table.HostClass = codes "host_class"
 
 -- The table whose row is wrong.
-abbrev pub table_of : Wrong → Table
+abbrev pub table_of : Wrong → AuditTable
 table_of wrong.NextNumber = table.Project
 table_of (wrong.WorkunitForm place) = table.Workunit
 table_of (wrong.WorkunitValues place) = table.Workunit

@@ -7,15 +7,15 @@ use Rattle.wu_core.specs.declared.workunit.HostClass.{HostClass}
 use Rattle.wu_core.specs.declared.workunit.Workunit.{Workunit}
 use Rattle.wu_audit.specs.Words.{place_of_wrong, table_of}
 use Rattle.wu_audit.specs.Wrong as audit
-use Rattle.wu_audit.specs.declared.wrong.Table.{Table}
-use Rattle.wu_audit.specs.declared.wrong.Table.TheVariants as table
+use Rattle.wu_audit.specs.declared.wrong.AuditTable.{AuditTable}
+use Rattle.wu_audit.specs.declared.wrong.AuditTable.TheVariants as table
 use Rattle.wu_audit.specs.declared.wrong.Wrong.{Wrong}
 use Rattle.wu_machine.specs.Machine.{present_version}
 use Rattle.wu_machine.specs.Sound.{IsSound}
 use Rattle.wu_loader.specs.Finding.{IsShownWrong}
 use Rattle.wu_loader.specs.Whole.{DiffersAt}
 use Rattle.wu_loader.specs.Worlds.{IsReadable}
-use Rattle.wu_loader.specs.declared.finding.Wrong as row
+use Rattle.wu_loader.specs.declared.finding.WrongRow as row
 use Rattle.wu_schema.specs.Queue.{HasQueue}
 use Rattle.wu_schema.specs.Refines.{Refines}
 use Rattle.wu_schema.specs.Stored.{stored_marks}
@@ -42,7 +42,7 @@ abbrev pub IsAt : {X : Type 0} → List X → Option ℕ → X → Type 0
 IsAt xs place x = (n : ℕ) × (place ≡ Some n) × (slice_get xs n ≡ Some x)
 
 -- This is the key of the row at the place of the table; grants and archived rows are counted from 1.
-abbrev pub IsKeyAt : World → Table → Option ℕ → Key → Type 0
+abbrev pub IsKeyAt : World → AuditTable → Option ℕ → Key → Type 0
 IsKeyAt world table.Project place k = k ≡ key.Project
 IsKeyAt world table.Workunit place k = (w : Workunit) × IsAt world.workunits place w × (k ≡ key.Workunit w.number)
 IsKeyAt world table.CreditGrant place k = (n : ℕ) × (place ≡ Some n) × (k ≡ key.Grant (n + 1))
@@ -66,7 +66,7 @@ pub record LacksTables (db : Database) (misfit : Misfit) : Type 0 where
 
 -- One of the rows that questions show, in the tables of the project's version, is wrong, and the tables represent no
 -- world.
-pub record HasWrongRow (db : Database) (wrong : row.Wrong) : Type 0 where
+pub record HasWrongRow (db : Database) (wrong : row.WrongRow) : Type 0 where
   pub version : ℕ
   pub read : IsReadVersion db version
   pub trees : ProjectTrees

@@ -13,8 +13,8 @@ use Rattle.wu_check.specs.declared.finding.Finding.{Finding}
 use Rattle.wu_check.specs.declared.finding.Finding.TheVariants as finding
 use Rattle.wu_check.specs.declared.finding.Key.{Key}
 use Rattle.wu_check.specs.declared.finding.Key.TheVariants as key
-use Rattle.wu_loader.specs.declared.finding.Table.{Table}
-use Rattle.wu_loader.specs.declared.finding.Table.TheVariants as table
+use Rattle.wu_loader.specs.declared.finding.LoadedTable.{LoadedTable}
+use Rattle.wu_loader.specs.declared.finding.LoadedTable.TheVariants as table
 use Rattle.wu_report.specs.Texts.{line_end}
 use Rattle.wu_tables.specs.Known.{name_of}
 use Rattle.wu_tables.specs.declared.project.Misfit.{Misfit}
@@ -37,7 +37,7 @@ kind_word kind.Reported = codes "reported"
 kind_word kind.Classes = codes "classes"
 
 -- The name of a table, as it is printed before a row's place.
-abbrev pub row_front : Table → List ℕ
+abbrev pub row_front : LoadedTable → List ℕ
 row_front table.Project = codes "project row "
 row_front table.Workunit = codes "workunit row "
 row_front table.Result = codes "result row "

@@ -14,7 +14,7 @@ use Rattle.wu_loader.specs.Worlds.{IsReadable}
 use Rattle.wu_loader.specs.Wrongs.{IsWrongRow}
 use Rattle.wu_loader.specs.declared.finding.Found.{Found}
 use Rattle.wu_loader.specs.declared.finding.Found.TheVariants as found
-use Rattle.wu_loader.specs.declared.finding.Wrong.{Wrong}
+use Rattle.wu_loader.specs.declared.finding.WrongRow.{WrongRow}
 use Rattle.wu_loader.specs.declared.tables.TableRows.{TableRows}
 
 -- If a world is found, this holds of it.
@@ -23,7 +23,7 @@ IfWorld (found.World world) Holds = Holds world
 IfWorld (found.Wrong wrong) Holds = ⊤
 
 -- If a wrong row is reported, this holds of it.
-abbrev pub IfWrong : Found → (Wrong → Type 0) → Type 0
+abbrev pub IfWrong : Found → (WrongRow → Type 0) → Type 0
 IfWrong (found.World world) Holds = ⊤
 IfWrong (found.Wrong wrong) Holds = Holds wrong
 
@@ -40,7 +40,7 @@ FindsNone version g old new result =
     HasCleanDisk (state g new) → IfOk result (λ found. IfWrong found (λ _. (world : World) → IsReadable world → world.version ≡ version → ¬ Refines (state g old).now world))
 
 -- The reported row is wrong, among those that questions show of the tables of this version.
-pub record IsShownWrong (version : ℕ) (db : Database) (trees : ProjectTrees) (wrong : Wrong) : Type 0 where
+pub record IsShownWrong (version : ℕ) (db : Database) (trees : ProjectTrees) (wrong : WrongRow) : Type 0 where
   pub rows : TableRows
   pub shown : Shows version db.trees trees rows
   pub is : IsWrongRow version rows wrong

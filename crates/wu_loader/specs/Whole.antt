@@ -7,8 +7,8 @@ use Rattle.std.specs.declared.cmp.Ordering.TheVariants.{Less}
 use Rattle.sqlite.specs.Order.{Row}
 use Rattle.wu_loader.specs.declared.finding.NoWorld.{NoWorld}
 use Rattle.wu_loader.specs.declared.finding.NoWorld.TheVariants.{Memory, Wrong}
-use Rattle.wu_loader.specs.declared.finding.Table.{Table}
-use Rattle.wu_loader.specs.declared.finding.Wrong as told
+use Rattle.wu_loader.specs.declared.finding.LoadedTable.{LoadedTable}
+use Rattle.wu_loader.specs.declared.finding.WrongRow as told
 
 -- The rows of values, with their places from 1.
 abbrev pub rows_of : {T : Type 0} → (ℕ → T → Row) → List T → List Row
@@ -22,12 +22,12 @@ pub record AreSorted {T : Type 0} (cells : T → Row) (order : T → T → Order
 -- ---- what is reported
 
 -- The call is out of memory, or this holds of the row that is reported.
-abbrev pub UnlessMemory : NoWorld → (told.Wrong → Type 0) → Type 0
+abbrev pub UnlessMemory : NoWorld → (told.WrongRow → Type 0) → Type 0
 UnlessMemory Memory Holds = ⊤
 UnlessMemory (Wrong wrong) Holds = Holds wrong
 
 -- A row of this table is reported, at a place of which this holds.
-abbrev pub IsIn : Table → (ℕ → Type 0) → told.Wrong → Type 0
+abbrev pub IsIn : LoadedTable → (ℕ → Type 0) → told.WrongRow → Type 0
 IsIn table Holds wrong = (wrong.table ≡ table) × Holds wrong.place
 
 -- ---- places

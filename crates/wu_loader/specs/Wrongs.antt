@@ -13,9 +13,9 @@ use Rattle.wu_loader.specs.Granting.{by_name, IsWrongHost}
 use Rattle.wu_loader.specs.Rows.{archived_row, classed_row, grant_row, host_row, placed_row, project_row, IsStoredClass, IsStoredGrant, IsStoredHost, IsStoredHostClass, IsStoredImport, IsStoredPlaced, IsStoredProject}
 use Rattle.wu_loader.specs.Whole.{rows_of, AreSorted, DiffersAt, IsIn, IsNoRow, IsNotAbove}
 use Rattle.wu_loader.specs.Worlds.{IsOrdered}
-use Rattle.wu_loader.specs.declared.finding.Table.{Table}
-use Rattle.wu_loader.specs.declared.finding.Table.TheVariants as table
-use Rattle.wu_loader.specs.declared.finding.Wrong as told
+use Rattle.wu_loader.specs.declared.finding.LoadedTable.{LoadedTable}
+use Rattle.wu_loader.specs.declared.finding.LoadedTable.TheVariants as table
+use Rattle.wu_loader.specs.declared.finding.WrongRow as told
 use Rattle.wu_loader.specs.declared.rows.Host.{Host}
 use Rattle.wu_loader.specs.declared.rows.Placed.{Placed}
 use Rattle.wu_loader.specs.declared.rows.ProjectRow.{ProjectRow}
@@ -53,7 +53,7 @@ abbrev pub IsWrongResult : (works rows : List Row) → ℕ → Type 0
 IsWrongResult works rows place = IsNoRow (λ _. placed_row) IsStoredPlaced rows place ⊎ IsUndealtRow works rows place
 
 -- The wrong row that is reported is one of workunits or one of results.
-abbrev pub IsWrongWork : (works rows : List Row) → told.Wrong → Type 0
+abbrev pub IsWrongWork : (works rows : List Row) → told.WrongRow → Type 0
 IsWrongWork works rows wrong = IsIn table.Workunit (IsNoRow (λ _. workunit_row) IsStoredWorkunit works) wrong ⊎ IsIn table.Result (IsWrongResult works rows) wrong
 
 -- ---- hosts
@@ -98,7 +98,7 @@ IsWrongWorkunitClass works rows place = IsNoRow (λ _. classed_row) IsStoredClas
 -- ---- all tables
 
 -- The row at this place of a table that every version has is wrong.
-abbrev pub IsWrongPlainAt : ℕ → PlainRows → Table → ℕ → Type 0
+abbrev pub IsWrongPlainAt : ℕ → PlainRows → LoadedTable → ℕ → Type 0
 IsWrongPlainAt version rows table.Project place = IsWrongProject version rows.project.items place
 IsWrongPlainAt version rows table.Workunit place = IsNoRow (λ _. workunit_row) IsStoredWorkunit rows.workunits.items place
 IsWrongPlainAt version rows table.Result place = IsWrongResult rows.workunits.items rows.instances.items place
@@ -108,18 +108,18 @@ IsWrongPlainAt version rows table.Archived place = IsNoRow archived_row IsStored
 IsWrongPlainAt version rows table.Import place = IsNoRow (λ _. import_cells) IsStoredImport rows.imports.items place
 IsWrongPlainAt version rows _ place = ⊥
 
-abbrev pub IsWrongPlain : ℕ → PlainRows → told.Wrong → Type 0
+abbrev pub IsWrongPlain : ℕ → PlainRows → told.WrongRow → Type 0
 IsWrongPlain version rows wrong = IsWrongPlainAt version rows wrong.table wrong.place
 
 -- The row at this place of a table of classes is wrong, given the rows of the workunits.
-abbrev pub IsWrongClassAt : List Row → ClassRows → Table → ℕ → Type 0
+abbrev pub IsWrongClassAt : List Row → ClassRows → LoadedTable → ℕ → Type 0
 IsWrongClassAt works rows table.HostClass place = IsWrongHostClass rows.hosts.items place
 IsWrongClassAt works rows table.WorkunitClass place = IsWrongWorkunitClass works rows.workunits.items place
 IsWrongClassAt works rows _ place = ⊥
 
-abbrev pub IsWrongClass : List Row → Option ClassRows → told.Wrong → Type 0
+abbrev pub IsWrongClass : List Row → Option ClassRows → told.WrongRow → Type 0
 IsWrongClass works rows wrong = MatchOption rows ⊥ (λ classes. IsWrongClassAt works classes wrong.table wrong.place)
 
 -- The reported row is wrong, among those of a project of this version.
-abbrev pub IsWrongRow : ℕ → TableRows → told.Wrong → Type 0
+abbrev pub IsWrongRow : ℕ → TableRows → told.WrongRow → Type 0
 IsWrongRow version rows wrong = IsWrongPlain version rows.plain wrong ⊎ IsWrongClass rows.plain.workunits.items rows.classes wrong

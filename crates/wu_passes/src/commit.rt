@@ -7,14 +7,14 @@ ghost use Rattle.wu_store.specs.Changing.{MakesWorlds};
 
 use sqlite::{Alter, Connection, Error, Transaction};
 use wu_core::Fault;
-use wu_schema::{Work, transact};
+use wu_schema::{TransactionWork, transact};
 use wu_store::{Change, apply};
 
 /// The changes of a command, as the work of one transaction.
 #[derive(Clone, Copy)]
 struct Changes<'a>(&'a [Change<'a>]);
 
-impl<'a> Work for Changes<'a> {
+impl<'a> TransactionWork for Changes<'a> {
     ghost makes = { λ changes. MakesWorlds changes.0.now };
 
     fn run<S: Alter>(&self, tx: &mut Transaction<'_, S>) -> Result<(), Error> {

@@ -25,7 +25,7 @@ use Rattle.wu_schema.specs.declared.rows.StoredImport.{StoredImport}
 use Rattle.wu_schema.specs.Refines.{Refines}
 use Rattle.wu_plans.specs.declared.plan.Plan.{Plan}
 use Rattle.wu_plans.specs.declared.imports.Source.{Source}
-use Rattle.wu_plans.specs.declared.files.Left.{Left}
+use Rattle.wu_plans.specs.declared.files.AppliedRows.{AppliedRows}
 use Rattle.wu_store.specs.declared.changes.Change.{Change}
 use Rattle.wu_store.specs.declared.changes.Change.TheVariants.{Add, Class, Replace, Next, Keep}
 use Rattle.wu_store.specs.declared.changes.Import.{Import as Kept}
@@ -57,7 +57,7 @@ abbrev pub RefusesCancel : Workunit → Fault → Type 0
 RefusesCancel w fault = (fault ≡ Memory) ⊎ ((fault ≡ NotOpenToCancel) × (is_undecided w ≡ false))
 
 -- What the rows of a file left of a world that has classes, with their verdicts.
-abbrev pub LeavesRows : {Row : Type 0} → (List HostClass → Rule Row) → List Row → Result Left Fault → World → Type 0
+abbrev pub LeavesRows : {Row : Type 0} → (List HostClass → Rule Row) → List Row → Result AppliedRows Fault → World → Type 0
 LeavesRows rule rows result world =
     KnowsClasses world → IfOk result (λ left. IsLeft (rule world.classes) rows world left.touched left.verdicts.items)
 
@@ -122,7 +122,7 @@ abbrev pub RefusesRepeat : Given → StoredImport → Fault → Type 0
 RefusesRepeat given earlier fault = (fault ≡ Memory) ⊎ ((fault ≡ NameUsed) × (has_same_content given earlier ≡ false))
 
 -- What the rows of a file left replaces what was there, and the import is kept.
-pub record IsNewFile (given : Given) (left : Left) (plan : Plan) : Type 0 where
+pub record IsNewFile (given : Given) (left : AppliedRows) (plan : Plan) : Type 0 where
   pub kept : Kept
   pub keeps : KeepsImport given 0 left.verdicts.items kept
   pub reply : reply_of_answer plan.answer ≡ first_answer (import_of_change kept)

@@ -11,8 +11,8 @@ use Rattle.sqlite.specs.Closing.{IsCopied}
 use Rattle.sqlite.specs.Files.{FailsToClose, IsClosed}
 use Rattle.sqlite.specs.Held.{Held}
 use Rattle.sqlite.specs.declared.error.Error.{Error}
-use Rattle.wu_process.specs.declared.database.Left.{Left}
-use Rattle.wu_process.specs.declared.database.Left.TheVariants as left
+use Rattle.wu_process.specs.declared.database.LeftDatabase.{LeftDatabase}
+use Rattle.wu_process.specs.declared.database.LeftDatabase.TheVariants as left
 
 module _ {D : Type 0} {g : Ghosts D} where
   -- These are the two files of a closed connection: the log is empty, and the last commit is in the file of the
@@ -30,7 +30,7 @@ module _ {D : Type 0} {g : Ghosts D} where
     pub quiet : IsClosed conn last
     pub cause : IsClean (view last) → FailsToClose conn last error
 
-  abbrev pub IsLeftByClose : Held (FileStore D g) → Left D g → Type 0
+  abbrev pub IsLeftByClose : Held (FileStore D g) → LeftDatabase D g → Type 0
   IsLeftByClose conn (left.Unopened error rest) = ⊥
   IsLeftByClose conn (left.Closed files) = IsClosedInto conn files
   IsLeftByClose conn (left.Unclosed error last) = IsLeftUnclosed conn error last

@@ -27,8 +27,8 @@ use Rattle.wu_process.specs.Asking.{AsksFor, database_in, RefusesWords}
 use Rattle.wu_process.specs.Checks.{ChecksPath}
 use Rattle.wu_process.specs.Closing.{IsLeftByClose}
 use Rattle.wu_process.specs.Opening.{IsBar, IsOpenedAt, IsUnopened}
-use Rattle.wu_process.specs.declared.database.Left.{Left}
-use Rattle.wu_process.specs.declared.database.Left.TheVariants as left
+use Rattle.wu_process.specs.declared.database.LeftDatabase.{LeftDatabase}
+use Rattle.wu_process.specs.declared.database.LeftDatabase.TheVariants as left
 use Rattle.wu_process.specs.declared.End.{End}
 
 -- Without a trouble the status is 0 and nothing is reported. With one the status is the trouble's, and its text or a
@@ -39,13 +39,13 @@ TellsTrouble contents old new (Err trouble) status is_told =
     (status ≡ trouble_status trouble) × WritesAll (contents old) (contents new) (trouble_text trouble) is_told
 
 -- A run ends with the status of its trouble, which is reported, and with what is left of its database.
-pub record EndsSo {D W : Type 0} {g : Ghosts D} (contents : W → Option (List ℕ)) (old new : W) (done : Result (Unit {0}) Trouble) (left : Option (Left D g)) (end : End D g) : Type 0 where
+pub record EndsSo {D W : Type 0} {g : Ghosts D} (contents : W → Option (List ℕ)) (old new : W) (done : Result (Unit {0}) Trouble) (left : Option (LeftDatabase D g)) (end : End D g) : Type 0 where
   pub tells : TellsTrouble contents old new done end.status end.is_told
   pub same : end.left ≡ left
 
 module _ {D W : Type 0} {g : Ghosts D} (contents : W → Option (List ℕ)) where
   -- The work is done over an open database, which is then closed.
-  pub record DoesAndCloses (conn : Held (FileStore D g)) (work : Work) (old new : W) (done : Result (Unit {0}) Trouble) (left : Left D g) : Type 0 where
+  pub record DoesAndCloses (conn : Held (FileStore D g)) (work : Work) (old new : W) (done : Result (Unit {0}) Trouble) (left : LeftDatabase D g) : Type 0 where
     pub again : Held (FileStore D g)
     pub does : DoesOver over_files contents conn again old new work done
     pub drives : DrivesOver over_files conn again work done
@@ -79,7 +79,7 @@ module _ {W : Type 0} (contents : W → Option (List ℕ)) where
 
 module _ {S W : Type 0} {c : calls.Ghosts Host} {s : start.Ghosts S} {g : Ghosts (Modelled Host S c s)} (contents : W → Option (List ℕ)) where
   -- The database of this path is opened, over two files that held what the start says, and the work is done over it.
-  pub record DoesOpened (path : List ℕ) (work : Work) (old new : W) (done : Result (Unit {0}) Trouble) (left : Left (Modelled Host S c s) g) : Type 0 where
+  pub record DoesOpened (path : List ℕ) (work : Work) (old new : W) (done : Result (Unit {0}) Trouble) (left : LeftDatabase (Modelled Host S c s) g) : Type 0 where
     pub conn : Held (FileStore (Modelled Host S c s) g)
     pub opened : IsOpenedAt path (image_at s) conn
     pub does : DoesAndCloses contents conn work old new done left
@@ -90,27 +90,27 @@ module _ {S W : Type 0} {c : calls.Ghosts Host} {s : start.Ghosts S} {g : Ghosts
     pub told : done ≡ Err (trouble_of_opening (fault_of error))
     pub unwritten : new ≡ old
 
-  abbrev pub OpensAndDoes : List ℕ → Work → W → W → Result (Unit {0}) Trouble → Left (Modelled Host S c s) g → Type 0
+  abbrev pub OpensAndDoes : List ℕ → Work → W → W → Result (Unit {0}) Trouble → LeftDatabase (Modelled Host S c s) g → Type 0
   OpensAndDoes path work old new done (left.Unopened error rest) = DoesUnopened path old new done error rest
   OpensAndDoes path work old new done other = DoesOpened path work old new done other
 
   -- The work is done over the database of this path; or it is refused, or the database is not opened, and nothing goes
   -- out.
-  abbrev pub RunsWork : List ℕ → Result Work Trouble → W → W → Result (Unit {0}) Trouble → Option (Left (Modelled Host S c s) g) → Type 0
+  abbrev pub RunsWork : List ℕ → Result Work Trouble → W → W → Result (Unit {0}) Trouble → Option (LeftDatabase (Modelled Host S c s) g) → Type 0
   RunsWork path (Ok work) old new done (Some left) = OpensAndDoes path work old new done left
   RunsWork path (Ok work) old new done None = Bars old new done
   RunsWork path (Err trouble) old new done (Some left) = ⊥
   RunsWork path (Err trouble) old new done None = (done ≡ Err trouble) × (new ≡ old)
 
   -- The words ask for this work, and it is done over the database that they name.
-  pub record RunsAsked (words : List (List ℕ)) (old new : W) (done : Result (Unit {0}) Trouble) (left : Left (Modelled Host S c s) g) : Type 0 where
+  pub record RunsAsked (words : List (List ℕ)) (old new : W) (done : Result (Unit {0}) Trouble) (left : LeftDatabase (Modelled Host S c s) g) : Type 0 where
     pub order : Order
     pub work : Work
     pub asked : AsksFor words order work
     pub runs : OpensAndDoes (database_in order) work old new done left
 
   -- A run leaves a database only if its words ask for work. Otherwise it is refused, a check, or an explanation.
-  abbrev pub RunsWords : List (List ℕ) → W → W → Result (Unit {0}) Trouble → Option (Left (Modelled Host S c s) g) → Type 0
+  abbrev pub RunsWords : List (List ℕ) → W → W → Result (Unit {0}) Trouble → Option (LeftDatabase (Modelled Host S c s) g) → Type 0
   RunsWords words old new done (Some left) = RunsAsked words old new done left
   RunsWords words old new done None = RunsNothing words old new done ⊎ RunsAside contents words old new done
 

@@ -18,7 +18,7 @@ mod files;
 mod signs;
 
 use check::check_path;
-pub use database::Left;
+pub use database::LeftDatabase;
 use database::open_and_perform;
 use files::HostFiles;
 use signs::{Cleared, Signs, Watched};
@@ -40,7 +40,7 @@ pub struct End<D: Disk> {
     /// Whether all of the text of a trouble went out.
     pub is_told: bool,
     /// What is left of the database that the words name; `None` if they ask for no work.
-    pub left: Option<Left<D>>,
+    pub left: Option<LeftDatabase<D>>,
 }
 
 /// Does what the words ask for, up to the first trouble. All files are read before the database is opened.
@@ -49,7 +49,7 @@ fn run_words<S: sqlite::Start, O: Write>(
     words: &[String],
     start: S,
     out: &mut O,
-) -> (Result<(), Trouble>, Option<Left<FileFrom<S>>>)
+) -> (Result<(), Trouble>, Option<LeftDatabase<FileFrom<S>>>)
     // Refused words, and a line or a script that cannot be run, are reported, and nothing goes out.
     // Otherwise the work is done over the database that the words name, or the check, or the
     // explanation.
@@ -89,7 +89,10 @@ fn tell<E: Write>(done: Result<(), Trouble>, err: &mut E) -> (u8, bool)
 }
 
 /// Reports the trouble that ended a run, if one did, and returns how it ended.
-fn ended<D: Disk, E: Write>(run: (Result<(), Trouble>, Option<Left<D>>), err: &mut E) -> End<D>
+fn ended<D: Disk, E: Write>(
+    run: (Result<(), Trouble>, Option<LeftDatabase<D>>),
+    err: &mut E,
+) -> End<D>
     // The trouble is reported with its status, and what is left of the database is handed on.
     ensures { EndsSo E.contents err.old err.new run.0 run.1 result }
 {

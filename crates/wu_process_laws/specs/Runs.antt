@@ -35,7 +35,7 @@ use Rattle.wu_stops.specs.Closing.{IsNumbered}
 use Rattle.wu_lives.specs.Runs.{HoldsWorld}
 use Rattle.wu_process.specs.Running.{Obeys, RunsAsked, RunsWords}
 use Rattle.wu_process.specs.declared.End.{End}
-use Rattle.wu_process.specs.declared.database.Left.TheVariants as left
+use Rattle.wu_process.specs.declared.database.LeftDatabase.TheVariants as left
 
 -- The files hold the tables of this world; or the database has no byte, and the world is the empty one.
 abbrev pub ImageRefines : Image → World → Type 0

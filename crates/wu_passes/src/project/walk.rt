@@ -20,7 +20,7 @@ impl<S: Alter> Project<S> {
     ///
     /// `NotAProject` means that a row is invalid, and `Output` that the taker takes no more lines. Over an older
     /// version the answer is `OldSchema`. It ends no session: after `Broken` its caller calls `end_session`.
-    pub fn walk<L: Listing, K: Takes<L::Line>>(
+    pub fn walk<L: Listing, K: Takes<L::Item>>(
         &mut self,
         alloc: Global,
         taker: &mut K,
