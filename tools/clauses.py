@@ -1,8 +1,9 @@
-"""The contracts of the product's functions in words: each clause with the comment that stands over it."""
+"""Contracts of the product's functions in words: each clause with the comment over it. `tools/docs` calls this file:
+`--promises` prints the contracts, and each clause of a public function without a comment is a fault."""
 import glob
 import re
 
-# scenarios and programs that promise nothing
+# scenarios, and programs that promise nothing
 APART = {"lintelthyme", "lintelthyme_plays", "wu_plays", "wu_play_files", "wu_play_laws", "wu_explain"}
 HEAD = re.compile(r"^(\s*)((?:pub(?:\([a-z]+\))? )?)(?:const )?fn (\w+)")
 GHOST = re.compile(r"^\s*ghost (\w+)(?: =|:) \{")
@@ -11,7 +12,7 @@ OWNER = re.compile(r"^(?:pub )?(?:impl(?:<[^{]*?>)?\s+(?:\w[\w:]*(?:<[^{]*?>)?\s
 
 
 def comment_over(lines, at, mark):
-    """The comment of lines that begin with this mark over a line, attributes left out."""
+    """Returns the comment over a line: the text of the lines that begin with this mark. Attributes are passed over."""
     while at > 0 and lines[at - 1].strip().startswith("#["):
         at -= 1
     words = []
@@ -22,8 +23,9 @@ def comment_over(lines, at, mark):
 
 
 def functions(path, source):
-    """The functions of a source: owner, name, whether it is public, its line, its comment, and its clauses, each with its
-    kind, its name, its line and its comment. What a type defines for a trait is a clause of no function."""
+    """Yields each function of a source: its owner, its name, whether it is public, its line, its comment and its
+    clauses. A clause has a kind, a name, a line and a comment. A definition that a type gives for a trait counts as a
+    function with one clause."""
     lines, owner, within_trait = source.split("\n"), None, False
     for number, line in enumerate(lines):
         ghost = GHOST.match(line)
@@ -44,14 +46,16 @@ def functions(path, source):
             if clause:
                 clauses.append((clause[1], clause[2] or "", at + 1, comment_over(lines, at, "//")))
             at += 1
-            if at < len(lines) and HEAD.match(lines[at]) or at > number and lines[at - 1].rstrip().endswith(";"):
+            # a declaration of a trait ends so, and has no body
+            is_over = lines[at - 1].rstrip().endswith(";") and not lines[at - 1].strip().startswith("//")
+            if is_over or at < len(lines) and HEAD.match(lines[at]):
                 break
         is_public = head[2] == "pub " or within_trait
         yield owner, head[3], is_public, number + 1, comment_over(lines, number, "///"), clauses
 
 
 def crates(text):
-    """The crates that promise something, in the order of crates.txt."""
+    """Returns the crates that promise something, in the order of crates.txt."""
     listed = [line.split(":")[0].strip() for line in text("crates.txt").split("\n") if ":" in line and line[0] != "#"]
     return [name for name in listed if name not in APART]
 
@@ -63,7 +67,7 @@ def in_crate(text, crate):
 
 
 def written(text, named):
-    """What the crates of these names promise, or all where none is named."""
+    """Returns the contracts of the named crates in words; of all crates if none is named."""
     out = []
     for crate in named or crates(text):
         about = re.findall(r"^//! ?(.*)", text(f"crates/{crate}/src/lib.rt"), re.M)
@@ -81,7 +85,7 @@ def written(text, named):
 
 
 def silent(text):
-    """The clauses of public functions over which no comment stands."""
+    """Yields a line for each clause of a public function that has no comment over it."""
     for crate in crates(text):
         for path, owner, name, is_public, _, _, clauses in in_crate(text, crate):
             for _, its, line, words in clauses if is_public else []:

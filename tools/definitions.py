@@ -1,8 +1,8 @@
-"""The definitions below each theorem of docs/CLAIMS.md, from its clause down: what a reader has to believe.
+"""Definitions below each theorem of docs/CLAIMS.md, from its clause down: what a reader has to believe. `tools/docs`
+calls this file: `--definitions` writes them, and the counts of CLAIMS are compared with them.
 
 A definition is an item of a file of `crates/*/specs`, or a type of `crates/*/src` that one names. Names are resolved by
-the `use` lines of their file. `tools/docs --definitions` writes them; `tools/docs` holds the counts of CLAIMS against
-them.
+the `use` lines of their file.
 """
 import glob
 import os
@@ -10,7 +10,7 @@ import re
 import textwrap
 from dataclasses import dataclass, field
 
-# what is claimed: a title, and the file, the function and the clause that state it
+# the theorems: a title, and the file, the function and the clause that state it
 THEOREMS = [
     ("After a crash", "crates/wu_lives/src/reopening.rt", "drive_stop_and_open", "found"),
     ("One command", "crates/wu_passes/src/project/session.rt", "run", "runs"),
@@ -21,7 +21,7 @@ THEOREMS = [
 USE = re.compile(r"^(?:ghost )?use Rattle\.([\w.]+?)(?:\.\{([^}]*)\})?(?: as (\w+))?;?$", re.M)
 ITEM = re.compile(r"( *)(?:pub )?(?:abbrev|unfoldable|record|data)(?: pub)? ([^\s:({]+)")
 TYPE = re.compile(r"^pub (?:struct|enum) (\w+).*?(?:;\n|^\}\n)", re.M | re.S)
-# not a field that is given its value: `field = value`
+# a word, except a field that is given its value: `field = value`
 WORD = re.compile(r"(?<![\w.'])([A-Za-z_][\w']*(?:\.[A-Za-z_][\w']*)*)(?![\w'])(?!\s*=[^=>])")
 
 
@@ -39,7 +39,7 @@ class Definition:
 
 
 def imports(source):
-    """What each name of a file's `use` lines stands for: a module of the toolchain or of a crate, and a name there."""
+    """Returns for each name of a file's `use` lines the module of the toolchain or of a crate, and the name there."""
     found = {}
     for path, names, alias in USE.findall(source):
         if alias:
@@ -51,7 +51,7 @@ def imports(source):
 
 
 def specs_of(path, lines):
-    """The items of a file of specs, each with the comment over it, its lines, and the head of its module."""
+    """Returns the items of a file of specs, each with the comment over it, its lines, and the head of its module."""
     items, comment, module, current = [], [], "", None
     for line in lines:
         indent = len(line) - len(line.lstrip())
@@ -71,7 +71,7 @@ def specs_of(path, lines):
 
 
 def types_of(path, source):
-    """The public types of a file of code, each with its comment."""
+    """Returns the public types of a file of code, each with its comment."""
     found = []
     for match in TYPE.finditer(source):
         above = source[: match.start()].split("\n")[:-1]
@@ -84,7 +84,7 @@ def types_of(path, source):
 
 
 def code(lines):
-    """The lines without comments."""
+    """Returns the lines without comments and blank ones."""
     return [line for line in lines if line.strip() and not line.strip().startswith(("--", "//"))]
 
 
@@ -100,7 +100,7 @@ class Definitions:
             for definition in specs_of(path, source.split("\n")):
                 names[definition.name] = definition
                 if definition.lines[0].strip().startswith("pub data"):
-                    # its cases stand for it
+                    # the name of a case leads to its type
                     cases = re.findall(r"^ +(\w+) :", "\n".join(definition.lines), re.M)
                     names.update(dict.fromkeys(cases, definition))
         for path in sorted(glob.glob("crates/*/src/**/*.rt", recursive=True)):
@@ -111,7 +111,7 @@ class Definitions:
                 self.resolve(definition)
 
     def find(self, module, name):
-        """The definition of a name in a module, or None where it is the toolchain's."""
+        """Returns the definition of a name in a module; None if it is one of the toolchain."""
         parts = module.split(".")
         if len(parts) > 2 and parts[1] == "specs":
             if parts[2] == "declared":
@@ -121,7 +121,7 @@ class Definitions:
         return None
 
     def named(self, path, imported, word):
-        """What a word of a file stands for: a definition, or a name of the toolchain, or neither."""
+        """Returns what a word of a file stands for: a definition, a name of the toolchain, or None."""
         first, _, rest = word.partition(".")
         module, name = imported.get(first, (None, None))
         if module:
@@ -133,11 +133,11 @@ class Definitions:
     def resolve(self, definition):
         is_type = definition.file.endswith(".rt")
         body = "\n".join([definition.module, *code(definition.lines)])
-        # a field or a case is no use of what else has its name
+        # the name of a field or of a case does not use what else has that name
         body = re.sub(r"^ *pub \w+ ?:|^ +[A-Z]\w*" if is_type else r"^ *pub \w+ ?:", "", body, flags=re.M)
         for word in WORD.findall(body):
             if is_type:
-                # a name that one type has alone is that type, in whatever crate
+                # a name that only one type has is that type, whatever its crate
                 having = [names[word] for names in self.types.values() if word in names]
                 found = self.types[definition.file.split("/")[1]].get(word) or (having[0] if len(having) == 1 else None)
             else:
@@ -148,7 +148,7 @@ class Definitions:
                 definition.uses.append(found)
 
     def clause(self, path, function, clause):
-        """A clause of a function's contract as it stands there, and what it names."""
+        """Returns the text of a clause of a function's contract, and the definitions that it names."""
         source = self.text(path)
         start = re.search(rf"\bfn {function}\b", source).start()
         head = re.compile(rf"ensures {clause + ' ' if clause else ''}(?=\{{)").search(source, start)
@@ -164,7 +164,7 @@ class Definitions:
         return source[head.start() : end], roots
 
     def below(self, roots):
-        """These definitions and all that they stand on, each before those that it names."""
+        """Returns these definitions and all that they name, directly or not, each before those that it names."""
         order, seen = [], set()
 
         def visit(definition):
@@ -180,20 +180,20 @@ class Definitions:
         return order[::-1]
 
     def theorems(self):
-        """Of each theorem: its title, its place, its clause, and the definitions below it."""
+        """Yields for each theorem its title, its file and function, its clause, and the definitions below it."""
         for title, path, function, clause in THEOREMS:
             quoted, roots = self.clause(path, function, clause)
             yield title, path, function, quoted, self.below(roots)
 
 
 def counts(below):
-    """How many definitions, lines, files and crates these are."""
+    """Returns how many definitions, lines, files and crates these are."""
     files = {it.file for it in below}
     return len(below), sum(len(code(it.lines)) for it in below), len(files), len({file.split("/")[1] for file in files})
 
 
 def written(text):
-    """The whole file: each theorem with its clause, its counts and those of its definitions that no earlier one has."""
+    """Returns the whole file: each theorem with its clause, its counts, and its definitions that no earlier one has."""
     head = "Written by `tools/docs --definitions`. A definition stands before those that it names, and once."
     out, seen = ["# Definitions", "", head, ""], set()
     for title, path, function, quoted, below in Definitions(text).theorems():

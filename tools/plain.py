@@ -1,11 +1,11 @@
 """A plain script that does a project's work over Python's sqlite3 module, one commit a command, and times it.
 
-    python3 plain.py FILE           prints a line 'name<TAB>milliseconds' for each command
-    python3 plain.py FILE --views   the same for each view of a file that is there, and writes their texts to FILE.NAME
+    python3 plain.py FILE           makes a project in FILE; prints a line 'name<TAB>milliseconds' for each command
+    python3 plain.py FILE --views   the same for each view of a FILE that exists, and writes their texts to FILE.NAME
 
-It keeps the same tables with the same queue, reads the same files and follows the same rules, without the proofs: a
-pass reads the rows of its first workunits by the queue with two queries, judges them in Python, and writes them with
-executemany, the queue's too.
+It keeps the same tables with the same queue, reads the same files and follows the same rules, without the proofs. A
+pass reads the rows of its first workunits by the queue with two queries and judges them in Python. It writes them, and
+the queue's rows, with executemany. `tools/bench` runs it. It exits with 0.
 """
 
 import csv
@@ -42,7 +42,7 @@ INSERT INTO project VALUES (1, 3, 1);
 """
 
 WORKUNIT = "number name min_quorum target_nresults max_error_results max_total_results max_success_results delay_bound credit input error_mask canonical assimilate file_delete done_at".split()
-# with its class, which has a row in a table of its own
+# and its class, which has a row in a table of its own
 CLASSED = [*WORKUNIT, "class"]
 RESULT = "workunit n server_state outcome validate_state file_delete host sent_at deadline received_at output".split()
 
@@ -121,7 +121,7 @@ def sent(db, name, content):
 
 
 def class_of(db, host):
-    """The class of a host, 0 where no file named it."""
+    """Returns the class of a host; 0 if no file named it."""
     (found,) = db.execute("SELECT coalesce(max(class), 0) FROM host_class WHERE host = ?", (host,)).fetchone()
     return found
 
@@ -156,7 +156,7 @@ def reported(db, name, content):
 
 
 def load(db, selects, values):
-    """Those that the queue selects so, in order."""
+    """Returns the workunits that the queue selects so, in order."""
     first = f"SELECT workunit FROM queue WHERE {selects} ORDER BY workunit LIMIT ?"
     instances = {}
     for row in db.execute(f"SELECT * FROM result WHERE workunit IN ({first}) ORDER BY workunit, n", values):
@@ -170,7 +170,7 @@ def mark(db, workunits):
 
 
 def mark_all(db, numbers):
-    """The marks of these workunits, read anew."""
+    """Reads the workunits again, and returns their rows of the queue."""
     found = []
     for number in sorted(numbers):
         (row,) = db.execute("SELECT w.*, class FROM workunit w JOIN workunit_class ON workunit = number WHERE number = ?", (number,))
@@ -184,7 +184,7 @@ def viable(instances):
 
 
 def is_bound_in_vain(w, instances):
-    """It has a class, and no instance in progress nor a viable success."""
+    """Returns whether a workunit has a class, but no instance in progress and no viable success."""
     return w["class"] > 0 and not viable(instances) and not any(i["server_state"] == IN_PROGRESS for i in instances)
 
 
@@ -204,7 +204,7 @@ def wants_validation(w, instances):
 
 
 def is_due(w, instances):
-    """The transitioner has something to do, whatever the moment."""
+    """Returns whether the transitioner has something to do, whatever the moment."""
     if is_bound_in_vain(w, instances):
         return True
     if w["error_mask"]:
@@ -494,7 +494,7 @@ def day(db, place, first):
 
 
 def idle(db, place):
-    """Each pass where nothing is due."""
+    """Times each pass when nothing is due."""
     timed(f"{place}: transition of none", lambda: transitions(db, AFTERNOON, 1000))
     timed(f"{place}: validate of none", lambda: validation(db, 1000))
     timed(f"{place}: assimilate of none", lambda: assimilation(db, AFTERNOON, 1000))

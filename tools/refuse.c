@@ -1,16 +1,22 @@
-// Refuses calls of the C library, so that tools/refuse sees what a program does then. It is loaded before that
-// library.
+// Fails calls of the C library, so that tools/refuse sees what a program then does. It is loaded before that library.
 //
-// From the environment: REFUSE_COUNTS, a file of six counters of 8 bytes that the calls seen are counted in;
-// REFUSE_KIND, which calls are refused (memory, read, write, sync, cut, output, or none); REFUSE_AT, which of them is
-// the first, from 1 (of output: how many bytes go out before); REFUSE_ON, whether those behind it are refused too;
-// REFUSE_ERROR, the number of the error. Reads, writes, syncs and cuts are those of files whose names end in ".db" or
-// ".db-wal". A process that goes on for a minute is killed.
+// It reads from the environment:
 //
-// Where REFUSE_AT is 0, no call is refused to the process itself: at each call of the kind it stands still, and a child
-// goes on in its place, to which this call alone is refused; behind it another one, to which all from this one on are.
-// When a child has ended, its status is told on the file of number REFUSE_TELL, and a byte is awaited on REFUSE_HEAR;
-// then the database, its log (REFUSE_LEFT is the database's path) and both outputs are made what they were before.
+//   REFUSE_COUNTS   a file of six counters of 8 bytes, in which the calls are counted
+//   REFUSE_KIND     which calls fail: memory, read, write, sync, cut, output, or none
+//   REFUSE_AT       the first call that fails, from 1; of output, how many bytes go out before
+//   REFUSE_ON       1 if those after it fail too
+//   REFUSE_ERROR    the number of the error
+//   REFUSE_LEFT     the path of the database, if REFUSE_AT is 0
+//   REFUSE_TELL, REFUSE_HEAR    numbers of open files, if REFUSE_AT is 0
+//
+// Reads, writes, syncs and cuts are those of files whose names end in ".db" or ".db-wal". A process that runs for more
+// than a minute is killed.
+//
+// If REFUSE_AT is 0, no call of the process itself fails. At each call of the kind it waits while a child goes on in
+// its place, whose call alone fails; then another child, whose calls fail from this one on. When a child has ended, its
+// status is written to REFUSE_TELL, and a byte is awaited from REFUSE_HEAR. Then the database, its log and both outputs
+// get the bytes that they had before.
 #define _GNU_SOURCE
 #include <dlfcn.h>
 #include <errno.h>
@@ -39,7 +45,7 @@ static int is_begun;
 static int stands_still, is_child;
 static int tell, hear;
 
-// A file that the program may change, and what it held: -1 bytes where it was not there.
+// A file that the program may change, and its bytes before; the length is -1 if there was no file.
 enum { MOST = 1 << 24 };
 struct left {
     char path[PATH_MAX];
@@ -76,7 +82,7 @@ __attribute__((constructor)) static void begin(void) {
     is_begun = 1;
 }
 
-// Keeps what a file holds. No function of this library is called for it.
+// Saves what a file holds. It calls no function of this library.
 static void keep(struct left *file) {
     int from = syscall(SYS_openat, AT_FDCWD, file->path, O_RDONLY);
     file->length = from < 0 ? -1 : 0;
@@ -87,7 +93,7 @@ static void keep(struct left *file) {
     if (from >= 0) syscall(SYS_close, from);
 }
 
-// Makes a file what it was.
+// Gives a file the bytes that it had.
 static void put_back(const struct left *file) {
     if (file->length < 0) {
         unlink(file->path);
@@ -99,7 +105,7 @@ static void put_back(const struct left *file) {
     syscall(SYS_close, to);
 }
 
-// A child goes on behind a call that is refused to it. Whether this is the child.
+// Starts a child, whose call fails, and waits for its end. Returns whether this is the child.
 static int goes_on_as_child(uint64_t number, int child_goes_on) {
     uint64_t seen[NONE];
     off_t outputs[3];
@@ -127,7 +133,7 @@ static int goes_on_as_child(uint64_t number, int child_goes_on) {
     return 0;
 }
 
-// Counts a call, and tells whether it is refused.
+// Counts a call, and returns whether it fails.
 static int refuses(enum kind kind) {
     if (!is_begun) return 0;
     uint64_t number = __atomic_add_fetch(&counts[kind], 1, __ATOMIC_RELAXED);
@@ -198,7 +204,7 @@ int posix_memalign(void **place, size_t align, size_t size) {
     return refuses(MEMORY) ? ENOMEM : real(place, align, size);
 }
 void free(void *place) {
-    // what a child frees would be copied for it first
+    // to free memory in a child would copy its pages first
     if (is_early(place) || is_child) return;
     FOUND(free)
     real(place);
@@ -220,7 +226,7 @@ OVER(SYNC, fdatasync, int, (int file), file)
 OVER(CUT, ftruncate, int, (int file, off_t size), file, size)
 OVER(CUT, ftruncate64, int, (int file, off64_t size), file, size)
 
-// Standard output takes so many bytes, and then none.
+// Standard output takes a number of bytes, and then fails.
 ssize_t write(int file, const void *from, size_t size) {
     FOUND(write)
     if (file == 1 && is_begun) {

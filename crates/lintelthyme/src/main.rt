@@ -1,4 +1,4 @@
-//! The program: a line of an operator over a project in a database file, or with no word after its name the
+//! The program: runs an operator's command line over a project in a database file; without a word after its name, the
 //! demonstration.
 #![tactic(auto)]
 

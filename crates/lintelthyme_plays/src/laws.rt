@@ -1,4 +1,4 @@
-//! A play by the calls that the laws of stops and of lives speak of.
+//! Scenarios of the functions of `wu_stops` and `wu_lives`.
 
 use anyhow::{Context, Result, bail, ensure};
 use sqlite::Files;
@@ -12,7 +12,7 @@ use wu_play_files::{MOST_CALLS, PlayDisk, PlayFiles, Saved, Side};
 use wu_play_laws::{close_and_go_on, close_left, live_on, open_left, run_at, run_twice};
 use wu_plays::views_of;
 
-/// The batch that a line names, with its file.
+/// Returns the batch that a line names, with the contents of its file.
 fn batch(rt: &HostRuntime, line: &str) -> Result<Command> {
     let Some((name, path)) = line.split_once(' ') else {
         bail!("a batch has a name and a file");
@@ -28,7 +28,7 @@ fn batch(rt: &HostRuntime, line: &str) -> Result<Command> {
     }))
 }
 
-/// The lives of a script: one of a batch for each line.
+/// Returns the sessions of a script: one for each line, with the command of its batch.
 fn lives(rt: &HostRuntime, text: &str) -> Result<Vec<Vec<Command>>> {
     let mut lives = Vec::new(rt.alloc());
     for line in text.lines() {
@@ -37,14 +37,14 @@ fn lives(rt: &HostRuntime, text: &str) -> Result<Vec<Vec<Command>>> {
     Ok(lives)
 }
 
-/// All views of the project in two files.
+/// Returns all views of the project in two files.
 fn views_in(alloc: Global, files: Files<PlayDisk>) -> Result<Vec<u8>> {
     let saved = PlayFiles::from_files(files).saved(alloc)?;
     views_of(alloc, &saved)
 }
 
-/// Stops an opening of empty files after each number of calls on the log, and sees that a fresh project is found each
-/// time. How many stops there are.
+/// Lets the log fail after each number of calls of an opening of empty files, and checks that a fresh project is found
+/// each time. Returns how often the opening failed.
 fn stop_openings(alloc: Global) -> Result<u64> {
     let blank = Saved::empty(alloc);
     let fresh = views_of(alloc, &blank)?;
@@ -61,7 +61,8 @@ fn stop_openings(alloc: Global) -> Result<u64> {
     bail!("the calls go on")
 }
 
-/// How a close ended whose files take so many calls, None where a call stopped before it. The project is found.
+/// Closes a project whose database file fails after `calls` calls, and checks that it is found after a crash. Returns
+/// whether the close succeeded; `None` if a call failed before it.
 fn stop_close(alloc: Global, saved: &Saved, calls: u64, seen: &[u8]) -> Result<Option<bool>> {
     let files = saved.stopping(alloc, Side::Database, calls)?;
     let Some((is_closed, left)) = close_and_go_on(alloc, files.into_files())? else {
@@ -71,7 +72,8 @@ fn stop_close(alloc: Global, saved: &Saved, calls: u64, seen: &[u8]) -> Result<O
     Ok(Some(is_closed))
 }
 
-/// Sees that the project is found in the store that a close leaves whose files take so many calls.
+/// Closes a project whose database file fails after `calls` calls, and checks that it is found in the store that is
+/// left.
 fn adopt_left(alloc: Global, saved: &Saved, calls: u64, seen: &[u8]) -> Result<()> {
     let files = saved.stopping(alloc, Side::Database, calls)?;
     let Some(left) = close_left(alloc, files.into_files())? else {
@@ -81,7 +83,7 @@ fn adopt_left(alloc: Global, saved: &Saved, calls: u64, seen: &[u8]) -> Result<(
     Ok(())
 }
 
-/// Stops a close after each number of calls on the database. The numbers of those that it stopped at.
+/// Lets the database file fail after each number of calls of a close. Returns the numbers after which the close failed.
 fn stop_closes(alloc: Global, saved: &Saved, seen: &[u8]) -> Result<Vec<u64>> {
     let mut stops = Vec::new(alloc);
     for calls in 0..MOST_CALLS {
@@ -97,7 +99,7 @@ fn stop_closes(alloc: Global, saved: &Saved, seen: &[u8]) -> Result<Vec<u64>> {
     bail!("the calls go on")
 }
 
-/// Stops openings and closes, and tells how often.
+/// Lets openings and closes fail, and writes how often they did.
 fn stop(alloc: Global, saved: &Saved, seen: &[u8], transcript: &mut Vec<u8>) -> Result<()> {
     let openings = stop_openings(alloc).context("an opening")?;
     writeln!(
@@ -113,7 +115,7 @@ fn stop(alloc: Global, saved: &Saved, seen: &[u8], transcript: &mut Vec<u8>) -> 
     Ok(())
 }
 
-/// Runs commands twice over two files, and over a file of the current folder.
+/// Runs commands twice over two files, and once over a file of the current folder.
 fn run(rt: &HostRuntime, commands: &[Command], transcript: &mut Vec<u8>) -> Result<()> {
     let files = Saved::empty(rt.alloc()).files(rt.alloc())?.into_files();
     let left = run_twice(rt.alloc(), files, commands, transcript)?;
@@ -122,8 +124,8 @@ fn run(rt: &HostRuntime, commands: &[Command], transcript: &mut Vec<u8>) -> Resu
     Ok(())
 }
 
-/// Lives the lives of a script, and writes what they answer and all views of the end; then stops openings and closes,
-/// and runs the first life.
+/// Runs the sessions of a script one after another, and writes their answers and all views of the end. Then lets
+/// openings and closes fail, and runs the commands of the first session without a crash.
 pub fn play(rt: &HostRuntime, text: &str, transcript: &mut Vec<u8>) -> Result<()> {
     let alloc = rt.alloc();
     let lives = lives(rt, text)?;

@@ -1,6 +1,6 @@
-//! Plays the scripts that `plays` names, over databases in memory, over files that stop, into writers that fail and by
-//! whole command lines, and prints what they answer. A play that goes wrong prints a line that begins with `FAILED: `,
-//! and the program then ends with status 1.
+//! Runs the scenarios of the list `plays`: over databases in memory, over files that fail, into writers that fail, and
+//! by whole command lines. Prints their transcripts. A scenario that goes wrong prints a line that begins with `FAILED:
+//! `, and the program then ends with status 1.
 #![tactic(auto)]
 
 mod laws;
@@ -14,12 +14,12 @@ use std::fs;
 use std::io::Write;
 use std::process::ExitCode;
 
-/// Plays a line of the list, and writes what it answers.
+/// Runs the scenario of a line of the list, and writes its transcript.
 fn play(rt: &HostRuntime, line: &str, transcript: &mut Vec<u8>) -> Result<()> {
     Play::read(rt.alloc(), line)?.run(rt, transcript)
 }
 
-/// Plays a line of the list, and prints what it wrote. Whether nothing went wrong.
+/// Runs the scenario of a line of the list, and prints its transcript. Returns whether nothing went wrong.
 fn play_line(rt: &HostRuntime, line: &str) -> Result<bool> {
     let mut transcript = Vec::new(rt.alloc());
     writeln!(transcript, "== {line}")?;
@@ -33,7 +33,7 @@ fn play_line(rt: &HostRuntime, line: &str) -> Result<bool> {
     Ok(is_right)
 }
 
-/// Plays all lines of the list. Whether nothing went wrong.
+/// Runs all scenarios of the list. Returns whether nothing went wrong.
 fn play_all(rt: &HostRuntime) -> Result<bool> {
     let list = fs::read_to_string(rt, "plays").context("the list of plays")?;
     let mut are_right = true;

@@ -1,4 +1,4 @@
-//! A play: a script, and how it is played.
+//! A scenario: a script, and its driver.
 
 use crate::{laws, upgrades, words};
 use anyhow::{Context, Result, bail};
@@ -6,19 +6,19 @@ use std::alloc::Global;
 use std::fs;
 use wu_plays::Way;
 
-/// How the script of a play is played.
+/// How the script of a scenario runs.
 #[derive(Drop)]
 enum Means {
     /// Over files of the current folder, each line a whole command line.
     Words,
-    /// By the calls that the laws of stops and of lives speak of, each line a batch and a life.
+    /// By the functions of `wu_stops` and `wu_lives`, each line a batch that is a session of its own.
     Laws,
-    /// By the call that upgrades a project with no session, each line a database.
+    /// By the function that upgrades a project without a session, each line a database.
     Upgrades,
     Way(Way),
 }
 
-/// A line of the list of plays.
+/// A line of the list of scenarios.
 #[derive(Drop)]
 pub struct Play<'a> {
     means: Means,
@@ -27,6 +27,7 @@ pub struct Play<'a> {
 }
 
 impl<'a> Play<'a> {
+    /// Reads a line of the list: the driver, the path of the script, and the words that the driver takes.
     pub fn read(alloc: Global, line: &'a str) -> Result<Play<'a>> {
         let words: Vec<&str> = line.split(' ').collect(alloc)?;
         let [name, script, rest @ ..] = words.as_slice() else {
@@ -44,7 +45,7 @@ impl<'a> Play<'a> {
         })
     }
 
-    /// Plays the script, and writes what it answers.
+    /// Runs the script, and writes its transcript.
     pub fn run(&self, rt: &HostRuntime, transcript: &mut Vec<u8>) -> Result<()> {
         let text = fs::read_to_string(rt, self.script).context(self.script)?;
         let text = text.as_str();

@@ -1,4 +1,4 @@
-//! A play by the call that upgrades a project on a connection, with no session over it.
+//! Scenarios of the function that upgrades a project on a connection, without a session over it.
 
 use anyhow::{Context, Result, bail, ensure};
 use sqlite::{Alter, Connection};
@@ -17,13 +17,13 @@ enum End {
     Unopened,
     /// With this fault, before its transaction.
     Unbegun(Fault),
-    /// With this fault, where its transaction had begun.
+    /// With this fault, after its transaction had begun.
     Begun(Fault),
     Done,
 }
 
 impl End {
-    /// The fault that it told.
+    /// Returns the fault of the upgrade.
     fn fault(self) -> Option<Fault> {
         match self {
             End::Unbegun(fault) | End::Begun(fault) => Some(fault),
@@ -31,7 +31,7 @@ impl End {
         }
     }
 
-    /// Whether the project may be found upgraded behind it, or as it was.
+    /// Returns whether the project may be found so afterwards: upgraded, or as it was.
     fn may_leave(self, is_upgraded: bool) -> bool {
         match self {
             End::Unopened | End::Unbegun(_) => !is_upgraded,
@@ -52,7 +52,7 @@ impl fmt::Display for End {
     }
 }
 
-/// Upgrades the project in a database.
+/// Upgrades the project in a database, and returns how that ended.
 fn upgrade_in<S: Alter>(alloc: Global, conn: &mut Connection<S>) -> Result<End> {
     ensure!(conn.is_autocommit(), "a transaction is open");
     let end = match upgrade(conn, alloc) {
@@ -63,7 +63,7 @@ fn upgrade_in<S: Alter>(alloc: Global, conn: &mut Connection<S>) -> Result<End> 
     Ok(end)
 }
 
-/// An upgrade of the project in a database.
+/// A visitor that upgrades the project in a database.
 #[derive(Drop)]
 struct Upgrading;
 
@@ -80,8 +80,8 @@ impl Visit for Upgrading {
     }
 }
 
-/// Opens files, upgrades the project in them, and closes them, as far as they let it: how it ended, and whether the close
-/// was answered too.
+/// Opens files, upgrades the project in them, and closes them as far as their calls succeed. Returns the files, how the
+/// upgrade ended, and whether the close succeeded.
 fn run(alloc: Global, files: PlayFiles) -> Result<(PlayFiles, End, bool)> {
     let left = visit_play(alloc, files, options(1, Pages::Few), Upgrading)?;
     let (files, told, is_closed) = left.into_parts();
@@ -92,7 +92,7 @@ fn run(alloc: Global, files: PlayFiles) -> Result<(PlayFiles, End, bool)> {
     Ok((files, end, is_closed))
 }
 
-/// How the upgrade of a database ends that no call stops, and what it leaves, closed.
+/// Upgrades a database over files that do not fail. Returns their contents after the close, and how the upgrade ended.
 fn run_whole(alloc: Global, saved: &Saved) -> Result<(Saved, End)> {
     let (files, end, is_closed) = run(alloc, saved.files(alloc)?)?;
     ensure!(is_closed, "it is not closed");
@@ -108,7 +108,7 @@ struct Case<'a> {
 }
 
 impl Case<'_> {
-    /// Whether this is the upgraded project, and not that from before.
+    /// Returns whether a snapshot is of the upgraded project. Fails if it is neither of that nor of the one before.
     fn is_upgraded(&self, seen: &Seen) -> Result<bool> {
         if seen.is_same(self.after) {
             return Ok(true);
@@ -121,7 +121,8 @@ impl Case<'_> {
     }
 }
 
-/// Adopts the project that is found, upgrades it again, and sees that it is the upgraded one. Whether it was so before.
+/// Checks what a crash left, upgrades the project again, and checks that it is the upgraded one. Returns whether it was
+/// so before that.
 fn go_on<S: Alter + Drop>(
     alloc: Global,
     conn: Connection<S>,
@@ -136,7 +137,7 @@ fn go_on<S: Alter + Drop>(
     Ok((conn, is_upgraded))
 }
 
-/// A session that goes on so.
+/// A visitor that checks what a crash left, and upgrades the project again.
 #[derive(Drop)]
 struct GoingOn<'a> {
     case: Case<'a>,
@@ -154,12 +155,12 @@ impl<'a> Visit for GoingOn<'a> {
     }
 }
 
-/// What was found behind the stops of an upgrade.
+/// What was found after the crashes of an upgrade.
 #[derive(Drop)]
 struct Finds {
     before: u64,
     after: u64,
-    /// The latest files, and whether the project in them was upgraded. Where the next stop leaves the same, they are not
+    /// The latest files, and whether the project in them was upgraded. If the next crash leaves the same, they are not
     /// opened again.
     latest: Option<(Saved, bool)>,
 }
@@ -173,7 +174,7 @@ impl Finds {
         }
     }
 
-    /// Whether the project in these files is upgraded.
+    /// Returns whether the project in these files is upgraded.
     fn is_upgraded(&self, alloc: Global, case: Case<'_>, files: &Saved) -> Result<bool> {
         match &self.latest {
             Some((latest, is_upgraded)) if latest.is_same(files) => Ok(*is_upgraded),
@@ -181,7 +182,7 @@ impl Finds {
         }
     }
 
-    /// Goes on from what an upgrade left that ended so, and counts it.
+    /// Checks what an upgrade left that ended so, and counts what was found.
     fn find(&mut self, alloc: Global, case: Case<'_>, files: Saved, end: End) -> Result<()> {
         let is_upgraded = self.is_upgraded(alloc, case, &files)?;
         ensure!(end.may_leave(is_upgraded), "it tells otherwise");
@@ -195,16 +196,16 @@ impl Finds {
     }
 }
 
-/// What is counted over the stops of an upgrade.
+/// The counts over the crashes of an upgrade.
 #[derive(Drop)]
 struct Tally {
     unopened: u64,
     unbegun: u64,
     begun: u64,
     done: u64,
-    /// What was found where a stop lost what was not synced.
+    /// What was found if the crash lost what was not synced.
     lost: Finds,
-    /// What was found where it kept all that was written.
+    /// What was found if the crash kept all that was written.
     kept: Finds,
 }
 
@@ -230,7 +231,7 @@ impl Tally {
         *count = count.saturating_add(1);
     }
 
-    /// Writes the counts of the calls on this file. All faults were `Broken`.
+    /// Writes the counts for crashes by this file. All faults were `Broken`.
     fn write(&self, side: Side, transcript: &mut Vec<u8>) -> io::Result<()> {
         let Tally { lost, kept, .. } = self;
         writeln!(
@@ -248,7 +249,8 @@ impl Tally {
     }
 }
 
-/// Stops an upgrade after so many calls, and goes on with either loss. Whether the calls stopped.
+/// Runs an upgrade whose file fails after `calls` calls, and checks what a crash leaves that keeps or loses unsynced
+/// writes. Returns whether the file has failed.
 fn stop(alloc: Global, case: Case<'_>, side: Side, calls: u64, tally: &mut Tally) -> Result<bool> {
     let (mut files, end, is_closed) = run(alloc, case.saved.stopping(alloc, side, calls)?)?;
     if !files.are_stopped() {
@@ -267,7 +269,7 @@ fn stop(alloc: Global, case: Case<'_>, side: Side, calls: u64, tally: &mut Tally
     Ok(true)
 }
 
-/// Stops an upgrade after each number of calls on a file, up to one that it does not reach: what was found.
+/// Lets a file fail after each number of calls, up to one that the upgrade does not reach. Returns the counts.
 fn stop_each(alloc: Global, case: Case<'_>, side: Side) -> Result<Tally> {
     let mut tally = Tally::new();
     for calls in 0..MOST_CALLS {
@@ -281,7 +283,7 @@ fn stop_each(alloc: Global, case: Case<'_>, side: Side) -> Result<Tally> {
     bail!("the calls on the {side} go on")
 }
 
-/// Plays the stops of an upgrade by the calls on each of the two files, and tells of them.
+/// Lets each of the two files fail after each number of calls of an upgrade, and writes the counts.
 fn play_stops(alloc: Global, case: Case<'_>, transcript: &mut Vec<u8>) -> Result<()> {
     for side in [Side::Log, Side::Database] {
         stop_each(alloc, case, side)?.write(side, transcript)?;
@@ -289,7 +291,7 @@ fn play_stops(alloc: Global, case: Case<'_>, transcript: &mut Vec<u8>) -> Result
     Ok(())
 }
 
-/// Tells what the upgrade of a project changed, and upgrades it again, which changes nothing; then plays the stops.
+/// Writes what the upgrade of a project changed. Upgrades it again, which changes nothing, and then runs the crashes.
 fn play_change(alloc: Global, saved: &Saved, left: &Saved, transcript: &mut Vec<u8>) -> Result<()> {
     let before = seen_of(alloc, saved)?;
     let after = seen_of(alloc, left)?;
@@ -305,7 +307,7 @@ fn play_change(alloc: Global, saved: &Saved, left: &Saved, transcript: &mut Vec<
     play_stops(alloc, case, transcript)
 }
 
-/// Plays the upgrade of the project in a database.
+/// Runs the upgrade of the project in a database.
 fn play_database(alloc: Global, saved: &Saved, transcript: &mut Vec<u8>) -> Result<()> {
     let (left, end) = run_whole(alloc, saved)?;
     if left.has_database_of(saved) {
@@ -316,7 +318,7 @@ fn play_database(alloc: Global, saved: &Saved, transcript: &mut Vec<u8>) -> Resu
     play_change(alloc, saved, &left, transcript)
 }
 
-/// Plays the upgrades of the databases that a script names.
+/// Runs the upgrades of the databases that a script names.
 pub fn play(rt: &HostRuntime, text: &str, transcript: &mut Vec<u8>) -> Result<()> {
     for line in text.lines() {
         if line.starts_with('#') {

@@ -1,4 +1,4 @@
-//! A play of whole command lines over files of the current folder, by the call that the program makes.
+//! Scenarios of whole command lines over files of the current folder, by the function that the program calls.
 
 use anyhow::{Result, bail};
 use sqlite_disk::Wary;
@@ -7,7 +7,7 @@ use wu_feed::{LineCause, Words, read_script};
 use wu_plays::{write_comment, write_status};
 use wu_process::run_with;
 
-/// The words of a process: the program's name, and those of a line.
+/// Returns the words of a process: the program's name, and those of a line.
 fn process_words(rt: &HostRuntime, words: Result<Words, LineCause>) -> Result<Vec<String>> {
     let Ok(words) = words else {
         bail!("a line has no words");
@@ -17,7 +17,7 @@ fn process_words(rt: &HostRuntime, words: Result<Words, LineCause>) -> Result<Ve
     Ok(words)
 }
 
-/// Runs the program with these words: what it prints, what it tells of a fault, and its status.
+/// Runs the program with these words. Writes what it prints, what it reports of a fault, and its status.
 fn run(rt: &HostRuntime, words: Vec<String>, transcript: &mut Vec<u8>) -> Result<()> {
     let mut told = Vec::new(rt.alloc());
     let status = run_with(rt, Ok(words), Wary, transcript, &mut told).status;
@@ -26,7 +26,7 @@ fn run(rt: &HostRuntime, words: Vec<String>, transcript: &mut Vec<u8>) -> Result
     Ok(())
 }
 
-/// Plays a line of the script.
+/// Runs a line of the script, and writes it with its answer.
 fn play_line(rt: &HostRuntime, line: &str, transcript: &mut Vec<u8>) -> Result<()> {
     write_comment(line, transcript)?;
     for line_of_words in read_script(rt.alloc(), line.as_bytes())?.into_vec() {
@@ -36,7 +36,7 @@ fn play_line(rt: &HostRuntime, line: &str, transcript: &mut Vec<u8>) -> Result<(
     Ok(())
 }
 
-/// Plays a script.
+/// Runs a scenario.
 pub fn play(rt: &HostRuntime, text: &str, transcript: &mut Vec<u8>) -> Result<()> {
     for line in text.lines() {
         play_line(rt, line, transcript)?;

@@ -19,17 +19,17 @@ use Rattle.wu_arguments.specs.declared.action.Action.TheVariants.{Commands, Look
 use Rattle.wu_arguments.specs.declared.line.Asking.{Asking}
 use Rattle.wu_arguments.specs.declared.line.Asking.TheVariants as asking
 
--- goes on with the value, or keeps the fault
+-- Passes the value on to the next step, or keeps the fault.
 abbrev pub and_then : {A B : Type 0} → Result A Fault → (A → Result B Fault) → Result B Fault
 and_then (Ok value) next = next value
 and_then (Err fault) next = Err fault
 
--- the bytes of a file that was read
+-- The bytes of a file that was read; for any other file `BadFile` with `Unreadable`.
 abbrev pub read_bytes : Option (List ℕ) → Result (List ℕ) Fault
 read_bytes (Some bytes) = Ok bytes
 read_bytes None = Err (BadFile 0 Unreadable)
 
--- the bytes of a line's file, by its place
+-- The bytes of the file at this place among the files of a line.
 abbrev pub content_of : List (Option (List ℕ)) → ℕ → Result (List ℕ) Fault
 content_of [] place = Err (BadFile 0 Unreadable)
 content_of (content ∷ contents) zero = read_bytes content
@@ -38,34 +38,34 @@ content_of (content ∷ contents) (suc place) = content_of contents place
 abbrev pub one : Command → Result Action Fault
 one command = Ok (Commands (command ∷ []))
 
--- a batch of this name: its jobs, then its template
+-- The batch of this name. Its jobs are the first file, and its template is the second.
 abbrev pub batch : List ℕ → List (Option (List ℕ)) → Result Action Fault
 batch text contents =
     and_then (name_of text) (λ name. and_then (content_of contents 0) (λ file. and_then (content_of contents 1) (λ template.
     one (command.Batch (record { name = name; template = template; file = file })))))
 
--- a file of rows of this name
+-- The file of rows of this name, with its content.
 abbrev pub rows_file : List ℕ → List (Option (List ℕ)) → Result RowsFile Fault
 rows_file text contents = and_then (name_of text) (λ name. and_then (content_of contents 0) (λ file. Ok (record { name = name; file = file })))
 
--- an import of this kind
+-- The import of this kind, as a command, or its first fault.
 abbrev pub prepared_import : ImportKind → List ℕ → List (Option (List ℕ)) → Result Action Fault
 prepared_import Batch name contents = batch name contents
 prepared_import Sent name contents = and_then (rows_file name contents) (λ file. one (command.Sent file))
 prepared_import Reported name contents = and_then (rows_file name contents) (λ file. one (command.Reported file))
 prepared_import Classes name contents = and_then (rows_file name contents) (λ file. one (command.Classes file))
 
--- the moment of a pass that takes one
+-- The moment of a pass that takes one; without it `BadMoment`.
 abbrev pub moment_in : Option (List ℕ) → Result ℕ Fault
 moment_in (Some text) = moment_of text
 moment_in None = Err BadMoment
 
--- the least age of a purge
+-- The least age of a purge; without it `BadLimit`.
 abbrev pub age_in : Option ℕ → Result ℕ Fault
 age_in (Some age) = Ok age
 age_in None = Err BadLimit
 
--- the command of a pass
+-- The command of a pass, or its first fault.
 abbrev pub pass_command : Pass → Option (List ℕ) → ℕ → Option ℕ → Result Command Fault
 pass_command Transition now limit min_age = and_then (moment_in now) (λ now. Ok (command.Transition now limit))
 pass_command Validate now limit min_age = Ok (command.Validate limit)
@@ -77,7 +77,7 @@ pass_command Purge now limit min_age =
 abbrev pub all_of_cycle : List ℕ → ℕ → ℕ → Result Action Fault
 all_of_cycle text limit min_age = and_then (moment_of text) (λ now. Ok (Commands (cycle now limit min_age)))
 
--- the command of a line, or its commands, or its view; else the first fault among its options from left to right
+-- The command, the commands or the view that a line asks for, or the first fault among its options from left to right.
 abbrev pub prepared : Asking → List (Option (List ℕ)) → Result Action Fault
 prepared (asking.Import kind name file template) contents = prepared_import kind name contents
 prepared (asking.Pass pass now limit min_age) contents = and_then (pass_command pass now limit min_age) one
@@ -86,7 +86,7 @@ prepared (asking.Cancel workunit) contents = and_then (name_of workunit) (λ nam
 prepared (asking.Show view) contents = Ok (Look view)
 prepared asking.Upgrade contents = one command.Upgrade
 
--- the contents as lists of bytes
+-- The contents of files, as lists of bytes.
 abbrev pub content_bytes : {A : Type 0} → Option (Vec ℕ A) → Option (List ℕ)
 content_bytes = option_map (λ content. content.items)
 

@@ -17,7 +17,7 @@ use Rattle.wu_arguments.specs.declared.option.OptionValue.TheVariants.{Text, Tex
 use Rattle.wu_arguments.specs.declared.subcommand.Subcommand.{Subcommand}
 use Rattle.wu_arguments.specs.declared.subcommand.Subcommand.TheVariants.{Import, Pass, Cancel, Cycle, Show, Upgrade, Script, Session, Check, Explain}
 
--- an option's name, without its two hyphens
+-- The name of an option, without its two hyphens.
 abbrev pub option_name : LineOption → List ℕ
 option_name Database = codes "db"
 option_name Checked = codes "db"
@@ -33,8 +33,8 @@ option_name View = codes "view"
 option_name Topic = codes "topic"
 option_name Detail = codes "which"
 
--- what follows it on a line: a template may be left out, and so may what is explained, whose words stand alone; limits
--- and ages are whole numbers of 64 bits
+-- What follows an option on a line. A template and the words of `explain` may be left out, and those words stand alone.
+-- Limits and ages are whole numbers of 64 bits.
 abbrev pub value_of_option : LineOption → OptionValue
 value_of_option Template = TextIfAny
 value_of_option Limit = Number
@@ -48,16 +48,16 @@ is_required_value Text = true
 is_required_value Number = true
 is_required_value _ = false
 
--- a line that has the option has to give it
+-- Whether a line with this option has to give it.
 abbrev pub is_required : LineOption → Bool
 is_required option = is_required_value (value_of_option option)
 
--- the option that names the file of an import
+-- The option that names the file of an import.
 abbrev pub file_option : ImportKind → LineOption
 file_option kind.Batch = Jobs
 file_option _ = File
 
--- these passes take a moment, and that one a least age
+-- Whether a pass takes a moment, and whether it takes a least age.
 abbrev pub takes_moment : PassKind → Bool
 takes_moment pass.Transition = true
 takes_moment pass.Validate = false
@@ -88,7 +88,7 @@ subcommand_name Session = codes "session"
 subcommand_name Check = codes "check"
 subcommand_name Explain = codes "explain"
 
--- a batch may have a template
+-- The options of a template: only a batch may have one.
 abbrev pub template_options : ImportKind → List LineOption
 template_options kind.Batch = Template ∷ []
 template_options _ = []
@@ -97,7 +97,7 @@ abbrev pub options_if : Bool → LineOption → List LineOption → List LineOpt
 options_if true option more = option ∷ more
 options_if false option more = more
 
--- the options of a subcommand, in the order of its usage line
+-- The options of a subcommand, in the order of its usage line.
 abbrev pub options_of : Subcommand → List LineOption
 options_of (Import kind) = Database ∷ Name ∷ file_option kind ∷ template_options kind
 options_of (Pass pass) = Database ∷ options_if (takes_moment pass) Now (Limit ∷ options_if (takes_age pass) MinAge [])
@@ -116,15 +116,15 @@ all_subcommands =
     ∷ Pass pass.Transition ∷ Pass pass.Validate ∷ Pass pass.Assimilate ∷ Pass pass.Delete ∷ Pass pass.Purge
     ∷ Cancel ∷ Cycle ∷ Show ∷ Upgrade ∷ Script ∷ Session ∷ Check ∷ Explain ∷ []
 
--- the subcommand of this name
+-- The subcommand of this name.
 abbrev pub subcommand_named : List ℕ → Option Subcommand
 subcommand_named name = find (λ subcommand. bytes_eq name (subcommand_name subcommand)) all_subcommands
 
--- what a parse reads of a word of this name that stands alone, and takes one value
+-- The rule for a value of this name that stands alone, without an option before it.
 abbrev pub bare_rule : List ℕ → Bool → Rule
 bare_rule name required = record (new_rule name) { action = Some Set; value_names = 1; required = required }
 
--- and of an option, whose value follows its name
+-- The rule for an option of this name, whose value follows it.
 abbrev pub named_rule : List ℕ → Bool → Rule
 named_rule name required = record (bare_rule name required) { long = Some name }
 
@@ -137,14 +137,14 @@ rule_of_value Word name = bare_rule name false
 abbrev pub option_rule : LineOption → Rule
 option_rule option = rule_of_value (value_of_option option) (option_name option)
 
--- an option is of its own command alone
+-- The rule of an option, and whether the option is one of all subcommands; here none is.
 abbrev pub rule_and_global : Arg → Rule × Bool
 rule_and_global arg = (rule_of arg, arg.global)
 
 abbrev pub local_rule : LineOption → Rule × Bool
 local_rule option = (option_rule option, false)
 
--- a subcommand with these options
+-- The subcommand of this name with these options.
 abbrev pub shape_with : List ℕ → List Rule → Shape
 shape_with name rules = record (new_app name).top { rules = rules }
 
@@ -154,7 +154,7 @@ leaf_with name rules = record { top = shape_with name rules; subs = [] }
 abbrev pub subcommand_shape : Subcommand → Shape
 subcommand_shape subcommand = shape_with (subcommand_name subcommand) (map option_rule (options_of subcommand))
 
--- its options are of it alone
+-- The shape of a subcommand, and whether it has options of all subcommands; here none has.
 abbrev pub shape_and_globals : Command → Shape × Bool
 shape_and_globals command = (shape_of command, (out-Command command).has_globals)
 
@@ -165,7 +165,7 @@ abbrev pub are_none : List Shape → Bool
 are_none [] = true
 are_none (first ∷ shapes) = false
 
--- the program with these subcommands, of which a line has to name one
+-- The program with these subcommands. A line has to name one of them.
 abbrev pub program_with : List Shape → App
 program_with subcommands = record {
   top = record (new_app (codes "lintelthyme")).top { is_leaf = are_none subcommands; subcommand_required = true; has_version = true };

@@ -16,7 +16,7 @@ use Rattle.wu_arguments.specs.declared.line.Asking.TheVariants as asking
 use Rattle.wu_arguments.specs.declared.order.Order.{Order}
 use Rattle.wu_arguments.specs.declared.order.Order.TheVariants as order
 
--- the view of this name
+-- The view of this name.
 abbrev pub view_named : List ℕ → Option View
 view_named name =
     if bytes_eq name (codes "workunits") then Some Workunits
@@ -27,22 +27,22 @@ view_named name =
     else if bytes_eq name (codes "classes") then Some Classes
     else None
 
--- what clap finds of an option: its first value
+-- The value that clap finds of an option: its first one, or `None`.
 abbrev pub value_in : List Row → LineOption → Option (List ℕ)
 value_in found option = first_of (option_name option) found
 
--- its first value writes this number in decimal
+-- The value of the option writes this number in decimal.
 abbrev pub IsNumberIn : List Row → LineOption → ℕ → Type 0
 IsNumberIn found option n = (text : List ℕ) × (one_of (option_name option) found ≡ Some text) × (n ≡ digits_value 10 (without_leading_plus text))
 
--- its first value names this view
+-- The value of the option names this view, or no view.
 abbrev pub IsViewIn : List Row → Option View → Type 0
 IsViewIn found view = (text : List ℕ) × (value_in found option.View ≡ Some text) × (view_named text ≡ view)
 
 abbrev pub IsTextIn : List Row → LineOption → List ℕ → Type 0
 IsTextIn found option text = value_in found option ≡ Some text
 
--- so it is of an option that a line has, and one that it has not is none
+-- If a line has the option, this is its value; otherwise this is `None`.
 abbrev pub IsTextIf : Bool → List Row → LineOption → Option (List ℕ) → Type 0
 IsTextIf true found option (Some text) = IsTextIn found option text
 IsTextIf true found option None = ⊥
@@ -53,12 +53,12 @@ IsNumberIf true found option (Some n) = IsNumberIn found option n
 IsNumberIf true found option None = ⊥
 IsNumberIf false found option n = n ≡ None
 
--- only a batch may have a template
+-- This is the template of an import; only a batch may have one.
 abbrev pub IsTemplate : List Row → ImportKind → Option (List ℕ) → Type 0
 IsTemplate found Batch template = value_in found option.Template ≡ template
 IsTemplate found kind template = template ≡ None
 
--- what a line asks is of this subcommand, and its values are those that clap finds of its options
+-- A line asks for this subcommand, with the values that clap finds of its options.
 abbrev pub HasValues : List Row → Subcommand → Asking → Type 0
 HasValues found (subcommand.Import kind) (asking.Import its name file template) =
     (its ≡ kind) × IsTextIn found option.Name name × IsTextIn found (file_option kind) file × IsTemplate found kind template
@@ -71,12 +71,12 @@ HasValues found subcommand.Show (asking.Show view) = IsViewIn found (Some view)
 HasValues found subcommand.Upgrade asking.Upgrade = ⊤
 HasValues found _ _ = ⊥
 
--- a line asks this, of the database that clap finds
+-- The words ask for this line, over the database that clap finds.
 abbrev pub IsLineIn : List Row → Asking → Order → Type 0
 IsLineIn found asking (order.Line line) = IsTextIn found option.Database line.db × (line.asking ≡ asking)
 IsLineIn found asking _ = ⊥
 
--- what words ask for is of this subcommand, with the values that clap finds of its options
+-- The words ask for this subcommand, with the values that clap finds of its options.
 abbrev pub IsOrder : List Row → Subcommand → Order → Type 0
 IsOrder found asked (order.Line line) = IsTextIn found option.Database line.db × HasValues found asked line.asking
 IsOrder found asked (order.Script script) =

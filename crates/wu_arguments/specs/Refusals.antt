@@ -1,4 +1,4 @@
--- Why words are no line.
+-- Why words are no valid line.
 use Rattle.std.specs.Prelude.{◌≡◌, ◌≢◌, ◌⊎◌, ◌<◌, ◌^◌, ℕ, true, List, [], ◌∷◌, Option, Some, None, Result, IfErr, ⊤}
 use Rattle.std.specs.Str.Parse.{IsNumeral, digits_value, without_leading_plus}
 use Rattle.clap.specs.Words.{App, Row, fault_of, kind_of, one_of, subcommand_of}
@@ -19,7 +19,8 @@ use Rattle.wu_arguments.specs.declared.subcommand.Subcommand.TheVariants.{Show}
 use Rattle.wu_arguments.specs.declared.usage.Usage.{Usage}
 use Rattle.wu_arguments.specs.declared.usage.Usage.TheVariants.{Refused, UnknownView, UnknownTopic, NotText, LongLine, Incomplete, Memory}
 
--- an error of clap is told as a refusal, unless it is want of memory
+-- An error of clap is reported as a refusal only if it is not out of memory; any error may be reported as out of
+-- memory.
 abbrev pub IsTold : Error → Usage → Type 0
 IsTold error (Refused text) = kind_of error ≢ OutOfMemory
 IsTold error UnknownView = ⊥
@@ -29,7 +30,7 @@ IsTold error LongLine = ⊥
 IsTold error Incomplete = ⊥
 IsTold error Memory = ⊤
 
--- by a command clap refuses the words, or memory is wanted
+-- Clap refuses the words for this program, or the call is out of memory.
 abbrev pub IsRefusalBy : App → List (List ℕ) → Usage → Type 0
 IsRefusalBy app words (Refused text) = fault_of app words ≢ []
 IsRefusalBy app words UnknownView = ⊥
@@ -39,15 +40,15 @@ IsRefusalBy app words LongLine = ⊥
 IsRefusalBy app words Incomplete = ⊥
 IsRefusalBy app words Memory = ⊤
 
--- so it is by the program's
+-- Clap refuses the words for `lintelthyme`, or the call is out of memory.
 abbrev pub IsRefusal : List (List ℕ) → Usage → Type 0
 IsRefusal words usage = IsRefusalBy program words usage
 
--- the text writes a number of 64 bits in decimal
+-- The text is a number of 64 bits in decimal.
 abbrev pub IsNumberText : List ℕ → Type 0
 IsNumberText text = IsNumeral 10 (without_leading_plus text) × (digits_value 10 (without_leading_plus text) < 2 ^ 64)
 
--- clap finds no value of an option, or of one whose value is a number none that writes one
+-- Clap finds no value of the option; for an option that takes a number, it finds no text of one.
 abbrev pub LacksText : List Row → LineOption → Type 0
 LacksText found option = value_in found option ≡ None
 
@@ -61,40 +62,40 @@ LacksValue _ found option = LacksText found option
 abbrev pub Lacks : List Row → LineOption → Type 0
 Lacks found option = LacksValue (value_of_option option) found option
 
--- so of one of these that has to be given
+-- One of these options has to be given and lacks a value.
 abbrev pub LacksOne : List Row → List LineOption → Type 0
 LacksOne found [] = ⊥
 LacksOne found (option ∷ more) = ((is_required option ≡ true) × Lacks found option) ⊎ LacksOne found more
 
--- the option has a value
+-- Clap finds a value of the option.
 abbrev pub HasText : List Row → LineOption → Type 0
 HasText found option = (text : List ℕ) × (value_in found option ≡ Some text)
 
--- what is to be shown is a view
+-- The words name a view that can be shown.
 abbrev pub IsSeen : List Row → Type 0
 IsSeen found = (view : View) × IsViewIn found (Some view)
 
--- it is told that a value is lacking, and it is
+-- The words are reported as incomplete, and this is lacking.
 abbrev pub TellsLack : Type 0 → Usage → Type 0
 TellsLack Lacking usage = (usage ≡ Incomplete) × Lacking
 
--- so it is; or memory is wanted
+-- The words are reported as incomplete because a value is missing, or the call is out of memory.
 abbrev pub IsWithout : Type 0 → Usage → Type 0
 IsWithout Lacking usage = TellsLack Lacking usage ⊎ (usage ≡ Memory)
 
--- memory is wanted only where this holds
+-- The call is out of memory only if this holds.
 abbrev pub WantsOnly : {T : Type 0} → Result T Usage → Type 0 → Type 0
 WantsOnly result Fact = IfErr result (λ usage. usage ≡ Memory → Fact)
 
--- of the options of a subcommand one that has to be given has no value, or memory is wanted
+-- An option that the subcommand has to have lacks a value, or the call is out of memory.
 abbrev pub IsLacking : List Row → Subcommand → Usage → Type 0
 IsLacking found subcommand = IsWithout (LacksOne found (options_of subcommand))
 
--- what is to be shown is no view, or has no value
+-- The words ask to show something that is no view, or lack the name of a view.
 abbrev pub IsUnseen : List Row → Usage → Type 0
 IsUnseen found usage = TellsLack (LacksText found option.View) usage ⊎ ((usage ≡ UnknownView) × IsViewIn found None)
 
--- why there is no line of a subcommand: an option that has to be given has no value, or what is to be shown is no view
+-- Why words are no line of a subcommand: an option that has to be given lacks a value, or the view is unknown.
 abbrev pub IsUnread : List Row → Subcommand → Usage → Type 0
 IsUnread found subcommand usage = IsLacking found subcommand usage ⊎ ((usage ≡ UnknownView) × (subcommand ≡ Show) × IsViewIn found None)
 
@@ -102,12 +103,12 @@ abbrev pub LacksOfNamed : List Row → Option Subcommand → Type 0
 LacksOfNamed found None = ⊤
 LacksOfNamed found (Some subcommand) = LacksOne found (options_of subcommand)
 
--- clap finds no subcommand, or none of the program's, or no value of one of its options that have to be given
+-- Clap finds no subcommand, a subcommand that is not the program's, or no value of an option that has to be given.
 abbrev pub IsIncomplete : Option (List ℕ × List Row) → Type 0
 IsIncomplete None = ⊤
 IsIncomplete (Some found) = LacksOfNamed found.1 (subcommand_named found.0)
 
--- why words are no line: clap refuses them, what they ask to show is no view, or they are incomplete
+-- Why words are no line: clap refuses them, they name an unknown view, or they are incomplete.
 abbrev pub Explains : List (List ℕ) → Usage → Type 0
 Explains words (Refused text) = fault_of program words ≢ []
 Explains words UnknownView = (found : List Row) × (subcommand_of program words ≡ Some (subcommand_name Show, found)) × IsViewIn found None
@@ -117,16 +118,16 @@ Explains words LongLine = ⊥
 Explains words Incomplete = (fault_of program words ≡ []) × IsIncomplete (subcommand_of program words)
 Explains words Memory = ⊤
 
--- clap takes the words, and they ask for this, by the subcommand and the values that it finds
+-- Clap takes the words, and its subcommand and values ask for this.
 abbrev pub IsOrderOf : List (List ℕ) → Order → Type 0
 IsOrderOf words order =
     (fault_of program words ≡ [])
     × ((subcommand : Subcommand) × (found : List Row) × (subcommand_of program words ≡ Some (subcommand_name subcommand, found)) × IsOrder found subcommand order)
 
--- they are this line
+-- The words are this line.
 abbrev pub IsLineOf : List (List ℕ) → Line → Type 0
 IsLineOf words line = IsOrderOf words (order.Line line)
 
--- so it is of all words that are taken and in which clap finds this subcommand
+-- This holds of all words that clap takes and in which it finds this subcommand.
 abbrev pub OfTaken : (List (List ℕ) → Type 0) → Option (List ℕ × List Row) → Type 0
 OfTaken Fact found = (words : List (List ℕ)) → fault_of program words ≡ [] → found ≡ subcommand_of program words → Fact words

@@ -1,4 +1,4 @@
--- Scripts: their lines as lines of the command line.
+-- Lines of a script, as lines of the command line.
 use Rattle.std.specs.Prelude.{◌≡◌, ℕ, Bool, true, false, List, ◌∷◌, [], ◌++◌, bytes_eq, codes, drop, slice_get, Option, Some, None, Result, Ok, Err}
 use Rattle.std.specs.Option.{option_map_or}
 use Rattle.wu_core.specs.declared.fault.Fault.TheVariants.{Memory}
@@ -14,11 +14,12 @@ use Rattle.wu_arguments.specs.declared.refusal.Outsider.TheVariants.{Script, Ses
 use Rattle.wu_arguments.specs.declared.refusal.Refusal.{Refusal}
 use Rattle.wu_arguments.specs.declared.refusal.Refusal.TheVariants as refusal
 
--- the words of a script's line as words of the command line: behind the program's name, with the database at their end
+-- The words of a script's line as words of the command line: the program's name before them, and the database after
+-- them.
 abbrev pub command_words : List ℕ → List (List ℕ) → List (List ℕ)
 command_words db words = codes "lintelthyme" ∷ words ++ (codes "--db=" ++ db) ∷ []
 
--- what stands in no script
+-- What a script may not contain: another script, a check or an explanation.
 abbrev pub outsider_of : Order → Option Outsider
 outsider_of (order.Line line) = None
 outsider_of (order.Script script) = Some Script
@@ -26,7 +27,7 @@ outsider_of (order.Session path) = Some Session
 outsider_of (order.Check path) = Some Check
 outsider_of (order.Explain topic) = Some Explanation
 
--- what such words ask for is a line, or it is told why not; memory may be wanted
+-- The words read as this line, or as this refusal; any words may be out of memory.
 abbrev pub ReadsWords : List (List ℕ) → Result Line Refusal → Type 0
 ReadsWords words (Ok line) = IsLineOf words line
 ReadsWords words (Err (refusal.Text cause)) = ⊥
@@ -35,18 +36,18 @@ ReadsWords words (Err (refusal.Outsider outsider)) = (order : Order) × IsOrderO
 ReadsWords words (Err refusal.Repeat) = ⊥
 ReadsWords words (Err (refusal.Fault fault)) = fault ≡ Memory
 
--- a line of these is one pass, and can be repeated
+-- Whether a line is one pass, which can be repeated.
 abbrev pub is_pass : Asking → Bool
 is_pass (asking.Pass pass now limit min_age) = true
 is_pass _ = false
 
--- so it is of words behind `repeat`, which ask for a pass; another line is refused
+-- The words after `repeat` read as a line that is a pass, or are refused. Any other line is refused as `Repeat`.
 abbrev pub ReadsRepeated : List (List ℕ) → Result Line Refusal → Type 0
 ReadsRepeated words (Ok line) = IsLineOf words line × (is_pass line.asking ≡ true)
 ReadsRepeated words (Err refusal.Repeat) = (line : Line) × IsLineOf words line × (is_pass line.asking ≡ false)
 ReadsRepeated words (Err why) = ReadsWords words (Err why)
 
--- the first of the words is `repeat`
+-- Whether the first word is `repeat`.
 abbrev pub asks_to_repeat : List (List ℕ) → Bool
 asks_to_repeat words = option_map_or (λ word. bytes_eq word (codes "repeat")) (slice_get words 0) false
 
@@ -54,7 +55,8 @@ abbrev pub ReadsWordsOf : List ℕ → List (List ℕ) → Bool → Result Line 
 ReadsWordsOf db words true result = ReadsRepeated (command_words db (drop 1 words)) result
 ReadsWordsOf db words false result = ReadsWords (command_words db words) result
 
--- so it is of a line of a script, and one that is not taken apart into words is told by its cause
+-- A line of a script reads as this line or this refusal. A line that cannot be split into words is refused for that
+-- cause.
 abbrev pub ReadsScriptLine : List ℕ → Result (List (List ℕ)) LineCause → Bool → Result Line Refusal → Type 0
 ReadsScriptLine db (Ok words) repeats result = (repeats ≡ asks_to_repeat words) × ReadsWordsOf db words repeats result
 ReadsScriptLine db (Err cause) repeats result = (repeats ≡ false) × (result ≡ Err (refusal.Text cause))

@@ -8,7 +8,8 @@ use Rattle.wu_arguments.specs.declared.step.LineFault.{LineFault}
 use Rattle.wu_arguments.specs.declared.usage.Usage.{Usage}
 use Rattle.wu_arguments.specs.declared.usage.Usage.TheVariants as usage
 
--- 1: refused; 3: the database failed, or its session had ended; 4: no memory; 5: the output failed
+-- The status of a fault. 1: refused; 3: the database failed, or its session had ended; 4: out of memory; 5: the output
+-- failed.
 abbrev pub fault_status : Fault → ℕ
 fault_status fault.Memory = 4
 fault_status fault.Broken = 3
@@ -16,19 +17,19 @@ fault_status fault.Ended = 3
 fault_status fault.Output = 5
 fault_status _ = 1
 
--- 0: done
+-- The status after a run: 0 if nothing failed.
 abbrev pub exit_status : Option Fault → ℕ
 exit_status None = 0
 exit_status (Some fault) = fault_status fault
 
--- 2: the words are no line
+-- The status of words that are no line: 2, or 4 for out of memory.
 abbrev pub usage_status : Usage → ℕ
 usage_status usage.Memory = fault_status fault.Memory
 usage_status _ = 2
 
 -- ---- of a script
 
--- as of words and of a fault
+-- The status of a script's line that cannot be run.
 abbrev pub refusal_status : Refusal → ℕ
 refusal_status (refusal.Text cause) = 2
 refusal_status (refusal.Words usage) = usage_status usage

@@ -1,4 +1,4 @@
--- The steps of a script: what its lines ask of a project, with what their files hold.
+-- The steps of a script: what its lines ask of a project, with the contents of their files.
 use Rattle.std.specs.Prelude.{◌≡◌, ◌⊎◌, ℕ, Bool, List, [], ◌∷◌, ◌++◌, Option, Result, Ok, Err, ⊤}
 use Rattle.wu_core.specs.declared.fault.Fault.{Fault}
 use Rattle.wu_core.specs.declared.fault.Fault.TheVariants.{Memory}
@@ -11,36 +11,36 @@ use Rattle.wu_arguments.specs.declared.refusal.Refusal.TheVariants as refusal
 use Rattle.wu_arguments.specs.declared.step.BadLine.{BadLine}
 use Rattle.wu_arguments.specs.declared.step.Step.{Step}
 
--- memory was wanted for the line of this number
+-- The line of this number is out of memory.
 abbrev pub lacks_memory : ℕ → BadLine
 lacks_memory number = record { number = number; why = refusal.Fault Memory }
 
 module _ (gives : List ℕ → ℕ → Option (List ℕ) → Type 0) (db : List ℕ) where
-  -- the line has no words, or its words ask for none; or a value or a file of what they ask for is refused
+  -- The line is refused: for its words, or for a value or a file of what its words ask for.
   abbrev pub IsRefusedFor : ScriptLine → Refusal → Type 0
   IsRefusedFor line why =
       (repeats : Bool)
       × (ReadsScriptLine db line.words repeats (Err why)
       ⊎ ((asked : Line) × (fault : Fault) × ReadsScriptLine db line.words repeats (Ok asked) × Prepares gives asked.asking (Err fault) × (why ≡ refusal.Fault fault)))
 
-  -- the step of a line, under its number; or why there is none
+  -- The step of a line, with its number; or why the line cannot be run.
   abbrev pub GivesStep : ScriptLine → Result Step Refusal → Type 0
   GivesStep line (Ok step) =
       (step.number ≡ line.number) × ((asked : Line) × ReadsScriptLine db line.words step.repeats (Ok asked) × Prepares gives asked.asking (Ok step.action))
   GivesStep line (Err why) = IsRefusedFor line why
 
-  -- a step for each line, in order
+  -- The steps are those of the lines, one each, in order.
   unfoldable pub AreStepsOf : List ScriptLine → List Step → Type 0
   AreStepsOf [] [] = ⊤
   AreStepsOf [] (step ∷ steps) = ⊥
   AreStepsOf (line ∷ lines) [] = ⊥
   AreStepsOf (line ∷ lines) (step ∷ steps) = GivesStep line (Ok step) × AreStepsOf lines steps
 
-  -- memory was wanted for a line that can be run, or it can't be
+  -- The line can be run and is out of memory, or it cannot be run for this reason.
   abbrev pub IsBad : ScriptLine → BadLine → Type 0
   IsBad line bad = ((bad ≡ lacks_memory line.number) × ((step : Step) × GivesStep line (Ok step))) ⊎ ((bad.number ≡ line.number) × IsRefusedFor line bad.why)
 
-  -- a line is bad, and each before it can be run
+  -- This line is refused, and each line before it can be run.
   pub record StopsAt (lines : List ScriptLine) (bad : BadLine) : Type 0 where
     pub front : List ScriptLine
     pub line : ScriptLine
@@ -50,7 +50,7 @@ module _ (gives : List ℕ → ℕ → Option (List ℕ) → Type 0) (db : List 
     pub before : AreStepsOf front steps
     pub is_bad : IsBad line bad
 
-  -- what the lines ask of a project, in order, or the first that can't be run
+  -- What the lines ask of a project, in order, or the first line that cannot be run.
   abbrev pub GivesSteps : List ScriptLine → Result (List Step) BadLine → Type 0
   GivesSteps lines (Ok steps) = AreStepsOf lines steps
   GivesSteps lines (Err bad) = StopsAt lines bad

@@ -1,4 +1,4 @@
--- Worked examples: a world that is sound, and what may be wrong with one.
+-- Worked examples: a sound world, and rows that are wrong.
 use Rattle.std.specs.Prelude.{List, ℕ, [], ◌∷◌, Some, None, true}
 use Rattle.wu_core.specs.declared.workunit.Archived.{Archived}
 use Rattle.wu_core.specs.declared.workunit.Workunit.{Workunit}
@@ -10,7 +10,7 @@ use Rattle.wu_core.specs.Parameters.{default_parameters}
 use Rattle.wu_core.specs.World.{World, Import, empty_world}
 use Rattle.wu_rules.specs.Examples.{aa, credit, h1, h2, job, reporting, success}
 
--- two hosts agreed, and the workunit was assimilated
+-- A workunit on which two hosts agreed, and that was assimilated.
 abbrev pub agreed : Workunit
 agreed = record (job default_parameters (success h1 aa validate.Valid ∷ success h2 aa validate.Valid ∷ [])) {
   canonical = Some 0;
@@ -18,7 +18,7 @@ agreed = record (job default_parameters (success h1 aa validate.Valid ∷ succes
   done_at = Some reporting;
 }
 
--- what is kept of it
+-- The archived row of that workunit.
 abbrev pub kept_row : Archived
 kept_row = record {
   number = 1;
@@ -29,7 +29,7 @@ kept_row = record {
   done_at = reporting;
 }
 
--- with its two grants
+-- The world of that workunit, with its two grants.
 abbrev pub one_agreed : World
 one_agreed = record empty_world {
   workunits = agreed ∷ [];
@@ -40,31 +40,31 @@ one_agreed = record empty_world {
 
 -- ---- rows that are wrong
 
--- assimilated without a moment
+-- That workunit, assimilated without a moment.
 abbrev pub unstamped : Workunit
 unstamped = record agreed { done_at = None }
 
--- with a number that no row has
+-- That workunit, with a number that no row can have.
 abbrev pub unstorable : Workunit
 unstorable = record agreed { number = 9223372036854775808 }
 
--- decided and given up
+-- That workunit, decided and also given up.
 abbrev pub decided_and_given_up : Workunit
 decided_and_given_up = record agreed { error_mask = record no_errors { cancelled = true } }
 
--- assimilated in the year 2100
+-- That archived row, of the year 2100.
 abbrev pub kept_too_late : Archived
 kept_too_late = record kept_row { done_at = 4102444800 }
 
--- given up by an error that is never set
+-- That archived row, with the bit of an error that this project never sets.
 abbrev pub kept_unsendable : Archived
 kept_unsendable = record kept_row { error_mask = record no_errors { couldnt_send_result = true } }
 
--- with another canonical result
+-- That archived row, with another canonical result.
 abbrev pub kept_otherwise : Archived
 kept_otherwise = record kept_row { canonical = Some 1 }
 
--- a file of sends with this verdict
+-- A file of sends with this verdict.
 abbrev pub sent_with : ℕ → Import
 sent_with verdict = record {
   kind = kind.Sent;
@@ -75,11 +75,11 @@ sent_with verdict = record {
   verdicts = verdict ∷ [];
 }
 
--- with the name of an archived workunit, and not assimilated
+-- A workunit that is not assimilated, with the name of an archived one.
 abbrev pub named_again : Workunit
 named_again = record (job default_parameters []) { number = 2 }
 
--- two rows with one key
+-- Two workunits with one number.
 abbrev pub same_numbers : List Workunit
 same_numbers = agreed ∷ agreed ∷ []
 

@@ -5,11 +5,11 @@ use Rattle.wu_core.specs.World.{World, Import}
 use Rattle.wu_machine.specs.Sound.{IsRecorded, IsSound}
 use Rattle.wu_audit.specs.Records.{AreBacked, HasKeys}
 
--- where keys are used once, workunits, grants and archived rows agree exactly where each row does
+-- If each key is used once, workunits, grants and archived rows agree exactly if each workunit's row does.
 abbrev pub RecordedByRows : Type 0
 RecordedByRows = (world : World) → HasKeys world → AreBacked world ↔ All (IsRecorded world) world.workunits
 
--- a sound world is one in any order of its imports
+-- A sound world stays sound in any order of its imports.
 abbrev pub SoundInAnyOrder : Type 0
 SoundInAnyOrder =
     (world : World) (imports : List Import) → IsPermutation world.imports imports → IsSound world

@@ -1,11 +1,11 @@
--- Of what is wrong: its table, its place there, and its words.
+-- What is wrong with a world: the table, the place in it, and the words.
 use Rattle.std.specs.Prelude.{ℕ, List, Option, Some, None, codes}
-use Rattle.wu_audit.specs.declared.wrong.Table.{Table}
-use Rattle.wu_audit.specs.declared.wrong.Table.TheVariants as table
+use Rattle.wu_audit.specs.declared.wrong.AuditTable.{AuditTable}
+use Rattle.wu_audit.specs.declared.wrong.AuditTable.TheVariants as table
 use Rattle.wu_audit.specs.declared.wrong.Wrong.{Wrong}
 use Rattle.wu_audit.specs.declared.wrong.Wrong.TheVariants as wrong
 
-abbrev pub table_word : Table → List ℕ
+abbrev pub table_word : AuditTable → List ℕ
 table_word table.Project = codes "project"
 table_word table.Workunit = codes "workunit"
 table_word table.CreditGrant = codes "credit_grant"
@@ -13,8 +13,8 @@ table_word table.Archived = codes "archived"
 table_word table.Import = codes "import"
 table_word table.HostClass = codes "host_class"
 
--- the table whose row is wrong
-abbrev pub table_of : Wrong → Table
+-- The table whose row is wrong.
+abbrev pub table_of : Wrong → AuditTable
 table_of wrong.NextNumber = table.Project
 table_of (wrong.WorkunitForm place) = table.Workunit
 table_of (wrong.WorkunitValues place) = table.Workunit
@@ -40,7 +40,7 @@ table_of (wrong.ClassValues place) = table.HostClass
 table_of (wrong.ClassOrder place) = table.HostClass
 table_of wrong.EarlyClasses = table.Project
 
--- the place of that row
+-- The place of the row that is wrong.
 abbrev pub place_of_wrong : Wrong → Option ℕ
 place_of_wrong wrong.NextNumber = None
 place_of_wrong (wrong.WorkunitForm place) = Some place
@@ -67,7 +67,7 @@ place_of_wrong (wrong.ClassValues place) = Some place
 place_of_wrong (wrong.ClassOrder place) = Some place
 place_of_wrong wrong.EarlyClasses = None
 
--- what is wrong with it
+-- The words for what is wrong with the row.
 abbrev pub wrong_word : Wrong → List ℕ
 wrong_word wrong.NextNumber = codes "has no next number in range"
 wrong_word (wrong.WorkunitForm place) = codes "is not well formed"

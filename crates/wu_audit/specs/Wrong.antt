@@ -1,5 +1,5 @@
--- What is told of a world that is not sound, and in which order: the rows themselves, then their keys, then whether
--- they agree, and at last the classes of hosts. Within one, the first row in the order of its table.
+-- What is reported of a world that is not sound, and in which order: single rows first, then keys, then whether rows
+-- agree, and last the classes of hosts. Of one kind, the first row in the order of its table is reported.
 use Rattle.std.specs.Prelude.{◌≢◌, ◌<◌, All, AllPairs, Option, Some, None}
 use Rattle.wu_core.specs.Classes.{AreClassed, AreInOrder, IsClassed}
 use Rattle.wu_core.specs.Formed.{IsWorkunit}
@@ -14,7 +14,7 @@ use Rattle.wu_audit.specs.Rows.{IsRightGrant, IsRightImport}
 use Rattle.wu_audit.specs.declared.wrong.Wrong.{Wrong}
 use Rattle.wu_audit.specs.declared.wrong.Wrong.TheVariants as wrong
 
--- ---- what holds before each is asked: all that is asked earlier
+-- ---- what holds before each check: all that the earlier checks ask
 
 abbrev pub ToForm : World → Type 0
 ToForm world = LoadsNext world
@@ -61,7 +61,7 @@ ToGrantTwice world = ToGrantValues world × All (IsRightGrant world) world.grant
 abbrev pub ToImportTwice : World → Type 0
 ToImportTwice world = ToGrantTwice world × AllPairs AreApart world.grants
 
--- all rows and keys are right by themselves
+-- All rows and keys are right by themselves.
 pub record ToGrantAstray (world : World) : Type 0 where
   pub earlier : ToImportTwice world
   pub imported_once : AllPairs AreOtherImports world.imports
@@ -69,7 +69,7 @@ pub record ToGrantAstray (world : World) : Type 0 where
 abbrev pub ToGrantMissing : World → Type 0
 ToGrantMissing world = ToGrantAstray world × All (IsBackedGrant world.workunits) world.grants
 
--- and so do workunits and grants agree
+-- Workunits and grants agree as well.
 pub record ToArchivedAstray (world : World) : Type 0 where
   pub earlier : ToGrantMissing world
   pub granted : All (IsGranted world.grants) world.workunits
@@ -80,7 +80,7 @@ ToArchivedMissing world = ToArchivedAstray world × All (IsBackedRow world.worku
 abbrev pub ToNameTaken : World → Type 0
 ToNameTaken world = ToArchivedMissing world × All (IsArchivedIfDone world.archived) world.workunits
 
--- and so do all rows
+-- Workunits and archived rows agree as well.
 pub record ToClassValues (world : World) : Type 0 where
   pub earlier : ToNameTaken world
   pub free : All (IsNameFree world.archived) world.workunits
@@ -91,13 +91,13 @@ ToClassOrder world = ToClassValues world × AreClassed world.classes
 abbrev pub ToEarlyClasses : World → Type 0
 ToEarlyClasses world = ToClassOrder world × AreInOrder world.classes
 
--- all that is asked, but that hosts of grants have names
+-- All parts of soundness hold, except that hosts of grants have names.
 abbrev pub ToEnd : World → Type 0
 ToEnd world = ToEarlyClasses world × HasClassesInTime world
 
--- ---- what is told
+-- ---- what is reported
 
--- this stands against the world, at the first row at which it does, and nothing that is asked earlier does
+-- This is wrong with the world, at the first row where it is, and nothing that is checked earlier is wrong.
 abbrev pub StandsAgainst : World → Wrong → Type 0
 StandsAgainst world wrong.NextNumber = ¬ LoadsNext world
 StandsAgainst world (wrong.WorkunitForm place) = ToForm world × IsFirstAgainst IsWorkunit world.workunits place
@@ -137,7 +137,7 @@ StandsAgainst world (wrong.ClassValues place) = ToClassValues world × IsFirstAg
 StandsAgainst world (wrong.ClassOrder place) = ToClassOrder world × IsFirstPairAgainst IsBefore world.classes place
 StandsAgainst world wrong.EarlyClasses = ToEarlyClasses world × ¬ HasClassesInTime world
 
--- nothing where so much holds, else the first that stands against the world
+-- `None` if this property holds; else the first thing that is wrong with the world.
 abbrev pub FindsWrong : (World → Type 0) → World → Option Wrong → Type 0
 FindsWrong Holds world None = Holds world
 FindsWrong Holds world (Some wrong) = StandsAgainst world wrong

@@ -16,4 +16,4 @@ mod wrong;
 
 pub use auditing::audit;
 pub use loaded::{Imported, Loaded};
-pub use wrong::{Table, Wrong};
+pub use wrong::{AuditTable, Wrong};

@@ -5,7 +5,7 @@ ghost use Rattle.wu_audit.specs.Words.{place_of_wrong, table_of, table_word, wro
 
 /// A table of which a row is wrong.
 #[derive(Clone, Copy)]
-pub enum Table {
+pub enum AuditTable {
     Project,
     Workunit,
     CreditGrant,
@@ -14,19 +14,19 @@ pub enum Table {
     HostClass,
 }
 
-impl Table {
+impl AuditTable {
     /// Returns the name of the table.
     pub fn word(self) -> &'static str
         // It is the name of the table in the schema.
         ensures { result.now ≡ table_word self }
     {
         match self {
-            Table::Project => "project",
-            Table::Workunit => "workunit",
-            Table::CreditGrant => "credit_grant",
-            Table::Archived => "archived",
-            Table::Import => "import",
-            Table::HostClass => "host_class",
+            AuditTable::Project => "project",
+            AuditTable::Workunit => "workunit",
+            AuditTable::CreditGrant => "credit_grant",
+            AuditTable::Archived => "archived",
+            AuditTable::Import => "import",
+            AuditTable::HostClass => "host_class",
         }
     }
 }
@@ -87,12 +87,12 @@ pub enum Wrong {
 
 impl Wrong {
     /// Returns the table whose row is wrong.
-    pub fn table(self) -> Table
+    pub fn table(self) -> AuditTable
         // It is the table that the definition gives for this violation.
         ensures { result ≡ table_of self }
     {
         match self {
-            Wrong::NextNumber | Wrong::EarlyClasses => Table::Project,
+            Wrong::NextNumber | Wrong::EarlyClasses => AuditTable::Project,
             Wrong::WorkunitForm(_)
             | Wrong::WorkunitValues(_)
             | Wrong::WorkunitStates(_)
@@ -101,17 +101,17 @@ impl Wrong {
             | Wrong::WorkunitTwice(_)
             | Wrong::GrantMissing(_)
             | Wrong::ArchivedMissing(_)
-            | Wrong::NameTaken(_) => Table::Workunit,
+            | Wrong::NameTaken(_) => AuditTable::Workunit,
             Wrong::GrantValues(_) | Wrong::GrantTwice(_) | Wrong::GrantAstray(_) =>
-                Table::CreditGrant,
+                AuditTable::CreditGrant,
             Wrong::ArchivedValues(_)
             | Wrong::ArchivedMask(_)
             | Wrong::ArchivedNumber(_)
             | Wrong::ArchivedTwice(_)
             | Wrong::ArchivedNameTwice(_)
-            | Wrong::ArchivedAstray(_) => Table::Archived,
-            Wrong::ImportVerdicts(_) | Wrong::ImportTwice(_) => Table::Import,
-            Wrong::ClassValues(_) | Wrong::ClassOrder(_) => Table::HostClass,
+            | Wrong::ArchivedAstray(_) => AuditTable::Archived,
+            Wrong::ImportVerdicts(_) | Wrong::ImportTwice(_) => AuditTable::Import,
+            Wrong::ClassValues(_) | Wrong::ClassOrder(_) => AuditTable::HostClass,
         }
     }
 

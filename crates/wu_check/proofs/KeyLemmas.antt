@@ -3,8 +3,8 @@ use Rattle.std.proofs.Common.{◌≡◌, ℕ, ◌<◌, length, Option, None, Som
 use Rattle.wu_core.specs.World.{World}
 use Rattle.wu_audit.specs.Words.{place_of_wrong, table_of}
 use Rattle.wu_audit.specs.Wrong.{StandsAgainst}
-use Rattle.wu_audit.specs.declared.wrong.Table.{Table}
-use Rattle.wu_audit.specs.declared.wrong.Table.TheVariants as table
+use Rattle.wu_audit.specs.declared.wrong.AuditTable.{AuditTable}
+use Rattle.wu_audit.specs.declared.wrong.AuditTable.TheVariants as table
 use Rattle.wu_audit.specs.declared.wrong.Wrong.{Wrong}
 use Rattle.wu_audit.specs.declared.wrong.Wrong.TheVariants as wrong
 use Rattle.wu_check.specs.Findings.{IsKeyAt, IsKeyOf}
@@ -12,7 +12,7 @@ use Rattle.wu_check.specs.declared.finding.Key.{Key}
 use Rattle.wu_check.specs.declared.finding.Key.TheVariants as key
 
 -- how many rows the world has in a table whose rows are told by their places
-abbrev pub rows_in : World → Table → ℕ
+abbrev pub rows_in : World → AuditTable → ℕ
 rows_in world table.Project = 0
 rows_in world table.Workunit = length world.workunits
 rows_in world table.CreditGrant = length world.grants
@@ -50,10 +50,10 @@ stands_within world (wrong.ClassOrder place) stands n is = below place n _ is st
 stands_within world wrong.EarlyClasses stands n is = absurd cc
 
 -- the row that is told of, in the table that is told of
-pub row_within : (world : World) (told : Wrong) (t : Table) (n : ℕ) → StandsAgainst world told → table_of told ≡ t → place_of_wrong told ≡ Some n → n < rows_in world t
+pub row_within : (world : World) (told : Wrong) (t : AuditTable) (n : ℕ) → StandsAgainst world told → table_of told ≡ t → place_of_wrong told ≡ Some n → n < rows_in world t
 row_within world told t n stands at is = subst (λ s. n < rows_in world s) at (stands_within world told stands n is)
 
-pub key_at : (world : World) (told : Wrong) (t : Table) (n : ℕ) (k : Key) → table_of told ≡ t → place_of_wrong told ≡ Some n → IsKeyAt world t (Some n) k → IsKeyOf world told k
+pub key_at : (world : World) (told : Wrong) (t : AuditTable) (n : ℕ) (k : Key) → table_of told ≡ t → place_of_wrong told ≡ Some n → IsKeyAt world t (Some n) k → IsKeyOf world told k
 key_at world told t n k at is key = rw (at, is) key
 
 -- what tells no row tells of the project

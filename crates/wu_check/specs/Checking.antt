@@ -13,25 +13,25 @@ use Rattle.wu_machine.specs.Sound.{IsSound}
 use Rattle.wu_schema.specs.Tables.{HasNamed, queue_at, workunit_at}
 use Rattle.wu_store.specs.StandsFor.{StandsFor}
 
--- a version that this program knows
+-- The program knows this version.
 pub record IsKnown (version : ℕ) : Type 0 where
   pub first : 1 ≤ version
   pub present : version ≤ present_version
 
--- the tables stand for a sound world of such a version
+-- The tables represent a sound world of a known version.
 pub record IsSoundProject (db : Database) : Type 0 where
   pub world : World
   pub stands : StandsFor db world
   pub sound : IsSound world
   pub known : IsKnown world.version
 
--- What no question tells of a database: that no row of a workunit or of the queue ends before its last column, as none
--- does that was inserted into the table as it is. One that does is shown as one with an empty cell there.
+-- What no question can show of a database: that no row of a workunit or of the queue ends before its last column. A row
+-- that was inserted into the table as it is does not. A shorter row is shown with an empty cell there.
 pub record HasWholeRows (db : Database) : Type 0 where
   pub workunits : (tree : ℕ) → HasNamed db.schema (codes "workunit") (workunit_at tree) → AreWhole 15 (db.trees tree)
   pub queue : (tree : ℕ) → HasNamed db.schema (codes "queue") (queue_at tree) → AreWhole 6 (db.trees tree)
 
--- the rows of each table stand in order of their rowids, as every store keeps them
+-- The rows of each table are in order of their rowids, as every store keeps them.
 abbrev pub IsInOrder : Database → Type 0
 IsInOrder db = (table : Table) → Has db.schema.tables table → IsShaped shape.Table (db.trees table.tree)
 
@@ -39,7 +39,7 @@ pub record IsKept (db : Database) : Type 0 where
   pub ordered : IsInOrder db
   pub whole : HasWholeRows db
 
--- a world is of this version, and has so many workunits and instances
+-- The world has this version, and so many workunits and instances.
 abbrev pub IsCounted : World → (version workunits results : ℕ) → Type 0
 IsCounted world version workunits results =
     (version ≡ world.version) × (workunits ≡ length world.workunits)

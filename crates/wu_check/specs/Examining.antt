@@ -1,4 +1,4 @@
--- What questions do to a connection, and what they say of the database that it shows.
+-- What questions do to a connection, and what they report of the database that it shows.
 use Rattle.std.specs.Prelude.{◌≡◌, ℕ, codes, None, Result, IfErr, IfOk}
 use Rattle.sqlite.specs.Effect.{Database}
 use Rattle.sqlite.specs.Held.{Held, state}
@@ -16,27 +16,28 @@ use Rattle.wu_check.specs.Checking.{IsKept}
 use Rattle.wu_check.specs.Queues.{IsKeptQueue}
 use Rattle.wu_check.specs.Versions.{IsVersionOf}
 
--- with an answer, this holds of the database that was shown and of the answer, where its tables are kept in order
+-- On a clean disk, if the rows of the shown database are in order and whole, this holds of that database and of an
+-- answer.
 abbrev pub OnKept : {S T : Type 0} → Ghosts S → Held S → Held S → Result T Fault → (Database → T → Type 0) → Type 0
 OnKept g old new result Is = HasCleanDisk (state g new) → IsKept (state g old).now → IfOk result (Is (state g old).now)
 
--- where steps have no limit, only want of memory or of the disk refuses an answer
+-- On a clean disk and without a limit on steps, the only faults are `Memory` and `Broken`.
 abbrev pub AnswersUnlessFailed : {S T : Type 0} → Ghosts S → Held S → Held S → Result T Fault → Type 0
 AnswersUnlessFailed g old new result = HasCleanDisk (state g new) → old.step_limit ≡ None → IfErr result IsFailure
 
--- of the tables of a project, and of its queue where it has one, questions show all that is in them
+-- Questions show all that is in the tables of a project, and in its queue if it has one.
 pub record IsLegible (db : Database) : Type 0 where
-  -- of those that every version has, and of those of the version that the project has
+  -- Rows are in order in the tables that every version has, and in those of the project's own version.
   pub plain : (trees : ProjectTrees) → HasTables 1 db.schema trees → AreArranged 1 db.trees trees
   pub project : (version : ℕ) → IsVersionOf db version → (trees : ProjectTrees) → HasTables version db.schema trees → AreArranged version db.trees trees
   pub workunits : (tree : ℕ) → HasNamed db.schema (codes "workunit") (workunit_at tree) → AreWhole 15 (db.trees tree)
   pub queue : (world : World) → Refines db world → IsQueued world → (tree : ℕ) → HasNamed db.schema (codes "queue") (queue_at tree) → IsKeptQueue (db.trees tree)
 
--- with an answer, this holds of such a database that was shown and of the answer
+-- If the disk is clean and the shown database is of this kind, this holds of that database and of an answer.
 abbrev pub OnLegible : {S T : Type 0} → Ghosts S → Held S → Held S → Result T Fault → (Database → T → Type 0) → Type 0
 OnLegible g old new result Is = HasCleanDisk (state g new) → IsLegible (state g old).now → IfOk result (Is (state g old).now)
 
--- questions, and what they say of such a database
+-- What questions do, and what they report of a database whose rows they show whole.
 pub record Examines {S T : Type 0} (g : Ghosts S) (old new : Held S) (result : Result T Fault) (Is : Database → T → Type 0) : Type 0 where
   pub asks : Asks g old new result
   pub says : OnLegible g old new result Is

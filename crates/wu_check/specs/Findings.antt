@@ -7,15 +7,15 @@ use Rattle.wu_core.specs.declared.workunit.HostClass.{HostClass}
 use Rattle.wu_core.specs.declared.workunit.Workunit.{Workunit}
 use Rattle.wu_audit.specs.Words.{place_of_wrong, table_of}
 use Rattle.wu_audit.specs.Wrong as audit
-use Rattle.wu_audit.specs.declared.wrong.Table.{Table}
-use Rattle.wu_audit.specs.declared.wrong.Table.TheVariants as table
+use Rattle.wu_audit.specs.declared.wrong.AuditTable.{AuditTable}
+use Rattle.wu_audit.specs.declared.wrong.AuditTable.TheVariants as table
 use Rattle.wu_audit.specs.declared.wrong.Wrong.{Wrong}
 use Rattle.wu_machine.specs.Machine.{present_version}
 use Rattle.wu_machine.specs.Sound.{IsSound}
 use Rattle.wu_loader.specs.Finding.{IsShownWrong}
 use Rattle.wu_loader.specs.Whole.{DiffersAt}
 use Rattle.wu_loader.specs.Worlds.{IsReadable}
-use Rattle.wu_loader.specs.declared.finding.Wrong as row
+use Rattle.wu_loader.specs.declared.finding.WrongRow as row
 use Rattle.wu_schema.specs.Queue.{HasQueue}
 use Rattle.wu_schema.specs.Refines.{Refines}
 use Rattle.wu_schema.specs.Stored.{stored_marks}
@@ -37,12 +37,12 @@ use Rattle.wu_check.specs.declared.finding.Verdict.TheVariants as verdict
 
 -- ---- the row that is wrong
 
--- this stands at a place, from 0, if there is one
+-- This stands at a place, counted from 0, if a place is given.
 abbrev pub IsAt : {X : Type 0} → List X → Option ℕ → X → Type 0
 IsAt xs place x = (n : ℕ) × (place ≡ Some n) × (slice_get xs n ≡ Some x)
 
--- the key of the row at the place of the table: grants and archived rows are counted from 1
-abbrev pub IsKeyAt : World → Table → Option ℕ → Key → Type 0
+-- This is the key of the row at the place of the table; grants and archived rows are counted from 1.
+abbrev pub IsKeyAt : World → AuditTable → Option ℕ → Key → Type 0
 IsKeyAt world table.Project place k = k ≡ key.Project
 IsKeyAt world table.Workunit place k = (w : Workunit) × IsAt world.workunits place w × (k ≡ key.Workunit w.number)
 IsKeyAt world table.CreditGrant place k = (n : ℕ) × (place ≡ Some n) × (k ≡ key.Grant (n + 1))
@@ -50,22 +50,23 @@ IsKeyAt world table.Archived place k = (n : ℕ) × (place ≡ Some n) × (k ≡
 IsKeyAt world table.Import place k = (i : Import) × IsAt world.imports place i × (k ≡ key.Import i.kind i.name)
 IsKeyAt world table.HostClass place k = (it : HostClass) × IsAt world.classes place it × (k ≡ key.HostClass it.host)
 
--- the key of the row that is told of
+-- This is the key of the row that is reported.
 abbrev pub IsKeyOf : World → Wrong → Key → Type 0
 IsKeyOf world wrong = IsKeyAt world (table_of wrong) (place_of_wrong wrong)
 
 -- ---- what is wrong
 
--- the tables of a project are not all there, and this is why: they are those of a version of which each world has all
+-- The tables of some version are not all there, for this reason. The version of each represented world has all of these
+-- tables.
 pub record LacksTables (db : Database) (misfit : Misfit) : Type 0 where
   pub version : ℕ
   pub told : tables.StandsAgainst version db.schema misfit
   pub none : (trees : ProjectTrees) → HasTables version db.schema trees → ⊥
   pub needed : (world : World) → Refines db world → IsClassedVersion version → IsClassedVersion world.version
 
--- Among the rows that questions show of the tables of the project's version this one is wrong, and the tables stand for
--- no world.
-pub record HasWrongRow (db : Database) (wrong : row.Wrong) : Type 0 where
+-- One of the rows that questions show, in the tables of the project's version, is wrong, and the tables represent no
+-- world.
+pub record HasWrongRow (db : Database) (wrong : row.WrongRow) : Type 0 where
   pub version : ℕ
   pub read : IsReadVersion db version
   pub trees : ProjectTrees
@@ -73,29 +74,29 @@ pub record HasWrongRow (db : Database) (wrong : row.Wrong) : Type 0 where
   pub shown : IsShownWrong version db trees wrong
   pub none : (world : World) → IsReadable world → Refines db world → ⊥
 
--- the one row of the project has this version, which this program does not know
+-- The one row of the project has this version, which this program does not know.
 pub record HasOtherVersion (db : Database) (version : ℕ) : Type 0 where
-  -- a table `project` has one row, of this version,
+  -- If the database has a table `project`, that has one row, of this version.
   pub row : (has : HasProject db.schema) → AreOfVersion (rows_of_project db has) version
-  -- and it is there, or what else has its name shows one such row
+  -- A table `project` is there, or something else of its name shows one such row.
   pub there : HasProject db.schema ⊎ ShowsVersion db version
   pub other : ¬ IsKnown version
 
--- the tables stand for a world of which this is told, at the row with this key
+-- The tables represent a world that is wrong in this way, at the row with this key.
 pub record HasUnsoundWorld (db : Database) (wrong : Wrong) (row : Key) : Type 0 where
   pub world : World
   pub refines : Refines db world
   pub against : audit.StandsAgainst world wrong
   pub key : IsKeyOf world wrong row
 
--- they stand for a world of a version with a queue, and none is there
+-- The tables represent a world of a version with a queue, and have no queue.
 pub record LacksQueue (db : Database) : Type 0 where
   pub world : World
   pub refines : Refines db world
   pub queued : IsQueued world
   pub none : (tree : ℕ) → tables.HasQueueIn db.schema tree → ⊥
 
--- the queue is there, and differs at this place from the marks of the world that the tables stand for
+-- The queue is there, and differs at this place from the marks of the world that the tables represent.
 pub record HasOtherMarks (db : Database) (place : ℕ) : Type 0 where
   pub world : World
   pub refines : Refines db world
@@ -104,7 +105,7 @@ pub record HasOtherMarks (db : Database) (place : ℕ) : Type 0 where
   pub queue : tables.HasQueueIn db.schema tree
   pub differs : DiffersAt (map stored_marks (marked world)) (db.trees tree) place
 
--- the finding is true of the database
+-- The finding is true of the database.
 abbrev pub Tells : Database → Finding → Type 0
 Tells db (finding.Tables misfit) = LacksTables db misfit
 Tells db (finding.Row wrong) = HasWrongRow db wrong
@@ -113,84 +114,84 @@ Tells db (finding.World wrong row) = HasUnsoundWorld db wrong row
 Tells db finding.Queue = LacksQueue db
 Tells db (finding.Marks place) = HasOtherMarks db place
 
--- A later version than this program knows, which the one row of the project has, is told before all else: such a project
+-- If the one row of the project has a later version than the program knows, exactly that is reported. Such a project
 -- may have other tables and rows.
 abbrev pub PutsLaterFirst : Database → Finding → Type 0
 PutsLaterFirst db found = (has : HasProject db.schema) (version : ℕ) → HasVersion db has version → present_version < version → found ≡ finding.Version version
 
--- so it is where steps have no limit
+-- Without a limit on steps, a later version is reported before all else.
 abbrev pub TellsLater : Option ℕ → Database → Finding → Type 0
 TellsLater limit db found = limit ≡ None → PutsLaterFirst db found
 
 -- ---- what a verdict says
 
--- a sound project has this version, and so many workunits and results
+-- The database holds a sound project of this version, with so many workunits and results.
 pub record IsSoundAs (db : Database) (version workunits results : ℕ) : Type 0 where
   pub project : IsSoundProject db
   pub counted : IsCounted project.world version workunits results
 
--- a sound one is there, as told
+-- If the verdict is sound, the database holds a sound project with the reported numbers.
 abbrev pub SaysSound : Database → Verdict → Type 0
 SaysSound db (verdict.Sound version workunits results) = IsSoundAs db version workunits results
 SaysSound db (verdict.Unsound found) = ⊤
 
--- none is there
+-- If the verdict is unsound, the database holds no sound project.
 abbrev pub SaysUnsound : Database → Verdict → Type 0
 SaysUnsound db (verdict.Sound version workunits results) = ⊤
 SaysUnsound db (verdict.Unsound found) = IsSoundProject db → ⊥
 
--- for what is told
+-- If the verdict is unsound, its finding is true of the database.
 abbrev pub SaysWhy : Database → Verdict → Type 0
 SaysWhy db (verdict.Sound version workunits results) = ⊤
 SaysWhy db (verdict.Unsound found) = Tells db found
 
--- and for nothing else where the project has a later version
+-- Without a limit on steps, the finding on a project of a later version is that version.
 abbrev pub SaysLater : Option ℕ → Database → Verdict → Type 0
 SaysLater limit db (verdict.Sound version workunits results) = ⊤
 SaysLater limit db (verdict.Unsound found) = TellsLater limit db found
 
--- all of it
+-- A sound verdict holds of the database with its numbers, and an unsound one with its finding.
 abbrev pub Says : Database → Verdict → Type 0
 Says db (verdict.Sound version workunits results) = IsSoundAs db version workunits results
 Says db (verdict.Unsound found) = Tells db found
 
--- ---- on the way
+-- ---- while a database is checked
 
--- the tables stand for the world, or this is found
+-- The tables represent this world, or this finding is true.
 abbrev pub IsBasis : Database → Basis → Type 0
 IsBasis db (basis.World world) = Refines db world
 IsBasis db (basis.Unsound found) = Tells db found
 
--- the same, where this is the version of the project
+-- If this is the version of the project, the tables represent this world, or this finding is true.
 abbrev pub IsBasisOf : ℕ → Database → Basis → Type 0
 IsBasisOf version db found = IsReadVersion db version → IsBasis db found
 
--- what is found tells of a later version before all else
+-- Without a limit on steps, the finding on a project of a later version is that version.
 abbrev pub IsBasisLater : Option ℕ → Database → Basis → Type 0
 IsBasisLater limit db (basis.World world) = ⊤
 IsBasisLater limit db (basis.Unsound found) = TellsLater limit db found
 
--- a version that this program does not know is what is told of a world that has it
+-- For a world of a version that the program does not know, that version is the finding.
 abbrev pub TellsUnknown : World → Option Finding → Type 0
 TellsUnknown world found = ¬ IsKnown world.version → found ≡ Some (finding.Version world.version)
 
--- the world is sound, of a version that this program knows, and has its queue where it has one
+-- The world is sound, its version is known, and its queue is there if its version has one.
 pub record IsRightWorld (schema : Schema) (world : World) : Type 0 where
   pub sound : IsSound world
   pub known : IsKnown world.version
   pub queue : IsQueued world → (tree : ℕ) × tables.HasQueueIn schema tree
 
--- and the queue has its marks
+-- The world is sound, its version is known, and its queue has the marks of its workunits.
 pub record IsJudged (db : Database) (world : World) : Type 0 where
   pub sound : IsSound world
   pub known : IsKnown world.version
   pub queue : IsQueued world → HasQueue db (marked world)
 
--- this is true of each database with the schema that stands for the world
+-- The finding is true of each database with this schema whose tables represent the world.
 abbrev pub TellsOf : Schema → World → Finding → Type 0
 TellsOf schema world found = (db : Database) → db.schema ≡ schema → Refines db world → Tells db found
 
--- nothing is found of a world that the tables stand for, or this
+-- With a finding, that is true of the database; without one, the world is sound and has its queue.
 abbrev pub Judges : Database → World → Option Finding → Type 0
 Judges db world None = IsJudged db world
 Judges db world (Some found) = Tells db found

@@ -1,4 +1,4 @@
--- The version of each world that the tables stand for.
+-- The version of each world that the tables represent.
 use Rattle.std.specs.Prelude.{◌≡◌, ◌≢◌, ◌⊎◌, ℕ, List, [], ◌∷◌, map}
 use Rattle.sqlite.specs.Effect.{Database}
 use Rattle.sqlite.specs.Order.{Row, column}
@@ -9,23 +9,23 @@ use Rattle.wu_schema.specs.Refines.{Refines}
 use Rattle.wu_schema.specs.Stored.{number}
 use Rattle.wu_schema.specs.Tables.{HasTables, ProjectTrees}
 
--- each has this version
+-- Each world that the database represents has this version.
 abbrev pub IsVersionOf : Database → ℕ → Type 0
 IsVersionOf db version = (world : World) → Refines db world → world.version ≡ version
 
--- the value is the number of this version; or it is of none, and this is the first
+-- The value is the number of this version; or it is no number, and the version is 1.
 abbrev pub IsToldBy : Value → ℕ → Type 0
 IsToldBy value version = (value ≡ number version) ⊎ ((version ≡ 1) × ((told : ℕ) → value ≢ number told))
 
--- the value stands behind the key in the one row
+-- The rows are one row, which has this value after its key.
 abbrev pub HasValue : List Row → Value → Type 0
 HasValue rows value = (row : Row) × (rows ≡ row ∷ []) × (column row 1 ≡ value)
 
--- the one row of a project tells this version; other rows tell the first
+-- The one row of a project gives this version; rows that are not one give version 1.
 abbrev pub TellVersion : List Row → ℕ → Type 0
 TellVersion rows version = ((value : Value) × HasValue rows value × IsToldBy value version) ⊎ ((version ≡ 1) × ((value : Value) → ¬ HasValue rows value))
 
--- so do the rows of the project, where its table is there
+-- Each represented world has this version, and the rows of the table `project` give it.
 pub record IsReadVersion (db : Database) (version : ℕ) : Type 0 where
   pub stands : IsVersionOf db version
   pub read : (trees : ProjectTrees) → HasTables 1 db.schema trees → TellVersion (map (keyed 3) (db.trees trees.project)) version

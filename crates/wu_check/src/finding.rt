@@ -2,7 +2,7 @@
 
 use wu_audit::Wrong;
 use wu_core::{ImportKind, Name};
-use wu_loader::finding::Wrong as WrongRow;
+use wu_loader::finding::WrongRow;
 use wu_tables::Misfit;
 
 /// The row of a table that is wrong.

@@ -6,7 +6,7 @@ ghost use Rattle.wu_check.specs.Findings.{IsKeyAt, IsKeyOf};
 ghost use Rattle.wu_core.specs.declared.fault.Fault.TheVariants.{Memory};
 
 use crate::finding::Key;
-use wu_audit::{Loaded, Table, Wrong};
+use wu_audit::{AuditTable, Loaded, Wrong};
 use wu_core::Fault;
 
 /// Returns the place, counted from 1, of one of so many rows.
@@ -21,7 +21,7 @@ fn counted(place: usize, rows: usize) -> u64
 fn import_key(loaded: &Loaded, place: usize) -> Result<Key, Fault>
     requires { place < length loaded.now.imports }
     // It is the kind and the name of the import at this place.
-    ensures key { IfOk result (IsKeyAt loaded.now Table.Import (Some place)) }
+    ensures key { IfOk result (IsKeyAt loaded.now AuditTable.Import (Some place)) }
     // The only fault is out of memory.
     ensures memory { IfErr result (λ fault. fault ≡ Memory) }
 {
@@ -33,7 +33,7 @@ fn import_key(loaded: &Loaded, place: usize) -> Result<Key, Fault>
 fn class_key(loaded: &Loaded, place: usize) -> Result<Key, Fault>
     requires { place < length loaded.now.classes }
     // It is the name of the host at this place.
-    ensures key { IfOk result (IsKeyAt loaded.now Table.HostClass (Some place)) }
+    ensures key { IfOk result (IsKeyAt loaded.now AuditTable.HostClass (Some place)) }
     // The only fault is out of memory.
     ensures memory { IfErr result (λ fault. fault ≡ Memory) }
 {
@@ -54,11 +54,11 @@ pub fn key_of(loaded: &Loaded, wrong: Wrong) -> Result<Key, Fault>
         return Ok(Key::Project);
     };
     match wrong.table() {
-        Table::Project => Ok(Key::Project),
-        Table::Workunit => Ok(Key::Workunit(loaded.workunits()[place].number)),
-        Table::CreditGrant => Ok(Key::Grant(counted(place, loaded.grants().len()))),
-        Table::Archived => Ok(Key::Archived(counted(place, loaded.archived().len()))),
-        Table::Import => import_key(loaded, place),
-        Table::HostClass => class_key(loaded, place),
+        AuditTable::Project => Ok(Key::Project),
+        AuditTable::Workunit => Ok(Key::Workunit(loaded.workunits()[place].number)),
+        AuditTable::CreditGrant => Ok(Key::Grant(counted(place, loaded.grants().len()))),
+        AuditTable::Archived => Ok(Key::Archived(counted(place, loaded.archived().len()))),
+        AuditTable::Import => import_key(loaded, place),
+        AuditTable::HostClass => class_key(loaded, place),
     }
 }

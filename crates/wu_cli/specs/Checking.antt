@@ -1,4 +1,4 @@
--- What a check of an open database says, and how it is told.
+-- What a check of an open database finds, and how it is reported.
 use Rattle.std.specs.Prelude.{◌≡◌, ℕ, List, MatchResult, IsOkUnless, Option, Result, Err}
 use Rattle.sqlite.specs.Held.{Held}
 use Rattle.sqlite.specs.Store.{Ghosts}
@@ -15,17 +15,18 @@ use Rattle.wu_cli.specs.Checks.{sound_line}
 use Rattle.wu_cli.specs.declared.trouble.Trouble.{Trouble}
 use Rattle.wu_cli.specs.declared.trouble.Trouble.TheVariants as trouble
 
--- a sound project is told on the writer, or where that fails a beginning of its line; an unsound one as the trouble
+-- A sound project is reported by a line on the writer, cut only if that fails; an unsound one by the trouble, with
+-- nothing written.
 abbrev pub TellsVerdict : {W : Type 0} → (W → Option (List ℕ)) → W → W → Verdict → Result (Unit {0}) Trouble → Type 0
 TellsVerdict contents old new (verdict.Sound version workunits results) done =
     WritesTo contents old new (sound_line version workunits results) done × IsOkUnless done (trouble.Fault Output)
 TellsVerdict contents old new (verdict.Unsound finding) done = (done ≡ Err (trouble.Unsound finding)) × (new ≡ old)
 
--- without a verdict the fault is told, and nothing is written
+-- Without a verdict the fault is reported, and nothing is written.
 abbrev pub TellsFault : {W : Type 0} → W → W → Fault → Result (Unit {0}) Trouble → Type 0
 TellsFault old new fault done = (done ≡ Err (trouble.Fault fault)) × (new ≡ old)
 
--- a verdict on what the database shows, as it is told; nothing is changed
+-- The verdict is one on what the database shows, and is reported; the database is not changed.
 pub record ChecksOver {S W : Type 0} (g : Ghosts S) (contents : W → Option (List ℕ)) (old new : Held S) (out_old out_new : W) (done : Result (Unit {0}) Trouble) : Type 0 where
   pub verdict : Result Verdict Fault
   pub asks : Asks g old new verdict

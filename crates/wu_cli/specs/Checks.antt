@@ -1,4 +1,4 @@
--- What a check tells: a line on the outcome, or what keeps the database from holding a sound project.
+-- What a check reports: a line on a sound project, or what keeps the database from holding one.
 use Rattle.std.specs.Prelude.{ℕ, List, ◌++◌, codes}
 use Rattle.std.specs.Fmt.{decimal}
 use Rattle.std.specs.declared.io.ErrorKind.{ErrorKind}
@@ -13,8 +13,8 @@ use Rattle.wu_check.specs.declared.finding.Finding.{Finding}
 use Rattle.wu_check.specs.declared.finding.Finding.TheVariants as finding
 use Rattle.wu_check.specs.declared.finding.Key.{Key}
 use Rattle.wu_check.specs.declared.finding.Key.TheVariants as key
-use Rattle.wu_loader.specs.declared.finding.Table.{Table}
-use Rattle.wu_loader.specs.declared.finding.Table.TheVariants as table
+use Rattle.wu_loader.specs.declared.finding.LoadedTable.{LoadedTable}
+use Rattle.wu_loader.specs.declared.finding.LoadedTable.TheVariants as table
 use Rattle.wu_report.specs.Texts.{line_end}
 use Rattle.wu_tables.specs.Known.{name_of}
 use Rattle.wu_tables.specs.declared.project.Misfit.{Misfit}
@@ -36,8 +36,8 @@ kind_word kind.Sent = codes "sent"
 kind_word kind.Reported = codes "reported"
 kind_word kind.Classes = codes "classes"
 
--- the name of a table before a row's place
-abbrev pub row_front : Table → List ℕ
+-- The name of a table, as it is printed before a row's place.
+abbrev pub row_front : LoadedTable → List ℕ
 row_front table.Project = codes "project row "
 row_front table.Workunit = codes "workunit row "
 row_front table.Result = codes "result row "
@@ -48,7 +48,7 @@ row_front table.Import = codes "import row "
 row_front table.HostClass = codes "host_class row "
 row_front table.WorkunitClass = codes "workunit_class row "
 
--- a table and the key of one of its rows
+-- A table and the key of one of its rows, as printed.
 abbrev pub key_text : Key → List ℕ
 key_text key.Project = codes "project"
 key_text (key.Workunit number) = codes "workunit " ++ decimal number
@@ -62,7 +62,7 @@ misfit_line (misfit.Missing table) = codes "table " ++ name_of table ++ codes " 
 misfit_line (misfit.Altered table) = codes "table " ++ name_of table ++ codes " is not that of a project" ++ line_end
 misfit_line misfit.HostNames = codes "table host has an index that does not compare names by their bytes" ++ line_end
 
--- the line of what was found
+-- The line of a finding.
 abbrev pub finding_line : Finding → List ℕ
 finding_line (finding.Tables misfit) = misfit_line misfit
 finding_line (finding.Row wrong) = row_front wrong.table ++ decimal wrong.place ++ codes " " ++ codes "is missing, or none of a project" ++ line_end
@@ -71,7 +71,7 @@ finding_line (finding.World wrong row) = key_text row ++ (codes " " ++ wrong_wor
 finding_line finding.Queue = codes "table queue or one of its indexes is missing, or is not that of a project" ++ line_end
 finding_line (finding.Marks place) = codes "queue row " ++ decimal place ++ codes " " ++ codes "is missing, or not that of its workunit" ++ line_end
 
--- ---- why a database can't be opened
+-- ---- why a database cannot be opened
 
 abbrev pub reason_line : Reason → List ℕ
 reason_line reason.NoFile = codes "cannot open the database: there is no such file" ++ line_end
@@ -85,12 +85,12 @@ reason_line reason.FullDisk = codes "cannot open the database: the disk is full"
 reason_line reason.Refused = codes "cannot open the database: the file cannot be opened" ++ line_end
 reason_line reason.Memory = codes "F14 Memory" ++ line_end
 
--- 4 for want of memory, else 3
+-- The status of a check that could not be made: 4 for out of memory, else 3.
 abbrev pub reason_status : Reason → ℕ
 reason_status reason.Memory = 4
 reason_status _ = 3
 
--- the reason of an error of the store
+-- The reason of an error of the store.
 abbrev pub reason_of : Error → Reason
 reason_of (SqliteFailure code.OutOfMemory) = reason.Memory
 reason_of (SqliteFailure code.DatabaseBusy) = reason.InUse
@@ -100,14 +100,14 @@ reason_of (SqliteFailure code.SystemIoFailure) = reason.FailingDisk
 reason_of (SqliteFailure code.DiskFull) = reason.FullDisk
 reason_of _ = reason.Refused
 
--- that of an error of the system, on opening a file
+-- The reason of an error of the system, on opening a file.
 abbrev pub reason_of_file : ErrorKind → Reason
 reason_of_file NotFound = reason.NoFile
 reason_of_file WouldBlock = reason.InUse
 reason_of_file OutOfMemory = reason.Memory
 reason_of_file _ = reason.Refused
 
--- and on reading one
+-- The reason of an error of the system, on reading a file.
 abbrev pub reason_of_reading : ErrorKind → Reason
 reason_of_reading OutOfMemory = reason.Memory
 reason_of_reading PermissionDenied = reason.Refused

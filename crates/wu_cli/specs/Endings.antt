@@ -24,14 +24,14 @@ fault_line fault = fault_text fault ++ line_end
 abbrev pub unopened_line : List ℕ
 unopened_line = codes "cannot open the database" ++ line_end
 
--- with true exactly this text went out, and else some beginning of it
+-- With `true` exactly this text went out, and else a prefix of it.
 abbrev pub WritesAll : Option (List ℕ) → Option (List ℕ) → List ℕ → Bool → Type 0
 WritesAll old new text true = Appends old new text
 WritesAll old new text false = AppendsFront old new text
 
 -- ---- of a script
 
--- which line of a script it is
+-- The number of a script's line, as printed.
 abbrev pub line_front : ℕ → List ℕ
 line_front number = codes "line " ++ decimal number ++ codes ": "
 
@@ -40,7 +40,7 @@ cause_text cause.OpenQuote = codes "a quote is not closed" ++ line_end
 cause_text cause.NotText = codes "the words are no UTF-8 text" ++ line_end
 cause_text cause.TooManyLines = codes "a script has at most 1000 lines" ++ line_end
 
--- why words are no line
+-- Why words are no line: the text on standard error.
 abbrev pub usage_text : Usage → List ℕ
 usage_text (usage.Refused text) = text
 usage_text usage.UnknownView = codes "unknown view" ++ line_end
@@ -50,7 +50,7 @@ usage_text usage.NotText = cause_text cause.NotText
 usage_text usage.Incomplete = codes "a value is missing" ++ line_end
 usage_text usage.Memory = fault_line fault.Memory
 
--- what stands in no script
+-- The line for something that no script may contain.
 abbrev pub outsider_line : Outsider → List ℕ
 outsider_line outsider.Script = codes "a script cannot stand in a script" ++ line_end
 outsider_line outsider.Session = codes "a session cannot stand in a script" ++ line_end
@@ -64,10 +64,10 @@ refusal_text (refusal.Outsider outsider) = outsider_line outsider
 refusal_text refusal.Repeat = codes "only a pass can be repeated" ++ line_end
 refusal_text (refusal.Fault fault) = fault_line fault
 
--- the first line that can't be run, and why
+-- The text of the first line that cannot be run, with the reason.
 abbrev pub bad_line_text : BadLine → List ℕ
 bad_line_text bad = line_front bad.number ++ refusal_text bad.why
 
--- the line whose fault ended the script, and the line of the fault
+-- The text of the line whose fault ended the script, and of the fault.
 abbrev pub line_fault_text : LineFault → List ℕ
 line_fault_text end = line_front end.number ++ fault_line end.fault

@@ -9,12 +9,12 @@ use Rattle.wu_report.specs.Seeing.{Sees}
 use Rattle.wu_arguments.specs.declared.action.Action.{Action}
 use Rattle.wu_arguments.specs.declared.action.Action.TheVariants.{Commands, Look}
 
--- a call answered this fault, or none
+-- The result of a call that ended with this fault, or without one.
 abbrev pub as_result : Option Fault → Result (Unit {0}) Fault
 as_result None = Ok tt
 as_result (Some fault) = Err fault
 
--- the commands of an action are run, or its view is shown; what ended that is told
+-- The commands of an action are run, or its view is shown, and this ended it.
 abbrev pub Performs : {S W : Type 0} {store : Ghosts S} → (W → Option (List ℕ)) → Project S store → Project S store → W → W → Action → Option Fault → Type 0
 Performs contents old new out_old out_new (Commands commands) end =
     (run : Run) × RunsList contents old new out_old out_new commands run × (run.end ≡ end)

@@ -27,47 +27,47 @@ use Rattle.wu_cli.specs.declared.work.Work.TheVariants as work
 
 -- ---- the texts
 
--- the text of the machine's answer; a refusal prints nothing
+-- The text of the machine's answer; a refusal prints nothing.
 abbrev pub printed_reply : Result Reply Fault → List ℕ
 printed_reply (Ok answer) = reply_text answer
 printed_reply (Err fault) = []
 
--- its answers to commands, one after another
+-- The texts of the machine's answers to commands, one after another.
 abbrev pub printed_replies : World → List Command → List ℕ
 printed_replies world [] = []
 printed_replies world (command ∷ commands) =
     printed_reply (reply world (request_of command)) ++ printed_replies (step world (request_of command)) commands
 
--- what an action prints: its answers, or its view
+-- What an action prints: its answers, or its view.
 abbrev pub printed_action : World → Action → List ℕ
 printed_action world (Commands commands) = printed_replies world commands
 printed_action world (Look view) = view_text world view
 
--- what steps print, each over the world that those before it left
+-- What steps print, each over the world that the steps before it left.
 abbrev pub printed_steps : World → List Step → List ℕ
 printed_steps world [] = []
 printed_steps world (step ∷ more) = printed_action world step.action ++ printed_steps (world_behind world step.action) more
 
--- what a line or a script prints
+-- What a line or a script prints.
 abbrev pub printed_work : World → Work → List ℕ
 printed_work world (work.Line action) = printed_action world action
 printed_work world (work.Script steps) = printed_steps world (unrolled world steps)
 
--- ---- what goes out: exactly this, and with a fault a beginning of it
+-- ---- what goes out: exactly this, and with a fault a prefix of it
 
--- of an action, over a world that the tables stand for, where the disk does not fail
+-- Over a world that the tables represent, on a clean disk, an action prints its text, and with a fault a prefix of it.
 abbrev pub PrintsAction : {S W : Type 0} {store : Ghosts S} → (W → Option (List ℕ)) → Project S store → Project S store → W → W → Action → Option Fault → Type 0
 PrintsAction contents old new out_old out_new action end =
     IsSessionOpen old → HasCleanDisk (state_of new) → (world : World) → ShowsProject old world
     → WritesTo contents out_old out_new (printed_action world action) (line_outcome end)
 
--- of the steps of a script, each as often as it is done
+-- Likewise the steps of a script, each as often as it is done.
 abbrev pub PrintsSteps : {S W : Type 0} {store : Ghosts S} → (W → Option (List ℕ)) → Project S store → Project S store → W → W → List Step → Option LineFault → Type 0
 PrintsSteps contents old new out_old out_new steps end =
     IsSessionOpen old → HasCleanDisk (state_of new) → (world : World) → ShowsProject old world
     → WritesTo contents out_old out_new (printed_steps world (unrolled world steps)) (script_outcome end)
 
--- of work over an open database, whatever world a session over it may begin from
+-- Likewise work over an open database, from each world that a session over it may begin from.
 abbrev pub PrintsOver : {S W : Type 0} (g : Ghosts S) → (W → Option (List ℕ)) → Held S → Held S → W → W → Work → Result (Unit {0}) Trouble → Type 0
 PrintsOver g contents conn again out_old out_new asked done =
     HasCleanDisk (state g again) → (world : World) → IsProject world → BeginsFrom (state g conn) world

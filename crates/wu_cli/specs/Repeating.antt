@@ -16,11 +16,11 @@ abbrev pub commands_of_action : Action → List Command
 commands_of_action (Commands commands) = commands
 commands_of_action (Look view) = []
 
--- the commands of steps, in order: a view is none
+-- The commands of steps, in order; a view has none.
 abbrev pub commands_of_steps : List Step → List Command
 commands_of_steps steps = flat_map (λ step. commands_of_action step.action) steps
 
--- the machine's world behind an action, and behind steps
+-- The machine's world after an action, and after steps.
 abbrev pub world_behind : World → Action → World
 world_behind world action = fold_steps world (map request_of (commands_of_action action))
 
@@ -29,34 +29,36 @@ world_behind_steps world steps = fold_steps world (map request_of (commands_of_s
 
 -- ---- whether there may be more to do
 
--- how many workunits a pass may handle; nothing for any other request
+-- How many workunits a pass may handle; `None` for any other request.
 abbrev pub limit_of : Request → Option ℕ
 limit_of (AskPass pass now limit min_age) = Some limit
 limit_of _ = None
 
--- it handled as many as it may
+-- Whether the number of handled workunits is the limit.
 abbrev pub is_at_limit : Option ℕ → Option ℕ → Bool
 is_at_limit (Some limit) (Some handled) = limit == handled
 is_at_limit _ _ = false
 
--- these commands are one pass, which did
+-- Whether the commands are one pass that handled as many workunits as it may.
 abbrev pub fill_limit : List Command → Option ℕ → Bool
 fill_limit (command ∷ []) handled = is_at_limit (limit_of (request_of command)) handled
 fill_limit _ handled = false
 
--- over this world an action is one pass that handles as many workunits as it may: there may be more to do
+-- Whether an action over this world is one pass that handles as many workunits as it may, so that there may be more to
+-- do.
 abbrev pub is_full : World → Action → Bool
 is_full world (Commands commands) = fill_limit commands (last_handled world commands)
 is_full world (Look view) = false
 
 -- ---- how often
 
--- a repeated step is done so many times at most, another once
+-- How often a step may be done: a repeated one at most a million times, any other once.
 abbrev pub most_rounds : Bool → ℕ
 most_rounds true = 1000000
 most_rounds false = 1
 
--- how often an action is done over a world: once, and again behind each time that it was full, at most so many times
+-- How often an action is done over a world: once, and again after each time that it handled its limit, up to this
+-- number.
 abbrev pub rounds_of : World → Action → ℕ → ℕ
 rounds_of world action zero = zero
 rounds_of world action (suc most) = suc (if is_full world action then rounds_of (world_behind world action) action most else zero)
@@ -64,13 +66,13 @@ rounds_of world action (suc most) = suc (if is_full world action then rounds_of 
 abbrev pub rounds : World → Step → ℕ
 rounds world step = rounds_of world step.action (most_rounds step.repeats)
 
--- the steps that those of a script come to over a world: each as often as it is done
+-- The steps of a script as they are done over a world, each as often as it is done there.
 abbrev pub unrolled : World → List Step → List Step
 unrolled world [] = []
 unrolled world (step ∷ steps) =
     replicate (rounds world step) step ++ unrolled (world_behind_steps world (replicate (rounds world step) step)) steps
 
--- whatever the world is: each in its place, a repeated one some times and another once
+-- The steps that ran are those of the script, in order: a repeated one any number of times, any other once.
 abbrev pub AreRepeated : List Step → List Step → Type 0
 AreRepeated [] ran = ran ≡ []
 AreRepeated (step ∷ steps) ran =

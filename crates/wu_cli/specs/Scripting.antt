@@ -16,13 +16,13 @@ use Rattle.wu_arguments.specs.declared.step.Step.{Step}
 -- ---- step by step
 
 module _ {S W : Type 0} {store : Ghosts S} (contents : W → Option (List ℕ)) where
-  -- each step is done in order, over what the step before it left, and none ends with a fault
+  -- Each step is done in order, over what the step before it left, and none ends with a fault.
   unfoldable pub PerformsEach : Project S store → Project S store → W → W → List Step → Type 0
   PerformsEach old new out_old out_new [] = (new ≡ old) × (out_new ≡ out_old)
   PerformsEach old new out_old out_new (step ∷ more) =
       (mid : Project S store) × (out_mid : W) × Performs contents old mid out_old out_mid step.action None × PerformsEach mid new out_mid out_new more
 
-  -- the steps before one are done, that one ends with this fault, and those after it are not begun
+  -- The steps before this one are done, this one ends with this fault, and those after it are not begun.
   pub record PerformsUntil (old new : Project S store) (out_old out_new : W) (steps : List Step) (end : LineFault) : Type 0 where
     pub before : List Step
     pub last : Step
@@ -34,7 +34,7 @@ module _ {S W : Type 0} {store : Ghosts S} (contents : W → Option (List ℕ)) 
     pub each : PerformsEach old mid out_old out_mid before
     pub ends : Performs contents mid new out_mid out_new last.action (Some end.fault)
 
-  -- all steps are done, each once, or those before the one that ended with a fault, and that one
+  -- Without a fault all steps are done, each once; with a fault, those before the one that ended so.
   abbrev pub PerformsSteps : Project S store → Project S store → W → W → List Step → Option LineFault → Type 0
   PerformsSteps old new out_old out_new steps None = PerformsEach old new out_old out_new steps
   PerformsSteps old new out_old out_new steps (Some end) = PerformsUntil old new out_old out_new steps end
@@ -42,8 +42,8 @@ module _ {S W : Type 0} {store : Ghosts S} (contents : W → Option (List ℕ)) 
 -- ---- as often as they are repeated
 
 module _ {S W : Type 0} {store : Ghosts S} (contents : W → Option (List ℕ)) where
-  -- A step is done some times, one that is not repeated once, or it ends with a fault. Over a world that the tables
-  -- stand for, where the disk does not fail, it is done as often as the machine's answers ask for.
+  -- A step is done some number of times, once if it is not repeated, or ends with a fault. Over a represented world on
+  -- a clean disk that number is the one that the machine's answers give.
   pub record PerformsStep (old new : Project S store) (out_old out_new : W) (step : Step) (end : Option LineFault) : Type 0 where
     pub times : ℕ
     pub once : step.repeats ≡ false → times ≡ 1
@@ -52,7 +52,8 @@ module _ {S W : Type 0} {store : Ghosts S} (contents : W → Option (List ℕ)) 
         IsSessionOpen old → HasCleanDisk (state_of new) → (world : World) → ShowsProject old world
         → PerformsSteps contents old new out_old out_new (replicate (rounds world step) step) end
 
-  -- so are the steps of a script, in order
+  -- The steps of a script are done in order, each some number of times. Over a represented world on a clean disk these
+  -- numbers are those that the machine's answers give.
   pub record PerformsScript (old new : Project S store) (out_old out_new : W) (steps : List Step) (end : Option LineFault) : Type 0 where
     pub ran : List Step
     pub repeats : AreRepeated steps ran
@@ -61,12 +62,12 @@ module _ {S W : Type 0} {store : Ghosts S} (contents : W → Option (List ℕ)) 
         IsSessionOpen old → HasCleanDisk (state_of new) → (world : World) → ShowsProject old world
         → PerformsSteps contents old new out_old out_new (unrolled world steps) end
 
--- over such a world it is told whether an action that was done was full
+-- Over a represented world, on a clean disk, this reports whether a done action handled its limit.
 abbrev pub TellsFull : {S : Type 0} {store : Ghosts S} → Project S store → Project S store → Action → Option Fault → Bool → Type 0
 TellsFull old new action end told =
     end ≡ None → IsSessionOpen old → HasCleanDisk (state_of new) → (world : World) → ShowsProject old world
     → told ≡ is_full world action
 
--- a list of commands that got so far
+-- The run of a list of which so many commands are acknowledged.
 abbrev pub so_far : ℕ → Run
 so_far count = record { acknowledged = count; end = None }

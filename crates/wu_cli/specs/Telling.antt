@@ -1,4 +1,4 @@
--- How many commands of a script were done over a world, and what it put out of them.
+-- How many commands of a script were done over a world, and what it printed of them.
 use Rattle.std.specs.Prelude.{◌≡◌, ℕ, ◌+◌, Bool, List, ◌∷◌, ◌++◌, length, take, Option, Some, None}
 use Rattle.std.specs.Io.KnownBytes.{Appends}
 use Rattle.sqlite.specs.State.{State, HasCleanDisk}
@@ -21,16 +21,16 @@ use Rattle.wu_cli.specs.Printing.{printed_steps}
 use Rattle.wu_cli.specs.Repeating.{commands_of_steps, unrolled, world_behind_steps}
 use Rattle.wu_cli.specs.Scripting.{so_far}
 
--- What an action put out that ended with a fault. Of its commands, so many of which were done, the texts of the
--- machine's answers, the last of them cut only with `Output`; of a view a beginning.
+-- What an action printed that ended with a fault. Of commands, the texts of the answers to those that were done, the
+-- last one cut only with `Output`. Of a view, a prefix.
 abbrev pub TellsAction : Option (List ℕ) → Option (List ℕ) → World → Action → ℕ → Fault → Type 0
 TellsAction before after world (Commands commands) count fault =
     (answers : List Answer) × AnswerAll world (take count commands) answers
     × WritesAnswers before after answers (record { acknowledged = count; end = Some fault })
 TellsAction before after world (Look view) count fault = (count ≡ 0) × AppendsFront before after (view_text world view)
 
--- So many commands of the steps were done. Each step before the one that ended with a fault put out all that it prints;
--- that one put out what tells of those that it did.
+-- So many commands of the steps were done. Each step before the one that failed printed all its text. That one printed
+-- what reports its done commands.
 pub record TellsUntil (before after : Option (List ℕ)) (world : World) (steps : List Step) (count : ℕ) (fault : Fault) : Type 0 where
   pub front : List Step
   pub last : Step
@@ -42,14 +42,14 @@ pub record TellsUntil (before after : Option (List ℕ)) (world : World) (steps 
   pub counted : count ≡ length (commands_of_steps front) + done
   pub part : TellsAction mid after (world_behind_steps world front) last.action done fault
 
--- without a fault every step did
+-- Without a fault all steps printed their whole text; with one, as far as they were done.
 abbrev pub TellsSteps : Option (List ℕ) → Option (List ℕ) → World → List Step → ℕ → Option LineFault → Type 0
 TellsSteps before after world steps count None = Appends before after (printed_steps world steps)
 TellsSteps before after world steps count (Some end) = TellsUntil before after world steps count end.fault
 
--- So many commands of these steps were done, each with the machine's reply, and the tables stand for the world after them;
--- where the session ended within the next one, a stop may also leave the world after that. What went out tells of as
--- many. Without a fault all were done.
+-- So many commands of these steps were done, each with the machine's reply, and the tables represent the world after
+-- them. If the session ended within the next command, a crash may also leave the world after that one. What went out
+-- reports as many commands. Without a fault all were done.
 pub record DrivesCommands (world : World) (steps : List Step) (end : Option LineFault) (before after : Option (List ℕ)) (new : State) : Type 0 where
   pub count : ℕ
   pub answers : List Answer
@@ -59,15 +59,14 @@ pub record DrivesCommands (world : World) (steps : List Step) (end : Option Line
   pub whole : end ≡ None → count ≡ length (commands_of_steps steps)
 
 module _ {S W : Type 0} {store : Ghosts S} (contents : W → Option (List ℕ)) where
-  -- so a script drives a project of any world over which its session goes on, where the disk does not fail
+  -- On a clean disk, a script does a prefix of its commands over each world over which its session goes on.
   abbrev pub DrivesSteps : Project S store → Project S store → W → W → List Step → Option LineFault → Type 0
   DrivesSteps old new out_old out_new steps end =
       IsSessionOpen old → HasCleanDisk (state_of new) → (world : World) → IsOver old world
       → DrivesCommands world (unrolled world steps) end (contents out_old) (contents out_new) (state_of new)
 
-  -- A script lengthens any life that led to that world, as its list of commands does: each world that a stop may leave
-  -- is that of the life with one session more, which acknowledged the commands that were done and cut the next one or
-  -- none.
+  -- If a history of sessions led to the world, the script's commands lengthen it by one session. Each world that a
+  -- crash may leave is that of the longer history, with the cut command in or out.
   abbrev pub LengthensBySteps : Project S store → Project S store → W → W → List Step → Option LineFault → Type 0
   LengthensBySteps old new out_old out_new steps end =
       IsSessionOpen old → HasCleanDisk (state_of new) → (start : World) (life : List Lived) → IsOver old (world_of_life start life)

@@ -1,4 +1,4 @@
--- What ends a run of the program before all of it is done: its text on standard error, and its status.
+-- What ends a run of the program before all is done: its text on standard error, and its status.
 use Rattle.std.specs.Prelude.{ℕ, List}
 use Rattle.std.specs.declared.io.ErrorKind.{ErrorKind}
 use Rattle.std.specs.declared.io.ErrorKind.TheVariants.{OutOfMemory}
@@ -11,7 +11,8 @@ use Rattle.wu_cli.specs.Endings.{bad_line_text, fault_line, line_fault_text, uno
 use Rattle.wu_cli.specs.declared.trouble.Trouble.{Trouble}
 use Rattle.wu_cli.specs.declared.trouble.Trouble.TheVariants as trouble
 
--- 3: the database can't be opened; 1: it holds no sound project; else the status of refused words or of a fault
+-- The status of a trouble. 3: the database cannot be opened; 1: it holds no sound project; else that of refused words
+-- or of a fault.
 abbrev pub trouble_status : Trouble → ℕ
 trouble_status (trouble.Usage usage) = usage_status usage
 trouble_status (trouble.BadLine bad) = refusal_status bad.why
@@ -30,14 +31,14 @@ trouble_text (trouble.LineFault end) = line_fault_text end
 trouble_text (trouble.Unchecked reason) = reason_line reason
 trouble_text (trouble.Unsound finding) = finding_line finding
 
--- of an opening only want of memory is told
+-- The trouble of a failed opening: out of memory, or else that the database cannot be opened.
 abbrev pub trouble_of_opening : Fault → Trouble
 trouble_of_opening fault.Memory = trouble.Fault fault.Memory
 trouble_of_opening _ = trouble.Unopened
 
 -- ---- the words of a process
 
--- want of memory; or else the words are no text
+-- The trouble of words that a process could not get: out of memory, or else they are no text.
 abbrev pub unheard : ErrorKind → Trouble
 unheard OutOfMemory = trouble.Fault fault.Memory
 unheard _ = trouble.Usage NotText

@@ -45,11 +45,12 @@ work_of_script (Ok steps) = Ok (work.Script steps)
 work_of_script (Err bad) = Err (trouble.BadLine bad)
 
 module _ (gives : List ℕ → ℕ → Option (List ℕ) → Type 0) where
-  -- what a line asks for, with what its files hold, or the fault of it
+  -- What a line asks for, with the contents of its files, or its fault.
   abbrev pub AsksOfLine : Line → Result Work Trouble → Type 0
   AsksOfLine line result = (asked : Result Action Fault) × Prepares gives line.asking asked × (result ≡ work_of_line asked)
 
-  -- what a script's file holds is a script, and so its lines ask for this, or the first that can't be run is told
+  -- The text of the script's file is a script, and its lines ask for this; or the first line that cannot be run is
+  -- reported.
   pub record AsksOfText (script : ScriptFile) (result : Result Work Trouble) : Type 0 where
     pub text : List ℕ
     pub given : gives script.file longest_file (Some text)
@@ -59,7 +60,7 @@ module _ (gives : List ℕ → ℕ → Option (List ℕ) → Type 0) where
     pub asks : GivesSteps gives script.db lines steps
     pub asked : result ≡ work_of_script steps
 
-  -- the script's file can't be read, or its text is no script; or memory is wanted
+  -- The script's file cannot be read, its text is no script, or the call is out of memory.
   abbrev pub IsUnreadScript : ScriptFile → Fault → Type 0
   IsUnreadScript script fault =
       (fault ≡ Memory)
@@ -71,7 +72,7 @@ module _ (gives : List ℕ → ℕ → Option (List ℕ) → Type 0) where
 
 -- ---- over a project
 
--- how a line or a script ended
+-- How a line or a script ended.
 abbrev pub line_outcome : Option Fault → Result (Unit {0}) Trouble
 line_outcome None = Ok tt
 line_outcome (Some fault) = Err (trouble.Fault fault)
@@ -80,20 +81,21 @@ abbrev pub script_outcome : Option LineFault → Result (Unit {0}) Trouble
 script_outcome None = Ok tt
 script_outcome (Some end) = Err (trouble.LineFault end)
 
--- the line or the steps of the script are done, and what ended them is told
+-- The line or the steps of the script are done, and what ended them is reported.
 abbrev pub PerformsWork : {S W : Type 0} {store : Ghosts S} → (W → Option (List ℕ)) → Project S store → Project S store → W → W → Work → Result (Unit {0}) Trouble → Type 0
 PerformsWork contents old new out_old out_new (work.Line action) done =
     (end : Option Fault) × Performs contents old new out_old out_new action end × (done ≡ line_outcome end)
 PerformsWork contents old new out_old out_new (work.Script steps) done =
     (end : Option LineFault) × PerformsScript contents old new out_old out_new steps end × (done ≡ script_outcome end)
 
--- its commands over a world, in order: a view is none, and a repeated pass is as many as the times that it is done
+-- The commands of the work over a world, in order. A view has none, and a repeated pass has one for each time that it
+-- is done.
 abbrev pub commands_of_work : World → Work → List Command
 commands_of_work world (work.Line action) = commands_of_action action
 commands_of_work world (work.Script steps) = commands_of_steps (unrolled world steps)
 
--- So many commands were done, each with the machine's reply, and the tables stand for the world after them; where the
--- session ended within the next one, a stop may also leave the world after that. Where all went well all were done.
+-- So many commands were done, each with the machine's reply, and the tables represent the world after them. If the
+-- session ended within the next command, a crash may also leave the world after that one. With success all were done.
 pub record DrivesWork (world : World) (asked : Work) (done : Result (Unit {0}) Trouble) (new : State) : Type 0 where
   pub count : ℕ
   pub answers : List Answer
@@ -104,7 +106,7 @@ pub record DrivesWork (world : World) (asked : Work) (done : Result (Unit {0}) T
 -- ---- over an open database
 
 module _ {S W : Type 0} (g : Ghosts S) (contents : W → Option (List ℕ)) (conn again : Held S) (out_old out_new : W) (asked : Work) (done : Result (Unit {0}) Trouble) where
-  -- its project is adopted, the work is done over that, and the session released
+  -- The project is adopted, the work is done over it, and the session is released.
   pub record DoesAdopted : Type 0 where
     pub old : Project S g
     pub new : Project S g
@@ -115,11 +117,11 @@ module _ {S W : Type 0} (g : Ghosts S) (contents : W → Option (List ℕ)) (con
     pub does : PerformsWork contents old new out_old out_new asked done
     pub released : again ≡ connection_of new
 
-  -- nothing is adopted: the fault of that is told, and nothing is done or written
+  -- No project is adopted: that fault is reported, and nothing is done or written.
   pub record DoesNothing : Type 0 where
     pub fault : Fault
     pub refused : RefusesAdoption (state g conn) (state g again) fault
-    -- amid a transaction it comes back as it was
+    -- A connection in a transaction comes back as it was.
     pub busy : conn.in_transaction ≡ true → (again ≡ conn) × (fault ≡ NotAProject)
     pub told : done ≡ Err (trouble.Fault fault)
     pub unwritten : out_new ≡ out_old
@@ -127,18 +129,18 @@ module _ {S W : Type 0} (g : Ghosts S) (contents : W → Option (List ℕ)) (con
   abbrev pub DoesOver : Type 0
   DoesOver = DoesAdopted ⊎ DoesNothing
 
--- the world that a session begins from: one that the tables stand for, or the empty one where no project is
+-- The world that a session begins from: the one that the tables represent, or the empty one if there is no project.
 abbrev pub BeginsFrom : State → World → Type 0
 BeginsFrom s world = GoesOn s world ⊎ (IsVacant s × (world ≡ empty_world))
 
--- nothing was adopted, for such a fault, and tables that stood for the world stand for it still
+-- No project was adopted, for this fault, and tables that represented the world represent it still.
 pub record RefusesWork (old new : State) (world : World) (done : Result (Unit {0}) Trouble) : Type 0 where
   pub fault : Fault
   pub told : done ≡ Err (trouble.Fault fault)
   pub why : IsAdoptionFault fault
   pub stands : GoesOn old world → GoesOn new world
 
--- over each world that a session may begin from a beginning of the commands is done, or nothing was adopted
+-- From each world that a session may begin from, a prefix of the commands is done, or no project is adopted.
 abbrev pub DrivesOver : {S : Type 0} (g : Ghosts S) → Held S → Held S → Work → Result (Unit {0}) Trouble → Type 0
 DrivesOver g conn again asked done =
     HasCleanDisk (state g again) → (world : World) → IsProject world → BeginsFrom (state g conn) world

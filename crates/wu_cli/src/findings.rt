@@ -11,7 +11,7 @@ use crate::texts::{placed, plain, write_flushed};
 use std::io::Write;
 use wu_check::{Finding, Key};
 use wu_core::{Fault, ImportKind};
-use wu_loader::finding::Table;
+use wu_loader::finding::LoadedTable;
 use wu_report::{Piece, write_pieces};
 use wu_tables::Misfit;
 
@@ -28,19 +28,19 @@ fn kind_word(kind: ImportKind) -> &'static str
 }
 
 /// Returns the name of a table before a row's place.
-fn row_front(table: Table) -> &'static str
+fn row_front(table: LoadedTable) -> &'static str
     ensures { result.now ≡ row_front table }
 {
     match table {
-        Table::Project => "project row ",
-        Table::Workunit => "workunit row ",
-        Table::Result => "result row ",
-        Table::CreditGrant => "credit_grant row ",
-        Table::Host => "host row ",
-        Table::Archived => "archived row ",
-        Table::Import => "import row ",
-        Table::HostClass => "host_class row ",
-        Table::WorkunitClass => "workunit_class row ",
+        LoadedTable::Project => "project row ",
+        LoadedTable::Workunit => "workunit row ",
+        LoadedTable::Result => "result row ",
+        LoadedTable::CreditGrant => "credit_grant row ",
+        LoadedTable::Host => "host row ",
+        LoadedTable::Archived => "archived row ",
+        LoadedTable::Import => "import row ",
+        LoadedTable::HostClass => "host_class row ",
+        LoadedTable::WorkunitClass => "workunit_class row ",
     }
 }
 

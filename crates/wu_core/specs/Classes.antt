@@ -8,11 +8,11 @@ use Rattle.wu_core.specs.declared.workunit.HostClass.{HostClass}
 use Rattle.wu_core.specs.Limits.{highest_class}
 use Rattle.wu_core.specs.Storable.{IsName}
 
--- the class of a host
+-- The class of a host.
 abbrev pub class_of : List HostClass → List ℕ → ℕ
 class_of classes host = option_map_or (λ it. it.class) (find (λ it. bytes_eq it.host host) classes) 0
 
--- the hosts with this one's class set, at its place by the bytes of its name
+-- The classes of hosts with this host's class set, at its place by the bytes of its name.
 abbrev pub with_class : List ℕ → ℕ → List HostClass → List HostClass
 with_class host class [] = record { host = host; class = class } ∷ []
 with_class host class (one ∷ more) =
@@ -21,11 +21,11 @@ with_class host class (one ∷ more) =
     (record { host = host; class = class } ∷ more)
     (one ∷ with_class host class more)
 
--- the hosts are in order of the bytes of their names, and none stands twice
+-- The hosts are in order of the bytes of their names, and none is listed twice.
 abbrev pub AreInOrder : List HostClass → Type 0
 AreInOrder classes = AllPairs (λ one other. slice_cmp nat_cmp one.host other.host ≡ Less) classes
 
--- a host that a file named
+-- The host has a valid name, and a class from 1 to the highest.
 pub record IsClassed (it : HostClass) : Type 0 where
   pub host : IsName it.host
   pub named : 1 ≤ it.class

@@ -1,4 +1,4 @@
--- The numbers that stand for states in a table: BOINC's.
+-- BOINC's numbers of states, as tables store them.
 use Rattle.std.specs.Prelude.{◌≡◌, ℕ, Option, Some, IfSome}
 use Rattle.wu_core.specs.declared.states.ServerState.{ServerState}
 use Rattle.wu_core.specs.declared.states.ServerState.TheVariants as server
@@ -13,19 +13,19 @@ use Rattle.wu_core.specs.declared.states.FileDelete.TheVariants as file_delete
 use Rattle.wu_core.specs.declared.import.ImportKind.{ImportKind}
 use Rattle.wu_core.specs.declared.import.ImportKind.TheVariants as kind
 
--- a number reads as the value whose code it is, and as nothing where it is no code
+-- The number of a value reads as that value, and any other number reads as `None`.
 pub record Decodes {T : Type 0} (code_of : T → ℕ) (code : ℕ) (read : Option T) : Type 0 where
   pub found : (value : T) → code_of value ≡ code → read ≡ Some value
   pub coded : IfSome read (λ value. code_of value ≡ code)
 
--- where an instance is; 3 is not used
+-- The number of the state of an instance; 3 is not used.
 abbrev pub server_state_code : ServerState → ℕ
 server_state_code server.Inactive = 1
 server_state_code server.Unsent = 2
 server_state_code server.InProgress = 4
 server_state_code server.Over = 5
 
--- how an instance ended
+-- The number of how an instance ended.
 abbrev pub outcome_code : Outcome → ℕ
 outcome_code outcome.Init = 0
 outcome_code outcome.Success = 1
@@ -36,7 +36,7 @@ outcome_code outcome.DidntNeed = 5
 outcome_code outcome.ValidateError = 6
 outcome_code outcome.ClientDetached = 7
 
--- what the validator found of an instance
+-- The number of an instance's verdict.
 abbrev pub validate_state_code : ValidateState → ℕ
 validate_state_code validate.Init = 0
 validate_state_code validate.Valid = 1
@@ -45,20 +45,20 @@ validate_state_code validate.NoCheck = 3
 validate_state_code validate.Inconclusive = 4
 validate_state_code validate.TooLate = 5
 
--- whether a workunit waits for the assimilator
+-- The number of how far the assimilation of a workunit is.
 abbrev pub assimilate_code : Assimilate → ℕ
 assimilate_code assimilate.Init = 0
 assimilate_code assimilate.Ready = 1
 assimilate_code assimilate.Done = 2
 
--- whether an input or an output waits for the file deleter
+-- The number of how far the deletion of an input or an output is.
 abbrev pub file_delete_code : FileDelete → ℕ
 file_delete_code file_delete.Init = 0
 file_delete_code file_delete.Ready = 1
 file_delete_code file_delete.Done = 2
 file_delete_code file_delete.Error = 3
 
--- what an imported file holds
+-- The number of the kind of an import.
 abbrev pub import_kind_code : ImportKind → ℕ
 import_kind_code kind.Batch = 1
 import_kind_code kind.Sent = 2

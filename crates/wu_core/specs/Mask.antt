@@ -2,7 +2,7 @@
 use Rattle.std.specs.Prelude.{◌≡◌, ℕ, ◌+◌, ◌*◌, Bool, false, if◌then◌else◌}
 use Rattle.wu_core.specs.declared.mask.ErrorMask.{ErrorMask}
 
--- no bit is set
+-- The mask with no bit set.
 abbrev pub no_errors : ErrorMask
 no_errors = record {
   couldnt_send_result = false;
@@ -13,7 +13,7 @@ no_errors = record {
   no_canonical_result = false;
 }
 
--- no bit stands that this project never sets
+-- The mask has no bit set that this project never sets.
 pub record IsPossibleMask (mask : ErrorMask) : Type 0 where
   pub sendable : mask.couldnt_send_result ≡ false
   pub decidable : mask.no_canonical_result ≡ false
@@ -21,7 +21,7 @@ pub record IsPossibleMask (mask : ErrorMask) : Type 0 where
 abbrev pub bit_value : Bool → ℕ
 bit_value bit = if bit then 1 else 0
 
--- the sum of the bits that are set
+-- The sum of the bits that are set.
 abbrev pub error_mask_code : ErrorMask → ℕ
 error_mask_code mask =
     bit_value mask.couldnt_send_result

@@ -11,7 +11,7 @@ pub record Parameters : Type 0 where
   pub delay_bound : ℕ
   pub credit : ℕ
 
--- the ranges of a workunit, whose target the validator may raise
+-- The parameters are in the ranges of a workunit. The validator may have raised the target.
 pub record IsParameters (p : Parameters) : Type 0 where
   pub min_quorum : (1 ≤ p.min_quorum) × (p.min_quorum ≤ highest_quorum)
   pub target_nresults : (p.min_quorum ≤ p.target_nresults) × (p.target_nresults ≤ highest_target)
@@ -21,7 +21,7 @@ pub record IsParameters (p : Parameters) : Type 0 where
   pub delay_bound : (1 ≤ p.delay_bound) × (p.delay_bound ≤ longest_delay)
   pub credit : p.credit ≤ most_credit
 
--- what a template that sets nothing gives
+-- The parameters that a template without a key gives.
 abbrev pub default_parameters : Parameters
 default_parameters = record {
   min_quorum = 2;
@@ -33,13 +33,13 @@ default_parameters = record {
   credit = 1;
 }
 
--- the values in the order of the fields
+-- The values of the parameters, in the order of the fields.
 abbrev pub values_of : Parameters → List ℤ
 values_of p =
     pos p.min_quorum ∷ pos p.target_nresults ∷ pos p.max_error_results ∷ pos p.max_total_results ∷ pos p.max_success_results
     ∷ pos p.delay_bound ∷ pos p.credit ∷ []
 
--- both ends are in the range, and no negative number is
+-- Whether the value is at least the first number and at most the second; a negative value is not.
 abbrev pub is_between : ℕ → ℕ → ℤ → Bool
 is_between low high (pos n) = nat_le low n && nat_le n high
 is_between low high (negsuc n) = false

@@ -10,26 +10,26 @@ use Rattle.wu_core.specs.Names.{is_name, place_of}
 abbrev pub is_underscore : ℕ → Bool
 is_underscore byte = byte == 95
 
--- the instance at a place, where there is one
+-- The name of the instance at a place; without a place `BadName`.
 abbrev pub instance_of : List ℕ → Option ℕ → Result ResultName Fault
 instance_of name (Some n) = Ok (record { workunit = name; n = n })
 instance_of name None = Err BadName
 
--- a workunit's name, '_' and the place in decimal
+-- The name of an instance: the workunit's name, '_' and the place in decimal.
 abbrev pub result_name_text : ResultName → List ℕ
 result_name_text name = name.workunit ++ codes "_" ++ decimal name.n
 
--- a workunit's name before the last '_', and a place after it
+-- The name of the workunit before the last '_', and the place after it; any other text is `BadName`.
 abbrev pub result_name_of : List ℕ → Result ResultName Fault
 result_name_of text =
     if list_any is_underscore text && is_name (before_last is_underscore text)
     then instance_of (before_last is_underscore text) (place_of (after_last is_underscore text))
     else Err BadName
 
--- there is no '_' from this place on
+-- The text has no '_' from this place on.
 abbrev pub IsFreeFrom : List ℕ → ℕ → Type 0
 IsFreeFrom text from = (k : ℕ) → from ≤ k → k < length text → is_underscore (slice_index text k) ≡ false
 
--- the last '_' is at this place
+-- This is the place of the last '_'.
 abbrev pub IsLastUnderscore : List ℕ → ℕ → Type 0
 IsLastUnderscore text i = (i < length text) × (is_underscore (slice_index text i) ≡ true) × IsFreeFrom text (i + 1)

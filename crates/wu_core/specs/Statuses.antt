@@ -1,4 +1,4 @@
--- How a host says that an instance ended.
+-- How a host reports that an instance ended.
 use Rattle.std.specs.Prelude.{ℕ, if◌then◌else◌, List, bytes_eq, Option, Some, None}
 use Rattle.wu_core.specs.declared.states.Status.{Status}
 use Rattle.wu_core.specs.declared.states.Status.TheVariants as status
@@ -6,7 +6,7 @@ use Rattle.wu_core.specs.declared.states.Outcome.{Outcome}
 use Rattle.wu_core.specs.declared.states.Outcome.TheVariants as outcome
 use Rattle.wu_core.specs.Words.{status_word}
 
--- the status of a word
+-- The status that a word means, or `None`.
 abbrev pub status_of : List ℕ → Option Status
 status_of text =
     if bytes_eq text (status_word status.Success) then Some status.Success
@@ -14,7 +14,7 @@ status_of text =
     else if bytes_eq text (status_word status.Detached) then Some status.Detached
     else None
 
--- how an instance ended that is reported so
+-- The outcome of an instance that is reported with this status.
 abbrev pub outcome_of : Status → Outcome
 outcome_of status.Success = outcome.Success
 outcome_of status.ClientError = outcome.ClientError

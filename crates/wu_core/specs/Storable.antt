@@ -1,4 +1,4 @@
--- Values in the ranges that a project may hold: what a stored row is read as.
+-- Values in the ranges that a project may hold: the values that stored rows are read as.
 use Rattle.std.specs.Prelude.{◌≡◌, ℕ, ◌+◌, ◌<◌, ◌≤◌, ◌^◌, true, List, [], length, All, Option, Some, is_some, IfSome}
 use Rattle.std.specs.List.{AllByRecursion}
 use Rattle.wu_core.specs.declared.import.ImportKind.{ImportKind}
@@ -24,7 +24,7 @@ IsInput input = length input ≤ longest_input
 abbrev pub IsOutput : List ℕ → Type 0
 IsOutput output = length output ≤ longest_output
 
--- a number of an instance fits into 32 bits
+-- The number of an instance, if it is given, fits into 32 bits.
 abbrev pub IsPlace : Option ℕ → Type 0
 IsPlace place = IfSome place (λ n. n < 2 ^ 32)
 
@@ -39,41 +39,41 @@ IsHost host = IfSome host IsName
 
 -- ---- instances
 
--- when it was sent, by when it is due, and when it was received
+-- The moments of an instance are in range: when it was sent, by when it is due, and when it was received.
 pub record AreMoments (sent due received : Option ℕ) : Type 0 where
   pub sent_at : IsMoment sent
   pub deadline : IsDeadline due
   pub received_at : IsMoment received
 
--- the values of an instance are each in range
+-- Each value of an instance is in range.
 pub record MayBeInstance (i : Instance) : Type 0 where
   pub host : IsHost i.host
   pub moments : AreMoments i.sent_at i.deadline i.received_at
   pub output : IsOutput i.output
 
--- what a row of an instance stands for, but for its workunit and its number
+-- The instance may be that of a row; a row also has its workunit and its number.
 pub record IsStoredInstance (i : Instance) : Type 0 where
   pub values : MayBeInstance i
   pub formed : IsInstance i
 
--- these may be the instances of one workunit
+-- These may be the instances of one workunit.
 pub record AreStoredInstances (instances : List Instance) : Type 0 where
   pub each : All IsStoredInstance instances
   pub few : length instances ≤ most_instances
 
 -- ---- workunits
 
--- a workunit is assimilated exactly where it has its moment
+-- The workunit's moment is in range, and is there exactly if the workunit is assimilated.
 pub record IsStamped (state : Assimilate) (done_at : Option ℕ) : Type 0 where
   pub moment : IsMoment done_at
   pub done : state ≡ assimilate.Done → is_some done_at ≡ true
   pub done_only : is_some done_at ≡ true → state ≡ assimilate.Done
 
--- a workunit without what has rows of its own: its instances and its class
+-- The workunit without what other tables hold: its instances and its class.
 abbrev pub bare : Workunit → Workunit
 bare w = record w { instances = []; class = 0 }
 
--- what a row of a workunit stands for: one without its instances and its class
+-- The workunit, without its instances and its class, may be that of a row.
 pub record IsStoredWorkunit (w : Workunit) : Type 0 where
   pub name : IsName w.name
   pub parameters : IsParameters w.params
@@ -86,12 +86,12 @@ pub record IsStoredWorkunit (w : Workunit) : Type 0 where
 abbrev pub IsClass : ℕ → Type 0
 IsClass class = class ≤ highest_class
 
--- there are no more instances than the workunit may have, and a canonical one is among them
+-- The workunit has no more instances than it may have, and a canonical one is among them.
 pub record HasItsInstances (w : Workunit) : Type 0 where
   pub within : length w.instances ≤ w.params.max_total_results
   pub canonical : (n : ℕ) → w.canonical ≡ Some n → n < length w.instances
 
--- the values of a workunit and of its instances are such as their rows are read as, and those are its instances
+-- The workunit can be stored and read: its number, its row, its class and its instances are in range.
 pub record IsStorable (w : Workunit) : Type 0 where
   pub number : w.number < 2 ^ 63
   pub row : IsStoredWorkunit (bare w)
@@ -99,17 +99,17 @@ pub record IsStorable (w : Workunit) : Type 0 where
   pub instances : AreStoredInstances w.instances
   pub whole : HasItsInstances w
 
--- each workunit that is present can be read
+-- Each workunit that is present can be stored and read.
 abbrev pub AreStorable : World → Type 0
 AreStorable world = All IsStorable world.workunits
 
--- the number is above those of all workunits
+-- The number is above those of all workunits.
 abbrev pub IsAbove : ℕ → List Workunit → Type 0
 IsAbove number = AllByRecursion (λ (w : Workunit). w.number < number)
 
 -- ---- archived workunits, imports, and the next number
 
--- what a row of an archived workunit stands for, but for its place
+-- The archived workunit may be that of a row; a row also has its place.
 pub record IsStoredArchived (a : Archived) : Type 0 where
   pub name : IsName a.name
   pub canonical : IsPlace a.canonical
@@ -119,14 +119,15 @@ pub record IsStoredArchived (a : Archived) : Type 0 where
 abbrev pub IsArchiveStorable : World → Type 0
 IsArchiveStorable world = All IsStoredArchived world.archived
 
--- each is that of a skip of such a file, or 0
+-- Each verdict is 0 or the number of a skip of a file of this kind.
 abbrev pub AreVerdicts : ImportKind → List ℕ → Type 0
 AreVerdicts kind verdicts = All (λ verdict. verdict ≤ last_skip kind) verdicts
 
--- one more than there may be workunits ever is the number of none
+-- The next number is at least 1, and at most one more than there may ever be workunits; that one is given to no
+-- workunit.
 abbrev pub IsNextNumber : ℕ → Type 0
 IsNextNumber next = (1 ≤ next) × (next ≤ most_workunits + 1)
 
--- it is one that the next workunit may get
+-- The next number of the world is in its range.
 abbrev pub LoadsNext : World → Type 0
 LoadsNext world = IsNextNumber world.next_number

@@ -1,4 +1,4 @@
--- The values of a template, and the first of its keys that is at fault.
+-- The values of a template, and the first key that is wrong.
 use Rattle.std.specs.Prelude.{ℕ, Bool, false, not, ℤ, pos, unsigned_abs, List, [], ◌∷◌, get_or, find, Option, Some, None, Result, Ok, Err}
 use Rattle.wu_core.specs.declared.fault.Fault.{Fault}
 use Rattle.wu_core.specs.declared.fault.Fault.TheVariants.{BadTemplate}
@@ -7,18 +7,18 @@ use Rattle.wu_core.specs.declared.fault.TemplateKey.TheVariants as key
 use Rattle.wu_core.specs.Limits.{highest_quorum, longest_delay, most_credit, most_instances}
 use Rattle.wu_core.specs.Parameters.{Parameters, is_between}
 
--- a whole number in the range
+-- Whether the value is a whole number in this range.
 abbrev pub is_whole_between : ℕ → ℕ → Option ℤ → Bool
 is_whole_between low high (Some value) = is_between low high value
 is_whole_between low high None = false
 
--- a whole number without its sign
+-- The whole number without its sign.
 abbrev pub number_of : Option ℤ → ℕ
 number_of (Some value) = unsigned_abs value
 number_of None = 0
 
--- each key with whether its value is in its range, in the order of the fields; the target is at least the quorum and at
--- most this
+-- Each key, and whether its value is in its range, in the order of the fields. The target is at least the quorum and at
+-- most this.
 abbrev pub range_tests_to : ℕ → (TemplateKey → Option ℤ) → List (TemplateKey × Bool)
 range_tests_to most value =
     (key.MinQuorum, is_whole_between 1 highest_quorum (value key.MinQuorum))
@@ -30,11 +30,11 @@ range_tests_to most value =
     ∷ (key.Credit, is_whole_between 0 most_credit (value key.Credit))
     ∷ []
 
--- in the range of a template
+-- Each key, and whether its value is in the range of a template.
 abbrev pub range_tests : (TemplateKey → Option ℤ) → List (TemplateKey × Bool)
 range_tests value = range_tests_to highest_quorum value
 
--- the parameters with these values
+-- The parameters with these values.
 abbrev pub parameters_of : (TemplateKey → Option ℤ) → Parameters
 parameters_of value = record {
   min_quorum = number_of (value key.MinQuorum);
@@ -46,21 +46,21 @@ parameters_of value = record {
   credit = number_of (value key.Credit);
 }
 
--- refused with the key of the first test that fails, if one does
+-- The parameters, or `BadTemplate` with the key of the first test that fails.
 abbrev pub unless_failed : Option (TemplateKey × Bool) → Parameters → Result Parameters Fault
 unless_failed (Some failed) p = Err (BadTemplate failed.0)
 unless_failed None p = Ok p
 
--- the parameters with these values, or the first key whose value is out of range or no whole number; the target is at most
--- this
+-- The parameters with these values, or the first key whose value is out of range or not a whole number. The target is
+-- at most this.
 abbrev pub parameters_to : ℕ → (TemplateKey → Option ℤ) → Result Parameters Fault
 parameters_to most value = unless_failed (find (λ test. not test.1) (range_tests_to most value)) (parameters_of value)
 
--- those of a template
+-- The parameters of a template, or its first key that is wrong.
 abbrev pub template_parameters : (TemplateKey → Option ℤ) → Result Parameters Fault
 template_parameters value = parameters_to highest_quorum value
 
--- values in the order of the fields, by their keys
+-- The value of each key, from values in the order of the fields.
 abbrev pub listed : List ℤ → TemplateKey → Option ℤ
 listed values key.MinQuorum = Some (get_or values 0 (pos 0))
 listed values key.TargetNresults = Some (get_or values 1 (pos 0))
@@ -72,7 +72,7 @@ listed values key.Credit = Some (get_or values 6 (pos 0))
 listed values key.Document = None
 listed values key.Unknown = None
 
--- values that may be no whole numbers, the same way
+-- The value of each key, from values in the order of the fields, some of which may not be whole numbers.
 abbrev pub whole_at : List (Option ℤ) → TemplateKey → Option ℤ
 whole_at values key.MinQuorum = get_or values 0 None
 whole_at values key.TargetNresults = get_or values 1 None

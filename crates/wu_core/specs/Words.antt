@@ -17,14 +17,14 @@ use Rattle.wu_core.specs.declared.fault.TemplateKey.TheVariants as key
 use Rattle.wu_core.specs.declared.fault.FileCause.{FileCause}
 use Rattle.wu_core.specs.declared.fault.FileCause.TheVariants as cause
 
--- BOINC's words for where an instance is
+-- BOINC's word for the state of an instance.
 abbrev pub server_state_word : ServerState → List ℕ
 server_state_word server.Inactive = codes "INACTIVE"
 server_state_word server.Unsent = codes "UNSENT"
 server_state_word server.InProgress = codes "IN_PROGRESS"
 server_state_word server.Over = codes "OVER"
 
--- BOINC's words for how an instance ended
+-- BOINC's word for how an instance ended.
 abbrev pub outcome_word : Outcome → List ℕ
 outcome_word outcome.Init = codes "INIT"
 outcome_word outcome.Success = codes "SUCCESS"
@@ -35,7 +35,7 @@ outcome_word outcome.DidntNeed = codes "DIDNT_NEED"
 outcome_word outcome.ValidateError = codes "VALIDATE_ERROR"
 outcome_word outcome.ClientDetached = codes "CLIENT_DETACHED"
 
--- BOINC's words for what the validator found
+-- BOINC's word for a verdict.
 abbrev pub validate_state_word : ValidateState → List ℕ
 validate_state_word validate.Init = codes "INIT"
 validate_state_word validate.Valid = codes "VALID"
@@ -44,26 +44,26 @@ validate_state_word validate.NoCheck = codes "NO_CHECK"
 validate_state_word validate.Inconclusive = codes "INCONCLUSIVE"
 validate_state_word validate.TooLate = codes "TOO_LATE"
 
--- whether a workunit waits for the assimilator
+-- The word for how far the assimilation of a workunit is.
 abbrev pub assimilate_word : Assimilate → List ℕ
 assimilate_word assimilate.Init = codes "INIT"
 assimilate_word assimilate.Ready = codes "READY"
 assimilate_word assimilate.Done = codes "DONE"
 
--- whether an input or an output waits for the file deleter
+-- The word for how far the deletion of an input or an output is.
 abbrev pub file_delete_word : FileDelete → List ℕ
 file_delete_word file_delete.Init = codes "INIT"
 file_delete_word file_delete.Ready = codes "READY"
 file_delete_word file_delete.Done = codes "DONE"
 file_delete_word file_delete.Error = codes "ERROR"
 
--- how a host says that an instance ended
+-- The word of a status in a file of reports.
 abbrev pub status_word : Status → List ℕ
 status_word status.Success = codes "success"
 status_word status.ClientError = codes "client_error"
 status_word status.Detached = codes "detached"
 
--- a template's keys, and what is wrong with a whole document
+-- The name of a template's key, or the word for what is wrong with a whole template.
 abbrev pub template_key_word : TemplateKey → List ℕ
 template_key_word key.Document = codes "document"
 template_key_word key.Unknown = codes "unknown"
@@ -75,7 +75,7 @@ template_key_word key.MaxSuccessResults = codes "max_success_results"
 template_key_word key.DelayBound = codes "delay_bound"
 template_key_word key.Credit = codes "credit"
 
--- what is wrong with a file
+-- The word for what is wrong with a file.
 abbrev pub file_cause_word : FileCause → List ℕ
 file_cause_word cause.Unreadable = codes "unreadable"
 file_cause_word cause.TooLong = codes "too_long"

@@ -10,7 +10,7 @@ use Rattle.wu_core.specs.declared.states.Outcome.TheVariants as outcome
 use Rattle.wu_core.specs.declared.states.ValidateState.TheVariants as validate
 use Rattle.wu_core.specs.declared.states.FileDelete.TheVariants as file_delete
 
--- a new instance
+-- A new instance: unsent, and without a host.
 abbrev pub fresh : Instance
 fresh = record {
   server_state = server.Unsent;
@@ -24,14 +24,14 @@ fresh = record {
   output = [];
 }
 
--- the instance of this number changed
+-- The workunit with the instance of this number set.
 abbrev pub with_instance_set : Workunit → ℕ → Instance → Workunit
 with_instance_set w n instance = record w { instances = slice_set w.instances n instance }
 
--- the list with its first places as written; what is written in place has the list's length, so it is all of it
+-- The list with its first places as they were written; a list written in place has the same length.
 abbrev pub overwritten : List Instance → List Instance → List Instance
 overwritten list written = take (length list) (written ++ drop (length written) list)
 
--- the list ends as it is last written
+-- The list becomes what is last written through the result.
 abbrev pub LendsAll : MutBor (List Instance) → MutBor (List Instance) → Fml
 LendsAll list result = Lends instances.the_row (Array instance.the_row 0) list result (overwritten list.now)

@@ -12,18 +12,18 @@ use Rattle.wu_passes.specs.declared.project.Project.{Project}
 use Rattle.wu_passes.specs.Projects.{IsSessionOpen, ShowsProject, state_of}
 use Rattle.wu_drive.specs.declared.runs.Run.{Run}
 
--- how many workunits a pass handled, by the machine's reply; nothing where that is of no pass
+-- How many workunits a pass handled, by the machine's reply; `None` for any other reply.
 abbrev pub handled_by : Result Reply Fault → Option ℕ
 handled_by (Ok (Passed pass handled)) = Some handled
 handled_by _ = None
 
--- so it is of the last of these commands, one after another
+-- How many workunits the last of these commands handled, after the commands before it; `None` if it is no pass.
 abbrev pub last_handled : World → List Command → Option ℕ
 last_handled world [] = None
 last_handled world (command ∷ []) = handled_by (reply world (request_of command))
 last_handled world (command ∷ next ∷ commands) = last_handled (step world (request_of command)) (next ∷ commands)
 
--- over a world that the tables stand for, where the disk does not fail, a run tells that of the last one that was done
+-- Over a world that the tables represent, on a clean disk, this is the number that the last done command handled.
 abbrev pub CountsLast : {S : Type 0} {store : Ghosts S} → Project S store → Project S store → List Command → Run → Option ℕ → Type 0
 CountsLast old new commands run handled =
     IsSessionOpen old → HasCleanDisk (state_of new) → (world : World) → ShowsProject old world

@@ -8,11 +8,11 @@ use Rattle.wu_machine.specs.declared.view.View.TheVariants.{Workunits}
 use Rattle.wu_report.specs.Texts.{line_end, view_text}
 use Rattle.wu_drive.specs.Texts.{reply_text}
 
--- a batch of one job with an input of two bytes
+-- The request of the demonstration: a batch of one job with an input of two bytes.
 unfoldable pub demonstration : Request
 demonstration = AskBatch (codes "b1") [] (codes "name,input" ++ line_end ++ codes "job_1,00ff" ++ line_end)
 
--- what the machine replies to it over a fresh project went out, and then the workunits of the world that it makes
+-- The machine's reply to that batch over a fresh project went out, and then the workunits of the world that it makes.
 abbrev pub IsDemonstrated : Option (List ℕ) → Option (List ℕ) → Type 0
 IsDemonstrated old new =
     (told : Reply) × (reply empty_world demonstration ≡ Ok told)

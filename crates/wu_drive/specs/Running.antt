@@ -13,26 +13,26 @@ use Rattle.wu_drive.specs.Writing.{WritesAnswers}
 
 -- The commands are run in order, up to the first fault.
 pub record RunsList {S W : Type 0} {store : Ghosts S} (contents : W → Option (List ℕ)) (old new : Project S store) (out_old out_new : W) (commands : List Command) (run : Run) : Type 0 where
-  -- what was answered and written, and what the tables then stand for
+  -- What was answered and written, and which world the tables then represent.
   pub answers : (answers : List Answer) × WritesAnswers (contents out_old) (contents out_new) answers run
       × DrivesProject old new commands answers run × DrivesFromAny old new commands answers run
   pub why : DrivesWhy old new commands run
   pub opens : ServesUnlessEnded old new run
-  -- only a disk that fails in this call shuts an open connection, and nothing opens one that is shut
+  -- Only a disk that fails in this call closes an open connection, and nothing opens a closed one.
   pub stays : StaysOpen old new
   pub shut : StaysShut old new
   pub lives : LengthensLife old new commands run
   pub ended : DrivesNothing old new out_old out_new run
-  -- what was not changed
+  -- What did not change.
   pub untouched : LeavesAll old new run
   pub idle : LeavesAllIdle old new commands run
-  -- the session ends with `Broken`, and else only for want of memory
+  -- A session ends with `Broken`, and otherwise only with `Memory`.
   pub ends : IsSessionOpen old → IsSessionEnded new → EndsBy run MayEnd
   pub broken : IsSessionOpen old → run.end ≡ Some Broken → IsSessionEnded new
-  -- what is doubted of the disk stays doubted, and no fault of it is forgotten
+  -- A disk that is not clean stays so, and no fault of the disk is forgotten.
   pub clean : FaultsOnlyGrow (state_of old) (state_of new)
   pub counts : (state_of old).faults ≤ (state_of new).faults
   pub limit : KeepsLimit old new
-  -- no more are done than are there, and all where nothing ended it
+  -- No more commands are acknowledged than there are, and all are if nothing ended the run.
   pub count : run.acknowledged ≤ length commands
   pub all : run.end ≡ None → run.acknowledged ≡ length commands

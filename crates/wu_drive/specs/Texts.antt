@@ -18,7 +18,7 @@ use Rattle.wu_rules.specs.declared.verdicts.SendVerdict.{SendVerdict}
 use Rattle.wu_rules.specs.declared.verdicts.SendVerdict.TheVariants as send
 use Rattle.wu_machine.specs.Requests.{Reply, Imported, Passed, Cancelled, Upgraded}
 
--- the line of a fault, without its end
+-- The text of a fault, without the end of its line.
 abbrev pub fault_text : Fault → List ℕ
 fault_text fault.BadName = codes "F1 BadName"
 fault_text (fault.BadTemplate key) = codes "F2 BadTemplate " ++ template_key_word key
@@ -38,54 +38,54 @@ fault_text fault.Broken = codes "F15 Broken"
 fault_text fault.Ended = codes "F16 Ended"
 fault_text fault.Output = codes "F17 Output"
 
--- a number, or '-' for 0
+-- A number in decimal, or '-' for 0.
 abbrev pub number_or_dash : ℕ → List ℕ
 number_or_dash n = if n == 0 then codes "-" else decimal n
 
--- the verdict of this number on a row of sends, if it is the number of one
+-- The verdict on a row of sends that has this number, or `None`.
 abbrev pub send_verdict_numbered : ℕ → Option SendVerdict
 send_verdict_numbered number =
     find (λ verdict. send_verdict_code verdict == number) (send.Applied ∷ send.Unknown ∷ send.NotUnsent ∷ send.SameHost ∷ send.Class ∷ [])
 
--- the verdict of this number on a row of reports
+-- The verdict on a row of reports that has this number, or `None`.
 abbrev pub report_verdict_numbered : ℕ → Option ReportVerdict
 report_verdict_numbered number =
     find (λ verdict. report_verdict_code verdict == number)
     (report.Applied ∷ report.Unknown ∷ report.NotSent ∷ report.WrongHost ∷ report.BeforeSent ∷ report.Over ∷ [])
 
--- why a row of sends was skipped, by the number of its verdict; nothing where it was applied
+-- Why a row of sends was skipped, by the number of its verdict; `None` if it was applied.
 abbrev pub send_skip_word : ℕ → Option (List ℕ)
 send_skip_word number = option_map_or send_verdict_word (send_verdict_numbered number) None
 
--- why a row of reports was skipped
+-- Why a row of reports was skipped, by the number of its verdict; `None` if it was applied.
 abbrev pub report_skip_word : ℕ → Option (List ℕ)
 report_skip_word number = option_map_or report_verdict_word (report_verdict_numbered number) None
 
--- the line of a row, if it was skipped
+-- The line of a skipped row; no text for an applied one.
 abbrev pub skip_line : (ℕ → Option (List ℕ)) → ℕ × ℕ → List ℕ
 skip_line word row =
     option_map_or (λ why. codes "  row " ++ decimal row.0 ++ codes ": " ++ why ++ line_end) (word row.1) []
 
--- a line for each row that was skipped; the first row after the header is row 2
+-- A line for each skipped row; the first row after the header is row 2.
 abbrev pub skip_lines : (ℕ → Option (List ℕ)) → List ℕ → List ℕ
 skip_lines word verdicts = flat_map (skip_line word) (enumerate_from 2 verdicts)
 
 abbrev pub applied_count : List ℕ → ℕ
 applied_count verdicts = count_by (λ verdict. verdict == 0) verdicts
 
--- how many rows of a file were applied and how many skipped, and why each of these was
+-- How many rows of a file were applied, how many were skipped, and why each of these was skipped.
 abbrev pub rows_text : List ℕ → List ℕ → (ℕ → Option (List ℕ)) → List ℕ → List ℕ
 rows_text word name skip_word verdicts =
     word ++ codes " " ++ name ++ codes ": " ++ decimal (applied_count verdicts) ++ codes " applied, "
     ++ decimal (length verdicts - applied_count verdicts) ++ codes " skipped" ++ line_end
     ++ skip_lines skip_word verdicts
 
--- how many workunits a batch added, and the number of the first
+-- How many workunits a batch added, and the number of the first.
 abbrev pub batch_text : List ℕ → ℕ → List ℕ → List ℕ
 batch_text name first verdicts =
     codes "batch " ++ name ++ codes ": " ++ decimal (length verdicts) ++ codes " added, first " ++ number_or_dash first ++ line_end
 
--- how many rows a file of classes had, each of which set the class of its host
+-- How many rows a file of classes had; each set the class of its host.
 abbrev pub classes_text : List ℕ → List ℕ → List ℕ
 classes_text name verdicts = codes "classes " ++ name ++ codes ": " ++ decimal (length verdicts) ++ codes " applied" ++ line_end
 
@@ -102,7 +102,7 @@ pass_word Assimilate = codes "assimilate"
 pass_word Delete = codes "delete"
 pass_word Purge = codes "purge"
 
--- the text of an answer
+-- The text of an answer.
 abbrev pub reply_text : Reply → List ℕ
 reply_text (Imported kind name first verdicts) = import_text kind name first verdicts
 reply_text (Passed pass handled) = pass_word pass ++ codes ": " ++ decimal handled ++ line_end

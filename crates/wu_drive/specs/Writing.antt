@@ -9,37 +9,38 @@ use Rattle.wu_core.specs.declared.fault.Fault.TheVariants.{Output}
 use Rattle.wu_drive.specs.declared.runs.Run.{Run}
 use Rattle.wu_drive.specs.Texts.{reply_text, rows_text, send_skip_word, report_skip_word, skip_line, skip_lines}
 
--- the word of an applied file in its answer
+-- The word for a file of sends or reports in its answer.
 abbrev pub file_word : AppliedFile → List ℕ
 file_word Sends = codes "sent"
 file_word Reports = codes "reported"
 
--- why a row of it was skipped, by the number of its verdict; nothing where it was applied
+-- Why a row of such a file was skipped, by the number of its verdict; `None` if it was applied.
 abbrev pub skip_word : AppliedFile → ℕ → Option (List ℕ)
 skip_word Sends = send_skip_word
 skip_word Reports = report_skip_word
 
--- the line of a row of it, if the row was skipped
+-- The line of a skipped row; no text for an applied one.
 abbrev pub skipped_line : AppliedFile → ℕ → ℕ → List ℕ
 skipped_line file row verdict = skip_line (skip_word file) (row, verdict)
 
--- a line for each of its rows that was skipped
+-- A line for each row of such a file that was skipped.
 abbrev pub skipped_lines : AppliedFile → List ℕ → List ℕ
 skipped_lines file verdicts = skip_lines (skip_word file) verdicts
 
--- its answer: how many rows were applied and how many skipped, and a line for each of these
+-- The answer to such a file: how many rows were applied, how many were skipped, and a line for each skipped one.
 abbrev pub applied_text : AppliedFile → List ℕ → List ℕ → List ℕ
 applied_text file name verdicts = rows_text (file_word file) name (skip_word file) verdicts
 
--- the text of an answer
+-- The text of an answer.
 abbrev pub answer_text : Answer → List ℕ
 answer_text answer = reply_text (reply_of_answer answer)
 
--- the texts of answers, in order
+-- The texts of answers, in order.
 abbrev pub answers_text : List Answer → List ℕ
 answers_text answers = flat_map answer_text answers
 
--- a run wrote the texts of as many answers as it acknowledged; only where it ended with Output was the last text cut
+-- A run wrote the texts of as many answers as it acknowledged. The last text is cut only if the run ended with
+-- `Output`.
 pub record WritesAnswers (old new : Option (List ℕ)) (answers : List Answer) (run : Run) : Type 0 where
   pub counted : length answers ≡ run.acknowledged
   pub whole : run.end ≢ Some Output → Appends old new (answers_text answers)

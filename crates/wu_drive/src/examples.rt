@@ -9,30 +9,33 @@ ghost use Rattle.wu_drive.specs.Texts.{fault_text, import_text};
 
 /// Shows the answer to a batch, and to one without rows.
 pub fn prints_batches()
-    // A batch `b1` of one job, with number 1, answers this line.
+    // The answer to a batch `b1` of one job, with number 1, is `batch b1: 1 added, first 1`.
     ensures one { import_text Batch (codes "b1") 1 (0 ∷ []) ≡ codes "batch b1: 1 added, first 1\n" }
-    // A batch without rows has `-` for its first number.
+    // The answer to a batch without rows is `batch b0: 0 added, first -`: it has no first number.
     ensures none { import_text Batch (codes "b0") 0 [] ≡ codes "batch b0: 0 added, first -\n" }
 {}
 
 /// Shows the answer to a file of classes.
 pub fn prints_classes()
-    // A file of three rows of classes answers this line.
+    // The answer to a file of classes with three rows is `classes c1: 3 applied`.
     ensures { import_text Classes (codes "c1") 0 (0 ∷ 0 ∷ 0 ∷ [])
         ≡ codes "classes c1: 3 applied\n" }
 {}
 
 /// Shows the answers to a file of sends and to one of reports, with why rows were skipped.
 pub fn prints_skipped_rows()
-    // The second row was skipped since its host has an instance of the workunit already.
+    // The answer to two sends, the second with verdict 3, is `sent s1: 1 applied, 1 skipped` and
+    // `row 3: same_host`.
     ensures sends { import_text Sent (codes "s1") 0 (0 ∷ 3 ∷ [])
         ≡ codes "sent s1: 1 applied, 1 skipped\n"
         ++ codes "  row 3: same_host\n" }
-    // The second row was skipped since its host is of another class.
+    // The answer to two sends, the second with verdict 4, is `sent s1: 1 applied, 1 skipped` and
+    // `row 3: class`.
     ensures classes { import_text Sent (codes "s1") 0 (0 ∷ 4 ∷ [])
         ≡ codes "sent s1: 1 applied, 1 skipped\n"
         ++ codes "  row 3: class\n" }
-    // One row of six was applied; each other row says why it was skipped.
+    // The answer to six reports, one of them applied, counts both kinds. It gives the word of each
+    // other verdict at its row: `unknown`, `not_sent`, `wrong_host`, `before_sent`, `over`.
     ensures reports { import_text Reported (codes "r1") 0 (1 ∷ 2 ∷ 3 ∷ 4 ∷ 0 ∷ 5 ∷ [])
         ≡ codes "reported r1: 1 applied, 5 skipped\n"
         ++ codes "  row 2: unknown\n"
@@ -44,11 +47,11 @@ pub fn prints_skipped_rows()
 
 /// Shows the lines of three faults.
 pub fn prints_faults()
-    // A file with too many rows is refused at row 1002.
+    // The text of the fault of too many rows, at row 1002, is `F3 BadFile 1002 too_many_rows`.
     ensures rows { fault_text (BadFile 1002 TooManyRows) ≡ codes "F3 BadFile 1002 too_many_rows" }
-    // A class that is out of range is refused at its row.
+    // The text of the fault of a class out of range, at row 2, is `F3 BadFile 2 class`.
     ensures class { fault_text (BadFile 2 Class) ≡ codes "F3 BadFile 2 class" }
-    // A template's key out of range is refused by its name.
+    // The text of `BadTemplate` of `target_nresults` is `F2 BadTemplate target_nresults`.
     ensures target { fault_text (BadTemplate TargetNresults)
         ≡ codes "F2 BadTemplate target_nresults" }
 {}

@@ -22,14 +22,14 @@ enum AppliedFile {
     Reports,
 }
 
-/// Returns why a row of sends was skipped, by the number of its verdict; `None` where it was applied.
+/// Returns why a row of sends was skipped, by the number of its verdict; `None` if it was applied.
 fn send_skip_word(verdict: u8) -> Option<&'static str>
     ensures { option_map (λ word. word.now) result ≡ send_skip_word verdict }
 {
     SendVerdict::from_code(verdict)?.word()
 }
 
-/// Returns why a row of reports was skipped, by the number of its verdict; `None` where it was applied.
+/// Returns why a row of reports was skipped, by the number of its verdict; `None` if it was applied.
 fn report_skip_word(verdict: u8) -> Option<&'static str>
     ensures { option_map (λ word. word.now) result ≡ report_skip_word verdict }
 {
@@ -46,7 +46,7 @@ fn file_word(file: AppliedFile) -> &'static str
     }
 }
 
-/// Returns why a row was skipped, by the number of its verdict; `None` where it was applied.
+/// Returns why a row was skipped, by the number of its verdict; `None` if it was applied.
 fn skip_word(file: AppliedFile, verdict: u8) -> Option<&'static str>
     ensures { option_map (λ word. word.now) result ≡ skip_word file verdict }
 {
@@ -274,7 +274,8 @@ fn write_cancelled<W: Write>(out: &mut W, workunit: &Name) -> Result<(), Fault>
 fn write_text<W: Write>(out: &mut W, answer: &Answer) -> Result<(), Fault>
     // With Ok exactly the text of the answer is written, and else a prefix of it.
     ensures bytes { WritesTo W.contents out.old out.new (answer_text answer.now) result }
-    // What is reported as failed was cut: a text that went out whole never is.
+    // After a fault some of the text is missing: a text that went out whole is never reported as
+    // failed.
     ensures cut { CutsWhatFails W.contents out.old out.new (answer_text answer.now) result }
     // The only fault is `Output`.
     ensures fault { IsOkUnless result Output }

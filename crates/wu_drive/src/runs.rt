@@ -24,7 +24,7 @@ pub struct Run {
     pub end: Option<Fault>,
 }
 
-/// Returns how many workunits a pass handled, by its answer; `None` where the answer is of no pass.
+/// Returns how many workunits a pass handled, by its answer; `None` if the answer is of no pass.
 fn handled_by(answer: &Answer) -> Option<u32>
     ensures { result ≡ handled_by (Ok (reply_of_answer answer.now)) }
 {
@@ -34,8 +34,8 @@ fn handled_by(answer: &Answer) -> Option<u32>
     }
 }
 
-/// Runs the commands as `drive`. Returns also how many workunits the last one that was done handled; `None` where it is
-/// no pass, or none was done.
+/// Runs the commands as `drive`. Returns also how many workunits the last command that was done handled; `None` if it
+/// is no pass, or none was done.
 pub fn drive_and_count<S: Alter, W: Write>(
     alloc: Global,
     project: &mut Project<S>,
@@ -45,8 +45,8 @@ pub fn drive_and_count<S: Alter, W: Write>(
     // The commands are run in order up to the first fault; all that is promised of `drive` holds.
     ensures runs { RunsList W.contents project.old project.new out.old out.new
         commands.now result.0 }
-    // The count is what the machine says of the last command done, over the world that the tables
-    // represented before.
+    // The count is that of the machine's reply to the last command done, `None` if it is no pass or
+    // none was done.
     ensures counts { CountsLast project.old project.new commands.now result.0 result.1 }
 {
     let mut acknowledged = 0;
@@ -73,7 +73,7 @@ pub fn drive_and_count<S: Alter, W: Write>(
 
 /// Runs the commands in order and writes the text of each answer, up to the first fault.
 ///
-/// An acknowledged command is one that was answered, also where its text could not be written. Over a session that had
+/// An acknowledged command is one that was answered, also if its text could not be written. Over a session that had
 /// ended the run ends with `Ended` at once. Over a project of an older version it ends with `OldSchema` at a first
 /// command that is no upgrade.
 pub fn drive<S: Alter, W: Write>(
@@ -82,15 +82,17 @@ pub fn drive<S: Alter, W: Write>(
     commands: &[Command],
     out: &mut W,
 ) -> Run
-    // A prefix of the list is done, each command with the machine's reply, whose text goes out. The
-    // tables then represent the world after it. The run ends early with the machine's refusal of
-    // the next command, a fault of the store, or `Output` of the last text, which may be cut. The
-    // session ends only with `Memory` or `Broken`, and always with `Broken`; a crash may then leave
-    // the step of the next command too. Where a crash could leave one world alone, after it each
-    // world that it may leave is that of the longer history. Only a disk that fails in this call
-    // shuts an open connection, and nothing opens one that is shut. Where no command was done, or
+    // A prefix of the list is acknowledged, each command with the machine's reply, whose text goes
+    // out. The tables then represent the world after it. The run ends early with the machine's
+    // refusal of the next command, a fault of the store, or `Output` of the last text, which may be
+    // cut. Without a limit on steps, `NotAProject` ends it only at a command of which the machine
+    // makes something. The session ends only with `Memory` or `Broken`, and always with `Broken`.
+    // If a crash could leave only one world before the run, it leaves only the world after that
+    // prefix. If the session ended, it may also leave the world after one command more. So the run
+    // adds one session to any history that led to the first world. Only a disk that fails in this
+    // call closes an open connection, and nothing opens a closed one. If no command was done, or
     // the machine makes nothing by those done, every table stays, except after `Memory` and
-    // `Broken`. Over a session that had ended nothing is done or written.
+    // `Broken`. Over a session that had ended, nothing is done or written, and a fault is `Ended`.
     ensures { RunsList W.contents project.old project.new out.old out.new commands.now result }
 {
     drive_and_count(alloc, project, commands, out).0

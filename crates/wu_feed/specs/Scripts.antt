@@ -16,73 +16,74 @@ use Rattle.wu_feed.specs.declared.script.LineCause.{LineCause}
 use Rattle.wu_feed.specs.declared.script.LineCause.TheVariants as cause
 use Rattle.wu_feed.specs.declared.script.ScriptLine.{ScriptLine}
 
--- a blank (32) stands between words, a line that begins with `#` (35) is a comment, and a line feed ends a line
+-- How `csv` reads a script: a blank (32) separates words, a line that begins with `#` (35) is a comment, and a line
+-- feed ends a line.
 abbrev pub script_config : Config
 script_config = record default_config { delimiter = 32; comment = Some 35; terminator = term.Any line_feed }
 
--- the fields of a record, if there is one
+-- The fields of a record; none without a record.
 abbrev pub fields_if : Option Read → List (List ℕ)
 fields_if (Some read) = read.0
 fields_if None = []
 
--- what is read first of a text, if anything
+-- The first record of a text, or `None`.
 abbrev pub first_read : List ℕ → Option Read
 first_read text = next_record script_config st.StartRecord [] [] (strip_bom text)
 
--- the text of a line alone; a carriage return at its end is no part of it
+-- The text of one line, without a carriage return at its end.
 abbrev pub text_of_line : List ℕ → List ℕ
 text_of_line line = strip_carriage_return line ++ line_feed ∷ []
 
--- the fields of a line
+-- The fields of a line.
 abbrev pub fields_in : List ℕ → List (List ℕ)
 fields_in line = fields_if (first_read (text_of_line line))
 
--- why a field is no word: a quote that is not closed takes in the line feed
+-- Why a field is no word: its quote is open, so that it contains the line feed, or it is no text. `None` for a word.
 abbrev pub field_cause : List ℕ → Option LineCause
 field_cause field = if list_any (λ byte. byte == line_feed) field then Some cause.OpenQuote else if is_utf8 field then None else Some cause.NotText
 
--- the words, unless there is a cause
+-- The words, or the cause for which there are no words.
 abbrev pub words_unless : Option LineCause → List (List ℕ) → Result (List (List ℕ)) LineCause
 words_unless (Some why) words = Err why
 words_unless None words = Ok words
 
--- it is not empty
+-- Whether the text has a byte.
 abbrev pub has_bytes : List ℕ → Bool
 has_bytes bytes = nat_lt 0 (length bytes)
 
--- the words among fields: those with bytes; the first field that is no word decides
+-- The words among the fields, which are those with bytes; the first field that is no word decides the fault.
 abbrev pub words_among : List (List ℕ) → Result (List (List ℕ)) LineCause
 words_among fields = words_unless (slice_get (filter_map field_cause fields) 0) (filter has_bytes fields)
 
--- the words of the line of a number; a line after the last one has none
+-- The words of the line of this number; a line after the thousandth is `TooManyLines`.
 abbrev pub words_at : ℕ → List ℕ → Result (List (List ℕ)) LineCause
 words_at number line = if nat_lt most_lines number then Err cause.TooManyLines else words_among (fields_in line)
 
--- a line with its words, and one at fault
+-- A line with its words, and a line with its cause.
 abbrev pub with_words : ℕ → List (List ℕ) → ScriptLine
 with_words number words = record { number = number; words = Ok words }
 
 abbrev pub at_fault : ℕ → LineCause → ScriptLine
 at_fault number why = record { number = number; words = Err why }
 
--- a line that has words, or a cause for which it has none
+-- The line of a script; `None` if it has no words.
 abbrev pub line_with : ℕ → Result (List (List ℕ)) LineCause → Option ScriptLine
 line_with number (Ok []) = None
 line_with number (Ok words) = Some (with_words number words)
 line_with number (Err why) = Some (at_fault number why)
 
--- what a numbered line is; one without a byte is none
+-- The line of a script from its number and text; `None` for a line without a byte.
 abbrev pub script_line_of : ℕ × List ℕ → Option ScriptLine
 script_line_of line = if has_bytes line.1 then line_with line.0 (words_at line.0 line.1) else None
 
--- of a line after the last one that a script may have this is told, whatever memory there is
+-- A line after the thousandth is reported as `TooManyLines`, whatever memory there is.
 abbrev pub TellsLate : {T : Type 0} → ℕ → Result T Fault → T → Type 0
 TellsLate number result line = most_lines < number → result ≡ Ok line
 
--- the lines of a text, with their numbers
+-- The lines of a text, with their numbers.
 abbrev pub numbered_lines : List ℕ → List (ℕ × List ℕ)
 numbered_lines text = enumerate_from 1 (slice_split (λ byte. byte == line_feed) text)
 
--- the lines of a script
+-- The lines of a script; a script that is too long is `TooLong`.
 abbrev pub script_of : List ℕ → Result (List ScriptLine) Fault
 script_of text = if nat_lt longest_file (length text) then Err (BadFile 0 file.TooLong) else Ok (filter_map script_line_of (numbered_lines text))

@@ -13,41 +13,41 @@ use Rattle.wu_core.specs.declared.fault.TemplateKey.{TemplateKey}
 use Rattle.wu_core.specs.declared.fault.TemplateKey.TheVariants as key
 use Rattle.wu_feed.specs.Limits.{longest_template}
 
--- the document that a text is
+-- The document that a text is, or `None`.
 abbrev pub document_of : List ℕ → Option Members
 document_of text = if nat_le (length text) longest_template && is_utf8 text then parse_document text else None
 
--- the text is no document, and this is its fault
+-- The text is no document, and the fault says so.
 abbrev pub IsNoDocument : List ℕ → Fault → Type 0
 IsNoDocument text fault = (fault ≡ BadTemplate key.Document) × (document_of text ≡ None)
 
--- a document that was read is kept; of an error that is want of memory that is told, and of any other that there is none
+-- A document that was read is kept. An error that is out of memory is reported as that, and any other as no document.
 abbrev pub KeepsDocument : {T : Type 0} → Result T Error → Result T Fault → Type 0
 KeepsDocument (Ok document) result = result ≡ Ok document
 KeepsDocument (Err error) result = (IsMemory error × (result ≡ Err Memory)) ⊎ ((¬ (IsMemory error)) × (result ≡ Err (BadTemplate key.Document)))
 
--- a text that is too long for a template is refused as no document, whatever memory there is
+-- A text that is too long for a template is refused as no document, whatever memory there is.
 abbrev pub TellsLongTemplate : {T : Type 0} → Result T Fault → List ℕ → Type 0
 TellsLongTemplate result text = longest_template < length text → result ≡ Err (BadTemplate key.Document)
 
--- a key that a template may have
+-- Whether a template may have this key.
 abbrev pub is_key : List ℕ → Bool
 is_key text =
     bytes_eq text (codes "min_quorum") || bytes_eq text (codes "target_nresults") || bytes_eq text (codes "max_error_results")
     || bytes_eq text (codes "max_total_results") || bytes_eq text (codes "max_success_results") || bytes_eq text (codes "delay_bound")
     || bytes_eq text (codes "credit")
 
--- the document has no other key
+-- Whether the document has only keys of a template.
 abbrev pub has_only_keys : Members → Bool
 has_only_keys no_members = true
 has_only_keys (member key value more) = is_key key && has_only_keys more
 
--- the value of a key, if it is a whole number, or the default where the key is absent
+-- The value of a key if it is a whole number; the default if the key is absent.
 abbrev pub value_or : ℕ → Option Data → Option ℤ
 value_or default None = Some (pos default)
 value_or default (Some value) = as_integer value
 
--- the value of each key
+-- The value of each key, or its default; `None` if it is no whole number.
 abbrev pub value_of_key : Members → TemplateKey → Option ℤ
 value_of_key document key.MinQuorum = value_or default_parameters.min_quorum (get_member (codes "min_quorum") document)
 value_of_key document key.TargetNresults = value_or default_parameters.target_nresults (get_member (codes "target_nresults") document)
@@ -59,7 +59,7 @@ value_of_key document key.Credit = value_or default_parameters.credit (get_membe
 value_of_key document key.Document = None
 value_of_key document key.Unknown = None
 
--- the parameters that a document sets
+-- The parameters that a document sets, or its first fault.
 abbrev pub document_parameters : Members → Result Parameters Fault
 document_parameters document = if has_only_keys document then template_parameters (value_of_key document) else Err (BadTemplate key.Unknown)
 
@@ -67,10 +67,10 @@ abbrev pub parameters_if : Option Members → Result Parameters Fault
 parameters_if (Some document) = document_parameters document
 parameters_if None = Err (BadTemplate key.Document)
 
--- the parameters that a template sets
+-- The parameters that a template sets, or its first fault.
 abbrev pub template_of : List ℕ → Result Parameters Fault
 template_of text = parameters_if (document_of text)
 
--- memory is wanted, or the template is refused
+-- The fault is out of memory, or refuses the template.
 abbrev pub IsTemplateFault : Fault → Type 0
 IsTemplateFault fault = (fault ≡ Memory) ⊎ ((refused : TemplateKey) × (fault ≡ BadTemplate refused))

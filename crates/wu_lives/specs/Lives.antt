@@ -1,4 +1,4 @@
--- Lives of a project, session by session: what each told, and the world that each left.
+-- Histories of sessions over one project: what each session reported, and the world that each left.
 use Rattle.std.specs.Prelude.{◌≡◌, ◌⊎◌, ℕ, ◌≤◌, Bool, true, List, [], ◌∷◌, length, map, take, Option, Vec, ⊤}
 use Rattle.std.specs.declared.alloc.Global.{Global}
 use Rattle.sqlite_trees.specs.declared.store.Store as Store
@@ -14,14 +14,14 @@ use Rattle.wu_machine.specs.Sessions.{Lived, world_lived, world_of_life}
 use Rattle.wu_passes.specs.Standing.{MayEnd}
 use Rattle.wu_lives.specs.Reopening.{OfEachWorld}
 
--- what a session told: the commands that it was given, its answers, and how far it went
+-- What a session reported: the commands that it was given, its answers, and how far it went.
 pub record Transcript : Type 0 where
   pub commands : List Command
   pub answers : List Answer
   pub run : Run
 
--- It is a session of this life: what it acknowledged is the machine's, and its cut command is one during which want of
--- memory or the disk ended it.
+-- This is a session of the history. What it acknowledged has the machine's replies, and it has a cut command only if
+-- `Memory` or `Broken` ended it.
 pub record IsSessionOf (world : World) (told : Transcript) (lived : Lived) : Type 0 where
   pub within : told.run.acknowledged ≤ length told.commands
   pub answered : AnswerAll world (take told.run.acknowledged told.commands) told.answers
@@ -29,43 +29,44 @@ pub record IsSessionOf (world : World) (told : Transcript) (lived : Lived) : Typ
   pub session : lived.session ≡ session_of told.commands told.run has_ended
   pub ends : has_ended ≡ true → EndsBy told.run MayEnd
 
--- each session goes on from the world that the one before it left
+-- These are the sessions of the history, each from the world that the one before it left.
 abbrev pub AreSessionsOf : World → List Transcript → List Lived → Type 0
 AreSessionsOf world [] [] = ⊤
 AreSessionsOf world [] (lived ∷ life) = ⊥
 AreSessionsOf world (told ∷ more) [] = ⊥
 AreSessionsOf world (told ∷ more) (lived ∷ life) = IsSessionOf world told lived × AreSessionsOf (world_lived world lived) more life
 
--- the session goes on over the world after a life of these sessions
+-- The session goes on over the world after a history of these sessions.
 pub record HasLived {S : Type 0} {g : Store.Ghosts S} (world : World) (told : List Transcript) (found : Project S g) : Type 0 where
   pub life : List Lived
   pub sessions : AreSessionsOf world told life
   pub over : IsOver found (world_of_life world life)
 
--- the texts of the answers of each session, one after another
+-- The texts of the answers of all sessions are written, one after another.
 abbrev pub WritesTold : Option (List ℕ) → Option (List ℕ) → List Transcript → Type 0
 WritesTold old new [] = new ≡ old
 WritesTold old new (told ∷ more) = (mid : Option (List ℕ)) × WritesAnswers old mid told.answers told.run × WritesTold mid new more
 
--- the commands of each life
+-- The lists of commands, one for each session.
 abbrev pub commands_of : List (Vec Command Global) → List (List Command)
 commands_of lives = map (λ life. life.items) lives
 
--- these sessions had the commands of each life, and ran so
+-- These sessions had these lists of commands, and ended so.
 pub record AreOf (lives : List (List Command)) (runs : List Run) (told : List Transcript) : Type 0 where
   pub their_commands : map (λ t. t.commands) told ≡ lives
   pub their_runs : map (λ t. t.run) told ≡ runs
 
--- what the lives told is written, and what they left is found
+-- The texts of all sessions are written. What is found, from each world of the first session, is the world after a
+-- history of them.
 abbrev pub TellsLives : {S : Type 0} {g : Store.Ghosts S} → Option (List ℕ) → Option (List ℕ) → Project S g → List (Vec Command Global) → List Run → Project S g → Type 0
 TellsLives before after old lives runs new =
     (told : List Transcript) × AreOf (commands_of lives) runs told × WritesTold before after told
     × OfEachWorld old (state_of new) (λ world. ∥ HasLived world told new ∥₁)
 
--- a run for each life
+-- There is a run for each list of commands.
 abbrev pub RunsEach : List (Vec Command Global) → List Run → Type 0
 RunsEach lives runs = length runs ≡ length lives
 
--- after at least one life the session goes on, and over one that went on after any
+-- After at least one list the session goes on; without a list it goes on if it did before.
 abbrev pub GoesOnAfter : {S : Type 0} {g : Store.Ghosts S} → Project S g → List (Vec Command Global) → Project S g → Type 0
 GoesOnAfter old lives new = IsSessionOpen old ⊎ (1 ≤ length lives) → IsSessionOpen new

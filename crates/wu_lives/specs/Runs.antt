@@ -1,4 +1,4 @@
--- Two runs of the program over one file: what a stop leaves of the first begins the second.
+-- Two runs of the program over one file: what a crash leaves of the first begins the second.
 use Rattle.std.specs.Prelude.{◌≡◌, ◌≤◌, ◌++◌, ◌∷◌, ℕ, List, [], take, Option}
 use Rattle.sqlite_disk.specs.declared.Disk.{Ghosts}
 use Rattle.sqlite_disk.specs.declared.Files.{Files}
@@ -29,36 +29,36 @@ use Rattle.wu_stops.specs.Closing.{IsNumbered}
 use Rattle.wu_lives.specs.Lives.{HasLived, Transcript}
 use Rattle.wu_lives.specs.Reopening.{IsKept, IsLeftByRun}
 
--- the two files, with these bytes, hold the tables of this world
+-- The two files with these bytes hold the tables of this world.
 pub record HoldsWorld (image : Image) (world : World) : Type 0 where
   pub trees : Trees
   pub holds : HoldsDatabase image trees
   pub found : FoundAs trees world
 
--- They hold those of the machine's world after the first so many commands: every acknowledged one, and at most one
+-- The two files hold the machine's world after the first so many commands: every acknowledged one, and at most one
 -- more.
 pub record HoldsBeginningIn (world : World) (commands : List Command) (run : Run) (image : Image) : Type 0 where
   pub count : ℕ
   pub kept : IsKept commands run count
   pub held : HoldsWorld image (world_after world commands count)
-  -- so that further commands go on from there
+  -- Further commands may run over that world.
   pub project : IsProject (world_after world commands count)
 
--- over files with no byte in the database a session begins from the empty world
+-- If the database has no byte, a session begins from the empty world.
 abbrev pub BeginsBlank : Image → State → Type 0
 BeginsBlank image new = image.db ≡ [] → HasCleanDisk new → GoesOn new empty_world × IsPresentProject empty_world
 
--- over the tables of a world it goes on from that world, which is of a version that this program knows
+-- If the files hold the tables of a world, a session goes on from that world, whose version the program knows.
 abbrev pub BeginsOver : Image → State → Type 0
 BeginsOver image new =
     (world : World) → 1 ≤ world.version → HoldsWorld image world → HasCleanDisk new → GoesOn new world × (world.version ≤ present_version)
 
--- what a run told
+-- What a run reported.
 abbrev pub told_by : List Command → List Answer → Run → Transcript
 told_by commands answers run = record { commands = commands; answers = answers; run = run }
 
 module _ {D : Type 0} {g : Ghosts D} (old : Project (FileStore D g) over_files) (commands : List Command) (run : Run) where
-  -- These are the two files of the first run: its session was let go, and then its store.
+  -- These are the two files that the first run left: its session was released, and then its store.
   pub record AreLeft (files : Files D) : Type 0 where
     pub left : Project (FileStore D g) over_files
     pub is_left : IsLeftByRun old commands run left
@@ -66,49 +66,50 @@ module _ {D : Type 0} {g : Ghosts D} (old : Project (FileStore D g) over_files) 
     pub quiet : IsQuiet view faults recovers is_shielded (connection_of left).store store
     pub files_are : (files.log, files.db) ≡ store_files store
 
-  -- this holds of each world that it began with, over a disk that had no fault by its end
+  -- On a disk that is clean at the end of the first run, this holds of each world over which its session began.
   abbrev pub OfFirst : Files D → (World → Type 0) → Type 0
   OfFirst files holds = AreClean g files.log files.db → (world : World) → IsOver old world → holds world
 
-  -- the texts of these answers are written, which are the machine's replies to the commands that it acknowledged
+  -- The texts of these answers are written, and they are the machine's replies to the commands that the first run
+  -- acknowledged.
   abbrev pub TellsFirst : Option (List ℕ) → Option (List ℕ) → List Answer → Files D → Type 0
   TellsFirst before after answers files = WritesAnswers before after answers run × OfFirst files (λ world. AnswerAll world (take run.acknowledged commands) answers)
 
-  -- such answers there are
+  -- There are such answers of the first run.
   abbrev pub TellsAnswers : Option (List ℕ) → Option (List ℕ) → Files D → Type 0
   TellsAnswers before after files = (answers : List Answer) × TellsFirst before after answers files
 
-  -- over a session that went on, why it ended early
+  -- If its session went on, the first run reports why it ended early.
   abbrev pub WhyEnded : Files D → Type 0
   WhyEnded files = IsSessionOpen old → OfFirst files (λ world. EndsEarly world commands run)
 
-  -- each image that a stop may leave of its files holds the world after a beginning of the list
+  -- Each image of the files that a crash may leave of the first run holds the world after a prefix of its list.
   abbrev pub LeavesBeginnings : Files D → Type 0
   LeavesBeginnings files = OfFirst files (λ world. (image : Image) → outcomes g files.log files.db image → ∥ HoldsBeginningIn world commands run image ∥₁)
 
-  -- so it is of the files of a store that a close left where it failed, if that is numbered
+  -- So do the files of the store that a failed close left, if its trees are numbered as the catalog says.
   abbrev pub LeavesUnclosed : FileStore D g → Type 0
   LeavesUnclosed store = IsNumbered store → (files : Files D) → (files.log, files.db) ≡ store_files store → LeavesBeginnings files
 
-  -- where such an image began the second, that goes on from the world of the life over both
+  -- If the second run begins over such an image, it goes on from the world of the history over both runs.
   abbrev pub LivesOn : {T : Type 0} {h : Store.Ghosts T} → List Answer → Files D → Image → Project T h → Type 0
   LivesOn answers files image new =
       AreClean g files.log files.db → outcomes g files.log files.db image → HasCleanDisk (state_of new) → (world : World) (told : List Transcript) → HasLived world told old
       → ∥ HasLived world (told ++ told_by commands answers run ∷ []) new ∥₁
 
-  -- what the first run told
+  -- What the first run reported, with the files that it left.
   abbrev pub AnswersFirst : Option (List ℕ) → Option (List ℕ) → Type 0
   AnswersFirst before after = (files : Files D) × AreLeft files × TellsAnswers before after files
 
-  -- why it ended
+  -- Why the first run ended, with the files that it left.
   abbrev pub EndsFirst : Type 0
   EndsFirst = (files : Files D) × AreLeft files × WhyEnded files
 
-  -- what it left
+  -- What a crash may leave of the first run, with the files that it left.
   abbrev pub LeavesFirst : Type 0
   LeavesFirst = (files : Files D) × AreLeft files × LeavesBeginnings files
 
-  -- and the life over both runs
+  -- What the first run reported, and the history over both runs.
   abbrev pub LivesOver : {T : Type 0} {h : Store.Ghosts T} → Option (List ℕ) → Option (List ℕ) → Image → Project T h → Type 0
   LivesOver before after image new =
       (files : Files D) × AreLeft files × ((answers : List Answer) × TellsFirst before after answers files × LivesOn answers files image new)

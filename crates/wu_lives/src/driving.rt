@@ -32,7 +32,7 @@ pub fn drive_and_release<D: Disk + Drop, W: Write>(
     commands: &[Command],
     out: &mut W,
 ) -> (Run, Connection<FileStore<D>>)
-    // The list is run as by `drive`, and the connection of the session comes back.
+    // The list runs as by `drive`, and the session's connection comes back.
     ensures { DrivesAndReleases W.contents project
         out.old out.new commands.now result.0 result.1 }
 {

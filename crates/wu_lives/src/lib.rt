@@ -1,4 +1,8 @@
 //! The laws of histories of sessions: lists of commands, crashes, and the sessions that go on over what is found.
+//!
+//! The comments over clauses leave out two premises. The disk is clean: it returns what was written, and nobody else
+//! writes the file. And the session that a call is given is over a world: its tables represent one that commands run
+//! over, and a crash could leave only tables of this world.
 #![tactic(auto)]
 
 mod driving;

@@ -20,10 +20,10 @@ use wu_stops::{begin, stop_and_open};
 /// Runs a list of commands; then the machine crashes, and the two files are opened again. Returns how far the run went,
 /// and the connection.
 ///
-/// What is found represents the world after a prefix of the list: every acknowledged command, and one more only where
-/// the run ended with `Memory` or `Broken` during it. It is open, and all of it is committed. It is what the crash
-/// could leave of the session after the run; where the connection was open then, its last commit. Why the run ended is
-/// as in `drive`. Returns `None` if the opening fails.
+/// What is found represents the world after a prefix of the list: every acknowledged command, and one more only if the
+/// run ended with `Memory` or `Broken` during it. It is open, and all of it is committed. It is what the crash could
+/// leave of the session after the run; if the connection was open then, its last commit. Why the run ended is as in
+/// `drive`. Returns `None` if the opening fails.
 pub fn drive_stop_and_open<D: Crash + Drop, W: Write>(
     alloc: Global,
     project: Project<FileStore<D>>,
@@ -31,9 +31,10 @@ pub fn drive_stop_and_open<D: Crash + Drop, W: Write>(
     out: &mut W,
     options: Options,
 ) -> Option<(Run, Connection<FileStore<D>>)>
-    // A disk with no fault by now had none before the run.
+    // A disk that is clean afterwards was clean before the run.
     ensures clean { IfSome result (λ r. WasClean (state_of project) (file_state r.1)) }
-    // The texts of the answers went out, each the machine's reply to an acknowledged command.
+    // The texts of the answers went out, each the machine's reply to an acknowledged command; after
+    // `Output` the last one may be cut.
     ensures answers { IfSome result (λ r.
         TellsReplies (W.contents out.old) (W.contents out.new) project
         commands.now r.0 (file_state r.1)) }
@@ -41,14 +42,15 @@ pub fn drive_stop_and_open<D: Crash + Drop, W: Write>(
     // more only after `Memory` or `Broken`.
     ensures found { IfSome result (λ r.
         FindsBeginning project commands.now r.0 (file_state r.1)) }
-    // The run did no more than the list, and all of it where nothing ended it.
+    // The run acknowledges at most the commands of the list, and all of them if no fault ended it.
     ensures all { IfSome result (λ r. DoesAll commands.now r.0) }
-    // Over a session that had ended nothing was done or written.
+    // Over a session that had ended, nothing is done or written, and a fault of the run is `Ended`.
     ensures ended { IfSome result (λ r. TellsEnded project out.old out.new r.0) }
-    // A run ends early with the machine's refusal of the next command, a fault of the store, or
-    // `Output`.
+    // Over a session that had not ended, a run ends early with the machine's refusal of the next
+    // command, a fault of the store, or `Output`.
     ensures ends { IfSome result (λ r. TellsEnd project commands.now r.0 (file_state r.1)) }
-    // What is found is open, sound and committed, and what the crash could leave after the run.
+    // The connection is open over a well-formed database, all of it committed, that the crash could
+    // leave after the run. If the session's connection was open then, this is its last commit.
     ensures reopened { IfSome result (λ r. FindsLeft project commands.now r.0 (file_state r.1)) }
 {
     let (run, conn) = drive_and_release(alloc, project, commands, out);
@@ -62,7 +64,7 @@ pub fn drive_stop_and_open<D: Crash + Drop, W: Write>(
 /// run went, and the next session.
 ///
 /// The next session goes on from the world after a prefix of the list, which has every acknowledged command. A project
-/// that is found after the crash is adopted as it stands. Why the run ended is as in `drive`. Returns `None` if the
+/// that is found after the crash is adopted unchanged. Why the run ended is as in `drive`. Returns `None` if the
 /// opening or the adoption fails.
 pub fn live<D: Crash + Drop, W: Write>(
     alloc: Global,
@@ -71,12 +73,13 @@ pub fn live<D: Crash + Drop, W: Write>(
     out: &mut W,
     options: Options,
 ) -> Option<(Run, Project<FileStore<D>>)>
-    // A disk with no fault by now had none before the run.
+    // A disk that is clean afterwards was clean before the run.
     ensures clean { IfSome result (λ r.
         WasClean (state_of project) (state_of r.1)) }
     // The next session has not ended, and knows the version of its tables.
     ensures begins { IfSome result (λ r. IsBegun r.1) }
-    // The texts of the answers went out, each the machine's reply to an acknowledged command.
+    // The texts of the answers went out, each the machine's reply to an acknowledged command; after
+    // `Output` the last one may be cut.
     ensures answers { IfSome result (λ r.
         TellsReplies (W.contents out.old) (W.contents out.new) project
         commands.now r.0 (state_of r.1)) }
@@ -84,16 +87,16 @@ pub fn live<D: Crash + Drop, W: Write>(
     // after `Memory` or `Broken`.
     ensures found { IfSome result (λ r.
         FindsBeginning project commands.now r.0 (state_of r.1)) }
-    // The run did no more than the list, and all of it where nothing ended it.
+    // The run acknowledges at most the commands of the list, and all of them if no fault ended it.
     ensures all { IfSome result (λ r. DoesAll commands.now r.0) }
-    // Over a session that had ended nothing was done or written.
+    // Over a session that had ended, nothing is done or written, and a fault of the run is `Ended`.
     ensures ended { IfSome result (λ r. TellsEnded project out.old out.new r.0) }
-    // A run ends early with the machine's refusal of the next command, a fault of the store, or
-    // `Output`.
+    // Over a session that had not ended, a run ends early with the machine's refusal of the next
+    // command, a fault of the store, or `Output`.
     ensures ends { IfSome result (λ r.
         TellsEnd project commands.now r.0 (state_of r.1)) }
-    // What the crash could leave after the run is found, and the next session adopts it as it
-    // stands.
+    // What is found is a database that the crash could leave after the run. The next session adopts
+    // it: a project in it stays as it is.
     ensures reopened { IfSome result (λ r. AdoptsLeft project commands.now r.0 r.1) }
 {
     match drive_stop_and_open(alloc, project, commands, out, options) {
@@ -110,7 +113,7 @@ pub fn live<D: Crash + Drop, W: Write>(
 ///
 /// The texts of the answers are written, session by session; each answer is the machine's reply. What is found is the
 /// world after a history of these sessions, each cut command in or out. After at least one list the session goes on,
-/// also where the first one had ended. Returns `None` if an opening or an adoption fails, or memory for the runs is
+/// also if the first one had ended. Returns `None` if an opening or an adoption fails, or memory for the runs is
 /// refused.
 pub fn live_all<D: Crash + Drop, W: Write>(
     alloc: Global,
@@ -119,16 +122,16 @@ pub fn live_all<D: Crash + Drop, W: Write>(
     out: &mut W,
     options: Options,
 ) -> Option<(Vec<Run>, Project<FileStore<D>>)>
-    // A disk with no fault by now had none at the beginning.
+    // A disk that is clean afterwards was clean at the beginning.
     ensures clean { IfSome result (λ r.
         WasClean (state_of project) (state_of r.1)) }
-    // Over a session that had not ended, or after at least one list, the session goes on.
+    // The last session goes on, if the first one had not ended or there was at least one list.
     ensures begins { IfSome result (λ r. GoesOnAfter project lives.now r.1) }
     // There is one run for each list.
     ensures count { IfSome result (λ r. RunsEach lives.now r.0.items) }
-    // The texts of the answers went out session by session, each the machine's reply. The tables
-    // represent the world of a history of these sessions, each cut command in or out, and one is
-    // cut only after `Memory` or `Broken`.
+    // The texts of the answers went out session by session, each the machine's reply; after
+    // `Output` the last one of a session may be cut. The tables represent the world of a history of
+    // these sessions, each cut command in or out, and one is cut only after `Memory` or `Broken`.
     ensures found { IfSome result (λ r.
         TellsLives (W.contents out.old) (W.contents out.new) project
         lives.now r.0.items r.1) }

@@ -20,8 +20,8 @@ use wu_stops::{begin, store_of};
 /// Runs a list of commands over a project, and lets its two files go. Returns how far the run went, and the files.
 ///
 /// Each image that a crash may leave of these files holds the world after a prefix of the list. It has every
-/// acknowledged command, and one more only where the run ended with `Memory` or `Broken` during it. Why the run ended
-/// is as in `drive`.
+/// acknowledged command, and one more only if the run ended with `Memory` or `Broken` during it. Why the run ended is
+/// as in `drive`.
 pub fn run_and_leave<D: Disk + Drop, W: Write>(
     alloc: Global,
     project: Project<FileStore<D>>,
@@ -30,18 +30,19 @@ pub fn run_and_leave<D: Disk + Drop, W: Write>(
 ) -> (Run, Files<D>)
     // The files are those that the released session left.
     ensures files { AreLeft project commands.now result.0 result.1 }
-    // The texts of the answers went out, each the machine's reply to an acknowledged command.
+    // The texts of the answers went out, each the machine's reply to an acknowledged command; after
+    // `Output` the last one may be cut.
     ensures answers { TellsAnswers project commands.now result.0
         (W.contents out.old) (W.contents out.new) result.1 }
-    // Each crash image of the files holds the world after a prefix: each acknowledged command, and
-    // one more only after `Memory` or `Broken`.
+    // Each image that a crash may leave holds the world after a prefix: each acknowledged command,
+    // and one more only after `Memory` or `Broken`.
     ensures left { LeavesBeginnings project commands.now result.0 result.1 }
-    // The run did no more than the list, and all of it where nothing ended it.
+    // The run acknowledges at most the commands of the list, and all of them if no fault ended it.
     ensures all { DoesAll commands.now result.0 }
-    // Over a session that had ended nothing was done or written.
+    // Over a session that had ended, nothing is done or written, and a fault of the run is `Ended`.
     ensures ended { TellsEnded project out.old out.new result.0 }
-    // A run ends early with the machine's refusal of the next command, a fault of the store, or
-    // `Output`.
+    // Over a session that had not ended, a run ends early with the machine's refusal of the next
+    // command, a fault of the store, or `Output`.
     ensures ends { WhyEnded project commands.now result.0 result.1 }
 {
     let (run, conn) = drive_and_release(alloc, project, commands, out);
@@ -51,30 +52,30 @@ pub fn run_and_leave<D: Disk + Drop, W: Write>(
 /// Runs a list of commands over a project, and closes its database, as the program does. Returns how far the run went,
 /// and the files or, after a close that failed, the store.
 ///
-/// After a close that ended well, each image that a crash may leave of the files holds the world after a prefix of the
-/// list, as in `run_and_leave`. After a close that failed the same holds of the files of its store, if that is numbered
-/// as its catalog says. So `begin_at` goes on from there.
+/// After a close that succeeded, each image that a crash may leave of the files holds the world after a prefix of the
+/// list, as in `run_and_leave`. After a close that failed, the same holds of the files of its store, if each tree of
+/// the store has the number that its catalog says. So `begin_at` goes on from there.
 pub fn run_and_close<D: Disk + Drop, W: Write>(
     alloc: Global,
     project: Project<FileStore<D>>,
     commands: &[Command],
     out: &mut W,
 ) -> (Run, Result<Files<D>, FileStore<D>>)
-    // After a close that ended well, the files are those that the released session left.
+    // After a close that succeeded, the files are those that the released session left.
     ensures files { IfOk result.1 (AreLeft project commands.now result.0) }
-    // After a close that ended well, the texts of the answers went out, each the machine's reply to
-    // an acknowledged command.
+    // After a close that succeeded, the texts of the answers went out, each the machine's reply.
+    // After `Output` the last one may be cut.
     ensures answers { IfOk result.1 (TellsAnswers project commands.now result.0
         (W.contents out.old) (W.contents out.new)) }
-    // After a close that ended well each crash image holds the world after a prefix: each
-    // acknowledged command, and at most the cut one.
+    // After a close that succeeded, each crash image holds the world after a prefix: each
+    // acknowledged command, and one more only after `Memory` or `Broken`.
     ensures left { IfOk result.1 (LeavesBeginnings project commands.now result.0) }
-    // After a close that failed the same holds of the files of its store, where that is numbered as
-    // its catalog says.
+    // After a close that failed, the same holds of the files of its store, if each tree of the
+    // store has the number that its catalog says.
     ensures unclosed { IfErr result.1 (LeavesUnclosed project commands.now result.0) }
-    // The run did no more than the list, and all of it where nothing ended it.
+    // The run acknowledges at most the commands of the list, and all of them if no fault ended it.
     ensures all { DoesAll commands.now result.0 }
-    // Over a session that had ended nothing was done or written.
+    // Over a session that had ended, nothing is done or written, and a fault of the run is `Ended`.
     ensures ended { TellsEnded project out.old out.new result.0 }
 {
     let (run, conn) = drive_and_release(alloc, project, commands, out);
@@ -84,10 +85,11 @@ pub fn run_and_close<D: Disk + Drop, W: Write>(
     }
 }
 
-/// Opens the file at a path and begins a session over the project in it.
+/// Opens the file at a path and begins a session over the project in it. No code can say what the file holds; the
+/// clauses take what `S` says of it.
 ///
-/// Where its database has no byte it is a fresh project, which represents the empty world. Where the file holds the
-/// tables of a world it goes on from that world. Returns `None` if the opening or the adoption fails.
+/// If its database has no byte, it is a fresh project, which represents the empty world. If the file holds the tables
+/// of a world, it goes on from that world. Returns `None` if the opening or the adoption fails.
 pub fn begin_at<S: Start>(
     rt: &HostRuntime,
     path: &str,
@@ -97,8 +99,8 @@ pub fn begin_at<S: Start>(
     ensures begins { IfSome result IsBegun }
     // Over a database without a byte the session begins from the empty world.
     ensures blank { IfSome result (λ project. BeginsBlank (image_at S.Start) (state_of project)) }
-    // Over files that hold the tables of a world the session goes on from it, and knows its
-    // version.
+    // Over files that hold the tables of a world, the session goes on from that world, whose
+    // version this program knows.
     ensures found { IfSome result (λ project. BeginsOver (image_at S.Start) (state_of project)) }
 {
     match Connection::open_from(rt, path, false, start) {
@@ -108,10 +110,11 @@ pub fn begin_at<S: Start>(
 }
 
 /// Runs the program twice. The first run does a list of commands over an adopted project, and a crash ends it. The
-/// second opens the file and adopts the project in it.
+/// second opens the file and adopts the project in it. No code can say what that file holds; the clauses take what `S`
+/// says of it.
 ///
 /// Each image that the crash may leave holds the world after a prefix of the list, which has every acknowledged
-/// command. Where the second run found such an image, it goes on from that world, and the tables represent the world of
+/// command. If the second run found such an image, it goes on from that world, and the tables represent the world of
 /// the history over both runs. Why the first ended is as in `drive`. Returns `None` if the opening or the adoption
 /// fails.
 pub fn run_and_begin_again<D: Disk + Drop, S: Start, W: Write>(
@@ -124,26 +127,28 @@ pub fn run_and_begin_again<D: Disk + Drop, S: Start, W: Write>(
 ) -> Option<(Run, Project<FileStore<FileFrom<S>>>)>
     // The second session has not ended, and knows the version of its tables.
     ensures begins { IfSome result (λ r. IsBegun r.1) }
-    // Over files that hold the tables of a world the second session goes on from it, and knows its
-    // version.
+    // Over files that hold the tables of a world, the second session goes on from that world, whose
+    // version this program knows.
     ensures found { IfSome result (λ r. BeginsOver (image_at S.Start) (state_of r.1)) }
     // The texts of the first run's answers went out, each the machine's reply to an acknowledged
-    // command.
+    // command; after `Output` the last one may be cut.
     ensures answers { IfSome result (λ r.
         AnswersFirst project commands.now r.0 (W.contents out.old) (W.contents out.new)) }
-    // Each crash image of the first run holds the world after a prefix: each acknowledged command,
-    // and one more only after `Memory` or `Broken`.
+    // Each image that a crash may leave of the first run's files holds the world after a prefix. It
+    // has each acknowledged command, and one more only after `Memory` or `Broken`.
     ensures left { IfSome result (λ r. LeavesFirst project commands.now r.0) }
-    // Where the second run found such an image, its tables represent the world of the history over
+    // If the second run found such an image, its tables represent the world of the history over
     // both runs.
     ensures lives { IfSome result (λ r. LivesOver project commands.now r.0
         (W.contents out.old) (W.contents out.new) (image_at S.Start) r.1) }
-    // The first run did no more than the list, and all of it where nothing ended it.
+    // The first run acknowledges at most the commands of the list, and all of them if no fault
+    // ended it.
     ensures all { IfSome result (λ r. DoesAll commands.now r.0) }
-    // Over a session that had ended the first run did and wrote nothing.
+    // Over a session that had ended, the first run does and writes nothing, and a fault of it is
+    // `Ended`.
     ensures ended { IfSome result (λ r. TellsEnded project out.old out.new r.0) }
-    // The first run ends early with the machine's refusal of the next command, a fault of the
-    // store, or `Output`.
+    // Over a session that had not ended, the first run ends early with the machine's refusal of the
+    // next command, a fault of the store, or `Output`.
     ensures ends { IfSome result (λ r. EndsFirst project commands.now r.0) }
 {
     let (run, files) = run_and_leave(rt.alloc(), project, commands, out);

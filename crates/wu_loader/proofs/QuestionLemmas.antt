@@ -6,12 +6,12 @@ use Rattle.wu_schema.specs.Faults.{IsStoreFault}
 use Rattle.wu_loader.specs.Asked.{Looks}
 use Rattle.wu_loader.specs.Questions.{IsTableIn, question, ShowsTable}
 use Rattle.wu_loader.specs.Shown.{keyed, unkeyed}
-use Rattle.wu_loader.specs.declared.finding.Table.{Table}
-use Rattle.wu_loader.specs.declared.finding.Table.TheVariants as table
+use Rattle.wu_loader.specs.declared.finding.LoadedTable.{LoadedTable}
+use Rattle.wu_loader.specs.declared.finding.LoadedTable.TheVariants as table
 use Rattle.wu_loader.proofs.SelectLemmas.{archived_asked, archived_fits, grants_asked, grants_fits, host_classes_asked, host_classes_fits, hosts_asked, hosts_fits, imports_asked, imports_fits, instances_asked, instances_fits, looks_whole, project_asked, project_fits, shows_in_any_order, shows_in_order, work_classes_asked, work_classes_fits, workunits_asked, workunits_fits}
 
 module _ {S A : Type 0} (version : ℕ) (g : Ghosts S) (old new : Held S) (r : Result (Vec Row A) Fault) where
-  asked_about : (t : Table) → IsTableIn version t → (IsSelect (question t) → Asks g old new r) → (IsSelect (question t) → ServesUnlessFailed g new r) → ShowsAll g old new r (question t) [] → FailsAll g old new r (question t) [] → IfErr r IsStoreFault
+  asked_about : (t : LoadedTable) → IsTableIn version t → (IsSelect (question t) → Asks g old new r) → (IsSelect (question t) → ServesUnlessFailed g new r) → ShowsAll g old new r (question t) [] → FailsAll g old new r (question t) [] → IfErr r IsStoreFault
       → Looks version g old new r (λ db trees rows. ShowsTable t db.trees trees rows.items)
   asked_about table.Project there = looks_whole version Project tt project_asked project_fits refl g old new [] refl (λ db trees rows. ShowsTable table.Project db.trees trees rows)
       (λ trees has rows h. shows_in_order _ _ project_asked (project_fits trees.project) (state g old) (state g new) _ has.tables.project.1 (keyed 3) (λ r. refl) rows h refl has.arranged.project.0) r
@@ -33,7 +33,7 @@ module _ {S A : Type 0} (version : ℕ) (g : Ghosts S) (old new : Held S) (r : R
       (λ trees has rows h. shows_in_order _ _ work_classes_asked (work_classes_fits trees.workunit_class) (state g old) (state g new) _ (has.tables.workunit_class there).1 (keyed 2) (λ r. refl) rows h refl (has.arranged.workunit_class there).0) r
 
   -- in the words in which it was asked
-  pub looks_at : (t : Table) → IsTableIn version t → (text : List ℕ) → text ≡ question t → (IsSelect text → Asks g old new r) → (IsSelect text → ServesUnlessFailed g new r) → ShowsAll g old new r text [] → FailsAll g old new r text [] → IfErr r IsStoreFault
+  pub looks_at : (t : LoadedTable) → IsTableIn version t → (text : List ℕ) → text ≡ question t → (IsSelect text → Asks g old new r) → (IsSelect text → ServesUnlessFailed g new r) → ShowsAll g old new r text [] → FailsAll g old new r text [] → IfErr r IsStoreFault
       → Looks version g old new r (λ db trees rows. ShowsTable t db.trees trees rows.items)
   looks_at t there text is asks opens shows fails = asked_about t there
       (subst (λ x. IsSelect x → Asks g old new r) is asks) (subst (λ x. IsSelect x → ServesUnlessFailed g new r) is opens)

@@ -13,9 +13,9 @@ use Rattle.wu_core.specs.Formed.{IsInstance}
 use Rattle.wu_schema.proofs.ReadingLemmas.{as_columns, not_ok, same_verdicts}
 use Rattle.wu_store.proofs.SameWorld.{mask_again, maybe_again, read_blob, read_maybe, read_number, read_text, same_instances}
 use Rattle.wu_loader.specs.Cells.{kind_cell, moment_cells, state_cells, HasMoments}
-use Rattle.wu_loader.specs.declared.rows.Moments.{Moments}
+use Rattle.wu_loader.specs.declared.rows.PlacedMoments.{PlacedMoments}
 use Rattle.wu_loader.specs.declared.rows.Placed.{Placed}
-use Rattle.wu_loader.specs.declared.rows.States.{States}
+use Rattle.wu_loader.specs.declared.rows.PlacedStates.{PlacedStates}
 use Rattle.wu_loader.specs.Rows.{archived_row, grant_row, placed_row, IsStoredImport, IsStoredPlaced}
 
 -- a row that is the row of one value alone is read as it
@@ -134,10 +134,10 @@ miscounted row count long other = record { value = tt; found = λ t is stored. a
 -- ---- instances
 
 -- the states and the moments of an instance
-abbrev states_of : Instance → States
+abbrev states_of : Instance → PlacedStates
 states_of i = record { server_state = i.server_state; outcome = i.outcome; validate_state = i.validate_state; file_delete = i.file_delete }
 
-abbrev moments_of : Instance → Moments
+abbrev moments_of : Instance → PlacedMoments
 moments_of i = record { sent_at = i.sent_at; deadline = i.deadline; received_at = i.received_at }
 
 pub states_unread : (row : Row) (f : Fault) → Restores state_cells (λ _. ⊤) (columns row 2 4) (Err f) → Restores instance_row MayBeInstance (columns row 2 9) (Err f)

@@ -12,8 +12,8 @@ use Rattle.wu_loader.specs.declared.rows.ProjectRow.{ProjectRow}
 use Rattle.wu_loader.specs.Whole.{rows_of, AreSorted, DiffersAt, IsIn, IsNoRow, UnlessMemory}
 use Rattle.wu_loader.specs.declared.finding.NoWorld.{NoWorld}
 use Rattle.wu_loader.specs.declared.finding.NoWorld.TheVariants.{Memory, Wrong as told}
-use Rattle.wu_loader.specs.declared.finding.Table.{Table}
-use Rattle.wu_loader.specs.declared.finding.Wrong.{Wrong}
+use Rattle.wu_loader.specs.declared.finding.LoadedTable.{LoadedTable}
+use Rattle.wu_loader.specs.declared.finding.WrongRow.{WrongRow}
 
 module _ {T : Type 0} (cells : ℕ → T → Row) where
   abbrev at : ℕ × T → Row
@@ -124,19 +124,19 @@ differs_mapped {X} f inj wanted found place it = record {
 -- ---- through a refusal
 
 -- what holds at a place of the table that is told holds of what is told
-pub at_table : (At : Table → ℕ → Type 0) (table : Table) (wrong : Wrong) → IsIn table (At table) wrong → At wrong.table wrong.place
-at_table At table wrong it = subst (λ (t : Table). At t wrong.place) (sym it.0) it.1
+pub at_table : (At : LoadedTable → ℕ → Type 0) (table : LoadedTable) (wrong : WrongRow) → IsIn table (At table) wrong → At wrong.table wrong.place
+at_table At table wrong it = subst (λ (t : LoadedTable). At t wrong.place) (sym it.0) it.1
 
-pub unless_then : (reason : NoWorld) (P Q : Wrong → Type 0) → ((wrong : Wrong) → P wrong → Q wrong) → UnlessMemory reason P → UnlessMemory reason Q
+pub unless_then : (reason : NoWorld) (P Q : WrongRow → Type 0) → ((wrong : WrongRow) → P wrong → Q wrong) → UnlessMemory reason P → UnlessMemory reason Q
 unless_then Memory P Q f h = tt
 unless_then (told wrong) P Q f h = f wrong h
 
-pub refused : {T : Type 0} (r : Result T NoWorld) (P Q : Wrong → Type 0) → ((wrong : Wrong) → P wrong → Q wrong) → IfErr r (λ reason. UnlessMemory reason P) → IfErr r (λ reason. UnlessMemory reason Q)
+pub refused : {T : Type 0} (r : Result T NoWorld) (P Q : WrongRow → Type 0) → ((wrong : WrongRow) → P wrong → Q wrong) → IfErr r (λ reason. UnlessMemory reason P) → IfErr r (λ reason. UnlessMemory reason Q)
 refused (Ok x) P Q f h = tt
 refused (Err reason) P Q f h = unless_then reason P Q f h
 
 -- a refusal that is handed on
-pub handed : {T : Type 0} (r : Result T NoWorld) (reason : NoWorld) (P Q : Wrong → Type 0) → ((wrong : Wrong) → P wrong → Q wrong) → IsErrAnd r (λ other. other ≡ reason) → UnlessMemory reason P → IfErr r (λ other. UnlessMemory other Q)
+pub handed : {T : Type 0} (r : Result T NoWorld) (reason : NoWorld) (P Q : WrongRow → Type 0) → ((wrong : WrongRow) → P wrong → Q wrong) → IsErrAnd r (λ other. other ≡ reason) → UnlessMemory reason P → IfErr r (λ other. UnlessMemory other Q)
 handed (Ok x) reason P Q f same h = tt
 handed (Err other) reason P Q f same h = subst (λ k. UnlessMemory k Q) (sym same) (unless_then reason P Q f h)
 

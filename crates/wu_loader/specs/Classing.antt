@@ -9,31 +9,31 @@ use Rattle.wu_core.specs.declared.workunit.Workunit.{Workunit}
 use Rattle.wu_loader.specs.Rows.{classed_of}
 use Rattle.wu_loader.specs.declared.rows.Classed.{Classed}
 
--- with class 0
+-- The workunit with class 0.
 abbrev pub unclassed : Workunit → Workunit
 unclassed w = record w { class = 0 }
 
--- the workunits, with these classes
+-- The workunits, with these classes set.
 pub record AreClassedBy (workunits : List Workunit) (given : List Classed) (classed : List Workunit) : Type 0 where
   pub same : map unclassed classed ≡ map unclassed workunits
   pub classes : map classed_of classed ≡ given
 
--- the numbers of the workunits
+-- The numbers of the workunits.
 abbrev pub numbers : List Workunit → List ℕ
 numbers workunits = map (λ (w : Workunit). w.number) workunits
 
--- those of the workunits that have these classes
+-- The numbers of the workunits that have these classes.
 abbrev pub numbers_classed : List Classed → List ℕ
 numbers_classed classes = map (λ (c : Classed). c.workunit) classes
 
--- these are the classes of other workunits
+-- The classes are not those of these workunits, in their order.
 abbrev pub AreOfOthers : List Workunit → List Classed → Type 0
 AreOfOthers workunits classes = numbers workunits ≢ numbers_classed classes
 
--- by the bytes of their names
+-- The order of hosts by the bytes of their names.
 abbrev pub by_host : HostClass → HostClass → Ordering
 by_host one other = slice_cmp nat_cmp one.host other.host
 
--- each is below the one behind it
+-- Each host is below the one after it.
 abbrev pub AreRising : List HostClass → Type 0
 AreRising classes = (k : ℕ) (d : HostClass) → k + 1 < length classes → by_host (slice_index_or classes k d) (slice_index_or classes (k + 1) d) ≡ Less

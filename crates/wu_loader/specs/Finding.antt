@@ -14,38 +14,38 @@ use Rattle.wu_loader.specs.Worlds.{IsReadable}
 use Rattle.wu_loader.specs.Wrongs.{IsWrongRow}
 use Rattle.wu_loader.specs.declared.finding.Found.{Found}
 use Rattle.wu_loader.specs.declared.finding.Found.TheVariants as found
-use Rattle.wu_loader.specs.declared.finding.Wrong.{Wrong}
+use Rattle.wu_loader.specs.declared.finding.WrongRow.{WrongRow}
 use Rattle.wu_loader.specs.declared.tables.TableRows.{TableRows}
 
--- where a world is found, this holds of it
+-- If a world is found, this holds of it.
 abbrev pub IfWorld : Found → (World → Type 0) → Type 0
 IfWorld (found.World world) Holds = Holds world
 IfWorld (found.Wrong wrong) Holds = ⊤
 
--- where a row is told, this holds of it
-abbrev pub IfWrong : Found → (Wrong → Type 0) → Type 0
+-- If a wrong row is reported, this holds of it.
+abbrev pub IfWrong : Found → (WrongRow → Type 0) → Type 0
 IfWrong (found.World world) Holds = ⊤
 IfWrong (found.Wrong wrong) Holds = Holds wrong
 
--- Where the tables of this version are there and their rows in order of their rowids, and each row of a workunit is whole, they
--- stand for a world that is found.
+-- If the tables of this version are there, with their rows in order and those of workunits whole, they represent the
+-- world that is found.
 abbrev pub FindsWorld : {S : Type 0} → ℕ → Ghosts S → Held S → Held S → Result Found Fault → Type 0
 FindsWorld version g old new result =
     HasCleanDisk (state g new) → (trees : ProjectTrees) → HasArranged version (state g old).now trees → AreWhole 15 ((state g old).now.trees trees.workunit)
     → IfOk result (λ found. IfWorld found (Refines (state g old).now))
 
--- Where a row is told, the tables stand for no world of this version with values that rows may have.
+-- If a wrong row is reported, the tables represent no world of this version with values that rows may have.
 abbrev pub FindsNone : {S : Type 0} → ℕ → Ghosts S → Held S → Held S → Result Found Fault → Type 0
 FindsNone version g old new result =
     HasCleanDisk (state g new) → IfOk result (λ found. IfWrong found (λ _. (world : World) → IsReadable world → world.version ≡ version → ¬ Refines (state g old).now world))
 
--- the row that is told is wrong, among those that questions show of the tables of this version
-pub record IsShownWrong (version : ℕ) (db : Database) (trees : ProjectTrees) (wrong : Wrong) : Type 0 where
+-- The reported row is wrong, among those that questions show of the tables of this version.
+pub record IsShownWrong (version : ℕ) (db : Database) (trees : ProjectTrees) (wrong : WrongRow) : Type 0 where
   pub rows : TableRows
   pub shown : Shows version db.trees trees rows
   pub is : IsWrongRow version rows wrong
 
--- Where a row is told, and the tables of this version are there and their rows in order of their rowids, it is wrong.
+-- If a wrong row is reported, and the tables of this version are there with their rows in order, the row is wrong.
 abbrev pub FindsRow : {S : Type 0} → ℕ → Ghosts S → Held S → Held S → Result Found Fault → Type 0
 FindsRow version g old new result =
     HasCleanDisk (state g new) → (trees : ProjectTrees) → HasArranged version (state g old).now trees

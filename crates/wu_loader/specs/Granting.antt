@@ -1,4 +1,4 @@
--- What hosts were granted, as the grants say.
+-- What hosts have been granted, as the grants give it.
 use Rattle.std.specs.Prelude.{◌≡◌, ◌⊎◌, ℕ, ◌+◌, ◌<◌, All, List, length, map, slice_index_or}
 use Rattle.std.specs.Borrow.{Bor}
 use Rattle.std.specs.Cmp.Lexicographic.{slice_cmp}
@@ -10,48 +10,48 @@ use Rattle.wu_core.specs.declared.workunit.Grant.{Grant}
 use Rattle.wu_loader.specs.Whole.{IsNotAbove}
 use Rattle.wu_loader.specs.declared.rows.Host.{Host}
 
--- by the bytes of their names
+-- The order of hosts by the bytes of their names.
 abbrev pub by_name : Host → Host → Ordering
 by_name one other = slice_cmp nat_cmp one.name other.name
 
--- the grants that these refer to
+-- The grants that these references refer to.
 abbrev pub referred : List (Bor Grant) → List Grant
 referred grants = map (λ grant. grant.now) grants
 
--- by the bytes of their hosts' names
+-- The order of grants by the bytes of their hosts' names.
 abbrev pub by_host : Bor Grant → Bor Grant → Ordering
 by_host one other = slice_cmp nat_cmp one.now.host other.now.host
 
--- the host has grants, and its sums are theirs
+-- The host has grants, and its sums are theirs.
 pub record IsGranted (grants : List Grant) (host : Host) : Type 0 where
   pub total : host.total ≡ credit_of grants host.name
   pub count : host.grants ≡ grants_of grants host.name
   pub some : 0 < host.grants
 
--- the hosts are in order of their names, and no two have one
+-- The hosts are in order of their names, and no two have the same name.
 abbrev pub Rise : List Host → Type 0
 Rise hosts = (k : ℕ) (d : Host) → k + 1 < length hosts → by_name (slice_index_or hosts k d) (slice_index_or hosts (k + 1) d) ≡ Less
 
--- one of them has the name
+-- One of the hosts has this name.
 abbrev pub IsListed : List Host → List ℕ → Type 0
 IsListed hosts name = (k : ℕ) × (d : Host) × (k < length hosts) × ((slice_index_or hosts k d).name ≡ name)
 
--- the hosts are in order, each has what it was granted, and each that was granted something is there
+-- The hosts are in order, each has the sums of its grants, and each host with a grant is there.
 pub record AreHosts (grants : List Grant) (hosts : List Host) : Type 0 where
   pub rise : Rise hosts
   pub each : All (IsGranted grants) hosts
   pub listed : All (λ (grant : Grant). IsListed hosts grant.host) grants
 
--- the host at this place, from 0, has not what it was granted
+-- The host at this place, from 0, does not have the sums of its grants.
 pub record IsUngranted (grants : List Grant) (hosts : List Host) (place : ℕ) : Type 0 where
   pub there : place < length hosts
   pub other : (d : Host) → ¬ IsGranted grants (slice_index_or hosts place d)
 
--- at this place, behind the last host, one lacks
+-- After the last host, at this place, a host with a grant is missing.
 pub record LacksHost (grants : List Grant) (hosts : List Host) (place : ℕ) : Type 0 where
   pub behind : place ≡ length hosts
   pub unlisted : ¬ All (λ (grant : Grant). IsListed hosts grant.host) grants
 
--- the host at this place keeps hosts in order of their names from being those of the grants
+-- Because of the host at this place, the hosts in order of name are not those of the grants.
 abbrev pub IsWrongHost : List Grant → List Host → ℕ → Type 0
 IsWrongHost grants hosts place = IsNotAbove by_name hosts place ⊎ (IsUngranted grants hosts place ⊎ LacksHost grants hosts place)

@@ -5,11 +5,11 @@ use Rattle.sqlite.specs.Order.{Row}
 use Rattle.sqlite.specs.Tree.{Trees}
 use Rattle.wu_schema.specs.Tables.{IsClassedVersion, ProjectTrees}
 use Rattle.wu_loader.specs.Shown.{keyed, unkeyed}
-use Rattle.wu_loader.specs.declared.finding.Table.{Table}
-use Rattle.wu_loader.specs.declared.finding.Table.TheVariants as table
+use Rattle.wu_loader.specs.declared.finding.LoadedTable.{LoadedTable}
+use Rattle.wu_loader.specs.declared.finding.LoadedTable.TheVariants as table
 
--- all rows of a table: in order of the key where that is the rowid, else in any order
-abbrev pub question : Table → List ℕ
+-- The question for all rows of a table: in order of the key if that is the rowid, else in any order.
+abbrev pub question : LoadedTable → List ℕ
 question table.Project = codes "SELECT one, version, next_number FROM project ORDER BY one"
 question table.Workunit =
     codes "SELECT number, name, min_quorum, target_nresults, max_error_results, max_total_results, max_success_results, delay_bound, credit, input, error_mask, canonical, assimilate, file_delete, done_at FROM workunit ORDER BY number"
@@ -22,14 +22,14 @@ question table.Import = codes "SELECT kind, name, template, content, first_numbe
 question table.HostClass = codes "SELECT host, class FROM host_class"
 question table.WorkunitClass = codes "SELECT workunit, class FROM workunit_class ORDER BY workunit"
 
--- a version has the table
-abbrev pub IsTableIn : ℕ → Table → Type 0
+-- The version has the table.
+abbrev pub IsTableIn : ℕ → LoadedTable → Type 0
 IsTableIn version table.HostClass = IsClassedVersion version
 IsTableIn version table.WorkunitClass = IsClassedVersion version
 IsTableIn version _ = ⊤
 
--- these are the rows that are shown
-abbrev pub ShowsTable : Table → Trees → ProjectTrees → List Row → Type 0
+-- These rows are shown of the table.
+abbrev pub ShowsTable : LoadedTable → Trees → ProjectTrees → List Row → Type 0
 ShowsTable table.Project db trees rows = rows ≡ map (keyed 3) (db trees.project)
 ShowsTable table.Workunit db trees rows = rows ≡ map (keyed 15) (db trees.workunit)
 ShowsTable table.Result db trees rows = IsPermutation (map (unkeyed 11) (db trees.result)) rows

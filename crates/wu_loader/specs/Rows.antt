@@ -1,4 +1,4 @@
--- The rows of the tables as questions show them, and the values that they may stand for.
+-- The rows of the tables as questions show them, and the values that they may represent.
 use Rattle.std.specs.Prelude.{ℕ, ◌<◌, ◌≤◌, ◌^◌, [], ◌∷◌}
 use Rattle.sqlite.specs.Order.{Row}
 use Rattle.wu_core.specs.Storable.{AreVerdicts, IsClass, IsName, IsNextNumber, IsStoredInstance}
@@ -24,14 +24,14 @@ placed_row p = instance_cells p.workunit p.n p.instance
 abbrev pub host_row : Host → Row
 host_row h = host_cells h.name h.total h.grants
 
--- the number of a workunit and its class
+-- The row of a workunit's class: its number, and the class.
 abbrev pub classed_row : Classed → Row
 classed_row c = number c.workunit ∷ number c.class ∷ []
 
 abbrev pub classed_of : Workunit → Classed
 classed_of w = record { workunit = w.number; class = w.class }
 
--- by the place in the list, from 1
+-- The row of a grant, by its place in the list, from 1.
 abbrev pub grant_row : ℕ → Grant → Row
 grant_row place g = number place ∷ grant_cells g
 
@@ -50,7 +50,7 @@ IsStoredPlaced p = IsStoredInstance p.instance
 abbrev pub IsStoredHost : Host → Type 0
 IsStoredHost h = IsName h.name
 
--- the number of an instance fits into 32 bits
+-- The grant has values that a row may have; the number of its instance fits into 32 bits.
 pub record IsStoredGrant (g : Grant) : Type 0 where
   pub host : IsName g.host
   pub n : g.n < 2 ^ 32

@@ -1,4 +1,4 @@
--- What a question about a whole table shows of its rows, and which rows of a tree it shows as they are.
+-- What a question about a whole table shows of its rows, and which rows it shows as they are.
 use Rattle.std.specs.Prelude.{◌≡◌, ℕ, ◌+◌, ◌-◌, List, [], ◌∷◌, map, length, MatchOption}
 use Rattle.std.specs.List.{AllByRecursion, range_with_len}
 use Rattle.std.specs.List.Sorted.{IsPermutation}
@@ -12,24 +12,24 @@ use Rattle.wu_loader.specs.declared.tables.ClassRows.{ClassRows}
 use Rattle.wu_loader.specs.declared.tables.PlainRows.{PlainRows}
 use Rattle.wu_loader.specs.declared.tables.TableRows.{TableRows}
 
--- a row of a table with so many columns whose key is the rowid: its key, and the columns behind the key's own
+-- The row of a table with so many columns whose key is the rowid: its key, and the columns after the key's own.
 abbrev pub keyed : ℕ → Row → Row
 keyed count row = column row 0 ∷ map (column row) (range_with_len 2 (count - 1))
 
--- a row of one whose rowids the store chooses: its columns, behind the rowid
+-- The row of a table whose rowids the store chooses: its columns, after the rowid.
 abbrev pub unkeyed : ℕ → Row → Row
 unkeyed count row = map (column row) (range_with_len 1 count)
 
--- a row as a table whose key is the rowid keeps it: the key first, and nothing in the key's own column
+-- The row as a table keeps it whose key is the rowid: the key first, and NULL in the key's own column.
 abbrev pub behind_key : Row → Row
 behind_key [] = []
 behind_key (key ∷ cells) = key ∷ Null ∷ cells
 
--- the rows stand in order of their rowids, as every store keeps those of a table
+-- The rows are in order of their rowids, as every store keeps those of a table.
 abbrev pub IsArranged : List Row → Type 0
 IsArranged rows = IsShaped shape.Table rows
 
--- so do those of the tables of a version
+-- The rows of each table of this version are in order of their rowids.
 pub record AreArranged (version : ℕ) (db : Trees) (trees : ProjectTrees) : Type 0 where
   pub project : IsArranged (db trees.project)
   pub workunit : IsArranged (db trees.workunit)
@@ -41,13 +41,12 @@ pub record AreArranged (version : ℕ) (db : Trees) (trees : ProjectTrees) : Typ
   pub host_class : IsClassedVersion version → IsArranged (db trees.host_class)
   pub workunit_class : IsClassedVersion version → IsArranged (db trees.workunit_class)
 
--- each row has a cell for its rowid and one for each of so many columns. A question shows a last cell that a row lacks
--- as one with nothing in it, so of a column that may be empty it does not tell
+-- Each row has a cell for its rowid and one for each of so many columns. A question shows a missing last cell as NULL,
+-- so it cannot report that one is missing.
 abbrev pub AreWhole : ℕ → List Row → Type 0
 AreWhole count rows = AllByRecursion (λ row. length row ≡ count + 1) rows
 
--- the rows that the tables of every version show: those of a table whose key is the rowid in order of the key, others in
--- any order
+-- The rows that are shown of the tables of every version: in order of the key if that is the rowid, else in any order.
 pub record ShowsPlain (db : Trees) (trees : ProjectTrees) (rows : PlainRows) : Type 0 where
   pub project : rows.project.items ≡ map (keyed 3) (db trees.project)
   pub workunits : rows.workunits.items ≡ map (keyed 15) (db trees.workunit)
@@ -57,12 +56,12 @@ pub record ShowsPlain (db : Trees) (trees : ProjectTrees) (rows : PlainRows) : T
   pub archived : rows.archived.items ≡ map (keyed 7) (db trees.archived)
   pub imports : IsPermutation (map (unkeyed 6) (db trees.import)) rows.imports.items
 
--- those that the tables of classes show
+-- The rows that are shown of the tables of classes.
 pub record ShowsClasses (db : Trees) (trees : ProjectTrees) (rows : ClassRows) : Type 0 where
   pub hosts : IsPermutation (map (unkeyed 2) (db trees.host_class)) rows.hosts.items
   pub workunits : rows.workunits.items ≡ map (keyed 2) (db trees.workunit_class)
 
--- those that the tables of a version show: there are none of classes before their version
+-- The rows that are shown of the tables of this version; before version 3 there are no tables of classes.
 pub record Shows (version : ℕ) (db : Trees) (trees : ProjectTrees) (rows : TableRows) : Type 0 where
   pub plain : ShowsPlain db trees rows.plain
   pub classes : MatchOption rows.classes (¬ IsClassedVersion version) (λ classes. IsClassedVersion version × ShowsClasses db trees classes)

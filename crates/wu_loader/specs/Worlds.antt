@@ -1,4 +1,4 @@
--- When the rows that the tables show are those of a world, and which worlds have values that rows may stand for.
+-- When the shown rows are those of a world, and which worlds have values that rows may have.
 use Rattle.std.specs.Prelude.{◌≡◌, ◌<◌, ℕ, List, [], ◌∷◌, map, All, MatchOption, Option}
 use Rattle.std.specs.List.{flat_map}
 use Rattle.std.specs.List.Sorted.{IsPermutation}
@@ -24,11 +24,11 @@ use Rattle.wu_loader.specs.Classing.{unclassed}
 abbrev pub project_of : World → ProjectRow
 project_of world = record { version = world.version; next_number = world.next_number }
 
--- the workunits are in order of their numbers
+-- The workunits are in order of their numbers.
 abbrev pub IsOrdered : List Workunit → Type 0
 IsOrdered workunits = IsAscending (λ (one other : Workunit). one.number < other.number) workunits
 
--- the rows of the tables that every version has are those of what the world holds
+-- The rows of the tables that every version has are what the world holds.
 pub record ArePlainRowsOf (rows : PlainRows) (world : World) : Type 0 where
   pub project : rows.project.items ≡ project_row (project_of world) ∷ []
   pub workunits : rows.workunits.items ≡ map workunit_row world.workunits
@@ -39,23 +39,23 @@ pub record ArePlainRowsOf (rows : PlainRows) (world : World) : Type 0 where
   pub imports : IsPermutation (map import_cells world.imports) rows.imports.items
   pub imports_kept : All MayBeKept world.imports
 
--- so are those of the tables of classes
+-- The rows of the tables of classes are what the world holds.
 pub record AreClassRowsOf (rows : ClassRows) (world : World) : Type 0 where
   pub hosts : IsPermutation (map class_cells world.classes) rows.hosts.items
   pub workunits : rows.workunits.items ≡ map classed_row (map classed_of world.workunits)
 
--- without tables of classes it has none
+-- The rows of the tables of classes are what the world holds; without these tables it has no classes.
 abbrev pub AreAnyClassRowsOf : Option ClassRows → World → Type 0
 AreAnyClassRowsOf rows world = MatchOption rows (IsClassless world) (λ classes. AreClassRowsOf classes world)
 
--- the rows are those of what the world holds, which is of this version
+-- The rows are what the world holds, and it is of this version.
 pub record AreRowsOf (told : ℕ) (rows : TableRows) (world : World) : Type 0 where
   pub plain : ArePlainRowsOf rows.plain world
   pub classes : AreAnyClassRowsOf rows.classes world
   pub in_order : AreInOrder world.classes
   pub version : world.version ≡ told
 
--- each value of the world is such as rows are read as
+-- Each value of the world is in the range that rows are read with.
 pub record IsReadable (world : World) : Type 0 where
   pub project : IsStoredProject (project_of world)
   pub workunits : AreStorable world
@@ -64,12 +64,12 @@ pub record IsReadable (world : World) : Type 0 where
   pub imports : All (λ import. IsName import.name × AreVerdicts import.kind import.verdicts) world.imports
   pub classes : All IsStoredHostClass world.classes
 
--- the rows of workunits and of instances are those of these workunits
+-- The rows of workunits and of instances are those of these workunits.
 pub record AreRowsOfWorks (rows instances : List Row) (workunits : List Workunit) : Type 0 where
   pub workunits_are : rows ≡ map workunit_row workunits
   pub instances_are : IsPermutation (flat_map instances_of workunits) instances
 
--- what was read of the tables that every version has, as a world without classes of hosts
+-- The world that was read of the tables of every version, without classes of hosts.
 abbrev pub plain_world : Plain → World
 plain_world plain = record {
   workunits = plain.workunits.items;
@@ -81,7 +81,7 @@ plain_world plain = record {
   version = plain.project.version;
 }
 
--- these are the workunits but for their classes, which the rows give, as they do those of the hosts
+-- These are the workunits with their classes, and the hosts with theirs, as the rows give them.
 pub record HasClassesOf (workunits : List Workunit) (rows : Option ClassRows) (found : WithClasses) : Type 0 where
   pub same : map unclassed found.workunits.items ≡ map unclassed workunits
   pub classes : (world : World) → world.workunits ≡ found.workunits.items → world.classes ≡ found.hosts.items → AreAnyClassRowsOf rows world

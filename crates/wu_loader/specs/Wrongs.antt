@@ -1,4 +1,4 @@
--- Which row of a table is wrong: it is missing, or none of a project.
+-- Which row of a table is wrong: it is missing, or is not a row of a project.
 use Rattle.std.specs.Prelude.{◌≡◌, ◌≢◌, ◌⊎◌, ℕ, ◌-◌, ◌≤◌, List, [], ◌∷◌, length, map, MatchOption, Option, slice_get, take}
 use Rattle.sqlite.specs.Order.{Row, column}
 use Rattle.sqlite.specs.declared.types.Value.{Value}
@@ -13,9 +13,9 @@ use Rattle.wu_loader.specs.Granting.{by_name, IsWrongHost}
 use Rattle.wu_loader.specs.Rows.{archived_row, classed_row, grant_row, host_row, placed_row, project_row, IsStoredClass, IsStoredGrant, IsStoredHost, IsStoredHostClass, IsStoredImport, IsStoredPlaced, IsStoredProject}
 use Rattle.wu_loader.specs.Whole.{rows_of, AreSorted, DiffersAt, IsIn, IsNoRow, IsNotAbove}
 use Rattle.wu_loader.specs.Worlds.{IsOrdered}
-use Rattle.wu_loader.specs.declared.finding.Table.{Table}
-use Rattle.wu_loader.specs.declared.finding.Table.TheVariants as table
-use Rattle.wu_loader.specs.declared.finding.Wrong as told
+use Rattle.wu_loader.specs.declared.finding.LoadedTable.{LoadedTable}
+use Rattle.wu_loader.specs.declared.finding.LoadedTable.TheVariants as table
+use Rattle.wu_loader.specs.declared.finding.WrongRow as told
 use Rattle.wu_loader.specs.declared.rows.Host.{Host}
 use Rattle.wu_loader.specs.declared.rows.Placed.{Placed}
 use Rattle.wu_loader.specs.declared.rows.ProjectRow.{ProjectRow}
@@ -25,14 +25,15 @@ use Rattle.wu_loader.specs.declared.tables.TableRows.{TableRows}
 
 -- ---- the project
 
--- at this place there is not what a project of this version has there, which is one row
+-- At this place the row is not what a project of this version has there; a project has one row.
 pub record IsWrongProject (version : ℕ) (rows : List Row) (place : ℕ) : Type 0 where
   pub counted : 1 ≤ place
   pub other : (project : ProjectRow) → IsStoredProject project → project.version ≡ version → slice_get rows (place - 1) ≢ slice_get (project_row project ∷ []) (place - 1)
 
 -- ---- results
 
--- of instances in order, those before this place are all those of the workunits, and with the one at it they are not
+-- The instances before this place are all those of the workunits, up to there, and with the instance at this place they
+-- are not.
 pub record IsUndealtAt (workunits : List Workunit) (placed : List Placed) (place : ℕ) : Type 0 where
   pub counted : 1 ≤ place
   pub there : place ≤ length placed
@@ -40,7 +41,7 @@ pub record IsUndealtAt (workunits : List Workunit) (placed : List Placed) (place
   pub dealt : AreDealt workunits (take (place - 1) placed) before
   pub none : (dealt : List Workunit) → IsOrdered dealt → ¬ AreDealt workunits (take place placed) dealt
 
--- counted in order of workunit and number, the row is the first that is none of a workunit's instances
+-- In order of workunit and number, this row is the first that is not among a workunit's instances.
 pub record IsUndealtRow (works rows : List Row) (place : ℕ) : Type 0 where
   pub workunits : List Workunit
   pub rows_are : works ≡ map workunit_row workunits
@@ -51,13 +52,14 @@ pub record IsUndealtRow (works rows : List Row) (place : ℕ) : Type 0 where
 abbrev pub IsWrongResult : (works rows : List Row) → ℕ → Type 0
 IsWrongResult works rows place = IsNoRow (λ _. placed_row) IsStoredPlaced rows place ⊎ IsUndealtRow works rows place
 
--- one of the two tables is told, and its row is wrong
-abbrev pub IsWrongWork : (works rows : List Row) → told.Wrong → Type 0
+-- The wrong row that is reported is one of workunits or one of results.
+abbrev pub IsWrongWork : (works rows : List Row) → told.WrongRow → Type 0
 IsWrongWork works rows wrong = IsIn table.Workunit (IsNoRow (λ _. workunit_row) IsStoredWorkunit works) wrong ⊎ IsIn table.Result (IsWrongResult works rows) wrong
 
 -- ---- hosts
 
--- counted in order of names, the row keeps these from being the hosts of the grants, or behind the last one lacks
+-- In order of name, these are not the hosts of the grants: for the row at this place, or because one is missing after
+-- the last.
 pub record IsOtherHost (grants : List Grant) (rows : List Row) (place : ℕ) : Type 0 where
   pub hosts : List Host
   pub read : AreSorted host_row by_name rows hosts
@@ -67,7 +69,7 @@ pub record IsOtherHost (grants : List Grant) (rows : List Row) (place : ℕ) : T
 abbrev pub IsWrongHostRow : List Grant → List Row → ℕ → Type 0
 IsWrongHostRow grants rows place = IsNoRow (λ _. host_row) IsStoredHost rows place ⊎ IsOtherHost grants rows place
 
--- beside the rows of the grants
+-- The row of a host is wrong, given the rows of the grants.
 pub record IsWrongHostBeside (given rows : List Row) (place : ℕ) : Type 0 where
   pub grants : List Grant
   pub rows_are : given ≡ rows_of grant_row grants
@@ -75,7 +77,7 @@ pub record IsWrongHostBeside (given rows : List Row) (place : ℕ) : Type 0 wher
 
 -- ---- classes
 
--- counted in order of hosts, the row's host is not above that of the row before it
+-- In order of host, the host of this row is not above that of the row before it.
 pub record StandsTwice (rows : List Row) (place : ℕ) : Type 0 where
   pub classes : List HostClass
   pub read : AreSorted class_cells by_host rows classes
@@ -85,18 +87,18 @@ pub record StandsTwice (rows : List Row) (place : ℕ) : Type 0 where
 abbrev pub IsWrongHostClass : List Row → ℕ → Type 0
 IsWrongHostClass rows place = IsNoRow (λ _. class_cells) IsStoredHostClass rows place ⊎ StandsTwice rows place
 
--- the keys of rows, which stand in their first column
+-- The keys of rows, which are in their first column.
 abbrev pub keys : List Row → List Value
 keys rows = map (λ (row : Row). column row 0) rows
 
--- the row is that of no class, or the first whose key is not that of the workunit's row at its place
+-- The row is that of no class, or is the first whose key differs from that of the workunit's row at its place.
 abbrev pub IsWrongWorkunitClass : (works rows : List Row) → ℕ → Type 0
 IsWrongWorkunitClass works rows place = IsNoRow (λ _. classed_row) IsStoredClass rows place ⊎ DiffersAt (keys works) (keys rows) place
 
 -- ---- all tables
 
--- the row at this place of a table that every version has
-abbrev pub IsWrongPlainAt : ℕ → PlainRows → Table → ℕ → Type 0
+-- The row at this place of a table that every version has is wrong.
+abbrev pub IsWrongPlainAt : ℕ → PlainRows → LoadedTable → ℕ → Type 0
 IsWrongPlainAt version rows table.Project place = IsWrongProject version rows.project.items place
 IsWrongPlainAt version rows table.Workunit place = IsNoRow (λ _. workunit_row) IsStoredWorkunit rows.workunits.items place
 IsWrongPlainAt version rows table.Result place = IsWrongResult rows.workunits.items rows.instances.items place
@@ -106,18 +108,18 @@ IsWrongPlainAt version rows table.Archived place = IsNoRow archived_row IsStored
 IsWrongPlainAt version rows table.Import place = IsNoRow (λ _. import_cells) IsStoredImport rows.imports.items place
 IsWrongPlainAt version rows _ place = ⊥
 
-abbrev pub IsWrongPlain : ℕ → PlainRows → told.Wrong → Type 0
+abbrev pub IsWrongPlain : ℕ → PlainRows → told.WrongRow → Type 0
 IsWrongPlain version rows wrong = IsWrongPlainAt version rows wrong.table wrong.place
 
--- that of a table of classes, beside the rows of the workunits
-abbrev pub IsWrongClassAt : List Row → ClassRows → Table → ℕ → Type 0
+-- The row at this place of a table of classes is wrong, given the rows of the workunits.
+abbrev pub IsWrongClassAt : List Row → ClassRows → LoadedTable → ℕ → Type 0
 IsWrongClassAt works rows table.HostClass place = IsWrongHostClass rows.hosts.items place
 IsWrongClassAt works rows table.WorkunitClass place = IsWrongWorkunitClass works rows.workunits.items place
 IsWrongClassAt works rows _ place = ⊥
 
-abbrev pub IsWrongClass : List Row → Option ClassRows → told.Wrong → Type 0
+abbrev pub IsWrongClass : List Row → Option ClassRows → told.WrongRow → Type 0
 IsWrongClass works rows wrong = MatchOption rows ⊥ (λ classes. IsWrongClassAt works classes wrong.table wrong.place)
 
--- the row that is told, among those of a project of this version
-abbrev pub IsWrongRow : ℕ → TableRows → told.Wrong → Type 0
+-- The reported row is wrong, among those of a project of this version.
+abbrev pub IsWrongRow : ℕ → TableRows → told.WrongRow → Type 0
 IsWrongRow version rows wrong = IsWrongPlain version rows.plain wrong ⊎ IsWrongClass rows.plain.workunits.items rows.classes wrong

@@ -11,7 +11,7 @@ ghost use Rattle.wu_loader.specs.Rows.{IsStoredHostClass};
 ghost use Rattle.wu_loader.specs.Whole.{DiffersAt, IsIn, IsNotAbove, UnlessMemory};
 ghost use Rattle.wu_loader.specs.Wrongs.{IsWrongHostClass};
 
-use crate::finding::{NoWorld, Table, Wrong};
+use crate::finding::{LoadedTable, NoWorld, WrongRow};
 use crate::rows::Classed;
 use crate::whole::all_from;
 use sqlite::Row;
@@ -49,7 +49,7 @@ pub(crate) fn with_classes(
         (λ _. AreOfOthers workunits.items classes.now)) }
     // The reported row is the first, by number, of which the workunits' numbers and those of the
     // rows of classes differ.
-    ensures told { IfErr result (λ reason. UnlessMemory reason (IsIn Table.WorkunitClass
+    ensures told { IfErr result (λ reason. UnlessMemory reason (IsIn LoadedTable.WorkunitClass
         (DiffersAt (numbers workunits.items) (numbers_classed classes.now)))) }
 {
     let mut classed = Vec::new(alloc);
@@ -58,8 +58,8 @@ pub(crate) fn with_classes(
         match classes.get(n) {
             Some(one) if one.workunit == workunit.number => workunit.class = one.class,
             _ => {
-                return Err(NoWorld::Wrong(Wrong {
-                    table: Table::WorkunitClass,
+                return Err(NoWorld::Wrong(WrongRow {
+                    table: LoadedTable::WorkunitClass,
                     place: n as u64 + 1,
                 }));
             }
@@ -68,8 +68,8 @@ pub(crate) fn with_classes(
     }
     let n = classed.len();
     if n < classes.len() {
-        return Err(NoWorld::Wrong(Wrong {
-            table: Table::WorkunitClass,
+        return Err(NoWorld::Wrong(WrongRow {
+            table: LoadedTable::WorkunitClass,
             place: n as u64 + 1,
         }));
     }
@@ -118,16 +118,16 @@ pub(crate) fn host_classes(alloc: Global, rows: &[Row]) -> Result<Vec<HostClass>
         → ¬ IsPermutation (map class_cells classes) rows.now)) }
     // The reported row of `host_class` is that of no host and class, or, in order of names, that of
     // a host that occurred before.
-    ensures told { IfErr result (λ reason. UnlessMemory reason (IsIn Table.HostClass
+    ensures told { IfErr result (λ reason. UnlessMemory reason (IsIn LoadedTable.HostClass
         (IsWrongHostClass rows.now))) }
 {
-    let mut classes = all_from::<HostClass>(alloc, Table::HostClass, rows)?;
+    let mut classes = all_from::<HostClass>(alloc, LoadedTable::HostClass, rows)?;
     sort(&mut classes)?;
     match first_out_of_order(&classes) {
         Some(wrong) => {
             let place = wrong as u64 + 1;
-            Err(NoWorld::Wrong(Wrong {
-                table: Table::HostClass,
+            Err(NoWorld::Wrong(WrongRow {
+                table: LoadedTable::HostClass,
                 place,
             }))
         }

@@ -9,7 +9,7 @@ ghost use Rattle.wu_loader.specs.Whole.{IsIn, UnlessMemory};
 ghost use Rattle.wu_loader.specs.Worlds.{IsOrdered};
 ghost use Rattle.wu_loader.specs.Wrongs.{IsUndealtAt};
 
-use crate::finding::{NoWorld, Table, Wrong};
+use crate::finding::{LoadedTable, NoWorld, WrongRow};
 use crate::rows::Placed;
 use std::alloc::{AllocError, Global};
 use std::collections::VecDeque;
@@ -89,7 +89,7 @@ pub(crate) fn deal(
     ensures none { IfErr result (λ reason. UnlessMemory reason (λ _. (dealt : List Workunit)
         → IsOrdered dealt → ¬ AreDealt workunits.items placed.items dealt)) }
     // The results before the reported one are instances of the workunits; with it they are not.
-    ensures told { IfErr result (λ reason. UnlessMemory reason (IsIn Table.Result
+    ensures told { IfErr result (λ reason. UnlessMemory reason (IsIn LoadedTable.Result
         (IsUndealtAt workunits.items placed.items))) }
 {
     let total = placed.len();
@@ -104,8 +104,8 @@ pub(crate) fn deal(
         Ok(dealt)
     } else {
         let place = (total - left.len()) as u64 + 1;
-        Err(NoWorld::Wrong(Wrong {
-            table: Table::Result,
+        Err(NoWorld::Wrong(WrongRow {
+            table: LoadedTable::Result,
             place,
         }))
     }

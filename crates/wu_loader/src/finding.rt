@@ -8,7 +8,7 @@ use wu_audit::Loaded;
 
 /// A table of a project.
 #[derive(Clone, Copy)]
-pub enum Table {
+pub enum LoadedTable {
     Project,
     Workunit,
     Result,
@@ -26,8 +26,8 @@ pub enum Table {
 /// A table is counted in order of its key. Results are counted by workunit and number, hosts and their classes by the
 /// hosts' names. Imports are counted in any order, and so are these three tables if one of their rows cannot be read.
 #[derive(Clone, Copy)]
-pub struct Wrong {
-    pub table: Table,
+pub struct WrongRow {
+    pub table: LoadedTable,
     pub place: u64,
 }
 
@@ -35,14 +35,14 @@ pub struct Wrong {
 #[derive(Drop)]
 pub enum Found {
     World(Loaded),
-    Wrong(Wrong),
+    Wrong(WrongRow),
 }
 
 /// Why no world was made of rows.
 #[derive(Clone, Copy)]
 pub enum NoWorld {
     Memory,
-    Wrong(Wrong),
+    Wrong(WrongRow),
 }
 
 impl From<AllocError> for NoWorld {

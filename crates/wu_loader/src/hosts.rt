@@ -10,7 +10,7 @@ ghost use Rattle.wu_loader.specs.Rows.{IsStoredGrant};
 ghost use Rattle.wu_loader.specs.Whole.{IsIn, IsNotAbove, UnlessMemory};
 ghost use Rattle.wu_loader.specs.Wrongs.{IsWrongHostRow};
 
-use crate::finding::{NoWorld, Table, Wrong};
+use crate::finding::{LoadedTable, NoWorld, WrongRow};
 use crate::rows::Host;
 use crate::whole::all_from;
 use sqlite::Row;
@@ -184,17 +184,17 @@ pub(crate) fn know_hosts(alloc: Global, rows: &[Row], grants: &[Grant]) -> Resul
         → ¬ IsPermutation (map (host_of grants.now) (hosts_of grants.now)) rows.now)) }
     // The reported row of `host` is that of no host, out of order, not as granted, or missing after
     // the last one.
-    ensures told { IfErr result (λ reason. UnlessMemory reason (IsIn Table.Host
+    ensures told { IfErr result (λ reason. UnlessMemory reason (IsIn LoadedTable.Host
         (IsWrongHostRow grants.now rows.now))) }
 {
-    let mut hosts = all_from::<Host>(alloc, Table::Host, rows)?;
+    let mut hosts = all_from::<Host>(alloc, LoadedTable::Host, rows)?;
     sort(&mut hosts)?;
     let sorted = by_hosts(alloc, grants)?;
     match first_wrong(&hosts, &sorted) {
         Some(wrong) => {
             let place = wrong as u64 + 1;
-            Err(NoWorld::Wrong(Wrong {
-                table: Table::Host,
+            Err(NoWorld::Wrong(WrongRow {
+                table: LoadedTable::Host,
                 place,
             }))
         }

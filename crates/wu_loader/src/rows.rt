@@ -236,7 +236,7 @@ impl FromRow for HostClass {
 
 /// The states of an instance.
 #[derive(Clone, Copy)]
-struct States {
+struct PlacedStates {
     server_state: ServerState,
     outcome: Outcome,
     validate_state: ValidateState,
@@ -245,17 +245,17 @@ struct States {
 
 /// When an instance was sent, is due and was reported.
 #[derive(Clone, Copy)]
-struct Moments {
+struct PlacedMoments {
     sent_at: Option<Moment>,
     deadline: Option<Deadline>,
     received_at: Option<Moment>,
 }
 
 /// Reads the states in the four columns from the third on.
-fn states_from(row: &Row) -> Result<States, Fault>
+fn states_from(row: &Row) -> Result<PlacedStates, Fault>
     ensures { Restores state_cells (λ _. ⊤) (columns row.now 2 4) result }
 {
-    Ok(States {
+    Ok(PlacedStates {
         server_state: server_state_at(row, 2)?,
         outcome: outcome_at(row, 3)?,
         validate_state: validate_state_at(row, 4)?,
@@ -264,11 +264,11 @@ fn states_from(row: &Row) -> Result<States, Fault>
 }
 
 /// Reads the moments in the three columns from the eighth on.
-fn moments_from(row: &Row) -> Result<Moments, Fault>
+fn moments_from(row: &Row) -> Result<PlacedMoments, Fault>
     requires { 11 ≤ length row.now }
     ensures { Restores moment_cells HasMoments (columns row.now 7 3) result }
 {
-    Ok(Moments {
+    Ok(PlacedMoments {
         sent_at: moment_at(row, 7)?,
         deadline: deadline_at(row, 8)?,
         received_at: moment_at(row, 9)?,

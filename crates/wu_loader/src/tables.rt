@@ -6,7 +6,7 @@ ghost use Rattle.wu_loader.specs.Asked.{Looks};
 ghost use Rattle.wu_loader.specs.Questions.{IsTableIn, question, ShowsTable};
 ghost use Rattle.wu_loader.specs.Shown.{Shows, ShowsClasses, ShowsPlain};
 
-use crate::finding::Table;
+use crate::finding::LoadedTable;
 use sqlite::{Alter, Connection, Row};
 use std::alloc::Global;
 use wu_core::Fault;
@@ -57,28 +57,30 @@ pub struct TableRows {
 const CLASS_VERSION: u64 = 3;
 
 /// Returns the question for all rows of a table: in order of the key if that is the rowid, else in any order.
-fn question(table: Table) -> &'static str
+fn question(table: LoadedTable) -> &'static str
     ensures { result.now ≡ question table }
 {
     match table {
-        Table::Project => "SELECT one, version, next_number FROM project ORDER BY one",
-        Table::Workunit =>
+        LoadedTable::Project => "SELECT one, version, next_number FROM project ORDER BY one",
+        LoadedTable::Workunit =>
             "SELECT number, name, min_quorum, target_nresults, max_error_results, max_total_results, max_success_results, delay_bound, credit, input, error_mask, canonical, assimilate, file_delete, done_at FROM workunit ORDER BY number",
-        Table::Result =>
+        LoadedTable::Result =>
             "SELECT workunit, n, server_state, outcome, validate_state, file_delete, host, sent_at, deadline, received_at, output FROM result",
-        Table::CreditGrant =>
+        LoadedTable::CreditGrant =>
             "SELECT seq, workunit, n, host, credit FROM credit_grant ORDER BY seq",
-        Table::Host => "SELECT name, total, grants FROM host",
-        Table::Archived =>
+        LoadedTable::Host => "SELECT name, total, grants FROM host",
+        LoadedTable::Archived =>
             "SELECT seq, number, name, error_mask, canonical, output, done_at FROM archived ORDER BY seq",
-        Table::Import => "SELECT kind, name, template, content, first_number, verdicts FROM import",
-        Table::HostClass => "SELECT host, class FROM host_class",
-        Table::WorkunitClass => "SELECT workunit, class FROM workunit_class ORDER BY workunit",
+        LoadedTable::Import =>
+            "SELECT kind, name, template, content, first_number, verdicts FROM import",
+        LoadedTable::HostClass => "SELECT host, class FROM host_class",
+        LoadedTable::WorkunitClass =>
+            "SELECT workunit, class FROM workunit_class ORDER BY workunit",
     }
 }
 
 /// Returns all rows of a table.
-fn rows_of<S: Alter>(conn: &mut Connection<S>, table: Table) -> Result<Vec<Row>, Fault>
+fn rows_of<S: Alter>(conn: &mut Connection<S>, table: LoadedTable) -> Result<Vec<Row>, Fault>
     // Only reads; over tables of a version that has this table, these are all its rows, as the
     // question shows them.
     ensures { (version : ℕ) → IsTableIn version table → Looks version S.Store conn.old conn.new
@@ -95,13 +97,13 @@ fn plain_rows<S: Alter>(conn: &mut Connection<S>) -> Result<PlainRows, Fault>
         (λ db trees rows. ShowsPlain db.trees trees rows) }
 {
     Ok(PlainRows {
-        project: rows_of(conn, Table::Project)?,
-        workunits: rows_of(conn, Table::Workunit)?,
-        instances: rows_of(conn, Table::Result)?,
-        grants: rows_of(conn, Table::CreditGrant)?,
-        hosts: rows_of(conn, Table::Host)?,
-        archived: rows_of(conn, Table::Archived)?,
-        imports: rows_of(conn, Table::Import)?,
+        project: rows_of(conn, LoadedTable::Project)?,
+        workunits: rows_of(conn, LoadedTable::Workunit)?,
+        instances: rows_of(conn, LoadedTable::Result)?,
+        grants: rows_of(conn, LoadedTable::CreditGrant)?,
+        hosts: rows_of(conn, LoadedTable::Host)?,
+        archived: rows_of(conn, LoadedTable::Archived)?,
+        imports: rows_of(conn, LoadedTable::Import)?,
     })
 }
 
@@ -113,8 +115,8 @@ fn class_rows<S: Alter>(conn: &mut Connection<S>) -> Result<ClassRows, Fault>
         result (λ db trees rows. ShowsClasses db.trees trees rows) }
 {
     Ok(ClassRows {
-        hosts: rows_of(conn, Table::HostClass)?,
-        workunits: rows_of(conn, Table::WorkunitClass)?,
+        hosts: rows_of(conn, LoadedTable::HostClass)?,
+        workunits: rows_of(conn, LoadedTable::WorkunitClass)?,
     })
 }
 

@@ -3,7 +3,7 @@
 ghost use Rattle.std.specs.Prelude.{◌≡◌, All, IfErr, IfOk};
 ghost use Rattle.wu_loader.specs.Whole.{rows_of, IsIn, IsNoRow, UnlessMemory};
 
-use crate::finding::{NoWorld, Table, Wrong};
+use crate::finding::{LoadedTable, NoWorld, WrongRow};
 use crate::rows::FromRow;
 use sqlite::Row;
 use std::alloc::Global;
@@ -12,7 +12,7 @@ use wu_core::Fault;
 /// Returns the values that the rows of a table represent, or the first row that represents none.
 pub(crate) fn all_from<T: FromRow + Drop>(
     alloc: Global,
-    table: Table,
+    table: LoadedTable,
     rows: &[Row],
 ) -> Result<Vec<T>, NoWorld>
     // After `Ok` the rows are those of these values, by their places from 1.
@@ -28,7 +28,7 @@ pub(crate) fn all_from<T: FromRow + Drop>(
         let place = before as u64 + 1;
         match T::from_row(alloc, place, row) {
             Ok(value) => values.push(value)?,
-            Err(Fault::NotAProject) => return Err(NoWorld::Wrong(Wrong { table, place })),
+            Err(Fault::NotAProject) => return Err(NoWorld::Wrong(WrongRow { table, place })),
             Err(_) => return Err(NoWorld::Memory),
         }
     }

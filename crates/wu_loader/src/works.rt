@@ -8,7 +8,7 @@ ghost use Rattle.wu_loader.specs.Worlds.{AreRowsOfWorks, IsOrdered};
 ghost use Rattle.wu_loader.specs.Wrongs.{IsWrongWork};
 
 use crate::dealing::{deal, queue_of, sort};
-use crate::finding::{NoWorld, Table};
+use crate::finding::{LoadedTable, NoWorld};
 use crate::rows::Placed;
 use crate::whole::all_from;
 use sqlite::Row;
@@ -32,8 +32,8 @@ pub(crate) fn works_from(
     ensures told { IfErr result (λ reason. UnlessMemory reason
         (IsWrongWork rows.now instances.now)) }
 {
-    let workunits = all_from::<Workunit>(alloc, Table::Workunit, rows)?;
-    let mut placed = all_from::<Placed>(alloc, Table::Result, instances)?;
+    let workunits = all_from::<Workunit>(alloc, LoadedTable::Workunit, rows)?;
+    let mut placed = all_from::<Placed>(alloc, LoadedTable::Result, instances)?;
     sort(&mut placed)?;
     let placed = queue_of(alloc, placed)?;
     deal(alloc, workunits, placed)

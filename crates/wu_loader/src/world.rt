@@ -11,7 +11,7 @@ ghost use Rattle.wu_loader.specs.Wrongs.{IsWrongClass, IsWrongPlain, IsWrongProj
 ghost use Rattle.wu_loader.specs.declared.rows.ProjectRow.{ProjectRow};
 
 use crate::classes::{host_classes, with_classes, without_classes};
-use crate::finding::{NoWorld, Table, Wrong};
+use crate::finding::{LoadedTable, NoWorld, WrongRow};
 use crate::hosts::know_hosts;
 use crate::rows::{Classed, ProjectRow};
 use crate::tables::{ClassRows, PlainRows, TableRows};
@@ -30,16 +30,16 @@ fn project_from(alloc: Global, rows: &[Row]) -> Result<ProjectRow, NoWorld>
     ensures none { IfErr result (λ reason. UnlessMemory reason (λ _. (project : ProjectRow)
         → IsStoredProject project → rows.now ≢ project_row project ∷ [])) }
     // The place is one at which a project has another row, or none.
-    ensures told { IfErr result (λ reason. UnlessMemory reason (IsIn Table.Project (λ place.
+    ensures told { IfErr result (λ reason. UnlessMemory reason (IsIn LoadedTable.Project (λ place.
         (version : ℕ) → IsWrongProject version rows.now place))) }
 {
-    let projects = all_from::<ProjectRow>(alloc, Table::Project, rows)?;
+    let projects = all_from::<ProjectRow>(alloc, LoadedTable::Project, rows)?;
     if projects.len() == 1 {
         return Ok(projects[0]);
     }
     let place = if projects.is_empty() { 1 } else { 2 };
-    Err(NoWorld::Wrong(Wrong {
-        table: Table::Project,
+    Err(NoWorld::Wrong(WrongRow {
+        table: LoadedTable::Project,
         place,
     }))
 }
@@ -67,10 +67,10 @@ fn plain_from(alloc: Global, rows: &PlainRows) -> Result<Plain, NoWorld>
 {
     let project = project_from(alloc, &rows.project)?;
     let workunits = works_from(alloc, &rows.workunits, &rows.instances)?;
-    let grants = all_from::<Grant>(alloc, Table::CreditGrant, &rows.grants)?;
+    let grants = all_from::<Grant>(alloc, LoadedTable::CreditGrant, &rows.grants)?;
     know_hosts(alloc, &rows.hosts, &grants)?;
-    let archived = all_from::<Archived>(alloc, Table::Archived, &rows.archived)?;
-    let imports = all_from::<Imported>(alloc, Table::Import, &rows.imports)?;
+    let archived = all_from::<Archived>(alloc, LoadedTable::Archived, &rows.archived)?;
+    let imports = all_from::<Imported>(alloc, LoadedTable::Import, &rows.imports)?;
     Ok(Plain {
         project,
         workunits,
@@ -112,7 +112,7 @@ fn classes_from(
             hosts: Vec::new(alloc),
         });
     };
-    let classes = all_from::<Classed>(alloc, Table::WorkunitClass, &rows.workunits)?;
+    let classes = all_from::<Classed>(alloc, LoadedTable::WorkunitClass, &rows.workunits)?;
     let workunits = with_classes(alloc, workunits, &classes)?;
     let hosts = host_classes(alloc, &rows.hosts)?;
     Ok(WithClasses { workunits, hosts })
@@ -138,8 +138,8 @@ pub fn world_from(alloc: Global, version: u64, rows: &TableRows) -> Result<Loade
         imports,
     } = plain_from(alloc, &rows.plain)?;
     if project.version != version {
-        return Err(NoWorld::Wrong(Wrong {
-            table: Table::Project,
+        return Err(NoWorld::Wrong(WrongRow {
+            table: LoadedTable::Project,
             place: 1,
         }));
     }

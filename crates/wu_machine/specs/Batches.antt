@@ -12,23 +12,23 @@ use Rattle.wu_core.specs.Parameters.{Parameters}
 use Rattle.wu_core.specs.World.{World}
 use Rattle.wu_feed.specs.declared.jobs.Job.{Job}
 
--- the name is one of these
+-- Whether the name is one of these.
 abbrev pub is_one_of : List (List ℕ) → List ℕ → Bool
 is_one_of names name = list_any (λ one. bytes_eq one name) names
 
--- the names that a world has taken: those of workunits that are present, and of archived ones
+-- The names that are taken in a world: those of present workunits, and of archived ones.
 abbrev pub taken_names : World → List (List ℕ)
 taken_names world = map (λ w. w.name) world.workunits ++ map (λ row. row.name) world.archived
 
 abbrev pub job_names : List Job → List (List ℕ)
 job_names jobs = map (λ job. job.name) jobs
 
--- the place and the name of the first job whose name is taken, by the world or by an earlier job
+-- The place and the name of the first job whose name is taken, by the world or by an earlier job; else `None`.
 abbrev pub first_taken : World → List Job → Option (ℕ × List ℕ)
 first_taken world jobs =
     find (λ p. is_one_of (taken_names world ++ take p.0 (job_names jobs)) p.1) (enumerate_from 0 (job_names jobs))
 
--- a workunit as a batch adds it
+-- The workunit that a batch makes of a job.
 abbrev pub new_workunit : Parameters → ℕ → Job → Workunit
 new_workunit params number job = record {
   number = number;
@@ -44,7 +44,7 @@ new_workunit params number job = record {
   instances = [];
 }
 
--- the jobs with consecutive numbers from the next one
+-- The world with a workunit for each job, with consecutive numbers from the next one.
 abbrev pub with_jobs : World → Parameters → List Job → World
 with_jobs world params jobs = record world {
   workunits = world.workunits ++ map (λ p. new_workunit params p.0 p.1) (enumerate_from world.next_number jobs);
@@ -56,15 +56,16 @@ unless_taken world params jobs (Some place) = Err (WorkunitUsed (place.0 + 2))
 unless_taken world params jobs None =
     if nat_lt (most_workunits + 1) (world.next_number + length jobs) then Err TooMany else Ok (with_jobs world params jobs)
 
--- the world with the jobs; refused at the first name that is taken, and where they would be too many ever
+-- The world with a workunit for each job; refused at the first name that is taken, or if there would be too many
+-- workunits ever.
 abbrev pub jobs_added : World → Parameters → List Job → Result World Fault
 jobs_added world params jobs = unless_taken world params jobs (first_taken world jobs)
 
--- the first number of a batch, 0 where it makes no workunit
+-- The number of the first workunit of a batch; 0 if the batch has no job.
 abbrev pub first_number : World → List Job → ℕ
 first_number world [] = 0
 first_number world (job ∷ jobs) = world.next_number
 
--- each row of a file is applied
+-- The verdicts of a file whose rows are all applied.
 abbrev pub all_applied : {Row : Type 0} → List Row → List ℕ
 all_applied rows = replicate (length rows) 0

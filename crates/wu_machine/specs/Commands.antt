@@ -1,4 +1,4 @@
--- What a command asks of the machine, and the reply that an answer stands for.
+-- What a command asks of the machine, and which reply an answer means.
 use Rattle.std.specs.Prelude.{[]}
 use Rattle.wu_core.specs.declared.import.ImportKind.{ImportKind}
 use Rattle.wu_rules.specs.declared.due.Pass.TheVariants as pass
@@ -11,18 +11,18 @@ use Rattle.wu_machine.specs.declared.command.RowsFile.{RowsFile}
 use Rattle.wu_machine.specs.Imports.{Given, batch_given}
 use Rattle.wu_machine.specs.Requests.{Request, AskBatch, AskCancel, AskClasses, AskPass, AskReported, AskSent, AskUpgrade, Reply, Cancelled, Imported, Passed, Upgraded}
 
--- what a batch is imported as, and what it asks of the machine
+-- What a batch is imported as, and what it asks of the machine.
 abbrev pub batch_of : Batch → Given
 batch_of batch = batch_given batch.name batch.template batch.file
 
 abbrev pub request_of_batch : Batch → Request
 request_of_batch batch = AskBatch batch.name batch.template batch.file
 
--- what a file of rows of this kind is imported as: no template goes with it
+-- What a file of rows of this kind is imported as; it has no template.
 abbrev pub file_of : ImportKind → RowsFile → Given
 file_of kind file = record { kind = kind; name = file.name; template = []; content = file.file }
 
--- what a command asks of the machine; a pass that needs no moment is asked at the first one
+-- What a command asks of the machine; a pass without a moment asks at the first one.
 abbrev pub request_of : Command → Request
 request_of (command.Batch batch) = request_of_batch batch
 request_of (command.Sent file) = AskSent file.name file.file
@@ -36,7 +36,7 @@ request_of (command.Purge now limit min_age) = AskPass pass.Purge now limit min_
 request_of (command.Cancel workunit) = AskCancel workunit
 request_of command.Upgrade = AskUpgrade
 
--- the reply that an answer stands for
+-- The reply that an answer means.
 abbrev pub reply_of_answer : Answer → Reply
 reply_of_answer (answer.Imported kind name first verdicts) = Imported kind name first verdicts
 reply_of_answer (answer.Passed pass handled) = Passed pass handled

@@ -1,4 +1,4 @@
--- Worked examples of the machine: worlds as they stand, and what is asked of them.
+-- Worked examples of the machine: worlds, and what is asked of them.
 use Rattle.std.specs.Prelude.{ℕ, List, [], ◌∷◌, Some, codes, map}
 use Rattle.wu_core.specs.declared.workunit.Instance.{Instance}
 use Rattle.wu_core.specs.declared.workunit.Workunit.{Workunit}
@@ -17,19 +17,19 @@ use Rattle.wu_feed.specs.declared.sends.SendRow.{SendRow}
 abbrev pub job_1 : List ℕ
 job_1 = codes "job_1"
 
--- a world of these workunits
+-- A world of these workunits.
 abbrev pub with_workunits : List Workunit → World
 with_workunits workunits = record empty_world { workunits = workunits; next_number = 10 }
 
--- the workunit of this number and name, with these instances
+-- The workunit of this number and name, with these instances.
 abbrev pub workunit_numbered : ℕ → List ℕ → List Instance → Workunit
 workunit_numbered number name instances = record (job default_parameters instances) { number = number; name = name }
 
--- sent to this host an hour after noon, half an hour later or earlier
+-- An instance that was sent to the first host an hour after noon, with this deadline.
 abbrev pub out_until : ℕ → Instance
 out_until deadline = record (out h1) { deadline = Some deadline }
 
--- three workunits whose instances are late, the third one first
+-- Three workunits with late instances; that of the third is the first to be late.
 abbrev pub three_late : World
 three_late = with_workunits
     (workunit_numbered 1 (codes "a1") (out_until 1772973000 ∷ fresh ∷ [])
@@ -40,34 +40,35 @@ three_late = with_workunits
 abbrev pub numbers_of : List Workunit → List ℕ
 numbers_of = map (λ w. w.number)
 
--- one instance is out to the first host, the other waits
+-- One instance is out to the first host, and the other is unsent.
 abbrev pub world_of_one_out : World
 world_of_one_out = with_workunits (job default_parameters (out h1 ∷ fresh ∷ []) ∷ [])
 
 abbrev pub sent_row : ℕ → List ℕ → SendRow
 sent_row n host = record { workunit = job_1; n = n; host = host; moment = 1772370000 }
 
--- a success of one byte
+-- A reported success of one byte.
 abbrev pub reported_row : List ℕ → ℕ → List ℕ → ℕ → ReportRow
 reported_row workunit n host moment = record { workunit = workunit; n = n; host = host; moment = moment; status = status.Success; output = aa }
 
--- a second instance for the same host, an instance that is out already, and one that is sent
+-- Three sends: of a second instance to the same host, of an instance that is out already, and one that is applied.
 abbrev pub three_sends : List SendRow
 three_sends = sent_row 1 h1 ∷ sent_row 0 h2 ∷ sent_row 1 h2 ∷ []
 
--- two instances wait
+-- A world with two unsent instances.
 abbrev pub world_of_two_unsent : World
 world_of_two_unsent = with_workunits (job default_parameters (fresh ∷ fresh ∷ []) ∷ [])
 
--- the first and the third host are of one class
+-- Three hosts with classes; the first and the third are of one class.
 abbrev pub three_classes : List HostClass
 three_classes = classed h1 1 ∷ classed h2 2 ∷ classed h3 1 ∷ []
 
--- an instance to the first host, the other to the second, and to the third
+-- Sends of one instance to the first host, and of the other to the second and to the third.
 abbrev pub sends_to_three : List SendRow
 sends_to_three = sent_row 0 h1 ∷ sent_row 1 h2 ∷ sent_row 1 h3 ∷ []
 
--- of no instance, of one that was not sent, of another host, from before it was sent, as it should be, and again
+-- Six reports: of no instance, of an unsent one, from another host, from before the sending, a right one, and the same
+-- again.
 abbrev pub six_reports : List ReportRow
 six_reports =
     reported_row (codes "job_9") 0 h1 1772373600
@@ -78,7 +79,7 @@ six_reports =
     ∷ reported_row job_1 0 h1 1772373600
     ∷ []
 
--- a workunit that was cancelled, archived and purged
+-- A world whose only workunit was cancelled, archived and purged.
 abbrev pub one_archived : World
 one_archived = record empty_world {
   archived = archived_row (masked cancelled_mask (job default_parameters (unneeded ∷ []))) 1772409600 ∷ [];

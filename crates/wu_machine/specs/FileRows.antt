@@ -12,14 +12,14 @@ use Rattle.wu_rules.specs.Sending.{send_verdict_in, sent_in}
 use Rattle.wu_rules.specs.Verdicts.{report_verdict_code, send_verdict_code}
 use Rattle.wu_machine.specs.Worlds.{workunit_named, with_host_class, with_named}
 
--- What a kind of rows says: the name of a row's workunit, the number of the verdict on it (0 where it is applied, else
--- why it is skipped), and what it makes of the workunit.
+-- What a kind of rows means: the name of a row's workunit, the number of the verdict on it, and what it makes of the
+-- workunit. The number is 0 if the row is applied, else that of the reason for its skip.
 pub record Rule (Row : Type 0) : Type 0 where
   pub workunit : Row → List ℕ
   pub verdict : Row → Workunit → ℕ
   pub image : Row → Workunit → Workunit
 
--- where hosts have these classes
+-- The rule of sends, given the classes of hosts.
 abbrev pub send_rule : List HostClass → Rule SendRow
 send_rule classes = record {
   workunit = λ row. row.workunit;
@@ -34,28 +34,28 @@ report_rule = record {
   image = λ row w. reported_in w row.n row.moment row.status row.output;
 }
 
--- name and number are as they were
+-- The workunit keeps its name and its number.
 pub record KeepsIdentity (old new : Workunit) : Type 0 where
   pub name : new.name ≡ old.name
   pub number : new.number ≡ old.number
 
--- a workunit as a row with this verdict leaves it
+-- The workunit as a row with this verdict leaves it.
 abbrev pub left_by : {Row : Type 0} → Rule Row → Row → ℕ → Workunit → Workunit
 left_by rule row verdict w = if verdict == 0 then rule.image row w else w
 
--- the verdict on a row whose workunit is not present
+-- The number of the verdict on a row whose workunit is not present.
 abbrev pub unknown : ℕ
 unknown = 1
 
 abbrev pub row_verdict : {Row : Type 0} → Rule Row → World → Row → ℕ
 row_verdict rule world row = option_map_or (rule.verdict row) (workunit_named world (rule.workunit row)) unknown
 
--- a row that is applied changes its workunit, another changes nothing
+-- The world after a row: an applied row changes its workunit, and any other row changes nothing.
 abbrev pub after_row : {Row : Type 0} → Rule Row → World → Row → World
 after_row rule world row =
     if row_verdict rule world row == 0 then with_named world (rule.workunit row) (rule.image row) else world
 
--- a file's rows in order, each on what the rows before left
+-- The world after the rows of a file, in order; each sees what the rows before it left.
 abbrev pub after_rows : {Row : Type 0} → Rule Row → World → List Row → World
 after_rows rule world [] = world
 after_rows rule world (row ∷ rows) = after_rows rule (after_row rule world row) rows
@@ -64,7 +64,7 @@ abbrev pub row_verdicts : {Row : Type 0} → Rule Row → World → List Row →
 row_verdicts rule world [] = []
 row_verdicts rule world (row ∷ rows) = row_verdict rule world row ∷ row_verdicts rule (after_row rule world row) rows
 
--- each row of a file of classes sets the class of its host, a later row over an earlier one
+-- The world after a file of classes: each row sets the class of its host, so that a later row wins.
 abbrev pub after_classes : World → List HostClass → World
 after_classes world [] = world
 after_classes world (row ∷ rows) = after_classes (with_host_class world row) rows

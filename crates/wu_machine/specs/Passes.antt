@@ -12,7 +12,7 @@ use Rattle.wu_rules.specs.declared.due.Pass.{Pass}
 use Rattle.wu_rules.specs.declared.due.Pass.TheVariants.{Transition, Validate, Assimilate, Delete, Purge}
 use Rattle.wu_rules.specs.Due.{chosen}
 
--- what a pass makes of a workunit; a purge takes it out
+-- What a pass makes of a workunit; a purge removes it.
 abbrev pub images : Pass → ℕ → Workunit → List Workunit
 images Transition now w = transitioned w now ∷ []
 images Validate now w = validation.validated w ∷ []
@@ -20,7 +20,7 @@ images Assimilate now w = assimilated w now ∷ []
 images Delete now w = emptied w ∷ []
 images Purge now w = []
 
--- what a pass grants for a workunit, and archives of it
+-- What a pass grants for a workunit, and archives of it.
 abbrev pub granted : Pass → Workunit → List Grant
 granted Validate w = validation.grants w
 granted _ w = []
@@ -32,7 +32,8 @@ archives _ now w = []
 abbrev pub is_among : List Workunit → Workunit → Bool
 is_among workunits w = list_any (λ one. one.number == w.number) workunits
 
--- the chosen workunits are replaced by their images, and their grants and archived rows follow those that are there
+-- The world after a pass: the chosen workunits are replaced by their images, and their grants and archived rows come
+-- after those that are there.
 abbrev pub passed : Pass → ℕ → ℕ → ℕ → World → World
 passed pass now min_age limit world =
     let taken = chosen pass now min_age limit world in
@@ -42,6 +43,6 @@ passed pass now min_age limit world =
       archived = world.archived ++ flat_map (archives pass now) taken;
     }
 
--- how many workunits a pass changes
+-- How many workunits a pass changes.
 abbrev pub handled : Pass → ℕ → ℕ → ℕ → World → ℕ
 handled pass now min_age limit world = length (chosen pass now min_age limit world)

@@ -4,24 +4,24 @@ use Rattle.wu_core.specs.declared.import.ImportKind.{ImportKind}
 use Rattle.wu_rules.specs.declared.due.Pass.{Pass}
 
 pub data Request : Type 0 where
-  -- adds the jobs of a file, with the parameters of a template
+  -- Adds the jobs of a file, with the parameters of a template.
   AskBatch : (name template file : List ℕ) → Request
-  -- imports a file of sends, or of reports
+  -- Imports a file of sends, or of reports.
   AskSent : (name file : List ℕ) → Request
   AskReported : (name file : List ℕ) → Request
-  -- imports a file of classes of hosts
+  -- Imports a file of classes of hosts.
   AskClasses : (name file : List ℕ) → Request
-  -- runs a pass at a moment, over at most so many workunits; the least age is for the purge alone
+  -- Runs a pass at a moment, over at most so many workunits; only a purge uses the least age.
   AskPass : (pass : Pass) (now limit min_age : ℕ) → Request
-  -- gives a workunit up
+  -- Cancels a workunit.
   AskCancel : (workunit : List ℕ) → Request
-  -- brings the schema to the present version
+  -- Brings the schema to the present version.
   AskUpgrade : Request
 
 pub data Reply : Type 0 where
-  -- a file was imported, now or earlier: its first number, and a verdict for each row
+  -- A file was imported, now or earlier: the number of its first workunit, and a verdict for each row.
   Imported : (kind : ImportKind) (name : List ℕ) (first : ℕ) (verdicts : List ℕ) → Reply
-  -- so many workunits were changed
+  -- A pass changed so many workunits.
   Passed : (pass : Pass) (handled : ℕ) → Reply
   Cancelled : (workunit : List ℕ) → Reply
   Upgraded : (from to : ℕ) → Reply

@@ -13,47 +13,47 @@ use Rattle.wu_rules.specs.Consistent.{IsConsistent, IsGrantFor, IsRowOf, is_done
 use Rattle.wu_core.specs.Storable.{AreVerdicts, IsAbove, IsName, AreStorable, IsArchiveStorable, LoadsNext}
 use Rattle.wu_machine.specs.Machine.{present_version}
 
--- the grants for an instance of a workunit
+-- The grants for an instance of a workunit.
 abbrev pub grants_for : World → Workunit → ℕ → List Grant
 grants_for world w n = filter (λ grant. grant.workunit == w.number && grant.n == n) world.grants
 
--- a workunit that is present agrees with the grants and with the archive
+-- A workunit that is present agrees with the grants and with the archived rows.
 pub record IsRecorded (world : World) (w : Workunit) : Type 0 where
-  -- an instance has one grant exactly where it is VALID; a place without an instance has none
+  -- An instance has one grant if it is VALID, and else none; a number without an instance has none.
   pub granted : (n : ℕ) → length (grants_for world w n) ≡ one_if (is_valid_at w.instances n)
-  -- each is for its host, with its workunit's credit
+  -- Each grant is for the host of its instance, with the credit of its workunit.
   pub own : All (λ grant. grant.workunit ≡ w.number → IsGrantFor w grant) world.grants
-  -- it has one archived row exactly where it is DONE
+  -- The workunit has one archived row if it is DONE, and else none.
   pub archived : length (filter (λ row. row.number == w.number) world.archived) ≡ one_if (is_done w)
-  -- with its canonical number, its error mask and its moment
+  -- That row has the workunit's canonical number, error mask and moment.
   pub as_archived : All (λ row. row.number ≡ w.number → IsRowOf w row) world.archived
-  -- it shares its name with its own archived row alone
+  -- Only the workunit's own archived row has its name.
   pub named : All (λ row. (row.name ≡ w.name) ↔ (row.number ≡ w.number)) world.archived
 
--- no bit of the row's mask stands that this project never sets
+-- The mask of the archived row has no bit that this project never sets.
 abbrev pub HasPossibleMask : Archived → Type 0
 HasPossibleMask row = IsPossibleMask row.error_mask
 
--- a number that was given to a workunit
+-- The number was given to a workunit.
 abbrev pub IsGiven : World → ℕ → Type 0
 IsGiven world number = (1 ≤ number) × (number < world.next_number)
 
--- the first version with classes of hosts
+-- The first version with classes of hosts.
 abbrev pub first_with_classes : ℕ
 first_with_classes = 3
 
--- neither a host nor a workunit has a class
+-- No host and no workunit has a class.
 abbrev pub IsClassless : World → Type 0
 IsClassless world = (world.classes ≡ []) × All (λ w. w.class ≡ 0) world.workunits
 
--- one of a version without classes has none
+-- A world of a version without classes has none.
 abbrev pub HasClassesInTime : World → Type 0
 HasClassesInTime world = world.version < first_with_classes → IsClassless world
 
 pub record IsSound (world : World) : Type 0 where
   pub next_number : (1 ≤ world.next_number) × (world.next_number ≤ most_workunits + 1)
   pub formed : All IsWorkunit world.workunits
-  -- the values of each workunit are in their ranges, and so are those of grants, archived rows and imports
+  -- The values of each workunit, grant, archived row and import are in their ranges.
   pub storable : AreStorable world
   pub granted_to : All (λ grant. IsName grant.host) world.grants
   pub archivable : IsArchiveStorable world
@@ -76,13 +76,13 @@ pub record IsSound (world : World) : Type 0 where
 
 -- ---- what a command asks of a world
 
--- the verdicts of each import are numbers of verdicts on such a file
+-- The verdicts of each import are numbers of verdicts on files of its kind.
 abbrev pub HasVerdicts : World → Type 0
 HasVerdicts world = All (λ import. AreVerdicts import.kind import.verdicts) world.imports
 
--- A world of a version that this program knows, as each sound world is: workunits are below the next number, that and the
--- verdicts of imports are in range, each workunit can be read, and no two have one name; so can the class of each host,
--- and a version without classes has none.
+-- Commands run over this world: it is of a known version, and each sound world of one is so. Each workunit and each
+-- class can be read, and no two workunits have the same name. Their numbers are below the next number, which is in
+-- range, as are the verdicts of imports. A version without classes has none.
 pub record IsProject (world : World) : Type 0 where
   pub first : 1 ≤ world.version
   pub known : world.version ≤ present_version

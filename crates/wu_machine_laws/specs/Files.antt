@@ -1,4 +1,4 @@
--- What files of sends, of reports and of classes make, in the words of the field.
+-- What files of sends, reports and classes make, in BOINC's words.
 use Rattle.std.specs.Prelude.{◌≡◌, ◌≢◌, ◌↔◌, ℕ, ◌+◌, All, List, drop, length, slice_get, Some, None, Ok, IsSomeAnd}
 use Rattle.wu_core.specs.declared.import.ImportKind.TheVariants as kind
 use Rattle.wu_core.specs.declared.states.Outcome.TheVariants as outcome
@@ -20,21 +20,21 @@ use Rattle.wu_machine.specs.Machine.{reply, step}
 use Rattle.wu_machine.specs.Requests.{AskClasses, AskReported, AskSent, Imported}
 use Rattle.wu_machine.specs.Worlds.{workunit_named}
 
--- the workunit of this name is present, and this holds of it
+-- The workunit of this name is present, and this holds of it.
 abbrev pub OfNamed : World → List ℕ → (Workunit → Type 0) → Type 0
 OfNamed world name P = IsSomeAnd (workunit_named world name) P
 
--- the workunit has an instance of this number, and this holds of it
+-- The workunit has an instance of this number, and this holds of it.
 abbrev pub OfInstance : ℕ → (Instance → Type 0) → Workunit → Type 0
 OfInstance n P w = IsSomeAnd (slice_get w.instances n) P
 
--- it is out as a row says
+-- The instance is out as the row says.
 pub record IsOutAs (row : SendRow) (i : Instance) : Type 0 where
   pub out : i.server_state ≡ server.InProgress
   pub host : i.host ≡ Some row.host
   pub since : i.sent_at ≡ Some row.moment
 
--- it is over as a row says
+-- The instance is over as the row says.
 pub record IsOverAs (row : ReportRow) (i : Instance) : Type 0 where
   pub over : (i.server_state ≡ server.Over) × (i.received_at ≡ Some row.moment)
   pub success : row.status ≡ status.Success → i.outcome ≡ outcome.Success
@@ -42,8 +42,8 @@ pub record IsOverAs (row : ReportRow) (i : Instance) : Type 0 where
   pub detached : row.status ≡ status.Detached → i.outcome ≡ outcome.ClientDetached
   pub output : i.output ≡ row.output
 
--- A file has a verdict for each row, 0 where it is applied. The first row is applied exactly where it may be; after the
--- whole file each row that was applied holds; and where none was, the workunits are as they were.
+-- A file has a verdict for each row, 0 for an applied one. The first row is applied exactly if it may be. After the
+-- file each applied row holds; without an applied row, the workunits are as they were.
 pub record IsApplied {Row : Type 0} (rows : List Row) (verdicts : List ℕ) (May Holds : World → Row → Type 0) (old new : World)
     : Type 0 where
   pub one_each : length verdicts ≡ length rows
@@ -53,7 +53,7 @@ pub record IsApplied {Row : Type 0} (rows : List Row) (verdicts : List ℕ) (May
       → Holds new row
   pub skipped : All (λ verdict. verdict ≢ 0) verdicts → new.workunits ≡ old.workunits
 
--- which rows may be applied, and what holds once they are
+-- Which rows may be applied, and what holds once they are.
 abbrev pub MaySend : List HostClass → World → SendRow → Type 0
 MaySend classes world row = OfNamed world row.workunit (λ w. MayBeSent w row.n row.host (class_of classes row.host))
 
@@ -66,13 +66,13 @@ MayReport world row = OfNamed world row.workunit (OfInstance row.n (MayBeReporte
 abbrev pub HoldsReported : World → ReportRow → Type 0
 HoldsReported world row = OfNamed world row.workunit (OfInstance row.n (IsOverAs row))
 
--- A host that is named has then the class of the last row that names it, and each other the class that it had.
+-- A host that rows name then has the class of the last such row. Each other host keeps its class.
 pub record GivesClasses (rows old new : List HostClass) : Type 0 where
   pub named : (k : ℕ) (row : HostClass) → slice_get rows k ≡ Some row
       → All (λ later. later.host ≢ row.host) (drop (k + 1) rows) → class_of new row.host ≡ row.class
   pub others : (host : List ℕ) → All (λ row. row.host ≢ host) rows → class_of new host ≡ class_of old host
 
--- so it is of each file that comes for the first time
+-- A file that is new does what its rows say.
 pub record AppliesRows (world : World) (name file verdicts : List ℕ) : Type 0 where
   pub sent : (rows : List SendRow) → import_of world (sent_given name file) ≡ None
       → sends_of_file file ≡ Ok rows

@@ -1,4 +1,4 @@
--- What passes mean, in the words of the field.
+-- What passes mean, in BOINC's words.
 use Rattle.std.specs.Prelude.{Bool, ◌≡◌, ◌≢◌, ◌↔◌, ℕ, ◌+◌, ◌<◌, ◌≤◌, min, true, not, [], ◌∷◌, ◌++◌, List, filter, length, All, AllPairs, count_by, flat_map, Ok, ◌||◌, bytes_eq}
 use Rattle.std.specs.Cmp.Lexicographic.{slice_cmp}
 use Rattle.std.specs.List.{list_any}
@@ -17,29 +17,29 @@ use Rattle.wu_machine.specs.Passes.{granted, handled, images, is_among, passed}
 use Rattle.wu_machine.specs.Requests.{AskPass, Passed}
 use Rattle.wu_machine.specs.Sound.{IsSound}
 
--- a pass is said to change a workunit exactly where it makes another of it; a purge exactly where it may be purged, and
--- leaves nothing of it
+-- A pass changes a workunit exactly if it makes another of it. A purge changes it exactly if it may be purged, and then
+-- removes it.
 pub record TellsWhatChanges : Type 0 where
   pub another : (pass : Pass) (now min_age : ℕ) (w : Workunit) → pass ≢ Purge → (changes pass now min_age w ≡ true) ↔ (images pass now w ≢ w ∷ [])
   pub purged : (now min_age : ℕ) (w : Workunit) → changes Purge now min_age w ≡ is_purgeable w now min_age
   pub gone : (now : ℕ) (w : Workunit) → images Purge now w ≡ []
 
--- how many workunits of a world a pass changes
+-- How many workunits of a world a pass changes.
 abbrev pub changed_in : Pass → ℕ → ℕ → World → ℕ
 changed_in pass now min_age world = count_by (changes pass now min_age) world.workunits
 
--- it handles all that it changes, up to its limit
+-- A pass handles all workunits that it changes, up to its limit.
 abbrev pub HandlesUpToTheLimit : Type 0
 HandlesUpToTheLimit =
     (pass : Pass) (now min_age limit : ℕ) (world : World)
     → handled pass now min_age limit world ≡ min limit (changed_in pass now min_age world)
 
--- sound worlds have their workunits in order of number
+-- Sound worlds have their workunits in order of number.
 abbrev pub SoundWorldsAreInOrder : Type 0
 SoundWorldsAreInOrder = (world : World) → IsSound world → IsInOrder world
 
--- all that a pass changes, in order, are the ones taken, up to the limit, and then the ones left: none where the limit
--- was not reached, and each of them of a greater number than each taken
+-- The workunits that a pass changes are, in order, the taken ones, at most the limit, and then the ones that are left.
+-- None is left if the limit was not reached; each that is left has a greater number than each taken one.
 pub record IsTaken (pass : Pass) (now min_age limit : ℕ) (world : World) (taken : List Workunit) : Type 0 where
   pub left : List Workunit
   pub all : filter (changes pass now min_age) world.workunits ≡ taken ++ left
@@ -52,17 +52,18 @@ TakesTheFirst =
     (pass : Pass) (now min_age limit : ℕ) (world : World) → IsInOrder world
     → IsTaken pass now min_age limit world (chosen pass now min_age limit world)
 
--- the workunits of a world whose number none of these has
+-- The workunits of a world that have none of these workunits' numbers.
 abbrev pub others : List Workunit → World → List Workunit
 others taken world = filter (λ w. not (is_among taken w)) world.workunits
 
--- those that a pass doesn't take are after it as they were, in their order
+-- The workunits that a pass does not take stay as they were, in their order.
 abbrev pub LeavesTheOthers : Type 0
 LeavesTheOthers =
     (pass : Pass) (now min_age limit : ℕ) (world : World)
     → others (chosen pass now min_age limit world) (passed pass now min_age limit world) ≡ others (chosen pass now min_age limit world) world
 
--- all that was recorded stays; only the validator grants, only the assimilator archives, and no pass imports
+-- A pass removes no grant, archived row or import. Only the validator grants, only the assimilator archives, and no
+-- pass imports.
 pub record KeepsRecords (pass : Pass) (old new : World) : Type 0 where
   pub grants : (more : List Grant) × (new.grants ≡ old.grants ++ more)
   pub archived : (more : List Archived) × (new.archived ≡ old.archived ++ more)
@@ -76,28 +77,28 @@ pub record KeepsRecords (pass : Pass) (old new : World) : Type 0 where
 abbrev pub RecordsMore : Type 0
 RecordsMore = (pass : Pass) (now min_age limit : ℕ) (world : World) → KeepsRecords pass world (passed pass now min_age limit world)
 
--- what a pass answers is the number of workunits that it changes, or its limit where that is less
+-- A pass answers the number of workunits that it changes, or its limit if that is less.
 abbrev pub AnswersHowMany : Type 0
 AnswersHowMany =
     (pass : Pass) (now limit min_age n : ℕ) (world : World) → reply world (AskPass pass now limit min_age) ≡ Ok (Passed pass n)
     → n ≡ min limit (changed_in pass now min_age world)
 
--- it answers 0 exactly where it leaves the world as it is
+-- A pass answers 0 exactly if it leaves the world as it is.
 abbrev pub AnswersZeroForNothing : Type 0
 AnswersZeroForNothing =
     (pass : Pass) (now limit min_age n : ℕ) (world : World) → reply world (AskPass pass now limit min_age) ≡ Ok (Passed pass n)
     → (n ≡ 0) ↔ (step world (AskPass pass now limit min_age) ≡ world)
 
--- what a pass grants
+-- The new grants of a pass.
 abbrev pub new_grants : Pass → ℕ → ℕ → ℕ → World → List Grant
 new_grants pass now min_age limit world = flat_map (granted pass) (chosen pass now min_age limit world)
 
--- whether these grants list a host
+-- Whether a host is listed by these grants.
 abbrev pub is_listed : List Grant → List ℕ → Bool
 is_listed grants host = list_any (λ one. bytes_eq one host) (hosts_of grants)
 
--- a host has the credit that it had and that of its new grants, and so with their number; it is listed where it was, or
--- is newly granted
+-- A host's credit grows by that of its new grants, and the number of its grants likewise. It is listed if it was, or if
+-- it has a new grant.
 pub record AddsUp (host : List ℕ) (old more new : List Grant) : Type 0 where
   pub credit : credit_of new host ≡ credit_of old host + credit_of more host
   pub number : grants_of new host ≡ grants_of old host + grants_of more host
@@ -108,7 +109,7 @@ AddsUpGrants =
     (pass : Pass) (now min_age limit : ℕ) (world : World) (host : List ℕ)
     → AddsUp host world.grants (new_grants pass now min_age limit world) (passed pass now min_age limit world).grants
 
--- the hosts of grants are those with a grant, each once, in the order of their names' bytes
+-- The hosts of grants are those with a grant, each once, in the order of their names' bytes.
 pub record ListsHosts (grants : List Grant) : Type 0 where
   pub granted : (host : List ℕ) → (is_listed grants host ≡ true) ↔ (0 < grants_of grants host)
   pub ascending : AllPairs (λ one other. is_lt (slice_cmp nat_cmp one other) ≡ true) (hosts_of grants)

@@ -1,4 +1,4 @@
--- What a request leaves of the workunits of a world, which it takes out, and which it adds.
+-- What a request leaves of the workunits of a world, which it removes, and which it adds.
 use Rattle.std.specs.Prelude.{◌≡◌, ◌≢◌, ◌⊎◌, ℕ, ◌+◌, ◌<◌, true, false, not, All, List, [], ◌∷◌, ◌++◌, filter, length, map, slice_get, Some, None, Ok, Err, IsSomeAnd}
 use Rattle.wu_core.specs.declared.import.ImportKind.TheVariants as kind
 use Rattle.wu_core.specs.declared.states.Assimilate.TheVariants as assimilate
@@ -29,20 +29,20 @@ use Rattle.wu_machine.specs.Worlds.{workunit_named}
 use Rattle.wu_rules_laws.specs.Laws.{IsCancelled}
 use Rattle.wu_machine_laws.specs.Lasting.{Begins}
 
--- ---- what is taken out
+-- ---- what is removed
 
--- a request takes out this workunit: it is a purge, at a moment and an age at which the workunit may be purged
+-- The request is a purge, at a moment and a least age at which the workunit may be purged.
 abbrev pub Takes : Request → Workunit → Type 0
 Takes (AskPass Purge now limit min_age) w = is_purgeable w now min_age ≡ true
 Takes _ w = ⊥
 
--- each workunit is present after a request, or is one that it takes out
+-- A workunit is present after a request, unless the request is a purge that may remove it.
 abbrev pub GoesByPurgeAlone : Type 0
 GoesByPurgeAlone =
     (world : World) (request : Request) → IsInOrder world
     → All (λ w. (is_among (step world request).workunits w ≡ true) ⊎ Takes request w) world.workunits
 
--- and what a purge takes is gone
+-- A workunit that a purge takes is no longer present.
 abbrev pub PurgedIsGone : Type 0
 PurgedIsGone =
     (now min_age limit : ℕ) (world : World)
@@ -51,11 +51,11 @@ PurgedIsGone =
 
 -- ---- what is left
 
--- the workunits of a world that have none of these names
+-- The workunits of a world that have none of these names.
 abbrev pub unnamed : List (List ℕ) → World → List Workunit
 unnamed names world = filter (λ w. not (is_one_of names w.name)) world.workunits
 
--- The workunits that have none of these names are as they were; none comes or goes, and each keeps its number and its
+-- Workunits without one of these names stay as they were. No workunit comes or goes, and each keeps its number and its
 -- name. Nothing is granted or archived, and no host gets a class.
 pub record ChangesNamed (names : List (List ℕ)) (old new : World) : Type 0 where
   pub others : unnamed names new ≡ unnamed names old
@@ -67,8 +67,8 @@ pub record ChangesNamed (names : List (List ℕ)) (old new : World) : Type 0 whe
   pub next_number : new.next_number ≡ old.next_number
   pub version : new.version ≡ old.version
 
--- A file of sends or reports changes the workunits that its rows name alone, a cancel the one of its name; a batch leaves
--- all that are present, a file of classes and an upgrade all, and what is refused leaves the world.
+-- A file of sends or reports changes only the workunits that its rows name, and a cancel only the one of its name. A
+-- batch leaves all present workunits, and a file of classes and an upgrade leave all. A refusal leaves the world.
 pub record LeavesOthers (world : World) : Type 0 where
   pub sent : (name file : List ℕ) (rows : List SendRow) → sends_of_file file ≡ Ok rows
       → ChangesNamed (map (λ row. row.workunit) rows) world (step world (AskSent name file))
@@ -87,7 +87,7 @@ LeavesWhatIsNotNamed = (world : World) → LeavesOthers world
 
 -- ---- what is added
 
--- a workunit as a job of a batch says, of this number: undecided, with nothing done yet
+-- The workunit is as the job of a batch says, has this number, and is undecided with nothing done yet.
 pub record IsNewOf (params : Parameters) (job : Job) (number : ℕ) (w : Workunit) : Type 0 where
   pub its_number : w.number ≡ number
   pub as_said : (w.name ≡ job.name) × (w.input ≡ job.input) × (w.params ≡ params)
@@ -96,8 +96,8 @@ pub record IsNewOf (params : Parameters) (job : Job) (number : ℕ) (w : Workuni
   pub not_done : (w.assimilate ≡ assimilate.Init) × (w.file_delete ≡ file_delete.Init)
       × (w.done_at ≡ None)
 
--- A batch's workunits come behind those that are there, one for each job, with consecutive numbers from the next one.
--- Its first number is the first of these, or 0 where it has no job.
+-- A batch adds one workunit for each job after those that are there, with consecutive numbers from the next one. Its
+-- first number is that of the first of them, or 0 without a job.
 pub record Numbers (old new : World) (params : Parameters) (jobs : List Job) (first : ℕ) : Type 0 where
   pub added : List Workunit
   pub behind : new.workunits ≡ old.workunits ++ added
@@ -108,7 +108,7 @@ pub record Numbers (old new : World) (params : Parameters) (jobs : List Job) (fi
   pub none : jobs ≡ [] → first ≡ 0
   pub some : jobs ≢ [] → first ≡ old.next_number
 
--- so it is of each batch that comes for the first time
+-- A new batch adds its workunits so.
 abbrev pub NumbersBatches : Type 0
 NumbersBatches =
     (world : World) (name template file verdicts : List ℕ) (first : ℕ) (params : Parameters) (jobs : List Job)
@@ -119,8 +119,8 @@ NumbersBatches =
 
 -- ---- what is cancelled, and an upgrade
 
--- A cancel that is answered was of a workunit that was present and undecided, and it is then cancelled; an upgrade
--- answers the version that it found, and the world is then at the present one.
+-- A cancel that is answered was of a present, undecided workunit, which is then cancelled. An upgrade answers the
+-- version that it found, and the world is then at the present one.
 pub record DoesAsAnswered (world : World) : Type 0 where
   pub cancelled : (name : List ℕ) → reply world (AskCancel name) ≡ Ok (Cancelled name)
       → IsSomeAnd (workunit_named world name) (λ w. (is_undecided w ≡ true)
@@ -131,8 +131,8 @@ pub record DoesAsAnswered (world : World) : Type 0 where
 abbrev pub CancelsAndUpgrades : Type 0
 CancelsAndUpgrades = (world : World) → DoesAsAnswered world
 
--- A world of an older version answers that version to all but an upgrade. An upgrade is answered whatever the version,
--- with that and the present one, and changes nothing else: with its version put back, the world is the one before.
+-- A world of an older version answers that version to all requests except an upgrade. An upgrade answers the version
+-- found and the present one, and changes nothing except the version.
 pub record UpgradesFirst (world : World) : Type 0 where
   pub refused : (request : Request) → request ≢ AskUpgrade → world.version < present_version
       → reply world request ≡ Err (OldSchema world.version)
@@ -142,7 +142,7 @@ pub record UpgradesFirst (world : World) : Type 0 where
 abbrev pub OlderProjectsUpgradeFirst : Type 0
 OlderProjectsUpgradeFirst = (world : World) → UpgradesFirst world
 
--- whatever is asked of a world of the present version, what that makes of it is of no other, where it is a project
+-- A world of the present version stays at it, whatever is asked, if what comes of it is a project.
 abbrev pub StaysPresent : Type 0
 StaysPresent =
     (world : World) (requests : List Request) → IsUpToDate world → IsProject (fold_steps world requests)
@@ -150,7 +150,7 @@ StaysPresent =
 
 -- ---- what is left as it was
 
--- where the machine makes nothing of a world, that stays
+-- If the machine makes nothing of a world, the world stays as it is.
 abbrev pub StaysByNothing : Type 0
 StaysByNothing =
     (world : World) (request : Request) → MakesNothing world request → step world request ≡ world

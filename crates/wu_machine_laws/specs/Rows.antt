@@ -1,4 +1,4 @@
--- What each row of a file of sends or of reports meets and makes, and which instances a file leaves.
+-- What each row of a file of sends or reports meets and makes, and which instances a file leaves.
 use Rattle.std.specs.Prelude.{◌≡◌, ◌≢◌, ◌↔◌, ℕ, List, [], ◌∷◌, Option, Some, None, Ok, IfSome, slice_get}
 use Rattle.std.specs.Option.{option_and_then}
 use Rattle.wu_core.specs.declared.import.ImportKind.TheVariants as kind
@@ -24,28 +24,28 @@ use Rattle.wu_machine.specs.Worlds.{workunit_named}
 use Rattle.wu_machine_laws.specs.Files.{MayReport, MaySend, OfInstance, OfNamed}
 use Rattle.wu_machine_laws.specs.Leaving.{ChangesNamed}
 
--- the instance of this number of the workunit of this name
+-- The instance of this number of the workunit of this name.
 abbrev pub instance_in : World → List ℕ → ℕ → Option Instance
 instance_in world name n = option_and_then (λ (w : Workunit). slice_get w.instances n) (workunit_named world name)
 
--- each other instance of the workunit of this name, and each workunit of another name, is as it was
+-- Each other instance of the workunit of this name, and each other workunit, stays as it was.
 pub record LeavesAllBut (name : List ℕ) (n : ℕ) (old new : World) : Type 0 where
   pub instances : (k : ℕ) → k ≢ n → instance_in new name k ≡ instance_in old name k
   pub workunits : ChangesNamed (name ∷ []) old new
 
--- the verdict on a row is that of its workunit, or that there is none of its name
+-- The verdict on a row is that of its workunit, or `unknown` if no workunit has its name.
 pub record IsVerdict (world : World) (name : List ℕ) (on : Workunit → ℕ) (unknown verdict : ℕ) : Type 0 where
   pub present : IfSome (workunit_named world name) (λ w. verdict ≡ on w)
   pub absent : workunit_named world name ≡ None → verdict ≡ unknown
 
--- an applied row makes of its instance what this says of it and of what it was
+-- An applied row makes of its instance what this relation says.
 abbrev pub MakesOf : World → World → List ℕ → ℕ → (Workunit → Instance → Instance → Type 0) → Type 0
 MakesOf old new name n Becomes =
     (w : Workunit) (i : Instance) → workunit_named old name ≡ Some w → slice_get w.instances n ≡ Some i
     → OfNamed new name (OfInstance n (Becomes w i))
 
--- A send gets the verdict that its workunit gives, where hosts have these classes, is applied exactly where it may be, and
--- changes its instance alone, as it says; a send that is skipped leaves the world.
+-- A send gets the verdict that its workunit gives, with these classes of hosts. It is applied exactly if it may be, and
+-- then changes only its instance, as it says. A skipped send leaves the world.
 pub record TakesSend (classes : List HostClass) (row : SendRow) (verdict : ℕ) (old new : World) : Type 0 where
   pub told : IsVerdict old row.workunit (λ w. send_verdict_code (send_verdict_in w row.n row.host (class_of classes row.host)))
       (send_verdict_code send.Unknown) verdict
@@ -54,7 +54,8 @@ pub record TakesSend (classes : List HostClass) (row : SendRow) (verdict : ℕ) 
   pub others : LeavesAllBut row.workunit row.n old new
   pub skipped : verdict ≢ 0 → new ≡ old
 
--- so does a report
+-- A report gets the verdict that its workunit gives. It is applied exactly if it may be, and then changes only its
+-- instance, as it says. A skipped report leaves the world.
 pub record TakesReport (row : ReportRow) (verdict : ℕ) (old new : World) : Type 0 where
   pub told : IsVerdict old row.workunit
       (λ w. report_verdict_code (report_verdict_in w row.n row.host row.moment))
@@ -65,19 +66,19 @@ pub record TakesReport (row : ReportRow) (verdict : ℕ) (old new : World) : Typ
   pub others : LeavesAllBut row.workunit row.n old new
   pub skipped : verdict ≢ 0 → new ≡ old
 
--- each row is taken with its verdict, in the world as the rows before it left it
+-- Each row is taken with its verdict, in the world as the rows before it left it.
 unfoldable pub RowByRow : {Row : Type 0} → (Row → ℕ → World → World → Type 0) → List Row → List ℕ → World → World → Type 0
 RowByRow Takes [] [] old new = new.workunits ≡ old.workunits
 RowByRow Takes [] (verdict ∷ verdicts) old new = ⊥
 RowByRow Takes (row ∷ rows) [] old new = ⊥
 RowByRow Takes (row ∷ rows) (verdict ∷ verdicts) old new = (between : World) × Takes row verdict old between × RowByRow Takes rows verdicts between new
 
--- no row that was applied is of this instance
+-- No applied row is of this instance.
 abbrev pub NoneIsOf : {Row : Type 0} → (Row → List ℕ) → (Row → ℕ) → List Row → List ℕ → List ℕ → ℕ → Type 0
 NoneIsOf {Row} workunit place rows verdicts name n =
     (k : ℕ) (row : Row) → slice_get rows k ≡ Some row → slice_get verdicts k ≡ Some 0 → name ≡ workunit row → n ≢ place row
 
--- so it is of each file that comes for the first time; and it leaves the instances of which no applied row is
+-- A new file takes its rows so, and leaves each instance that no applied row is of.
 pub record SeesRows (world : World) (name file verdicts : List ℕ) : Type 0 where
   pub sent : (rows : List SendRow) → import_of world (sent_given name file) ≡ None
       → sends_of_file file ≡ Ok rows

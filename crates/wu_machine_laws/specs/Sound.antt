@@ -5,16 +5,16 @@ use Rattle.wu_machine.specs.Machine.{fold_steps, HasValues, present_version, ste
 use Rattle.wu_machine.specs.Requests.{Request}
 use Rattle.wu_machine.specs.Sound.{IsSound, IsProject}
 
--- every step keeps a sound world sound
+-- Every step with values in range keeps a sound world sound.
 abbrev pub KeepsSound : Type 0
 KeepsSound = (world : World) (request : Request) → HasValues request → IsSound world → IsSound (step world request)
 
--- and so does every list of requests
+-- Every list of requests with values in range keeps a sound world sound.
 abbrev pub ListsKeepSound : Type 0
 ListsKeepSound =
     (world : World) (requests : List Request) → All HasValues requests → IsSound world → IsSound (fold_steps world requests)
 
--- a sound world of a version that is known, the present one or an older one, is one that a command runs over
+-- Commands run over every sound world of a known version.
 abbrev pub SoundIsEnough : Type 0
 SoundIsEnough =
     (world : World) → IsSound world → 1 ≤ world.version → world.version ≤ present_version

@@ -6,18 +6,18 @@ ghost use Rattle.wu_machine_laws.specs.Rows.{LeavesUnnamedInstances, RowsSeeRows
 /// Proves what a new file of sends, reports or classes does as a whole.
 pub fn applies_files()
     // A new file of sends or reports has one verdict for each row, and its first row is applied
-    // exactly if it may be. After the file each applied row holds; if none was applied, all
-    // workunits are as before. After a new file of classes, a host has the class of the last row
-    // that names it, and any other host keeps its class.
+    // exactly if it may be. After the file the instance of each applied row is as the row says. If
+    // no row was applied, all workunits are as before. After a new file of classes, a host has the
+    // class of the last row that names it, and any other host keeps its class.
     ensures { AppliesFiles }
 {}
 
 /// Proves that each row of a new file is judged by what the rows before it left.
 pub fn rows_see_rows()
     // Each row of a new file of sends or reports gets the verdict of its workunit, as the rows
-    // before it left that, or `unknown`. It is applied exactly if it may be. An applied row changes
-    // its own instance as it says, and no other instance and no other workunit; a skipped row
-    // changes nothing.
+    // before it left that. It gets `unknown` if no workunit has its name. It is applied exactly if
+    // it may be. An applied row changes its own instance as it says, and no other instance and no
+    // other workunit. A skipped row changes nothing.
     ensures { RowsSeeRows }
 {}
 

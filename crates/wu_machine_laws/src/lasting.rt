@@ -84,7 +84,8 @@ pub fn names_stay_taken()
 
 /// Proves that a number is not used twice.
 pub fn numbers_are_given_once()
-    // From a sound world on, with values in range, no number is given to a second workunit.
+    // From a sound world on, with values in range, no further workunit has a number below that
+    // world's next number, so none is given twice.
     ensures { NumbersAreGivenOnce }
 {}
 

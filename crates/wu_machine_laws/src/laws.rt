@@ -4,14 +4,14 @@ ghost use Rattle.wu_machine_laws.specs.Laws.{TellsWhatChanges, HandlesUpToTheLim
 
 /// Proves which workunits a pass changes.
 pub fn tells_what_changes()
-    // A pass other than a purge is due for a workunit exactly if it changes it. A purge is due
-    // exactly if the workunit may be purged, and leaves nothing of it.
+    // A pass other than a purge selects a workunit exactly if it would change it. A purge selects
+    // one exactly if it may be purged, and leaves nothing of it.
     ensures { TellsWhatChanges }
 {}
 
 /// Proves how many workunits a pass takes.
 pub fn handles_up_to_the_limit()
-    // A pass takes as many workunits as it is due for, or its limit if that is less.
+    // A pass handles as many workunits as it would change, or its limit if that is less.
     ensures { HandlesUpToTheLimit }
 {}
 
@@ -36,14 +36,14 @@ pub fn leaves_the_others()
 
 /// Proves what a pass records.
 pub fn records_more()
-    // A pass removes and changes no grant, archived row or import, and no class, next number or
-    // version. Only the validator grants, and only the assimilator archives.
+    // A pass removes or changes no grant, archived row or import, and changes no class, next number
+    // or version. Only the validator grants, and only the assimilator archives.
     ensures { RecordsMore }
 {}
 
 /// Proves the answer of a pass.
 pub fn answers_how_many()
-    // A pass answers how many workunits it changes, or its limit if that is less.
+    // A pass answers how many workunits it would change, or its limit if that is less.
     ensures { AnswersHowMany }
 {}
 

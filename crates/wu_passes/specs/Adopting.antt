@@ -1,4 +1,4 @@
--- The adoption of a connection: what a session that begins has found or made, and what a refusal tells and leaves.
+-- The adoption of a connection: what a session that begins has found or made, and what a refusal reports and leaves.
 use Rattle.std.specs.Prelude.{◌≡◌, ◌⊎◌, ◌<◌, ◌≤◌, ℕ, nat_lt, false, if◌then◌else◌, IsTrue, None, Option, Some}
 use Rattle.sqlite_disk.specs.Disk.{MoreFaults}
 use Rattle.sqlite.specs.Effect.{Database}
@@ -16,23 +16,23 @@ use Rattle.wu_store.specs.Loading.{IsStoreFault}
 use Rattle.wu_passes.specs.Committing.{FoundAs}
 use Rattle.wu_passes.specs.Standing.{GoesOn, FaultsOnlyGrow, ShowsWorld, TellsLater}
 
--- no project is there: nothing has its name, or what has it lacks a column
+-- There is no project: nothing has the name of its table, or what has the name lacks a column.
 abbrev pub IsVacant : State → Type 0
 IsVacant s = LacksProject s.now.schema
 
--- the one row of the project has a version that this program knows
+-- The one row of the project has a version that this program knows.
 abbrev pub IsKnown : (db : Database) → HasProject db.schema → Type 0
 IsKnown db has = (version : ℕ) × HasVersion db has version × (version ≤ present_version)
 
--- a stop leaves nothing but what it left before
+-- A crash leaves nothing that it could not leave before.
 abbrev pub LeavesNoMore : State → State → Type 0
 LeavesNoMore old new = (db : Trees) → new.may_leave db → old.may_leave db
 
--- it leaves that, or a fresh project
+-- A crash leaves what it could leave before, or a fresh project.
 abbrev pub LeavesFresh : State → State → Type 0
 LeavesFresh old new = (db : Trees) → new.may_leave db → old.may_leave db ⊎ FoundAs db empty_world
 
--- all is as it was: what is shown, what is committed, and what a stop may leave
+-- All is as it was: what is shown, what is committed, and what a crash may leave.
 pub record KeepsAll (old new : State) : Type 0 where
   pub now : new.now ≡ old.now
   pub committed : new.committed ≡ old.committed
@@ -40,50 +40,51 @@ pub record KeepsAll (old new : State) : Type 0 where
 
 -- ---- with Ok
 
--- the project that was found is adopted as it stands, and its version is known
+-- The project that was found is adopted as it is, and its version is known.
 pub record FindsProject (old new : State) : Type 0 where
   pub kept : KeepsAll old new
   pub known : (has : HasProject old.now.schema) → IsKnown old.now has
 
--- a fresh project was made beside what was there, where none of its names was taken: it stands for the empty world
+-- A fresh project was made beside what was there, and none of its names was taken. Its tables represent the empty
+-- world.
 pub record MakesFresh (old new : State) : Type 0 where
   pub beside : MakesProject old.now new.now
   pub goes : GoesOn new empty_world
 
--- the session goes on over the world that the tables stood for, and that is of a version that this program knows
+-- The session goes on over the world that the tables represented, whose version this program knows.
 abbrev pub GoesOver : State → State → World → Type 0
 GoesOver old new world = 1 ≤ world.version → GoesOn old world → GoesOn new world × (world.version ≤ present_version)
 
--- A session begins over the connection. What is said of its tables is said of a disk that did not fail.
+-- A session begins over the connection. What is said of tables holds on a clean disk.
 pub record Adopts (old new : State) : Type 0 where
-  -- what is doubted of the disk stays doubted
+  -- A disk that is not clean stays so.
   pub clean : FaultsOnlyGrow old new
-  -- no limit is set on the steps of a statement
+  -- No limit is set on the steps of a statement.
   pub unlimited : new.step_limit ≡ None
   pub was_open : HasCleanDisk new → IsTrue old.is_open
   pub is_open : HasCleanDisk new → IsTrue new.is_open
   pub goes : HasCleanDisk new → (world : World) → GoesOver old new world
-  -- where a project was,
+  -- If there was a project, it is kept.
   pub found : HasCleanDisk new → ¬ IsVacant old → FindsProject old new
-  -- and where none was
+  -- If there was none, a fresh one is made.
   pub fresh : HasCleanDisk new → IsVacant old → MakesFresh old new
   pub left : HasCleanDisk new → LeavesFresh old new
 
--- Which version a session has that begins. What is said of tables is said of a disk that did not fail.
+-- The version of a session that begins. What is said of tables holds on a clean disk.
 pub record KnowsVersion (old new : State) (version : ℕ) : Type 0 where
   pub known : version ≤ present_version
-  -- where a project was found, the one that its row has,
+  -- It is the version of the row of a project that was found.
   pub found : HasCleanDisk new → (has : HasProject old.now.schema) → HasVersion old.now has version
-  -- and where one was made, the present one
+  -- It is the present version if a project was made.
   pub fresh : HasCleanDisk new → IsVacant old → version ≡ present_version
-  -- so over a world, that world's
+  -- It is the version of the world that the tables represent.
   pub over : HasCleanDisk new → (world : World) → 1 ≤ world.version → ShowsWorld old world → version ≡ world.version
 
--- the version, where it is older than the present one
+-- The version, if it is older than the present one; else `None`.
 abbrev pub older_than_present : ℕ → Option ℕ
 older_than_present version = if nat_lt version present_version then Some version else None
 
--- The older version that a session is over which begins, where it is over one.
+-- The older version that a session begins over; `None` at the present one.
 pub record StartsOver (old new : State) (older : Option ℕ) : Type 0 where
   pub version : ℕ
   pub knows : KnowsVersion old new version
@@ -91,50 +92,51 @@ pub record StartsOver (old new : State) (older : Option ℕ) : Type 0 where
 
 -- ---- with a fault
 
--- a fault of the store, or a later version
+-- The fault is one of the store, or refuses a later version.
 abbrev pub IsAdoptionFault : Fault → Type 0
 IsAdoptionFault fault = IsStoreFault fault ⊎ ((version : ℕ) × TellsLater version fault)
 
--- a later version than this program knows is stored, and the connection was open
+-- A later version than this program knows is stored, and the connection was open.
 pub record StoresLater (s : State) (version : ℕ) : Type 0 where
   pub is_open : IsTrue s.is_open
   pub there : ¬ IsVacant s
   pub stored : (has : HasProject s.now.schema) → HasVersion s.now has version
   pub later : present_version < version
 
--- a project of this version is refused for a later version, for want of memory or for a failure of the disk
+-- The fault refuses a project of this version as later, or is `Memory` or `Broken`.
 abbrev pub IsRefusalOf : ℕ → Fault → Type 0
 IsRefusalOf version fault = IsFailure fault ⊎ TellsLater version fault
 
--- the disk failed between the two, or the connection was not open
+-- The disk failed between the two states, or the connection was not open.
 abbrev pub BreaksBetween : State → State → Type 0
 BreaksBetween old new = MoreFaults old.faults new.faults ⊎ (old.is_open ≡ false)
 
--- Why it was refused.
+-- Why the adoption was refused.
 pub record TellsCause (old new : State) (fault : Fault) : Type 0 where
-  -- a later version is told only where that one is stored
+  -- A later version is reported only if it is stored.
   pub stored : (version : ℕ) → fault ≡ NewSchema version → StoresLater old version
-  -- and over a lone row of a project, whatever stands in other tables, nothing else is told but a failure
+  -- Over a table with the one row of a project, whatever other tables hold, no other fault is reported except `Memory`
+  -- and `Broken`.
   pub only : old.in_transaction ≡ false → (has : HasProject old.now.schema) (version : ℕ) → HasVersion old.now has version → IsRefusalOf version fault
-  -- `Broken` tells that the disk failed, or that the connection was not open
+  -- `Broken` means that the disk failed, or that the connection was not open.
   pub broken : fault ≡ Broken → BreaksBetween old new
-  -- where no project is, as where a name is taken, it is `NotAProject`, but for want of memory or such a failure
+  -- Without a project, as with a taken name, the fault is `NotAProject`, `Memory`, or `Broken` for such a failure.
   pub vacant : IsVacant old → IsTakenFault (BreaksBetween old new) fault
 
 -- What a refusal leaves.
 pub record GivesBack (old new : State) (fault : Fault) : Type 0 where
-  -- while the connection is open, it shows what it showed, or the last commit
+  -- An open connection shows what it showed, or the last commit.
   pub back : IsBack old new
   pub left : LeavesFresh old new
-  -- where a project was, of whatever version and over whatever rows, nothing of it is touched
+  -- A project that was there, of any version and with any rows, is not touched.
   pub kept : ¬ IsVacant old → LeavesNoMore old new
-  -- `NotAProject` says that all is as it was
+  -- After `NotAProject` all is as it was.
   pub whole : fault ≡ NotAProject → KeepsAll old new
   pub goes : (world : World) → GoesOn old world → GoesOn new world
-  -- it can be adopted again, but after want of memory or of the disk
+  -- After each fault except `Memory` and `Broken` the connection can be adopted again.
   pub serves : old.in_transaction ≡ false → IsFailure fault ⊎ IsTrue new.is_open
 
--- No session begins. What is said of the tables is said of a disk that did not fail.
+-- No session begins. What is said of tables holds on a clean disk.
 pub record RefusesAdoption (old new : State) (fault : Fault) : Type 0 where
   pub told : IsAdoptionFault fault
   pub clean : FaultsOnlyGrow old new

@@ -1,11 +1,11 @@
--- What a stop leaves of a command's changes.
+-- What a crash leaves of a command's changes.
 use Rattle.std.specs.Prelude.{◌≡◌}
 use Rattle.sqlite.specs.Effect.{Database}
 use Rattle.sqlite.specs.Tree.{Trees}
 use Rattle.wu_core.specs.World.{World}
 use Rattle.wu_store.specs.StandsFor.{StandsFor}
 
--- what a stop left stands for this world
+-- A database with these trees, as a crash left them, represents this world.
 pub record FoundAs (db : Trees) (world : World) : Type 0 where
   pub database : Database
   pub same : database.trees ≡ db

@@ -1,4 +1,4 @@
--- A command over a world that the tables stand for, whatever a stop could leave before it.
+-- A command over a represented world, whatever a crash could leave before it.
 use Rattle.std.specs.Prelude.{◌≡◌, ◌⊎◌, Bool, true, false, Result, Ok, Err, MatchResult}
 use Rattle.sqlite.specs.State.{State}
 use Rattle.sqlite.specs.Tree.{Trees}
@@ -13,18 +13,19 @@ use Rattle.wu_passes.specs.Committing.{FoundAs}
 use Rattle.wu_passes.specs.Standing.{GoesOn, ShowsWorld}
 use Rattle.wu_store.specs.Loading.{IsStoreFault}
 
--- Done: a stop leaves the machine's step alone; or there was nothing to make, and all is as it was.
+-- The command is done: a crash leaves only the machine's step; or nothing was to be made, and all is as it was.
 abbrev pub LeavesStepAlone : State → State → World → Request → Type 0
 LeavesStepAlone old new world request =
     GoesOn new (step world request) ⊎ ((step world request ≡ world) × KeepsAll old new)
 
--- Not done: a stop leaves no more than it could before; where the session ended, that or the machine's step.
+-- The command is not done: a crash leaves no more than it could before. If the session ended, it may also leave the
+-- machine's step.
 abbrev pub LeavesAtMost : Bool → State → State → World → Request → Type 0
 LeavesAtMost false old new world request = LeavesNoMore old new
 LeavesAtMost true old new world request =
     (db : Trees) → new.may_leave db → old.may_leave db ⊎ FoundAs db (step world request)
 
--- done, with the machine's reply; or not done, and the tables stand for the same world
+-- The command is done with the machine's reply; or it is not done, and the tables represent the same world.
 abbrev pub RunsFrom : State → World → Request → Bool → State → Result Answer Fault → Type 0
 RunsFrom old world request has_ended new result =
     MatchResult result

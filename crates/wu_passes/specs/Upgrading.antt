@@ -1,4 +1,4 @@
--- The upgrade of a project on a connection, with no session.
+-- The upgrade of a project on a connection, without a session.
 use Rattle.std.specs.Prelude.{◌≡◌, ◌≢◌, ◌⊎◌, Bool, false, IfErr, IsTrue, List, None, Result, Err, MatchResult, OnOk}
 use Rattle.sqlite.specs.Held.{Held, state}
 use Rattle.sqlite.specs.State.{State, HasCleanDisk}
@@ -19,39 +19,39 @@ use Rattle.wu_passes.specs.Adopting.{KeepsAll}
 use Rattle.wu_passes.specs.Leaving.{LeavesAtMost, LeavesStepAlone}
 use Rattle.wu_passes.specs.Standing.{ShowsWorld}
 
--- Done: a stop leaves the same lists with the present version alone; or they had it, and all is as it was. Not done:
--- the tables stand for the same world while the connection is open, and a stop leaves what it left before, or, where the
--- transaction had begun, the upgraded tables.
+-- If it is done, a crash leaves only the same lists at the present version, or all is as it was. If it is not done, the
+-- tables represent the same world while the connection is open. A crash then leaves what it could leave before or, if
+-- the transaction had begun, the upgraded tables.
 abbrev pub UpgradesFrom : {T : Type 0} → State → World → State → Result T (Fault × Bool) → Type 0
 UpgradesFrom old world new result =
     MatchResult result (λ _. LeavesStepAlone old new world AskUpgrade)
     (λ refusal. ((reply world AskUpgrade ≡ Err refusal.0) ⊎ IsStoreFault refusal.0)
     × ShowsWorld new world × LeavesAtMost refusal.1 old new world AskUpgrade)
 
--- so it is of each project that the tables stood for, on an open connection
+-- On a clean disk, this holds of each project that the tables represent.
 abbrev pub UpgradesEach : {S T : Type 0} → Ghosts S → Held S → Held S → Result T (Fault × Bool) → Type 0
 UpgradesEach g old new result =
     HasCleanDisk (state g new) → (world : World) → IsProject world → StandsFor (state g old).now world
     → UpgradesFrom (state g old) world (state g new) result
 
--- of one of the present version nothing is touched
+-- If the project is at the present version, nothing is touched.
 abbrev pub KeepsPresent : {S T : Type 0} → Ghosts S → Held S → Held S → Result T (Fault × Bool) → Type 0
 KeepsPresent g old new result =
     HasCleanDisk (state g new) → (world : World) → IsProject world → StandsFor (state g old).now world
     → IsUpToDate world → OnOk result (KeepsAll (state g old) (state g new))
 
--- the changes of a plan make the upgrade
+-- The changes of a plan make the upgrade.
 abbrev pub MakesUpgrade : {S T : Type 0} → Ghosts S → Held S → Held S → List Change → Result T (Fault × Bool) → Type 0
 MakesUpgrade g old new changes result =
     HasCleanDisk (state g new) → (world : World) (answer : Answer) → StandsFor (state g old).now world
     → ShowsWorld (state g old) world → Plans world AskUpgrade answer changes → UpgradesFrom (state g old) world (state g new) result
 
--- after a fault but want of memory or of the disk, the connection is open
+-- After each fault except `Memory` and `Broken` the connection is open.
 abbrev pub OpensUnlessFailed : {S T : Type 0} → Ghosts S → Held S → Result T (Fault × Bool) → Type 0
 OpensUnlessFailed g new result =
     HasCleanDisk (state g new) → IfErr result (λ refusal. IsFailure refusal.0 ⊎ IsTrue (state g new).is_open)
 
--- where the tables stand for a project and steps have no limit, none of it is refused before the transaction
+-- If the tables represent a project and steps have no limit, no read before the transaction is refused.
 abbrev pub ReadsProject : {S T : Type 0} → Ghosts S → Held S → Held S → Result T (Fault × Bool) → Type 0
 ReadsProject g old new result =
     HasCleanDisk (state g new) → (world : World) → StandsFor (state g old).now world → IsProject world → old.step_limit ≡ None

@@ -7,14 +7,14 @@ ghost use Rattle.wu_store.specs.Changing.{MakesWorlds};
 
 use sqlite::{Alter, Connection, Error, Transaction};
 use wu_core::Fault;
-use wu_schema::{Work, transact};
+use wu_schema::{TransactionWork, transact};
 use wu_store::{Change, apply};
 
 /// The changes of a command, as the work of one transaction.
 #[derive(Clone, Copy)]
 struct Changes<'a>(&'a [Change<'a>]);
 
-impl<'a> Work for Changes<'a> {
+impl<'a> TransactionWork for Changes<'a> {
     ghost makes = { λ changes. MakesWorlds changes.0.now };
 
     fn run<S: Alter>(&self, tx: &mut Transaction<'_, S>) -> Result<(), Error> {
@@ -31,16 +31,16 @@ pub fn change_all<S: Alter>(conn: &mut Connection<S>, changes: &[Change<'_>]) ->
     requires { conn.old.in_transaction ≡ false }
     // Afterwards the connection is not inside a transaction.
     ensures mode { conn.new.in_transaction ≡ false }
-    // With Ok all changes are made and committed, the connection is open, and a crash leaves
-    // exactly these tables.
+    // With Ok, a represented world for which the changes are right is represented with all of them
+    // made, and committed. The connection is open, and a crash leaves only these tables.
     ensures done { Commits S.Store conn.old conn.new result (MakesWorlds changes.now) }
-    // After `NotAProject` the connection is open, the tables are as before, and a crash leaves
-    // exactly them.
+    // After `NotAProject` the connection is open, the tables are as before, and a crash leaves only
+    // them.
     ensures refused { Refuses S.Store conn.old conn.new result }
     // Each fault is one of the store: `Memory`, `Broken` or `NotAProject`.
     ensures told { IfErr result IsStoreFault }
     // After any fault the tables are as before while the connection is open, and then a crash
-    // leaves exactly them.
+    // leaves only them.
     ensures undone { Undoes S.Store conn.old conn.new result }
     // Whatever the answer, a crash leaves what it could have left before the call, or the tables
     // with all changes.

@@ -20,7 +20,7 @@ use sqlite::{Alter, Connection};
 pub struct Project<S: Alter> {
     conn: Connection<S>,
     has_ended: bool,
-    /// The version that its tables have, where that is older than the present one.
+    /// The version that its tables have, if that is older than the present one.
     older: Option<u64>,
     ghost idle: { conn.in_transaction ≡ false },
 }

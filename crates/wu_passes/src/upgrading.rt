@@ -55,26 +55,27 @@ fn make_changes<S: Alter>(
 /// Upgrades the project in a database to the present version, in one transaction.
 ///
 /// It does what `Project::run` does for the command, with no session over the connection. Beside a fault it returns
-/// whether its transaction had begun. Where it had, a later opening of the files may find the tables as they were, or
-/// the upgraded ones.
+/// whether its transaction had begun. If it had, a later opening of the files may find the tables as they were, or the
+/// upgraded ones.
 pub fn upgrade<S: Alter>(conn: &mut Connection<S>, alloc: Global) -> Result<(), (Fault, bool)>
     // The connection is not inside a transaction.
     requires { conn.old.in_transaction ≡ false }
     // Afterwards the connection is not inside a transaction.
     ensures mode { conn.new.in_transaction ≡ false }
-    // With Ok the tables represent the same lists at the present version, and a crash leaves them
-    // alone. Or they had that version, and all is as it was. With a fault they represent the same
-    // world while the connection is open. A crash then leaves what it could before or, where the
-    // transaction had begun, the upgraded tables.
+    // With Ok the tables represent the same world at the present version, and a crash leaves only
+    // these. Or they had that version, and all is as it was. With a fault they represent the same
+    // world while the connection is open. A crash then leaves what it could have left before or, if
+    // the transaction had begun, the upgraded tables.
     ensures upgrades { UpgradesEach S.Store conn.old conn.new result }
-    // A project of the present version is left as it was, every table, and what a crash may leave.
+    // With Ok, a project that had the present version is left as it was: every table, and what a
+    // crash may leave.
     ensures present { KeepsPresent S.Store conn.old conn.new result }
     // After a fault an open connection shows what it showed, or its last commit.
     ensures back { OnErr result (GoesBack S.Store conn.old conn.new) }
     // After a fault the connection is open, except after `Memory` and `Broken`.
     ensures opens { OpensUnlessFailed S.Store conn.new result }
-    // Where the transaction had not begun, a fault commits nothing: a crash leaves what it could
-    // have left before.
+    // If the transaction had not begun, a fault commits nothing: a crash leaves what it could have
+    // left before.
     ensures unbegun { IfErr result (λ refusal. refusal.1 ≡ false
         → CommitsNothing S.Store conn.old conn.new) }
     // Without a limit on steps, a project that commands run over is not refused with `NotAProject`

@@ -19,8 +19,7 @@ pub fn known_version<S: Alter>(conn: &mut Connection<S>) -> Result<u64, Fault>
     ensures opens { ServesUnlessFailed S.Store conn.new result }
     // It never answers `Ended`.
     ensures never { NeverEnded result }
-    // Without a limit on steps, the version of a world that commands run over is never
-    // `NotAProject`.
+    // Without a limit on steps, over a world that commands run over, `NotAProject` is not returned.
     ensures unrefused { NotRefusedIn S.Store conn.old conn.new result IsProject }
     // The version is that of each world that the tables represent.
     ensures version { ForEachWorld S.Store conn.old conn.new (TellsVersion result) }

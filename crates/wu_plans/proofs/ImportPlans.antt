@@ -18,7 +18,7 @@ use Rattle.wu_store.specs.StandsFor.{KnowsClasses}
 use Rattle.wu_schema.specs.declared.rows.StoredImport.{StoredImport}
 use Rattle.wu_store.specs.declared.changes.Change.TheVariants.{Keep}
 use Rattle.wu_store.proofs.WorldOnce.{once_named, once_number}
-use Rattle.wu_plans.specs.declared.files.Left.{Left}
+use Rattle.wu_plans.specs.declared.files.AppliedRows.{AppliedRows}
 use Rattle.wu_plans.specs.declared.plan.Plan.{Plan}
 use Rattle.wu_machine.specs.Batches.{all_applied}
 use Rattle.wu_machine.specs.Worlds.{with_host_class}
@@ -52,7 +52,7 @@ may_be_kept : (given : Given) (verdicts : List ℕ) (import : Import) → given.
 may_be_kept given verdicts import empty is = subst MayBeKept (sym is) (record { template = λ other. empty; first_number = λ none. refl })
 
 -- the changes of a new file make of the world what its rows make of it, and keep it
-pub file_planned : {Row : Type 0} → (rule : Rule Row) (given : Given) (rows : List Row) (db : Database) (world : World) → Refines db world → KnowsClasses world → (left : Left) → IsLeft rule rows world left.touched left.verdicts.items
+pub file_planned : {Row : Type 0} → (rule : Rule Row) (given : Given) (rows : List Row) (db : Database) (world : World) → Refines db world → KnowsClasses world → (left : AppliedRows) → IsLeft rule rows world left.touched left.verdicts.items
     → (r : Result Plan Fault) → IfOk r (IsNewFile given left) → IfErr r (λ fault. fault ≡ Memory) → MatchResult r (IsFilePlan rule given rows world) IsStoreFault
 file_planned rule given rows db world stands known left is (Ok plan) new err =
     let made = rows_then rule rows world left.touched left.verdicts.items (Keep new.kept) (once_named db world stands) (once_number db world stands) is new.distinct in

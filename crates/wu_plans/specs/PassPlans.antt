@@ -26,11 +26,11 @@ use Rattle.wu_plans.specs.Summing.{AreFew}
 use Rattle.wu_machine.specs.Sound.{IsProject}
 use Rattle.wu_machine.specs.Requests.{Request, AskPass}
 
--- what is asked of the machine
+-- What a pass asks of the machine.
 abbrev pub asked : Ask → Request
 asked ask = AskPass ask.pass ask.moment ask.limit ask.min_age
 
--- how a pass changes a workunit: its image takes its place, or it goes
+-- How a pass changes a workunit: its image replaces it, or it is removed.
 abbrev pub change_by : Pass → ℕ → Workunit → Change
 change_by Transition now w = Replace w (transitioned w now)
 change_by Validate now w = Replace w (validation.validated w)
@@ -38,33 +38,33 @@ change_by Assimilate now w = Replace w (assimilated w now)
 change_by Delete now w = Replace w (emptied w)
 change_by Purge now w = Remove w.number
 
--- what a pass makes of a workunit
+-- This is what a pass makes of a workunit.
 pub record IsImageOf (pass : Pass) (now : ℕ) (w : Workunit) (image : Image) : Type 0 where
   pub change : image.change ≡ change_by pass now w
   pub grants : image.grants.items ≡ granted pass w
   pub archived : option_to_list image.archived ≡ archives pass now w
 
--- with what was made of one more
+-- What was made of one more workunit comes after what was made before.
 pub record HandlesAlso (image : Image) (old new : Handled) : Type 0 where
   pub changes : new.changes.items ≡ old.changes.items ++ image.change ∷ []
   pub grants : new.grants.items ≡ old.grants.items ++ image.grants.items
   pub archived : new.archived.items ≡ old.archived.items ++ option_to_list image.archived
 
--- what a pass makes of workunits, in their order
+-- This is what a pass makes of workunits, in their order.
 pub record HandlesAll (pass : Pass) (now : ℕ) (taken : List Workunit) (handled : Handled) : Type 0 where
   pub changes : handled.changes.items ≡ map (change_by pass now) taken
   pub grants : handled.grants.items ≡ flat_map (granted pass) taken
   pub archived : handled.archived.items ≡ flat_map (archives pass now) taken
 
--- changes, and then the one that keeps these grants from this place on, with one sum a host, but where two would pass
--- 64 bits together
+-- The changes end with the one that keeps these grants from this place on. It has one sum for each host, except where
+-- two would together exceed 64 bits.
 pub record AddsFrom (place : ℕ) (grants : List Grant) (old new : List Change) : Type 0 where
   pub given : List Change
   pub keeps : KeepsFrom place grants given
   pub few : AreFew keeps.sums.items
   pub changes : new ≡ old ++ given
 
--- changes, and then what keeps these grants at the next places of the world's
+-- The changes end with what keeps these grants, at the next places of the world's grants.
 pub record HasGrants (world : World) (grants : List Grant) (old new : List Change) : Type 0 where
   pub given : List Change
   pub keeps : KeepsGrants world.grants grants given
@@ -73,7 +73,7 @@ pub record HasGrants (world : World) (grants : List Grant) (old new : List Chang
 abbrev pub AddsGrants : {T : Type 0} → List Grant → List Change → List Change → Result T Fault → World → Type 0
 AddsGrants grants old new result world = OnOk result (HasGrants world grants old new)
 
--- changes, and then these archived rows at the next places of the world's
+-- The changes end with these archived rows, at the next places of the world's archived rows.
 pub record HasArchivedRows (world : World) (rows : List Archived) (old new : List Change) : Type 0 where
   pub place : ℕ
   pub next : IsNextPlace place world.archived
@@ -82,7 +82,7 @@ pub record HasArchivedRows (world : World) (rows : List Archived) (old new : Lis
 abbrev pub AddsArchivedRows : {T : Type 0} → List Archived → List Change → List Change → Result T Fault → World → Type 0
 AddsArchivedRows rows old new result world = OnOk result (HasArchivedRows world rows old new)
 
--- the changes of workunits, then grants, then archived rows, each at the next places
+-- The changes are those of workunits, then of grants, then of archived rows, each at the next places.
 pub record HasGiven (world : World) (handled : Handled) (changes : List Change) : Type 0 where
   pub given : List Change
   pub row_place : ℕ
@@ -93,7 +93,7 @@ pub record HasGiven (world : World) (handled : Handled) (changes : List Change) 
 abbrev pub AddsGiven : {A : Type 0} → Handled → Result (Vec Change A) Fault → World → Type 0
 AddsGiven handled result world = IfOk result (λ changes. HasGiven world handled changes.items)
 
--- of the workunits that a pass chooses, the plan of what the machine does
+-- Given the workunits that a pass chooses, this is the plan of what the machine does.
 abbrev pub PlansTaken : Ask → List Workunit → Result Plan Fault → World → Type 0
 PlansTaken ask taken result world =
     IsUpToDate world → IsProject world → taken ≡ chosen ask.pass ask.moment ask.min_age ask.limit world

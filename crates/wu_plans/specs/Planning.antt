@@ -1,4 +1,4 @@
--- The plan of a command: what it will answer and what it changes, before anything is changed.
+-- The plan of a command: its answer and its changes, computed before anything is changed.
 use Rattle.std.specs.Prelude.{◌≡◌, ◌≢◌, ◌⊎◌, ℕ, ◌+◌, ◌==◌, ◌&&◌, Bool, true, false, bytes_eq, if◌then◌else◌, List, [], ◌∷◌, ◌++◌, map, length, Some, None, Result, Ok, Err, find, IfErr, IfOk, MatchResult}
 use Rattle.std.specs.List.{enumerate_from}
 use Rattle.sqlite.specs.Held.{Held, state}
@@ -25,7 +25,7 @@ use Rattle.wu_schema.specs.declared.rows.StoredImport.{StoredImport}
 use Rattle.wu_schema.specs.Refines.{Refines}
 use Rattle.wu_plans.specs.declared.plan.Plan.{Plan}
 use Rattle.wu_plans.specs.declared.imports.Source.{Source}
-use Rattle.wu_plans.specs.declared.files.Left.{Left}
+use Rattle.wu_plans.specs.declared.files.AppliedRows.{AppliedRows}
 use Rattle.wu_store.specs.declared.changes.Change.{Change}
 use Rattle.wu_store.specs.declared.changes.Change.TheVariants.{Add, Class, Replace, Next, Keep}
 use Rattle.wu_store.specs.declared.changes.Import.{Import as Kept}
@@ -42,95 +42,95 @@ use Rattle.wu_machine.specs.Requests.{Request, AskUpgrade}
 use Rattle.wu_machine.specs.Commands.{request_of_batch, reply_of_answer}
 use Rattle.wu_machine.specs.Sound.{IsProject}
 
--- what is imported of a source
+-- What a source is imported as.
 abbrev pub given_of : Source → Given
 given_of source = record { kind = source.kind; name = source.name.now; template = source.template.now; content = source.content.now }
 
--- the plan that gives a workunit up: its image takes its place
+-- This is the plan of a cancel: the image of the undecided workunit replaces it.
 pub record IsCancelPlan (w : Workunit) (plan : Plan) : Type 0 where
   pub undecided : is_undecided w ≡ true
   pub answer : plan.answer ≡ answer.Cancelled w.name
   pub changes : plan.changes.items ≡ Replace w (cancelled w) ∷ []
 
--- it is refused where the workunit is not undecided, or for want of memory
+-- A cancel is refused for a workunit that is not undecided, or is out of memory.
 abbrev pub RefusesCancel : Workunit → Fault → Type 0
 RefusesCancel w fault = (fault ≡ Memory) ⊎ ((fault ≡ NotOpenToCancel) × (is_undecided w ≡ false))
 
--- what the rows of a file left of a world, by its classes, where it has them
-abbrev pub LeavesRows : {Row : Type 0} → (List HostClass → Rule Row) → List Row → Result Left Fault → World → Type 0
+-- What the rows of a file left of a world that has classes, with their verdicts.
+abbrev pub LeavesRows : {Row : Type 0} → (List HostClass → Rule Row) → List Row → Result AppliedRows Fault → World → Type 0
 LeavesRows rule rows result world =
     KnowsClasses world → IfOk result (λ left. IsLeft (rule world.classes) rows world left.touched left.verdicts.items)
 
--- it never says that the session has ended
+-- The call never reports that the session has ended.
 abbrev pub NeverEnded : {T : Type 0} → Result T Fault → Type 0
 NeverEnded result = IfErr result (λ fault. fault ≢ Ended)
 
--- a workunit's name is used, or a fault of the store
+-- The fault is that the name of a workunit is used, or one of the store.
 abbrev pub RefusesName : Fault → Type 0
 RefusesName fault = ((row : ℕ) × (fault ≡ WorkunitUsed row)) ⊎ IsStoreFault fault
 
--- no batch had this name
+-- No batch had this name before.
 abbrev pub IsNew : World → List ℕ → Type 0
 IsNew world name = find (is_import kind.Batch name) world.imports ≡ None
 
--- the fault tells the first job whose name is taken
+-- The fault reports the first job whose name is taken.
 abbrev pub TellsTaken : World → List Job → Fault → Type 0
 TellsTaken world jobs fault = (place : ℕ × List ℕ) × (first_taken world jobs ≡ Some place) × (fault ≡ WorkunitUsed (place.0 + 2))
 
--- Its answer is the machine's reply, and its changes make of the world what the machine makes of it; where that is
--- nothing there is none.
+-- The answer is the machine's reply, and the changes make of the world what the machine makes of it. If the machine
+-- makes nothing, there are no changes.
 pub record Plans (world : World) (request : Request) (answer : Answer) (changes : List Change) : Type 0 where
   pub done : done world request ≡ Ok (reply_of_answer answer, made_all changes world)
   pub right : AreRight changes world
   pub idle : MakesNothing world request → changes ≡ []
 
--- a plan, or the machine's refusal, or a fault of the store
+-- The result is a plan of the request, the machine's refusal, or a fault of the store.
 abbrev pub IsPlan : World → Request → Result Plan Fault → Type 0
 IsPlan world request result = MatchResult result (λ plan. Plans world request plan.answer plan.changes.items) (λ fault. (done world request ≡ Err fault) ⊎ IsStoreFault fault)
 
--- the changes that add the jobs, with consecutive numbers from the next one
+-- The changes that add the jobs, with consecutive numbers from the next one.
 abbrev pub additions : Parameters → ℕ → List Job → List Change
 additions params next jobs = map (λ p. Add (new_workunit params p.0 p.1)) (enumerate_from next jobs) ++ Next (next + length jobs) ∷ []
 
--- an import is kept with the answer that it gets
+-- The import is kept with the answer that it gets.
 abbrev pub KeepsImport : Given → ℕ → List ℕ → Kept → Type 0
 KeepsImport given first verdicts kept = import_of_change kept ≡ kept_import given first verdicts
 
--- the first number of so many workunits; 0 where there are none
+-- The first of so many numbers; 0 without one.
 abbrev pub first_of : ℕ → ℕ → ℕ
 first_of next count = if count == 0 then 0 else next
 
--- the plan of a batch that is not refused: it adds its jobs, and keeps itself
+-- This is the plan of a new batch: it adds its jobs, and keeps the import.
 pub record IsNewBatch (given : Given) (next : ℕ) (params : Parameters) (jobs : List Job) (plan : Plan) : Type 0 where
   pub kept : Kept
   pub keeps : KeepsImport given (first_of next (length jobs)) (all_applied jobs) kept
   pub answer : reply_of_answer plan.answer ≡ first_answer (import_of_change kept)
   pub changes : plan.changes.items ≡ additions params next jobs ++ Keep kept ∷ []
 
--- an earlier import of this kind and name had the same content
+-- Whether the earlier import of this kind and name had the same content.
 abbrev pub has_same_content : Given → StoredImport → Bool
 has_same_content given earlier = bytes_eq earlier.template given.template && bytes_eq earlier.content given.content
 
--- the plan of an import that came before: its first answer, and no change
+-- This is the plan of a repeated import: its first answer, and no change.
 pub record IsRepeated (given : Given) (earlier : StoredImport) (plan : Plan) : Type 0 where
   pub same : has_same_content given earlier ≡ true
   pub answer : plan.answer ≡ answer.Imported given.kind given.name earlier.first_number earlier.verdicts
   pub nothing : plan.changes.items ≡ []
 
--- it is refused for other content, or for want of memory
+-- A repeated import is refused for other content, or is out of memory.
 abbrev pub RefusesRepeat : Given → StoredImport → Fault → Type 0
 RefusesRepeat given earlier fault = (fault ≡ Memory) ⊎ ((fault ≡ NameUsed) × (has_same_content given earlier ≡ false))
 
--- what the rows of a file left is put in place, and the file is kept
-pub record IsNewFile (given : Given) (left : Left) (plan : Plan) : Type 0 where
+-- What the rows of a file left replaces what was there, and the import is kept.
+pub record IsNewFile (given : Given) (left : AppliedRows) (plan : Plan) : Type 0 where
   pub kept : Kept
   pub keeps : KeepsImport given 0 left.verdicts.items kept
   pub reply : reply_of_answer plan.answer ≡ first_answer (import_of_change kept)
   pub changes : plan.changes.items ≡ map replaces left.touched ++ Keep kept ∷ []
   pub distinct : AreDistinct left.touched
 
--- the plan of a file of these rows: they are applied or skipped, and the file is kept with their verdicts; where no
--- template goes with it, that may be made of the world
+-- This is the plan of a file of these rows: they are applied or skipped, and the import is kept with their verdicts.
+-- Without a template, these changes may be made of the world.
 pub record IsFilePlan {Row : Type 0} (rule : Rule Row) (given : Given) (rows : List Row) (world : World) (plan : Plan) : Type 0 where
   pub kept : Kept
   pub keeps : KeepsImport given 0 (row_verdicts rule world rows) kept
@@ -138,100 +138,103 @@ pub record IsFilePlan {Row : Type 0} (rule : Rule Row) (given : Given) (rows : L
   pub made : made_all plan.changes.items world ≡ with_import (import_of_change kept) (after_rows rule world rows)
   pub right : given.template ≡ [] → AreRight plan.changes.items world
 
--- the change that sets the class of a row's host
+-- The change that sets the class of a row's host.
 abbrev pub sets_class : HostClass → Change
 sets_class row = Class row.host row.class
 
--- the plan of a new file of classes: the class of each row's host is set, in the order of the rows, and the file is kept
+-- This is the plan of a new file of classes: the class of each row's host is set, in the order of the rows, and the
+-- import is kept.
 pub record IsNewClasses (given : Given) (rows : List HostClass) (plan : Plan) : Type 0 where
   pub kept : Kept
   pub keeps : KeepsImport given 0 (all_applied rows) kept
   pub reply : reply_of_answer plan.answer ≡ first_answer (import_of_change kept)
   pub changes : plan.changes.items ≡ map sets_class rows ++ Keep kept ∷ []
 
--- ---- what a call that reads says of the tables, and of each world that they stand for
+-- ---- what a call that reads reports of the tables, and of each world that they represent
 
--- where the tables stand for a world and steps have no limit, no read is refused
+-- If the tables represent a world and steps have no limit, no read is refused.
 abbrev pub NeverRefused : {S T : Type 0} → Ghosts S → Held S → Held S → Result T Fault → Type 0
 NeverRefused g old new result =
     HasCleanDisk (state g new) → (world : World) → Refines (state g old).now world → old.step_limit ≡ None → IfErr result (λ fault. fault ≢ NotAProject)
 
--- this holds of each world that the tables, its queue among them, stand for
+-- On a clean disk, this holds of each world that the tables represent, with its queue.
 abbrev pub ForEachProject : {S : Type 0} → Ghosts S → Held S → Held S → (World → Type 0) → Type 0
 ForEachProject g old new Is = HasCleanDisk (state g new) → (world : World) → StandsFor (state g old).now world → Is world
 
--- where they stand for such a world and steps have no limit, no read is refused
+-- If the tables represent such a world and steps have no limit, no read is refused.
 abbrev pub NotRefusedOver : {S T : Type 0} → Ghosts S → Held S → Held S → Result T Fault → (World → Type 0) → Type 0
 NotRefusedOver g old new result Is =
     HasCleanDisk (state g new) → (world : World) → StandsFor (state g old).now world → Is world → old.step_limit ≡ None → IfErr result (λ fault. fault ≢ NotAProject)
 
--- whether the name is taken by a workunit or an archived row
+-- The answer is whether the name is taken by a workunit or an archived row, or it is a fault of the store.
 abbrev pub KnowsTaken : List ℕ → Result Bool Fault → World → Type 0
 KnowsTaken name result world = MatchResult result (λ taken. taken ≡ is_one_of (taken_names world) name) IsStoreFault
 
--- or by one of these jobs
+-- The answer is whether the name is taken by a workunit, an archived row or one of these jobs, or it is a fault of the
+-- store.
 abbrev pub KnowsUsed : List Job → List ℕ → Result Bool Fault → World → Type 0
 KnowsUsed earlier name result world = MatchResult result (λ used. used ≡ is_one_of (taken_names world ++ job_names earlier) name) IsStoreFault
 
--- no job's name is taken, or the fault tells the first one
+-- No job's name is taken, or the fault reports the first one that is.
 abbrev pub FindsFree : {T : Type 0} → List Job → Result T Fault → World → Type 0
 FindsFree jobs result world = MatchResult result (λ _. first_taken world jobs ≡ None) (λ fault. TellsTaken world jobs fault ⊎ IsStoreFault fault)
 
--- rows can be applied to the world: it has classes, and its workunits and the classes of its hosts can be read
+-- Rows can be applied to the world: it has classes, and its workunits and the classes of its hosts can be read.
 pub record TakesRows (world : World) : Type 0 where
   pub known : KnowsClasses world
   pub storable : AreStorable world
   pub classed : AreClassed world.classes
 
--- a project of the present version
+-- The world is a project of the present version.
 abbrev pub IsPresentProject : World → Type 0
 IsPresentProject world = IsUpToDate world × IsProject world
 
--- over a project the version of its tables is told
+-- Over a project, the answer is the version of its tables.
 abbrev pub TellsVersion : Result ℕ Fault → World → Type 0
 TellsVersion result world = IsProject world → MatchResult result (λ version. version ≡ world.version) IsStoreFault
 
--- over a project, the plan of a request
+-- Over a project, the result is the plan of the request.
 abbrev pub PlansFor : Request → Result Plan Fault → World → Type 0
 PlansFor request result world = IsProject world → IsPlan world request result
 
--- over one of the present version
+-- Over a project of the present version, the result is the plan of the request.
 abbrev pub PlansNow : Request → Result Plan Fault → World → Type 0
 PlansNow request result world = IsUpToDate world → IsProject world → IsPlan world request result
 
--- such a one, or one of an older version that is to be upgraded
+-- The world is a project of the present version, or of an older one and the request is an upgrade.
 abbrev pub IsReadyFor : Request → World → Type 0
 IsReadyFor request world = (is_upgrade request ≡ false → IsUpToDate world) × IsProject world
 
--- a project of this version, and one that is ready
+-- The world is a project of this version; and it is one that is ready for the request.
 abbrev pub IsOfVersion : ℕ → World → Type 0
 IsOfVersion version world = (version ≡ world.version) × IsProject world
 
 abbrev pub IsReadyAt : ℕ → Request → World → Type 0
 IsReadyAt version request world = (version ≡ world.version) × IsReadyFor request world
 
--- over one of this version that is ready, the plan of a request
+-- Over a project of this version that is ready for the request, the result is its plan.
 abbrev pub PlansAt : ℕ → Request → Result Plan Fault → World → Type 0
 PlansAt version request result world = version ≡ world.version → IsReadyFor request world → IsPlan world request result
 
--- over one of this version, the plan of an upgrade
+-- Over a project of this version, the result is the plan of an upgrade.
 abbrev pub PlansUpgrade : ℕ → Result Plan Fault → World → Type 0
 PlansUpgrade version result world = version ≡ world.version → IsProject world → IsPlan world AskUpgrade result
 
--- of a file of these rows, whose name is new, over a world with classes,
+-- Over a world with classes, the result is the plan of a new file of these rows.
 abbrev pub PlansRows : {Row : Type 0} → (List HostClass → Rule Row) → Given → List Row → Result Plan Fault → World → Type 0
 PlansRows rule given rows result world =
     KnowsClasses world → MatchResult result (IsFilePlan (rule world.classes) given rows world) IsStoreFault
 
--- of a batch,
+-- Over a project of the present version, the result is the plan of the batch.
 abbrev pub PlansBatch : Batch → Result Plan Fault → World → Type 0
 PlansBatch batch = PlansNow (request_of_batch batch)
 
--- of one whose name is new,
+-- Over a project of the present version without a batch of this name, the result is the plan of the batch.
 abbrev pub PlansNew : Batch → Result Plan Fault → World → Type 0
 PlansNew batch result world = IsUpToDate world → IsProject world → IsNew world batch.name → IsPlan world (request_of_batch batch) result
 
--- and of these jobs
+-- Over a project of the present version without a batch of this name, the result is the plan of the batch with these
+-- parameters and jobs.
 abbrev pub PlansJobs : Batch → Parameters → List Job → Result Plan Fault → World → Type 0
 PlansJobs batch params jobs result world =
     IsUpToDate world → IsProject world → IsNew world batch.name → template_of batch.template ≡ Ok params → jobs_of_file batch.file ≡ Ok jobs → IsPlan world (request_of_batch batch) result

@@ -7,36 +7,36 @@ use Rattle.wu_core.specs.declared.workunit.Grant.{Grant}
 use Rattle.wu_store.specs.Sums.{AreSums}
 use Rattle.wu_store.specs.declared.changes.HostSum.{HostSum}
 
--- the sum of one grant
+-- The sum of one grant.
 abbrev pub sum_of : Grant → HostSum
 sum_of g = record { name = g.host; total = g.credit; grants = 1 }
 
--- a sum with a grant more
+-- The sum with one grant more.
 abbrev pub with_more : Grant → HostSum → HostSum
 with_more g sum = record sum { total = sum.total + g.credit; grants = sum.grants + 1 }
 
--- two sums would pass 64 bits together
+-- The two sums would together exceed 64 bits.
 abbrev pub PassTogether : HostSum → HostSum → Type 0
 PassTogether a b = (2 ^ 64 ≤ a.total + b.total) ⊎ (2 ^ 64 ≤ a.grants + b.grants)
 
--- the next sum, if there is one, is for a host with a later name, or was begun since both would pass 64 bits together
+-- The next sum, if there is one, is for a host with a later name, or the two would together exceed 64 bits.
 abbrev pub IsBegunBehind : HostSum → List HostSum → Type 0
 IsBegunBehind a [] = ⊤
 IsBegunBehind a (b ∷ more) = (slice_cmp nat_cmp a.name b.name ≡ Less) ⊎ PassTogether a b
 
--- so is the next of each: there is one for each host, but for those
+-- There is one sum for each host, except where two would together exceed 64 bits.
 abbrev pub AreFew : List HostSum → Type 0
 AreFew [] = ⊤
 AreFew (a ∷ more) = IsBegunBehind a more × AreFew more
 
--- the last of them, if there is one, is for no host with a later name
+-- The last sum, if there is one, is for no host with a later name than this.
 abbrev pub AreUpTo : List ℕ → List HostSum → Type 0
 AreUpTo host [] = ⊤
 AreUpTo host (a ∷ []) = slice_cmp nat_cmp host a.name ≢ Less
 AreUpTo host (a ∷ b ∷ more) = AreUpTo host (b ∷ more)
 
--- sums with a grant more: what were those of some grants are those of them and this one, and they stay few where none
--- is for a later host
+-- If the old sums are those of some grants, the new ones are those of these and one more. They stay few if no old sum
+-- is for a later host.
 pub record SumsAlso (g : Grant) (old new : List HostSum) : Type 0 where
   pub sums : (grants : List Grant) → AreSums old grants → AreSums new (grants ++ g ∷ [])
   pub few : AreFew old → AreUpTo g.host old → AreFew new

@@ -1,5 +1,4 @@
--- The workunits that rows of a file spoke of, each as they found it and as they left it, beside the world that the file
--- found.
+-- The workunits that rows of a file named, each as it was before the file and as the rows left it.
 use Rattle.std.specs.Prelude.{◌≡◌, ◌≢◌, ℕ, List, [], ◌∷◌, ◌++◌, map, find, bytes_eq, string_bytes, if◌then◌else◌, Option, Some, Result, IfOk, OnOk, String}
 use Rattle.std.specs.declared.alloc.Global.{Global}
 use Rattle.std.specs.List.{AllPairs}
@@ -22,15 +21,15 @@ use Rattle.wu_plans.specs.declared.touched.Touch.{Touch}
 
 -- ---- the class on which the verdict on a row depends
 
--- for a send that of its host, where hosts have these classes
+-- The class of a send is that of its host, given the classes of hosts.
 abbrev pub send_class : List HostClass → SendRow → ℕ
 send_class classes row = class_of classes row.host
 
--- for a report none
+-- A report has no class.
 abbrev pub no_class : List HostClass → ReportRow → ℕ
 no_class classes row = 0
 
--- what a send says, where its host has this class
+-- The rule of sends whose host has this class.
 abbrev pub send_rule_at : ℕ → Rule SendRow
 send_rule_at class = record {
   workunit = λ row. row.workunit;
@@ -41,7 +40,7 @@ send_rule_at class = record {
 abbrev pub report_rule_at : ℕ → Rule ReportRow
 report_rule_at class = report_rule
 
--- what a kind of rows says, where hosts have these classes
+-- The rule of this kind of rows, given the classes of hosts.
 abbrev pub rule_in : {Row : Type 0} → (ℕ → Rule Row) → (List HostClass → Row → ℕ) → List HostClass → Rule Row
 rule_in rule class_in classes = record {
   workunit = λ row. (rule (class_in classes row)).workunit row;
@@ -51,41 +50,41 @@ rule_in rule class_in classes = record {
 
 -- ---- the workunits that were touched
 
--- the one of this name, if it was touched
+-- The touched workunit of this name; `None` if it was not touched.
 abbrev pub touched_named : List Touch → List ℕ → Option Touch
 touched_named touched name = find (λ touch. bytes_eq touch.now.name name) touched
 
--- a workunit as it was left: as it was, where it was not touched
+-- The workunit as the rows left it; one that was not touched stays as it was.
 abbrev pub as_left : List Touch → Workunit → Workunit
 as_left touched w = option_map_or (λ touch. touch.now) (touched_named touched w.name) w
 
--- it is kept under its name
+-- The entry has the name of its workunit as its key.
 abbrev pub IsUnderItsName : String Global × Touch → Type 0
 IsUnderItsName entry = string_bytes entry.0 ≡ entry.1.now.name
 
--- a workunit before any row
+-- The workunit before any row.
 abbrev pub untouched : Workunit → Touch
 untouched w = record { was = w; now = w }
 
--- with this one more
+-- This workunit is touched too, as it was before any row.
 abbrev pub HasAlso : Workunit → List Touch → List Touch → Type 0
 HasAlso w old new = (name : List ℕ) → touched_named new name ≡ if bytes_eq w.name name then Some (untouched w) else touched_named old name
 
--- as a row with this verdict leaves it
+-- The workunit as a row with this verdict leaves it.
 abbrev pub touched_by : {Row : Type 0} → Rule Row → Row → ℕ → Touch → Touch
 touched_by rule row verdict touch = record touch { now = left_by rule row verdict touch.now }
 
--- the workunit of a row is as the row with this verdict leaves it, and each other as it was
+-- The workunit of the row is as the row with this verdict leaves it, and each other stays as it was.
 abbrev pub LeavesBy : {Row : Type 0} → Rule Row → Row → ℕ → List Touch → List Touch → Type 0
 LeavesBy rule row verdict old new =
     (name : List ℕ) → touched_named new name ≡ if bytes_eq (rule.workunit row) name
     then option_map (touched_by rule row verdict) (touched_named old name) else touched_named old name
 
--- the world with each touched workunit as it was left
+-- The world with each touched workunit as the rows left it.
 abbrev pub with_touched : List Touch → World → World
 with_touched touched world = record world { workunits = map (as_left touched) world.workunits }
 
--- what became of the present workunit of its name: its number is the same
+-- This was the present workunit of its name, and its number stays.
 pub record IsImage (world : World) (touch : Touch) : Type 0 where
   pub present : workunit_named world touch.now.name ≡ Some touch.was
   pub number : touch.now.number ≡ touch.was.number
@@ -93,21 +92,21 @@ pub record IsImage (world : World) (touch : Touch) : Type 0 where
 abbrev pub AreImages : World → List Touch → Type 0
 AreImages world touched = (name : List ℕ) (touch : Touch) → touched_named touched name ≡ Some touch → IsImage world touch
 
--- no two have one name
+-- No two touched workunits have the same name.
 abbrev pub AreDistinct : List Touch → Type 0
 AreDistinct touched = AllPairs (λ (one other : Touch). one.now.name ≢ other.now.name) touched
 
--- the change that puts it, as it was left, in its place
+-- The change that replaces a touched workunit by what the rows left of it.
 abbrev pub replaces : Touch → Change
 replaces touch = Replace touch.was touch.now
 
--- what rows left of a world, and their verdicts
+-- This is what rows left of a world, with their verdicts.
 pub record IsLeft {Row : Type 0} (rule : Rule Row) (rows : List Row) (world : World) (touched : List Touch) (verdicts : List ℕ) : Type 0 where
   pub images : AreImages world touched
   pub left : with_touched touched world ≡ after_rows rule world rows
   pub told : verdicts ≡ row_verdicts rule world rows
 
--- The workunit of this name is among them, if the world has one, and the world as they left it is the same.
+-- The workunit of this name is now touched if the world has one, and the world as the rows left it stays the same.
 pub record IsTouched (name : List ℕ) (world : World) (old new : List Touch) : Type 0 where
   pub images : AreImages world new
   pub left : with_touched new world ≡ with_touched old world
@@ -116,7 +115,7 @@ pub record IsTouched (name : List ℕ) (world : World) (old new : List Touch) : 
 abbrev pub TouchesNamed : {T : Type 0} → List ℕ → List Touch → List Touch → Result T Fault → World → Type 0
 TouchesNamed name old new result world = KnowsClasses world → AreImages world old → OnOk result (IsTouched name world old new)
 
--- one row more is applied or skipped, by the classes of a world that has them
+-- One row more is applied or skipped, over a world with classes.
 abbrev pub LeavesRow : {Row : Type 0} → (List HostClass → Rule Row) → Row → List Touch → List Touch → Result ℕ Fault → World → Type 0
 LeavesRow {Row} rule row old new result world =
     KnowsClasses world → (rows : List Row) (verdicts : List ℕ) → IsLeft (rule world.classes) rows world old verdicts

@@ -20,7 +20,7 @@ use wu_store::{Change, import_of, load_named};
 
 /// What the rows of a file left: the workunits that they name, and the number of a verdict for each row.
 #[derive(Drop)]
-pub struct Left {
+pub struct AppliedRows {
     pub touched: Touched,
     pub verdicts: Vec<u8>,
 }
@@ -77,7 +77,7 @@ fn apply_rows<R: FileRow, S: Alter>(
     conn: &mut Connection<S>,
     alloc: Global,
     rows: Rows<R>,
-) -> Result<Left, Fault>
+) -> Result<AppliedRows, Fault>
     ensures asks { Asks S.Store conn.old conn.new result }
     ensures fault { IfErr result IsStoreFault }
     // Over a world whose workunits and classes can be read, with no limit on steps, no read is
@@ -93,17 +93,17 @@ fn apply_rows<R: FileRow, S: Alter>(
     for row in rows.into_vec() {
         verdicts.push(apply_row(conn, alloc, &mut touched, row)?)?;
     }
-    Ok(Left { touched, verdicts })
+    Ok(AppliedRows { touched, verdicts })
 }
 
 /// Returns the answer and the changes of a file whose rows left this.
-fn new_file<'a>(alloc: Global, source: &Source<'a>, left: Left) -> Result<Plan<'a>, Fault>
+fn new_file<'a>(alloc: Global, source: &Source<'a>, left: AppliedRows) -> Result<Plan<'a>, Fault>
     requires { All (λ verdict. verdict ≤ 9) left.verdicts.items }
     // Each touched workunit is put in place once, and the file is kept with its verdicts.
     ensures plan { IfOk result (IsNewFile (given_of source.now) left) }
     ensures fault { IfErr result (λ fault. fault ≡ Memory) }
 {
-    let Left { touched, verdicts } = left;
+    let AppliedRows { touched, verdicts } = left;
     let import = kept(alloc, source, 0, verdicts.as_slice())?;
     let mut changes = touched.into_changes(alloc)?;
     changes.push(Change::Keep(import))?;

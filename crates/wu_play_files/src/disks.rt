@@ -1,11 +1,11 @@
-//! Two files in memory, where the calls on one of them stop after so many.
+//! Two files in memory, one of which fails after a number of calls.
 
 use sqlite::Files;
 use sqlite_disk::{Crash, Disk, Fuse, Memory};
 use std::alloc::Global;
 use std::{fmt, io};
 
-/// The file whose calls stop.
+/// The file that fails.
 #[derive(Clone, Copy)]
 pub enum Side {
     Log,
@@ -24,10 +24,10 @@ impl fmt::Display for Side {
 /// More calls than any run makes on a file.
 pub const MOST_CALLS: u64 = 1000;
 
-/// A file of a play: it lies in memory, and its calls may stop.
+/// A file of a scenario: it lies in memory, and may fail after a number of calls.
 pub type PlayDisk = Fuse<Memory>;
 
-/// The files of a play.
+/// The two files of a scenario.
 pub struct PlayFiles {
     files: Files<PlayDisk>,
 }
@@ -52,7 +52,7 @@ impl Drop for Saved {
     }
 }
 
-/// A synced file of these bytes, whose calls stop after so many.
+/// Returns a synced file of these bytes that fails after `calls` calls.
 fn file(alloc: Global, bytes: &[u8], calls: u64) -> io::Result<PlayDisk> {
     let mut file = Memory::new(alloc);
     file.write_at(0, bytes)?;
@@ -61,7 +61,7 @@ fn file(alloc: Global, bytes: &[u8], calls: u64) -> io::Result<PlayDisk> {
 }
 
 impl Saved {
-    /// Two empty files.
+    /// Returns the contents of two empty files.
     pub fn empty(alloc: Global) -> Saved {
         Saved {
             log: Vec::new(alloc),
@@ -69,7 +69,7 @@ impl Saved {
         }
     }
 
-    /// A database of these bytes, with an empty log.
+    /// Returns the contents of a database file of these bytes and an empty log.
     pub fn database(alloc: Global, db: Vec<u8>) -> Saved {
         Saved {
             log: Vec::new(alloc),
@@ -77,16 +77,17 @@ impl Saved {
         }
     }
 
+    /// Returns whether both files have the same bytes.
     pub fn is_same(&self, other: &Saved) -> bool {
         self.log.as_slice() == other.log.as_slice() && self.db.as_slice() == other.db.as_slice()
     }
 
-    /// Whether the file of the database has the same bytes.
+    /// Returns whether the database file has the same bytes.
     pub fn has_database_of(&self, other: &Saved) -> bool {
         self.db.as_slice() == other.db.as_slice()
     }
 
-    /// Files that hold the same, where the calls on this one stop after so many.
+    /// Returns files with these contents, of which the named one fails after `calls` calls.
     pub fn stopping(&self, alloc: Global, side: Side, calls: u64) -> io::Result<PlayFiles> {
         let (log_calls, db_calls) = match side {
             Side::Log => (calls, u64::MAX),
@@ -97,13 +98,13 @@ impl Saved {
         Ok(PlayFiles::from_files(Files { log, db }))
     }
 
-    /// Files that hold the same.
+    /// Returns files with these contents that do not fail.
     pub fn files(&self, alloc: Global) -> io::Result<PlayFiles> {
         self.stopping(alloc, Side::Log, u64::MAX)
     }
 }
 
-/// Whether the calls on a file have stopped.
+/// Returns whether a file has failed.
 fn is_stopped(file: &mut PlayDisk) -> bool {
     !file.may_be_used() || file.len().is_err()
 }
@@ -118,7 +119,7 @@ impl PlayFiles {
         files
     }
 
-    /// What they hold.
+    /// Returns what the files hold, also what was not synced.
     pub fn saved(&self, alloc: Global) -> io::Result<Saved> {
         Ok(Saved {
             log: Vec::from_slice(alloc, self.files.log.inner().bytes())?,
@@ -126,14 +127,14 @@ impl PlayFiles {
         })
     }
 
-    /// What they hold when the machine comes back after a stop: what was not synced is lost.
+    /// Returns what the files hold after a crash: what was not synced is lost.
     pub fn after_stop(mut self, alloc: Global) -> io::Result<Saved> {
         self.files.log.crash();
         self.files.db.crash();
         self.saved(alloc)
     }
 
-    /// Whether the calls on either of them have stopped.
+    /// Returns whether either of the files has failed.
     pub fn are_stopped(&mut self) -> bool {
         is_stopped(&mut self.files.log) || is_stopped(&mut self.files.db)
     }

@@ -1,8 +1,8 @@
-//! What is done over two files: they are opened, a visitor is handed the database, and they are closed as far as they
-//! let it.
+//! What is done over two files: they are opened, a visitor is given the database, and they are closed as far as their
+//! calls succeed.
 //!
-//! What a visitor does is written for any store, and one function alone works over files: that the store over files
-//! serves is proved again wherever it is named.
+//! A visitor is written for any store, and one function alone works over files: that two files serve as a store is
+//! proved again in each function that needs it.
 
 use crate::disks::PlayFiles;
 use anyhow::Result;
@@ -13,17 +13,17 @@ use std::alloc::Global;
 /// How many pages a database keeps in memory.
 #[derive(Clone, Copy)]
 pub enum Pages {
-    /// All that a play reads and writes.
+    /// All that a scenario reads and writes.
     All,
-    /// Next to none: a question reads the files, and a write goes to the log at once.
+    /// Next to none: each query reads the files, and each write goes to the log at once.
     Few,
 }
 
-/// More pages than a database of a play has. An opening takes memory for as many as it may keep, and most of the time of
-/// a play goes into openings.
+/// More pages than the database of a scenario has. An opening takes memory for as many as it may keep, and most of the
+/// time of a scenario goes into openings.
 const ALL: usize = 200;
 
-/// The options of an opening with this seed.
+/// Returns the options of an opening with this seed.
 pub fn options(seed: u64, pages: Pages) -> Options {
     let mut options = Options::new(seed);
     match pages {
@@ -38,10 +38,10 @@ pub fn options(seed: u64, pages: Pages) -> Options {
 
 /// What is done with an open database.
 pub trait Visit: Drop {
-    /// What it tells.
+    /// What the visitor reports.
     type Told: Drop;
 
-    /// Gives the database back, with what it tells; an error where the play has gone wrong.
+    /// Returns the database and what the visitor reports. Fails if the scenario has gone wrong.
     fn visit<S: Alter + Drop>(
         self,
         alloc: Global,
@@ -68,7 +68,7 @@ impl<F: Drop, T: Drop> Drop for Left<F, T> {
 }
 
 impl<F: Drop, T: Drop> Left<F, T> {
-    /// Files that could not be opened.
+    /// Returns what is left of files that could not be opened.
     fn unopened(files: F) -> Left<F, T> {
         Left {
             files,
@@ -77,7 +77,8 @@ impl<F: Drop, T: Drop> Left<F, T> {
         }
     }
 
-    /// The files, what the visitor told, None where they could not be opened, and whether the close was answered too.
+    /// Returns the files, what the visitor reported, and whether the close succeeded. The second is `None` if the files
+    /// could not be opened.
     pub fn into_parts(self) -> (F, Option<T>, bool) {
         let Left {
             files,
@@ -87,7 +88,7 @@ impl<F: Drop, T: Drop> Left<F, T> {
         (files, told, is_closed)
     }
 
-    /// What the visitor told.
+    /// Returns what the visitor reported; `None` if the files could not be opened.
     pub fn into_told(self) -> Option<T> {
         let Left {
             files: _files,
@@ -98,7 +99,7 @@ impl<F: Drop, T: Drop> Left<F, T> {
     }
 }
 
-/// Closes a database as far as its files let it.
+/// Closes a database as far as the calls on its files succeed.
 fn close<D: Disk + Drop, T: Drop>(conn: Connection<FileStore<D>>, told: T) -> Left<Files<D>, T> {
     let (files, is_closed) = match conn.close_files() {
         Ok(files) => (files, true),
@@ -111,7 +112,7 @@ fn close<D: Disk + Drop, T: Drop>(conn: Connection<FileStore<D>>, told: T) -> Le
     }
 }
 
-/// Opens files, visits the database, and closes them, as far as they let it.
+/// Opens files, visits the database, and closes them as far as their calls succeed.
 fn visit_files<D: Disk + Drop, V: Visit>(
     alloc: Global,
     files: Files<D>,
@@ -130,7 +131,7 @@ fn visit_files<D: Disk + Drop, V: Visit>(
     }
 }
 
-/// So it does with the files of a play.
+/// Opens the files of a scenario, visits the database, and closes them as far as their calls succeed.
 pub fn visit_play<V: Visit>(
     alloc: Global,
     files: PlayFiles,

@@ -1,5 +1,5 @@
-//! What plays of scripts run over: files in memory whose calls stop, databases that are opened over them and closed, and
-//! writers that take no more.
+//! What scenarios run over: files in memory that fail after a number of calls, databases that are opened over them and
+//! closed, and writers that fail.
 #![tactic(auto)]
 
 mod disks;

@@ -1,28 +1,30 @@
-//! A writer that takes so many bytes, and so many flushes.
+//! A writer that fails after a number of bytes or of flushes.
 
 use std::alloc::Global;
 use std::io::{self, ErrorKind, Write};
 
-/// What a writer does that takes no more bytes.
+/// What a writer does when it is full.
 #[derive(Clone, Copy)]
 pub enum Full {
+    /// It returns an error.
     Fails,
+    /// It takes no byte, without an error.
     TakesNone,
 }
 
-/// A writer that takes so many bytes, so many of them a call, and then no more. So many flushes go well, and then they
-/// fail.
+/// A writer with room for a number of bytes, that takes at most so many a call. It fails when it is full, and after a
+/// number of flushes.
 pub struct Narrow {
     pub taken: Vec<u8>,
     room: usize,
-    /// How many bytes it takes a call.
+    /// The most bytes that it takes in one call.
     most: usize,
     full: Full,
-    /// How many bytes were taken at each flush that went well.
+    /// How many bytes had been taken at each flush that succeeded.
     pub flushed: Vec<usize>,
     flushes: usize,
     has_failed: bool,
-    /// Whether it was called again behind a call that failed.
+    /// Whether it was called again after a call that failed.
     pub is_called_again: bool,
 }
 
@@ -43,6 +45,8 @@ impl Drop for Narrow {
 }
 
 impl Narrow {
+    /// Returns a writer with room for `room` bytes, at most `most` a call, of which the first `flushes` flushes
+    /// succeed.
     pub fn new(alloc: Global, room: usize, most: usize, full: Full, flushes: usize) -> Narrow {
         Narrow {
             taken: Vec::new(alloc),
@@ -56,7 +60,7 @@ impl Narrow {
         }
     }
 
-    /// A writer that takes all.
+    /// Returns a writer that takes all bytes and never fails.
     pub fn wide(alloc: Global) -> Narrow {
         Narrow::new(alloc, usize::MAX, usize::MAX, Full::Fails, usize::MAX)
     }

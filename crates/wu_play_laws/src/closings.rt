@@ -1,4 +1,4 @@
-//! What a close leaves that stops on the way.
+//! What a close leaves that fails partway.
 
 use crate::files::{database_of, files_of};
 use anyhow::{Result, bail, ensure};
@@ -7,7 +7,7 @@ use sqlite_disk::{Crash, Disk};
 use std::alloc::Global;
 use wu_stops::{close_stop_and_adopt, open_and_adopt, stop_and_adopt_unclosed};
 
-/// The database of the project in two files whose calls may stop on the way; None where one stopped.
+/// Returns the database of the project in two files; `None` if a call on them failed.
 fn adopted<D: Disk + Drop>(
     alloc: Global,
     files: Files<D>,
@@ -19,9 +19,8 @@ fn adopted<D: Disk + Drop>(
     }
 }
 
-/// Closes the project in two files whose calls may stop on the way; then the machine stops, and the project in what is
-/// left is adopted. Whether the close was answered, and what files the last session leaves; None where a call stopped
-/// before the close.
+/// Adopts the project in two files and closes it. Then the machine crashes, and the project in what is left is adopted.
+/// Returns whether the close succeeded, and the files of the last session; `None` if a call failed before the close.
 pub fn close_and_go_on<D: Crash + Drop>(
     alloc: Global,
     files: Files<D>,
@@ -36,9 +35,9 @@ pub fn close_and_go_on<D: Crash + Drop>(
     }
 }
 
-/// Closes the project in two files whose calls may stop on the way. Where the close fails, the machine stops, and the
-/// project in the store that it left is adopted: what files that leaves. None where the close is answered, or a call
-/// stopped before it.
+/// Adopts the project in two files and closes it. If the close fails, the machine crashes, and the project in the store
+/// that is left is adopted. Returns the files of the last session; `None` if the close succeeded or a call failed
+/// before it.
 pub fn close_left<D: Crash + Drop>(alloc: Global, files: Files<D>) -> Result<Option<Files<D>>> {
     let conn = match adopted(alloc, files)? {
         Some(conn) => conn,

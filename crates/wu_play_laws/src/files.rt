@@ -5,19 +5,20 @@ use sqlite_disk::Disk;
 use wu_drive::Project;
 use wu_stops::store_of;
 
-/// The database of a project. It is one call over any store.
+/// Returns the database of a project. It is one call over any store.
 fn released<S: Alter + Drop>(project: Project<S>) -> Connection<S> {
     project.release()
 }
 
-/// The database of a project in two files.
+/// Returns the database of a project in two files.
 ///
-/// It is one function for all: that two files serve as a store is proved again in each that asks any store for this.
+/// It is one function for all its callers: that two files serve as a store is proved again in each that calls one over
+/// any store.
 pub fn database_of<D: Disk + Drop>(project: Project<FileStore<D>>) -> Connection<FileStore<D>> {
     released(project)
 }
 
-/// The two files of a project, which is not closed.
+/// Returns the two files of a project without closing its database.
 pub fn files_of<D: Disk + Drop>(project: Project<FileStore<D>>) -> Files<D> {
     store_of(database_of(project)).close()
 }

@@ -1,5 +1,5 @@
-//! Plays of the calls that the laws of stops and of lives speak of. The laws say what they answer where they answer, and
-//! not that they do.
+//! Runs of the functions of `wu_stops` and `wu_lives`. Their contracts say what these functions leave if they succeed,
+//! and not that they do.
 #![tactic(auto)]
 
 mod closings;

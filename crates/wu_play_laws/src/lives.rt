@@ -1,4 +1,4 @@
-//! Lives of a project, one after another.
+//! A history of sessions over one project.
 
 use crate::files::{database_of, files_of};
 use anyhow::{Result, bail, ensure};
@@ -20,8 +20,9 @@ fn write_ends(runs: &[Run], transcript: &mut Vec<u8>) -> Result<()> {
     Ok(())
 }
 
-/// Lives these lives over two files, each from what the one before it left behind a stop, and stops once more behind the
-/// last adoption. The answers are written, and behind them the faults of runs. What files the last session leaves.
+/// Runs lists of commands over two files, one session after another. A crash ends each session, and the next one begins
+/// from what it left; one more crash follows the last adoption. Writes the answers, and then the faults of the runs.
+/// Returns the files of the last session.
 pub fn live_on<D: Crash + Drop>(
     alloc: Global,
     files: Files<D>,

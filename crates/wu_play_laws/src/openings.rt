@@ -1,4 +1,4 @@
-//! What an opening leaves that stops on the way.
+//! What an opening leaves that fails partway.
 
 use crate::files::files_of;
 use anyhow::{Result, bail, ensure};
@@ -7,8 +7,8 @@ use sqlite_disk::Crash;
 use std::alloc::Global;
 use wu_stops::{stop_and_open_left, store_of};
 
-/// Opens two files whose calls may stop on the way; what is left of them then is opened again, and the project in it
-/// adopted. What files that leaves; None where no call stopped.
+/// Opens two files. If that fails, the machine crashes, what is left is opened again, and the project in it is adopted.
+/// Returns the files of that session; `None` if the first opening succeeded.
 pub fn open_left<D: Crash + Drop>(alloc: Global, files: Files<D>) -> Result<Option<Files<D>>> {
     ensure!(files.may_be_used(), "the files can't be used");
     match Connection::open_files(alloc, files, Options::new(1)) {

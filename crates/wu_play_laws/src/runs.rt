@@ -1,4 +1,4 @@
-//! Runs of commands over files that nothing stops.
+//! Runs of commands over files that do not fail.
 
 use crate::files::files_of;
 use anyhow::{Result, bail, ensure};
@@ -9,8 +9,8 @@ use wu_drive::Command;
 use wu_lives::{begin_at, run_and_begin_again, run_and_close, run_and_leave};
 use wu_stops::open_and_adopt;
 
-/// Runs these commands over two files and leaves those; then runs them over what was left and closes it. The answers
-/// are written.
+/// Runs commands over two files and leaves these unclosed. Then runs the commands again over what was left, and closes
+/// it. Writes the answers.
 pub fn run_twice<D: Disk + Drop>(
     alloc: Global,
     files: Files<D>,
@@ -36,7 +36,7 @@ pub fn run_twice<D: Disk + Drop>(
     }
 }
 
-/// Runs these commands over the project in a database at a path, and begins again there. The answers are written.
+/// Runs commands over the project in a database at a path, and begins a session there again. Writes the answers.
 pub fn run_at<S: Start>(
     rt: &HostRuntime,
     path: &str,

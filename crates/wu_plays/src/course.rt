@@ -1,4 +1,4 @@
-//! The course of a script over two files that do not stop.
+//! The course of a script: what each of its acts leads to over two files that do not fail.
 
 use crate::runs::{Reach, run_over, seen_of};
 use crate::scripts::steps;
@@ -8,14 +8,16 @@ use std::alloc::{AllocError, Global};
 use wu_arguments::Action;
 use wu_play_files::{MOST_CALLS, Pages, Saved, Side};
 
-/// What was found after a stop.
+/// Which state of a project was found after a crash.
 #[derive(Clone, Copy, PartialEq, Eq)]
 pub enum Found {
+    /// The state before the act.
     Before,
+    /// The state after the act.
     After,
 }
 
-/// What files hold, and the project in them.
+/// The contents of the files between two acts, and a snapshot of the project in them.
 pub struct Stage {
     pub files: Saved,
     pub seen: Seen,
@@ -32,13 +34,13 @@ impl Drop for Stage {
 }
 
 impl Stage {
-    /// The stage of these files.
+    /// Returns the stage of files with these contents.
     fn of(alloc: Global, files: Saved) -> Result<Stage> {
         let seen = seen_of(alloc, &files)?;
         Ok(Stage { files, seen })
     }
 
-    /// The stage of blank files.
+    /// Returns the stage of empty files.
     fn blank(alloc: Global) -> Stage {
         Stage {
             files: Saved::empty(alloc),
@@ -47,14 +49,14 @@ impl Stage {
     }
 }
 
-/// An act of a script: the adoption of blank files, or a line.
+/// An act of a course: the adoption of empty files, or a line of the script.
 pub struct Act {
-    /// What it is called.
+    /// The line of the script, or `(an adoption of empty files)`.
     pub title: String,
-    /// What is asked for, nothing for the adoption.
+    /// The action of the line; `None` for the adoption.
     pub action: Option<Action>,
     pub before: Stage,
-    /// The project after it.
+    /// The snapshot after the act.
     pub after: Seen,
 }
 
@@ -71,8 +73,8 @@ impl Drop for Act {
 }
 
 impl Act {
-    /// What this project is, which was found after the act was answered or not. After an answer nothing but what it
-    /// leaves may be found.
+    /// Returns which state a snapshot is that was taken after a crash. If the act was answered, only the state after it
+    /// will do. Fails for any other snapshot.
     pub fn found(&self, seen: &Seen, reach: Reach) -> Result<Found> {
         let is_before = seen.is_same(&self.before.seen);
         if is_before && !reach.is_done() {
@@ -90,16 +92,16 @@ impl Act {
     }
 }
 
-/// How files are left between the acts.
+/// How an act leaves its files to the next one.
 #[derive(Clone, Copy)]
 pub enum Between {
-    /// They are closed, so that the log is copied into the database.
+    /// Closed: the log is copied into the database.
     Closed,
-    /// They are not, so that the next opening finds a log.
+    /// Not closed: the next opening finds a log.
     Unclosed,
 }
 
-/// The files after an act, closed.
+/// Runs an act over files that do not fail, and returns their contents after the close.
 fn closed_after(alloc: Global, files: &Saved, action: Option<&Action>) -> Result<Saved> {
     let left = run_over(alloc, files.files(alloc)?, action, Pages::All)?;
     ensure!(left.end.reach.is_done(), "it ends with a fault");
@@ -107,7 +109,8 @@ fn closed_after(alloc: Global, files: &Saved, action: Option<&Action>) -> Result
     Ok(left.files.saved(alloc)?)
 }
 
-/// The files after an act, where so many calls of the database do not stop; None where it is not answered.
+/// Runs an act whose database file fails after `calls` calls. Returns what was synced; `None` if the act was not
+/// answered.
 fn answered_after(
     alloc: Global,
     files: &Saved,
@@ -123,7 +126,7 @@ fn answered_after(
     Ok(Some(left.after_stop(alloc)?))
 }
 
-/// The files after an act that was answered, where the first call of the close on the database stops.
+/// Returns what was synced after an act that is answered, and whose close fails at its first call on the database file.
 fn unclosed_after(alloc: Global, files: &Saved, action: Option<&Action>) -> Result<Saved> {
     for calls in 0..MOST_CALLS {
         if let Some(files) = answered_after(alloc, files, action, calls)? {
@@ -133,7 +136,7 @@ fn unclosed_after(alloc: Global, files: &Saved, action: Option<&Action>) -> Resu
     bail!("it is not answered")
 }
 
-/// The stage that an act leads to.
+/// Returns the stage that an act leads to.
 fn stage_after(
     alloc: Global,
     files: &Saved,
@@ -147,13 +150,13 @@ fn stage_after(
     Stage::of(alloc, files)
 }
 
-/// Copies of a title and of what is seen.
+/// Returns copies of a title and of a snapshot.
 fn copied(alloc: Global, title: &str, seen: &Seen) -> Result<(String, Seen), AllocError> {
     let title = String::from_str(alloc, title)?;
     Ok((title, seen.copy(alloc)?))
 }
 
-/// An act from a stage, and the stage that it leads to.
+/// Returns the act that begins at a stage, and the stage that it leads to.
 fn act_from(
     alloc: Global,
     stage: Stage,
@@ -172,7 +175,7 @@ fn act_from(
     Ok((act, next))
 }
 
-/// The line of this number, from 1.
+/// Returns the line of this number, counted from 1; an empty text if there is no such line.
 fn line_at(text: &str, number: u64) -> &str {
     let mut at = 0u64;
     for line in text.lines() {
@@ -184,7 +187,8 @@ fn line_at(text: &str, number: u64) -> &str {
     ""
 }
 
-/// The first stage: that of these files, or that of an adoption, which is then the first act.
+/// Returns the stage of the files `start`. If there are none, adds the adoption of empty files as the first act, and
+/// returns the stage after it.
 fn first_stage(
     alloc: Global,
     start: Option<Saved>,
@@ -202,7 +206,8 @@ fn first_stage(
     }
 }
 
-/// The acts of a script, from these files or from blank ones, whose adoption comes first then.
+/// Returns the acts of a script over the files `start`. If there are none, the first act is the adoption of empty
+/// files.
 pub fn course(
     rt: &HostRuntime,
     text: &str,

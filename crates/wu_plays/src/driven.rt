@@ -1,5 +1,5 @@
-//! A play of commands that are driven as one list into a writer that takes so many bytes and then fails: what went out,
-//! how many commands were acknowledged, and what the project is then.
+//! Scenarios of commands that run as one list into a writer that fails after a number of bytes. The transcript has the
+//! bytes that went out, how many commands were acknowledged, and all views after the run.
 
 use crate::scripts::steps;
 use crate::sessions::{adopt, do_action, views};
@@ -13,7 +13,7 @@ use wu_drive::{Command, Project, Run, drive};
 use wu_feed::Rows;
 use wu_play_files::{Full, Narrow};
 
-/// The commands that an action asks for.
+/// Returns the commands of an action. Fails for a view.
 fn commands(alloc: Global, mut action: Action) -> Result<Vec<Command>> {
     match &mut action {
         Action::Commands(commands) => {
@@ -23,7 +23,7 @@ fn commands(alloc: Global, mut action: Action) -> Result<Vec<Command>> {
     }
 }
 
-/// Does what the lines before this one ask for. The commands of the others, in their order.
+/// Runs the lines before line `first`. Returns the commands of the other lines in their order.
 fn begin<S: Alter>(
     alloc: Global,
     project: &mut Project<S>,
@@ -41,7 +41,8 @@ fn begin<S: Alter>(
     Ok(list)
 }
 
-/// Writes what went out, how many commands were acknowledged, and the fault that ended the list.
+/// Writes the bytes that went out, how many commands were acknowledged, and the fault that ended the list. Fails if the
+/// writer was called again after it had failed.
 fn write_run(out: &Narrow, run: &Run, transcript: &mut Vec<u8>) -> Result<()> {
     ensure!(!out.is_called_again, "a call behind the fault");
     transcript.write_all(out.taken.as_slice())?;
@@ -53,7 +54,7 @@ fn write_run(out: &Narrow, run: &Run, transcript: &mut Vec<u8>) -> Result<()> {
     Ok(())
 }
 
-/// Drives the lines from this one on, over the project in a database where those before it are done.
+/// Runs the lines before line `first` over the project in a database, and then the others as one list into `out`.
 fn play_over<S: Alter + Drop>(
     alloc: Global,
     conn: Connection<S>,
@@ -70,7 +71,8 @@ fn play_over<S: Alter + Drop>(
     Ok(())
 }
 
-/// Plays a script: its lines from this one on are driven into a writer with so much room.
+/// Runs a scenario over a fresh project in memory. Its lines from line `first` on run as one list into a writer with
+/// room for `room` bytes.
 pub fn play(
     rt: &HostRuntime,
     text: &str,

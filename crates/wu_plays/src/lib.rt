@@ -1,5 +1,5 @@
-//! Plays of scripts over databases in memory, over files that stop and into writers that fail, with the transcript of
-//! what they answer.
+//! Scenarios: scripts that run over databases in memory, over files that fail and into writers that fail. Each writes a
+//! transcript of its answers.
 #![tactic(auto)]
 
 mod course;

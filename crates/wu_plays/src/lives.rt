@@ -1,5 +1,5 @@
-//! A play over two files that stop several times in one life: each named command is cut, found as it was before or
-//! after it, and done again before the rest.
+//! Scenarios of several crashes in one history of sessions. Each named command is cut by a crash, found as it was
+//! before or after it, and run again before the rest.
 
 use crate::course::{Act, Between, Found, course};
 use crate::runs::{Left, Reach, run_over, seen_of};
@@ -9,11 +9,11 @@ use std::io::{self, Write};
 use wu_core::Fault;
 use wu_play_files::{MOST_CALLS, Pages, Saved, Side};
 
-/// How an act ends that a stop cuts.
+/// How an act ends that a crash cuts.
 const CUT: Reach = Reach::Cut(Fault::Broken);
 
-/// What the files hold behind a stop, by which an act that was not answered is to be found so: undone by what was synced
-/// alone, done by all that was written.
+/// Returns what the files hold after a crash of an act that was not answered. If the act is to be found undone, that is
+/// what was synced alone; if done, it is all that was written.
 fn held(alloc: Global, left: Left, wanted: Found) -> io::Result<Saved> {
     match wanted {
         Found::Before => left.after_stop(alloc),
@@ -21,8 +21,8 @@ fn held(alloc: Global, left: Left, wanted: Found) -> io::Result<Saved> {
     }
 }
 
-/// Stops an act after so many calls on the log: what the files hold then, None where the session did not begin or the
-/// act was answered, and whether the calls stopped.
+/// Runs an act whose log fails after `calls` calls. Returns what the files hold after the crash, or `None` if the act
+/// did not end with `Broken`; and whether the log has failed.
 fn cut_after(
     alloc: Global,
     files: &Saved,
@@ -41,8 +41,8 @@ fn cut_after(
     Ok((files, is_stopped))
 }
 
-/// Stops an act after so many calls on the log: what the files hold then, where the session began, the act was not
-/// answered, and this is found. None where it is not so, and whether the calls stopped.
+/// Runs an act as `cut_after` does. Returns `None` for the files also if the crash left another state than the wanted
+/// one.
 fn stop_after(
     alloc: Global,
     files: &Saved,
@@ -61,8 +61,8 @@ fn stop_after(
     }
 }
 
-/// The first stop of an act after which this is found, if there is one: what the files hold then, and after how many
-/// calls it is.
+/// Returns what the files hold after the first crash of an act that leaves the wanted state, and after how many calls
+/// it is. Returns `None` if no crash leaves it.
 fn first_stop(
     alloc: Global,
     files: &Saved,
@@ -81,7 +81,8 @@ fn first_stop(
     bail!("{}: the calls go on", act.title)
 }
 
-/// Cuts an act where this is found then, and tells of it. The files are what they hold then.
+/// Cuts an act by the first crash that leaves the wanted state, and writes after how many calls it is. The files become
+/// what the crash left.
 fn cut(
     alloc: Global,
     files: &mut Saved,
@@ -104,7 +105,8 @@ fn cut(
     Ok(())
 }
 
-/// Does an act that no call stops, and sees that the files hold what it leads to. What they hold then.
+/// Runs an act over files that do not fail, and checks that it leads to the state of the course. Returns what they hold
+/// then.
 fn go_on(alloc: Global, files: &Saved, act: &Act) -> Result<Saved> {
     let left = run_over(alloc, files.files(alloc)?, act.action.as_ref(), Pages::All)?;
     ensure!(left.end.reach.is_done(), "{} ends with a fault", act.title);
@@ -114,7 +116,7 @@ fn go_on(alloc: Global, files: &Saved, act: &Act) -> Result<Saved> {
     Ok(files)
 }
 
-/// Plays a life in which the commands of these numbers are cut.
+/// Runs a history of sessions in which the commands of these numbers are cut.
 fn live(
     alloc: Global,
     acts: &[Act],
@@ -133,7 +135,8 @@ fn live(
     Ok(())
 }
 
-/// Plays a script.
+/// Runs a scenario in two histories of sessions. The crashes of the first lose what was not synced, those of the second
+/// keep all that was written.
 pub fn play(
     rt: &HostRuntime,
     text: &str,

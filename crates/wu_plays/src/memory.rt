@@ -1,4 +1,5 @@
-//! A play over a database in memory: each line of the script is a command of its own, and it goes on after a refusal.
+//! Scenarios over a database in memory. Each line of the script is a command of its own, and the script goes on after a
+//! line that is refused.
 
 use crate::scripts::{action, write_bad_line, write_comment, write_status};
 use crate::sessions::adopt;
@@ -9,7 +10,7 @@ use wu_cli::{perform, write_fault};
 use wu_drive::Project;
 use wu_feed::{ScriptLine, read_script};
 
-/// Does what a line asks for, writes what it answers, and answers its status.
+/// Runs a line, writes its answer and its fault, and returns its status.
 fn answer<S: Alter>(
     rt: &HostRuntime,
     project: &mut Project<S>,
@@ -27,7 +28,7 @@ fn answer<S: Alter>(
     status
 }
 
-/// Plays a line of the script.
+/// Runs a line of the script, and writes it with its answer.
 pub fn play_line<S: Alter>(
     rt: &HostRuntime,
     project: &mut Project<S>,
@@ -43,7 +44,7 @@ pub fn play_line<S: Alter>(
     Ok(())
 }
 
-/// Plays a script over the project in a database, which is begun again where its session has ended.
+/// Runs a script over the project in a database. If a session has ended, another begins.
 fn play_over<S: Alter + Drop>(
     rt: &HostRuntime,
     conn: Connection<S>,
@@ -60,7 +61,7 @@ fn play_over<S: Alter + Drop>(
     Ok(())
 }
 
-/// Plays a script over a fresh project.
+/// Runs a scenario over a fresh project in memory.
 pub fn play(rt: &HostRuntime, text: &str, transcript: &mut Vec<u8>) -> Result<()> {
     play_over(
         rt,

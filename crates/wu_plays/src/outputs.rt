@@ -1,5 +1,5 @@
-//! A play into writers that take so many bytes, for each number up to the length of all that the script prints, and
-//! into those that take so many flushes. None is called again once it failed.
+//! Scenarios into writers that fail. They fail after each number of bytes up to the length of all that the script
+//! prints, or after each number of flushes. No writer is called again once it has failed.
 
 use crate::scripts::steps;
 use crate::sessions::adopt;
@@ -12,7 +12,7 @@ use wu_cli::perform_script;
 use wu_core::Fault;
 use wu_play_files::{Full, Narrow};
 
-/// Runs the script over the project in a database into a writer, and answers its status and the fault that ended it.
+/// Runs the script over the project in a database into a writer. Returns its status and the fault that ended it.
 fn run_over<S: Alter + Drop>(
     alloc: Global,
     conn: Connection<S>,
@@ -23,15 +23,15 @@ fn run_over<S: Alter + Drop>(
     Ok(perform_script(alloc, &mut project, steps, out))
 }
 
-/// Runs the script over a fresh project.
+/// Runs the script over a fresh project in memory.
 fn run(alloc: Global, steps: &[Step], out: &mut Narrow) -> Result<(u8, Option<LineFault>)> {
     run_over(alloc, Connection::open_in_memory(alloc)?, steps, out)
 }
 
-/// How writers take no more, and how many bytes they take a call.
+/// What each kind of writer does when it is full, and the number of bytes that it takes in one call.
 const WRITERS: [(Full, usize); 2] = [(Full::Fails, 1), (Full::TakesNone, usize::MAX)];
 
-/// Sees that the fault of the output ended a run.
+/// Checks that a run ended with the fault `Output` and its status.
 fn is_cut(status: u8, end: Option<LineFault>) -> Result<()> {
     let is_output = matches!(
         end,
@@ -45,8 +45,8 @@ fn is_cut(status: u8, end: Option<LineFault>) -> Result<()> {
     Ok(())
 }
 
-/// Sees that the beginning of the whole output with so many bytes went out, and that no call came behind one that
-/// failed.
+/// Checks that the first `count` bytes of the whole output went out, and that the writer was not called again after it
+/// had failed.
 pub fn went_out(out: &Narrow, whole: &[u8], count: usize) -> Result<()> {
     let is_same = Some(out.taken.as_slice()) == whole.get(..count);
     ensure!(is_same, "other bytes");
@@ -54,7 +54,8 @@ pub fn went_out(out: &Narrow, whole: &[u8], count: usize) -> Result<()> {
     Ok(())
 }
 
-/// Sees what goes out into a writer: as many bytes of the whole output as it takes, and a fault where that is cut.
+/// Runs the script into a writer with room for `room` bytes. Checks that those bytes of the whole output went out, and
+/// that an output which was cut ends with the fault `Output`.
 fn cut(alloc: Global, steps: &[Step], whole: &[u8], room: usize, mut out: Narrow) -> Result<()> {
     let (status, end) = run(alloc, steps, &mut out)?;
     went_out(&out, whole, room)?;
@@ -65,7 +66,7 @@ fn cut(alloc: Global, steps: &[Step], whole: &[u8], room: usize, mut out: Narrow
     Ok(())
 }
 
-/// Cuts the output after so many bytes, with each writer.
+/// Runs the script into each kind of writer with room for `room` bytes.
 fn cut_each(alloc: Global, steps: &[Step], whole: &[u8], room: usize) -> Result<()> {
     for (full, most) in WRITERS {
         let out = Narrow::new(alloc, room, most, full, usize::MAX);
@@ -74,7 +75,7 @@ fn cut_each(alloc: Global, steps: &[Step], whole: &[u8], room: usize) -> Result<
     Ok(())
 }
 
-/// Runs the script into a writer that takes all of it, and is flushed each time.
+/// Runs the script into a writer that takes all of it and never fails. Returns the writer.
 fn run_whole(alloc: Global, steps: &[Step]) -> Result<Narrow> {
     let mut out = Narrow::wide(alloc);
     let (_, end) = run(alloc, steps, &mut out)?;
@@ -82,7 +83,7 @@ fn run_whole(alloc: Global, steps: &[Step]) -> Result<Narrow> {
     Ok(out)
 }
 
-/// Lets each flush fail in turn, and tells where they are.
+/// Runs the script once for each flush, which fails then, and writes after how many bytes the flushes are.
 fn fail_flushes(
     alloc: Global,
     steps: &[Step],
@@ -104,7 +105,7 @@ fn fail_flushes(
     Ok(())
 }
 
-/// Plays a script.
+/// Runs a scenario over a fresh project in memory.
 pub fn play(rt: &HostRuntime, text: &str, transcript: &mut Vec<u8>) -> Result<()> {
     let steps = steps(rt, text)?;
     let whole = run_whole(rt.alloc(), steps.as_slice())?;

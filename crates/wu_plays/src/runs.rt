@@ -23,7 +23,7 @@ pub enum Reach {
 }
 
 impl Reach {
-    /// Whether the act was answered.
+    /// Returns whether the act was answered.
     pub fn is_done(self) -> bool {
         matches!(self, Reach::Done)
     }
@@ -32,7 +32,8 @@ impl Reach {
 /// How an act ended.
 pub struct End {
     pub reach: Reach,
-    /// The project of a session that was begun again over the same database, behind a fault that ended the first.
+    /// A snapshot of the project from a session that began again over the same database, after a fault that ended the
+    /// first.
     pub again: Option<Seen>,
 }
 
@@ -66,7 +67,7 @@ impl Drop for Left {
 }
 
 impl Left {
-    /// What the files hold when the machine comes back after a stop.
+    /// Returns what the files hold after a crash: what was not synced is lost.
     pub fn after_stop(self, alloc: Global) -> io::Result<Saved> {
         let Left {
             files,
@@ -77,7 +78,7 @@ impl Left {
     }
 }
 
-/// Begins a session again, and looks at its project, as far as the files let it.
+/// Begins a session again. Returns the database, and a snapshot of its project if the files let it be taken.
 fn begin_again<S: Alter + Drop>(
     alloc: Global,
     project: Project<S>,
@@ -91,7 +92,8 @@ fn begin_again<S: Alter + Drop>(
     }
 }
 
-/// Does what is asked for in a session, where anything is.
+/// Runs an action, if there is one, in a session, and begins a session again if that one ended. Returns the database,
+/// and how the act ended.
 fn act<S: Alter + Drop>(
     alloc: Global,
     mut project: Project<S>,
@@ -109,7 +111,7 @@ fn act<S: Alter + Drop>(
     (conn, End { reach, again })
 }
 
-/// A session that does an act.
+/// A visitor that runs an act in a session.
 #[derive(Drop)]
 struct Acting<'a> {
     action: Option<&'a Action>,
@@ -130,7 +132,7 @@ impl<'a> Visit for Acting<'a> {
     }
 }
 
-/// The end of an act whose session did not begin.
+/// Returns the end of an act whose session did not begin.
 fn unbegun() -> End {
     End {
         reach: Reach::Unbegun,
@@ -138,7 +140,8 @@ fn unbegun() -> End {
     }
 }
 
-/// Opens files, adopts the project in them, does what is asked for, and closes them, as far as they let it.
+/// Opens files, adopts the project in them, runs an action, if there is one, and closes them. If a call on the files
+/// fails, the run ends early, and what it left is returned.
 pub fn run_over(
     alloc: Global,
     files: PlayFiles,
@@ -158,7 +161,7 @@ pub fn run_over(
     })
 }
 
-/// What a visitor tells over files that do not stop.
+/// Returns what a visitor reports over files that do not fail. Fails if they can't be opened.
 pub fn told_over<V: Visit>(alloc: Global, saved: &Saved, visitor: V) -> Result<V::Told> {
     let left = visit_play(alloc, saved.files(alloc)?, options(2, Pages::All), visitor)?;
     match left.into_told() {
@@ -167,7 +170,7 @@ pub fn told_over<V: Visit>(alloc: Global, saved: &Saved, visitor: V) -> Result<V
     }
 }
 
-/// A look at all views of a project, which is begun where there is none.
+/// A visitor that reports all views of a project, which it begins if there is none.
 #[derive(Drop)]
 struct Looking;
 
@@ -185,12 +188,12 @@ impl Visit for Looking {
     }
 }
 
-/// All views of the project in files, which is begun where there is none.
+/// Returns all views of the project in files. A project is begun if there is none.
 pub fn views_of(alloc: Global, saved: &Saved) -> Result<Vec<u8>> {
     told_over(alloc, saved, Looking)
 }
 
-/// A look at the project in a database.
+/// A visitor that takes a snapshot of the project in a database.
 #[derive(Drop)]
 struct Seeing;
 
@@ -206,7 +209,7 @@ impl Visit for Seeing {
     }
 }
 
-/// The project in files.
+/// Returns a snapshot of the project in files.
 pub fn seen_of(alloc: Global, saved: &Saved) -> Result<Seen> {
     told_over(alloc, saved, Seeing)
 }

@@ -1,4 +1,4 @@
-//! The lines of a script, with what their files hold.
+//! The steps of a script, with the contents of the files that its lines name.
 
 use anyhow::{Result, bail};
 use std::fs;
@@ -11,7 +11,7 @@ use wu_feed::{Rows, ScriptLine, read_script};
 /// The database that the lines of a script are for. Nothing is opened by this name.
 const DATABASE: &str = "project.db";
 
-/// The files of the folder that the plays run in.
+/// The files of the folder that the scenarios run in.
 #[derive(Drop)]
 struct PlayFiles<'a> {
     rt: &'a HostRuntime,
@@ -27,7 +27,7 @@ impl ReadFile for PlayFiles<'_> {
     }
 }
 
-/// The one step of a line.
+/// Returns the one step of a line, or why the line can't be run.
 fn step_of(rt: &HostRuntime, line: ScriptLine) -> std::result::Result<Option<Step>, BadLine> {
     let number = line.number;
     let why = Refusal::Fault(Fault::Memory);
@@ -43,7 +43,7 @@ fn step_of(rt: &HostRuntime, line: ScriptLine) -> std::result::Result<Option<Ste
     Ok(steps.into_vec().pop())
 }
 
-/// What a line of a script asks for, or why it can't be run. No line is repeated here.
+/// Returns the action of a line of a script, or why it can't be run. A line that repeats another is refused here.
 pub fn action(rt: &HostRuntime, line: ScriptLine) -> std::result::Result<Action, BadLine> {
     let number = line.number;
     match step_of(rt, line)? {
@@ -55,7 +55,7 @@ pub fn action(rt: &HostRuntime, line: ScriptLine) -> std::result::Result<Action,
     }
 }
 
-/// What the lines of a script ask for. All of them can be run.
+/// Returns the steps of a script. Fails if a line can't be run.
 pub fn steps(rt: &HostRuntime, text: &str) -> Result<Rows<Step>> {
     let lines = read_script(rt.alloc(), text.as_bytes())?;
     match steps_of(rt.alloc(), DATABASE, lines, &PlayFiles { rt }) {
@@ -64,8 +64,8 @@ pub fn steps(rt: &HostRuntime, text: &str) -> Result<Rows<Step>> {
     }
 }
 
-/// Writes why a line can't be run, and answers its status. What is told of its words or of a fault is told as of a line
-/// of its own.
+/// Writes why a line can't be run, and returns its status. Refused words and faults are written as for a command line,
+/// any other refusal as for a line of a script.
 pub fn write_bad_line(bad: BadLine, transcript: &mut Vec<u8>) -> u8 {
     let status = bad.status();
     let is_alone = match &bad.why {
@@ -88,7 +88,7 @@ pub fn write_status(status: u8, transcript: &mut Vec<u8>) -> io::Result<()> {
     writeln!(transcript, "status {status}")
 }
 
-/// Writes a line that is a comment.
+/// Writes a line if it is a comment.
 pub fn write_comment(line: &str, transcript: &mut Vec<u8>) -> io::Result<()> {
     if line.starts_with('#') {
         writeln!(transcript, "{line}")?;

@@ -1,4 +1,4 @@
-//! What a project is: all views of it, and every row of every table.
+//! Snapshots of a project: all its views, and every row of every table.
 
 use crate::sessions::{adopt, views};
 use anyhow::Result;
@@ -8,11 +8,11 @@ use std::io::{self, Write};
 use std::str;
 use wu_drive::Project;
 
-/// What a project is, no text where there is none.
+/// A snapshot of a project. Its texts are empty if the database holds no project.
 pub struct Seen {
-    /// All views.
+    /// All views, as text.
     pub views: Vec<u8>,
-    /// Every row of every table, with what no view shows: imports with their contents, and the queue.
+    /// Every row of every table, as text. It has what no view shows: imports with their contents, and the queue.
     tables: Vec<u8>,
 }
 
@@ -27,7 +27,7 @@ impl Drop for Seen {
 }
 
 impl Seen {
-    /// What is seen where there is no project.
+    /// Returns the snapshot of a database that holds no project.
     pub fn blank(alloc: Global) -> Seen {
         Seen {
             views: Vec::new(alloc),
@@ -35,6 +35,7 @@ impl Seen {
         }
     }
 
+    /// Returns a copy of the snapshot.
     pub fn copy(&self, alloc: Global) -> Result<Seen, AllocError> {
         Ok(Seen {
             views: Vec::from_slice(alloc, self.views.as_slice())?,
@@ -42,12 +43,13 @@ impl Seen {
         })
     }
 
+    /// Returns whether both snapshots have the same views and the same rows.
     pub fn is_same(&self, other: &Seen) -> bool {
         self.views.as_slice() == other.views.as_slice()
             && self.tables.as_slice() == other.tables.as_slice()
     }
 
-    /// Writes the lines of views that are gone after an act, and those that are new.
+    /// Writes the lines of views that are gone in `after`, each after `-`, and then those that are new, each after `+`.
     pub fn write_changes(&self, after: &Seen, transcript: &mut Vec<u8>) -> Result<()> {
         let before = str::from_utf8(self.views.as_slice())?;
         let after = str::from_utf8(after.views.as_slice())?;
@@ -57,7 +59,7 @@ impl Seen {
     }
 }
 
-/// Whether a text has this line.
+/// Returns whether a text has this line.
 fn has_line(text: &str, wanted: &str) -> bool {
     for line in text.lines() {
         if line == wanted {
@@ -67,7 +69,7 @@ fn has_line(text: &str, wanted: &str) -> bool {
     false
 }
 
-/// Writes the lines of a text that another has not, each behind a sign.
+/// Writes the lines of a text that another text lacks, each after a sign and a space.
 fn write_missing(sign: char, text: &str, other: &str, transcript: &mut Vec<u8>) -> io::Result<()> {
     for line in text.lines() {
         if !has_line(other, line) {
@@ -95,7 +97,7 @@ fn write_table<S: Alter>(
     Ok(())
 }
 
-/// Every row of every table.
+/// Returns every row of every table, as text, in the order of the tables' names.
 fn tables<S: Alter>(alloc: Global, conn: &mut Connection<S>) -> Result<Vec<u8>> {
     let mut out = Vec::new(alloc);
     let sql = "SELECT name FROM sqlite_schema WHERE type = 'table' ORDER BY name";
@@ -106,7 +108,7 @@ fn tables<S: Alter>(alloc: Global, conn: &mut Connection<S>) -> Result<Vec<u8>> 
     Ok(out)
 }
 
-/// What a project is, and the database that it lies in.
+/// Returns the database of a project, and the snapshot of the project or the error that prevented one.
 pub fn see<S: Alter + Drop>(
     alloc: Global,
     mut project: Project<S>,
@@ -121,14 +123,15 @@ pub fn see<S: Alter + Drop>(
     (conn, seen)
 }
 
-/// Whether a database has no table.
+/// Returns whether a database has no table.
 fn is_blank<S: Alter>(conn: &mut Connection<S>) -> Result<bool> {
     let row = conn.query_row("SELECT count(*) FROM sqlite_schema", &[])?;
     let count: i64 = row.get(0)?;
     Ok(count == 0)
 }
 
-/// What the project in a database is. Where there is no table, none is begun.
+/// Returns a database with the snapshot of the project in it. A database without a table stays as it is: no project is
+/// begun in it.
 pub fn look<S: Alter + Drop>(
     alloc: Global,
     mut conn: Connection<S>,

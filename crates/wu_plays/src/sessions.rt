@@ -1,4 +1,4 @@
-//! What a play asks of a project, over any store.
+//! What a scenario asks of a project, over any store.
 
 use anyhow::{Result, bail};
 use sqlite::{Alter, Connection};
@@ -9,7 +9,7 @@ use wu_cli::perform;
 use wu_core::Fault;
 use wu_drive::{Project, View, show};
 
-/// A session over the project in a database.
+/// Begins a session over the project in a database. Fails if the adoption fails.
 pub fn adopt<S: Alter + Drop>(conn: Connection<S>) -> Result<Project<S>> {
     match Project::adopt(conn) {
         Ok(project) => Ok(project),
@@ -17,7 +17,7 @@ pub fn adopt<S: Alter + Drop>(conn: Connection<S>) -> Result<Project<S>> {
     }
 }
 
-/// Writes a view; of a project of an older version what is told in its place.
+/// Writes a view, or the fault `OldSchema` of a project of an older version. Fails for any other fault.
 fn write_view<S: Alter>(
     alloc: Global,
     project: &mut Project<S>,
@@ -34,7 +34,7 @@ fn write_view<S: Alter>(
     }
 }
 
-/// All six views, one after another.
+/// Returns all six views, one after another.
 pub fn views<S: Alter>(alloc: Global, project: &mut Project<S>) -> Result<Vec<u8>> {
     let mut out = Vec::new(alloc);
     for view in [
@@ -50,7 +50,7 @@ pub fn views<S: Alter>(alloc: Global, project: &mut Project<S>) -> Result<Vec<u8
     Ok(out)
 }
 
-/// Does what is asked for, where anything is, and answers the fault that ended it. What it prints is let go.
+/// Runs an action, if there is one, and returns the fault that ended it. Drops what it prints.
 pub fn do_action<S: Alter>(
     alloc: Global,
     project: &mut Project<S>,

@@ -1,5 +1,5 @@
-//! A play of a view over one project, into writers that take a few bytes a call and so many in all, for each number up
-//! to the length of its text. After each it is shown again.
+//! Scenarios of one view over one project. It is printed into writers that take a few bytes a call and fail after each
+//! number of bytes. After each failure it is printed whole.
 
 use crate::outputs::went_out;
 use crate::scripts::steps;
@@ -14,10 +14,10 @@ use wu_core::Fault;
 use wu_drive::Project;
 use wu_play_files::{Full, Narrow};
 
-/// How many bytes a writer takes a call.
+/// The number of bytes that a writer takes in one call.
 const MOST: usize = 7;
 
-/// What the view prints into a writer that takes all of it at once.
+/// Returns what the view prints into a writer that takes all of it.
 fn whole<S: Alter>(alloc: Global, project: &mut Project<S>, view: &Action) -> Result<Vec<u8>> {
     let mut text = Vec::new(alloc);
     if let Some(fault) = perform(alloc, project, view, &mut text).1 {
@@ -26,7 +26,8 @@ fn whole<S: Alter>(alloc: Global, project: &mut Project<S>, view: &Action) -> Re
     Ok(text)
 }
 
-/// Sees what a view prints into a writer with so much room: as many bytes of the whole text, and a fault where it is cut.
+/// Prints a view into a writer with room for `room` bytes. Checks that the first `room` bytes of the whole text went
+/// out, and that a text which was cut ends with the fault `Output`.
 fn show<S: Alter>(
     alloc: Global,
     project: &mut Project<S>,
@@ -46,7 +47,7 @@ fn show<S: Alter>(
     Ok(())
 }
 
-/// Cuts the view after each number of bytes, and shows it whole each time.
+/// Prints the view with room for each number of bytes up to its length, and after each of them whole.
 fn show_each<S: Alter>(
     alloc: Global,
     project: &mut Project<S>,
@@ -62,7 +63,7 @@ fn show_each<S: Alter>(
     Ok(())
 }
 
-/// Plays the view that the last line asks for, over the project in a database where the other lines are done.
+/// Runs all lines except the last over the project in a database, and prints the view of the last line in each way.
 fn play_over<S: Alter + Drop>(
     alloc: Global,
     conn: Connection<S>,
@@ -89,7 +90,7 @@ fn play_over<S: Alter + Drop>(
     Ok(())
 }
 
-/// Plays a script.
+/// Runs a scenario over a fresh project in memory.
 pub fn play(rt: &HostRuntime, text: &str, transcript: &mut Vec<u8>) -> Result<()> {
     let alloc = rt.alloc();
     let steps = steps(rt, text)?;

@@ -1,5 +1,5 @@
-//! A play over two files, where the calls on one of them stop after each number of calls in turn. What is left is
-//! opened again, looked at in every view and table, and the rest of the script is played on.
+//! Scenarios of crashes: one of two files fails after 0, 1, 2, .. calls. What is left is opened again and compared in
+//! every view and table. Then the rest of the script runs over it.
 
 use crate::course::{Act, Between, Found, course};
 use crate::runs::{Left, Reach, run_over, told_over};
@@ -15,7 +15,7 @@ use wu_core::Fault;
 use wu_drive::Project;
 use wu_play_files::{MOST_CALLS, Pages, Saved, Side, Visit};
 
-/// Does an act that no call stops. It is answered, but where it was done before it may be refused.
+/// Runs an act over files that do not fail. Fails if it is not answered, unless it was done before and is refused now.
 fn do_act<S: Alter>(
     alloc: Global,
     project: &mut Project<S>,
@@ -29,7 +29,7 @@ fn do_act<S: Alter>(
     Ok(())
 }
 
-/// An act that is stopped, and those after it.
+/// An act whose file fails, and the acts after it.
 #[derive(Clone, Copy)]
 struct Case<'a> {
     act: &'a Act,
@@ -38,7 +38,7 @@ struct Case<'a> {
     pages: Pages,
 }
 
-/// Does an act again, which was done or not, and those after it.
+/// Runs the act of a case again, whether or not it was done, and then the acts after it.
 fn go_on<S: Alter>(
     alloc: Global,
     project: &mut Project<S>,
@@ -52,7 +52,8 @@ fn go_on<S: Alter>(
     Ok(())
 }
 
-/// Looks at what is left of an act that came so far, goes on, and sees that the end is that of the course.
+/// Returns which state a crash left. Then runs the act again and those after it, and checks that the last state is that
+/// of the course.
 fn find<S: Alter + Drop>(
     alloc: Global,
     conn: Connection<S>,
@@ -69,7 +70,7 @@ fn find<S: Alter + Drop>(
     Ok((conn, found))
 }
 
-/// A session that goes on so.
+/// A visitor that checks what a crash left and runs the rest of the script.
 #[derive(Drop)]
 struct GoingOn<'a> {
     case: Case<'a>,
@@ -88,7 +89,7 @@ impl<'a> Visit for GoingOn<'a> {
     }
 }
 
-/// What the files that a stop left go on to, by the latest find where that was the same.
+/// Returns the find of the files that a crash left. If the latest find was of the same files, its result is taken.
 fn play_on(
     alloc: Global,
     case: Case<'_>,
@@ -107,8 +108,8 @@ fn play_on(
     })
 }
 
-/// Sees that what was told of an act is right where calls stopped or not: it ended with no other fault than that of its
-/// files, and a session which began again saw the state before it.
+/// Checks how an act ended. Without a failed call it is answered and closed. It ends with no fault except `Broken`. A
+/// session that began again saw the state before it.
 fn is_right(case: Case<'_>, left: &Left, is_stopped: bool) -> Result<()> {
     let is_whole = left.end.reach.is_done() && left.is_closed;
     ensure!(is_stopped || is_whole, "a fault without a stop");
@@ -124,7 +125,7 @@ fn is_right(case: Case<'_>, left: &Left, is_stopped: bool) -> Result<()> {
     Ok(())
 }
 
-/// Runs an act and stops it after so many calls: what it left, and whether the calls stopped.
+/// Runs an act whose file fails after `calls` calls. Returns what the run left, and whether the file has failed.
 fn run_stopped(alloc: Global, case: Case<'_>, calls: u64) -> Result<(Left, bool)> {
     let files = case.act.before.files.stopping(alloc, case.side, calls)?;
     let mut left = run_over(alloc, files, case.act.action.as_ref(), case.pages)?;
@@ -133,7 +134,7 @@ fn run_stopped(alloc: Global, case: Case<'_>, calls: u64) -> Result<(Left, bool)
     Ok((left, is_stopped))
 }
 
-/// Goes on from all that was written, and counts it where calls stopped.
+/// Checks the files with all that was written, and counts what was found if the file has failed.
 fn keep(
     alloc: Global,
     case: Case<'_>,
@@ -151,7 +152,7 @@ fn keep(
     Ok(())
 }
 
-/// Goes on from what was synced, and counts it where calls stopped.
+/// Checks the files with what was synced alone, and counts what was found if the file has failed.
 fn lose(
     alloc: Global,
     case: Case<'_>,
@@ -168,7 +169,8 @@ fn lose(
     Ok(())
 }
 
-/// Stops an act after so many calls, and goes on with either loss. Whether the calls stopped.
+/// Runs an act whose file fails after `calls` calls, and checks what a crash leaves that keeps or loses unsynced
+/// writes. Returns whether the file has failed.
 fn stop(alloc: Global, case: Case<'_>, calls: u64, tally: &mut Tally) -> Result<bool> {
     let (left, is_stopped) = run_stopped(alloc, case, calls)?;
     keep(alloc, case, &left, is_stopped, tally)?;
@@ -176,7 +178,7 @@ fn stop(alloc: Global, case: Case<'_>, calls: u64, tally: &mut Tally) -> Result<
     Ok(is_stopped)
 }
 
-/// Stops an act after each number of calls on a file, up to one that it does not reach: what was found.
+/// Lets a file fail after each number of calls, up to one that the act does not reach. Returns the counts.
 fn stop_each(alloc: Global, case: Case<'_>) -> Result<Tally> {
     let mut tally = Tally::new();
     for calls in 0..MOST_CALLS {
@@ -191,7 +193,7 @@ fn stop_each(alloc: Global, case: Case<'_>) -> Result<Tally> {
     bail!("the calls on the {} go on", case.side)
 }
 
-/// The files that a play begins with: those of the database in this file, if one is named.
+/// Returns the files that a scenario begins with: those of the database at a path, or `None` without a path.
 fn start(rt: &HostRuntime, path: Option<&str>) -> Result<Option<Saved>> {
     let Some(path) = path else {
         return Ok(None);
@@ -200,7 +202,7 @@ fn start(rt: &HostRuntime, path: Option<&str>) -> Result<Option<Saved>> {
     Ok(Some(Saved::database(rt.alloc(), bytes)))
 }
 
-/// Plays the stops of an act by the calls on one file, and tells of them.
+/// Lets one file fail after each number of calls of an act, and writes the counts.
 fn play_case(alloc: Global, case: Case<'_>, transcript: &mut Vec<u8>) -> Result<()> {
     let tally = stop_each(alloc, case)?;
     ensure!(tally.lost.before > 0 && tally.kept.before > 0, "no stop");
@@ -208,7 +210,7 @@ fn play_case(alloc: Global, case: Case<'_>, transcript: &mut Vec<u8>) -> Result<
     Ok(())
 }
 
-/// Tells what an act changes, and plays its stops.
+/// Writes what an act changes, and runs its crashes by either file.
 fn play_act(
     alloc: Global,
     act: &Act,
@@ -232,7 +234,7 @@ fn play_act(
     play_case(alloc, database, transcript)
 }
 
-/// Plays the stops of each act.
+/// Runs the crashes of each act.
 fn play_acts(alloc: Global, acts: &[Act], pages: Pages, transcript: &mut Vec<u8>) -> Result<()> {
     for at in 0..acts.len() {
         let Some([act, rest @ ..]) = acts.get(at..) else {
@@ -243,7 +245,7 @@ fn play_acts(alloc: Global, acts: &[Act], pages: Pages, transcript: &mut Vec<u8>
     Ok(())
 }
 
-/// Plays a script, from the database in a file where one is named.
+/// Runs a scenario, over the database at a path or over empty files.
 pub fn play(
     rt: &HostRuntime,
     text: &str,

@@ -1,5 +1,5 @@
-//! A play over a database in memory, some lines of which are statements over its tables. A session begins at each other
-//! line, and so behind what these have changed.
+//! Scenarios over a database in memory in which some lines are statements over its tables. Each other line runs in a
+//! session of its own, and so over what these statements changed.
 
 use crate::memory::play_line;
 use crate::sessions::adopt;
@@ -7,10 +7,10 @@ use anyhow::Result;
 use sqlite::{Alter, Connection};
 use std::io::Write;
 
-/// What stands before a statement.
+/// The word before a statement.
 const SQL: &str = "sql ";
 
-/// Writes what a query answers: a text a row.
+/// Writes the text of each row of a query, one a line.
 fn write_rows<S: Alter>(
     conn: &mut Connection<S>,
     sql: &str,
@@ -23,7 +23,7 @@ fn write_rows<S: Alter>(
     Ok(())
 }
 
-/// Does a statement.
+/// Runs a statement, and writes the rows of a query.
 fn do_statement<S: Alter>(
     conn: &mut Connection<S>,
     sql: &str,
@@ -37,7 +37,7 @@ fn do_statement<S: Alter>(
     Ok(())
 }
 
-/// Plays a line that is no statement, in a session of its own, and tells where that has ended.
+/// Runs a line that is no statement in a session of its own, and writes a line if that session has ended.
 fn play_session<S: Alter + Drop>(
     rt: &HostRuntime,
     conn: Connection<S>,
@@ -52,7 +52,7 @@ fn play_session<S: Alter + Drop>(
     Ok(project.release())
 }
 
-/// Plays a script over a database.
+/// Runs a script over a database.
 fn play_over<S: Alter + Drop>(
     rt: &HostRuntime,
     mut conn: Connection<S>,
@@ -68,7 +68,7 @@ fn play_over<S: Alter + Drop>(
     Ok(())
 }
 
-/// Plays a script over a database that has no table.
+/// Runs a scenario over a database in memory that has no table.
 pub fn play(rt: &HostRuntime, text: &str, transcript: &mut Vec<u8>) -> Result<()> {
     play_over(
         rt,

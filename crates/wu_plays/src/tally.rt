@@ -1,11 +1,11 @@
-//! What is counted over the stops of an act.
+//! The counts over the crashes of an act.
 
 use crate::course::{Act, Found};
 use crate::runs::{End, Reach};
 use std::io::{self, Write};
 use wu_play_files::{Saved, Side};
 
-/// What is left of a cut act, and what was found there.
+/// What a crash left of an act, and the state that was found there.
 #[derive(Drop)]
 pub struct Find {
     pub files: Saved,
@@ -13,12 +13,13 @@ pub struct Find {
     pub found: Found,
 }
 
-/// What was found after the stops of an act.
+/// How often each state was found after the crashes of an act.
 #[derive(Drop)]
 pub struct Finds {
     pub before: u64,
     pub after: u64,
-    /// The latest find. Where the next stop leaves the same, the same is found, and it is not played on again.
+    /// The latest find. If the next crash leaves the same files, its result is taken and the rest of the script does
+    /// not run again.
     latest: Option<Find>,
 }
 
@@ -31,7 +32,7 @@ impl Finds {
         }
     }
 
-    /// What was found, where the latest stop left the same.
+    /// Returns what the latest find found, if it was of the same files after an act that came as far.
     pub fn known(&self, files: &Saved, reach: Reach) -> Option<Found> {
         match &self.latest {
             Some(find) if find.reach == reach && find.files.is_same(files) => Some(find.found),
@@ -39,6 +40,7 @@ impl Finds {
         }
     }
 
+    /// Counts a find, and keeps it as the latest one.
     pub fn count(&mut self, find: Find) {
         match find.found {
             Found::Before => self.before = self.before.saturating_add(1),
@@ -48,18 +50,18 @@ impl Finds {
     }
 }
 
-/// How the act ended at each stop.
+/// How the act ended, over all its crashes.
 #[derive(Drop)]
 pub struct Ends {
     /// No session began.
     unbegun: u64,
     /// The act ended with a fault.
     cut: u64,
-    /// Behind such a fault a session began again over the same database.
+    /// After such a fault a session began again over the same database.
     again: u64,
     /// The act was answered.
     answered: u64,
-    /// The file of the database had its bytes from before.
+    /// The file of the database had the bytes that it had before.
     same: u64,
 }
 
@@ -74,6 +76,7 @@ impl Ends {
         }
     }
 
+    /// Counts an end, and whether the file of the database has the bytes that it had before.
     pub fn count(&mut self, end: &End, has_bytes: bool) {
         match end.reach {
             Reach::Unbegun => self.unbegun = self.unbegun.saturating_add(1),
@@ -89,12 +92,12 @@ impl Ends {
     }
 }
 
-/// What is counted over the stops of an act.
+/// The counts over the crashes of an act.
 pub struct Tally {
     pub ends: Ends,
-    /// What was found where a stop lost what was not synced.
+    /// What was found if the crash lost what was not synced.
     pub lost: Finds,
-    /// What was found where it kept all that was written.
+    /// What was found if the crash kept all that was written.
     pub kept: Finds,
 }
 
@@ -118,7 +121,7 @@ impl Tally {
         }
     }
 
-    /// Writes the counts of an act that was stopped by the calls on this file. All faults were `Broken`.
+    /// Writes the counts of an act for crashes by this file. All faults were `Broken`.
     pub fn write(&self, act: &Act, side: Side, transcript: &mut Vec<u8>) -> io::Result<()> {
         let Tally { ends, lost, kept } = self;
         write!(

@@ -1,4 +1,4 @@
-//! How a script is played.
+//! The drivers of scenarios.
 
 use crate::course::Between;
 use crate::{driven, lives, memory, outputs, shown, stops, tables};
@@ -6,27 +6,27 @@ use anyhow::{Result, bail};
 use std::alloc::Global;
 use wu_play_files::Pages;
 
-/// How a script is played.
+/// A driver: how a script runs.
 #[derive(Drop)]
 pub enum Way {
     /// Over a database in memory, each line a command of its own.
     Memory,
-    /// So too, but some of its lines are statements over the tables.
+    /// Likewise, except that some lines are statements over the tables.
     Tables,
-    /// Over two files that stop at each call, left so between the acts, with so many pages in memory; from the database
-    /// in a file where one is named.
+    /// Over two files that fail after each number of calls: how an act leaves them, how many pages stay in memory, and
+    /// the database file that the script begins with.
     Stops(Between, Pages, Option<String>),
-    /// Over two files that stop at the commands of these numbers, from 1.
+    /// Over two files, with a crash at the commands of these numbers, counted from 1.
     Lives(Vec<usize>),
-    /// Into writers that fail after each byte.
+    /// Into writers that fail after each number of bytes, and at each flush.
     Outputs,
-    /// The view of the last line, into writers that take a few bytes a call and fail after each.
+    /// The view of the last line, into writers that take a few bytes a call and fail after each number of bytes.
     Shown,
-    /// From the line of this number on as one list, into a writer that takes so many bytes.
+    /// The lines from this number on as one list, into a writer with room for this number of bytes.
     Driven(u64, usize),
 }
 
-/// The numbers that the words write.
+/// Returns the numbers that the words write.
 fn numbers<'a>(alloc: Global, words: &[&'a str]) -> Result<Vec<usize>> {
     let mut numbers = Vec::new(alloc);
     for word in words {
@@ -35,7 +35,8 @@ fn numbers<'a>(alloc: Global, words: &[&'a str]) -> Result<Vec<usize>> {
     Ok(numbers)
 }
 
-/// The way of lines that are driven: from which on, and how many bytes the writer takes.
+/// Returns the driver of the words after a script: the first line that runs as part of the list, and the writer's room
+/// in bytes.
 fn driven<'a>(words: &[&'a str]) -> Result<Way> {
     let [first, room] = words else {
         bail!("the number of a line and of bytes");
@@ -43,7 +44,7 @@ fn driven<'a>(words: &[&'a str]) -> Result<Way> {
     Ok(Way::Driven(first.parse()?, room.parse()?))
 }
 
-/// The file that a word names, if there is one.
+/// Returns the file that the first word names; `None` without a word.
 fn file<'a>(alloc: Global, words: &[&'a str]) -> Result<Option<String>> {
     match words {
         [path, ..] => Ok(Some(String::from_str(alloc, path)?)),
@@ -52,7 +53,7 @@ fn file<'a>(alloc: Global, words: &[&'a str]) -> Result<Option<String>> {
 }
 
 impl Way {
-    /// The way of this name, with the words that stand behind the script.
+    /// Returns the driver of this name, with the words that follow the script's path.
     pub fn read<'a>(alloc: Global, name: &str, rest: &[&'a str]) -> Result<Way> {
         let way = match name {
             "memory" => Way::Memory,
@@ -69,7 +70,7 @@ impl Way {
         Ok(way)
     }
 
-    /// Plays a script, and writes what it answers.
+    /// Runs a script, and writes its transcript.
     pub fn play(&self, rt: &HostRuntime, text: &str, transcript: &mut Vec<u8>) -> Result<()> {
         match self {
             Way::Memory => memory::play(rt, text, transcript),

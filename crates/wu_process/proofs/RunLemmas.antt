@@ -12,19 +12,19 @@ use Rattle.wu_cli.specs.declared.work.Work.{Work}
 use Rattle.wu_process.specs.Asking.{AsksOfOrder, database_in}
 use Rattle.wu_process.specs.Running.{DoesOpened, EndsSo, Obeys, OpensAndDoes, RunsWords, RunsWork}
 use Rattle.wu_process.specs.declared.End.{End}
-use Rattle.wu_process.specs.declared.database.Left.{Left}
-use Rattle.wu_process.specs.declared.database.Left.TheVariants as left
+use Rattle.wu_process.specs.declared.database.LeftDatabase.{LeftDatabase}
+use Rattle.wu_process.specs.declared.database.LeftDatabase.TheVariants as left
 
 -- a database that was opened is left closed, or unclosed
 pub does_opened : {S W : Type 0} {c : calls.Ghosts Host} {s : start.Ghosts S} {g : Ghosts (Modelled Host S c s)} (contents : W → Option (List ℕ)) (path : List ℕ) (work : Work) (old new : W)
-    (done : Result (Unit {0}) Trouble) (left : Left (Modelled Host S c s) g) → DoesOpened contents path work old new done left → OpensAndDoes contents path work old new done left
+    (done : Result (Unit {0}) Trouble) (left : LeftDatabase (Modelled Host S c s) g) → DoesOpened contents path work old new done left → OpensAndDoes contents path work old new done left
 does_opened contents path work old new done (left.Unopened error rest) does = absurd does.does.closed
 does_opened contents path work old new done (left.Closed files) does = does
 does_opened contents path work old new done (left.Unclosed error store) does = does
 
 -- what an order asks for was done, or could not be asked
 pub runs_order : {S W : Type 0} {c : calls.Ghosts Host} {s : start.Ghosts S} {g : Ghosts (Modelled Host S c s)} (contents : W → Option (List ℕ)) (words : List (List ℕ)) (order : Order) (asked : Result Work Trouble)
-    (old new : W) (done : Result (Unit {0}) Trouble) (left : Option (Left (Modelled Host S c s) g)) → IsOrderOf words order → AsksOfOrder order asked → RunsWork contents (database_in order) asked old new done left
+    (old new : W) (done : Result (Unit {0}) Trouble) (left : Option (LeftDatabase (Modelled Host S c s) g)) → IsOrderOf words order → AsksOfOrder order asked → RunsWork contents (database_in order) asked old new done left
     → RunsWords contents words old new done left
 runs_order contents words order (Ok work) old new done (Some left) ordered asks runs = record {
   order = order;
@@ -48,7 +48,7 @@ runs_order contents words order (Err trouble) old new done None ordered asks (to
 
 -- and so it is of a run that ended so
 pub obeyed : {S W E : Type 0} {c : calls.Ghosts Host} {s : start.Ghosts S} {g : Ghosts (Modelled Host S c s)} (contents : W → Option (List ℕ)) (told_of : E → Option (List ℕ)) (words : List (List ℕ))
-    (old new : W) (err_old err_new : E) (done : Result (Unit {0}) Trouble) (left : Option (Left (Modelled Host S c s) g)) (end : End (Modelled Host S c s) g) → RunsWords contents words old new done left
+    (old new : W) (err_old err_new : E) (done : Result (Unit {0}) Trouble) (left : Option (LeftDatabase (Modelled Host S c s) g)) (end : End (Modelled Host S c s) g) → RunsWords contents words old new done left
     → EndsSo told_of err_old err_new done left end → Obeys contents told_of words old new err_old err_new end
 obeyed contents told_of words old new err_old err_new done left end runs ends = record {
   done = done;

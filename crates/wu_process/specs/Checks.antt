@@ -1,5 +1,5 @@
--- A check of a database, from its path to what is told. Its files are copied into memory and the copy is looked at, so
--- that nothing of them is made or changed.
+-- A check of a database, from its path to its report. The files are copied into memory and the copy is checked, so that
+-- the check neither makes nor changes a file.
 use Rattle.std.specs.Prelude.{◌≡◌, ◌⊎◌, ℕ, IsTrue, List, Option, Result, Err}
 use Rattle.sqlite_disk.specs.declared.Disk.{Ghosts}
 use Rattle.sqlite_disk.specs.declared.Files.{Files}
@@ -20,25 +20,25 @@ use Rattle.wu_cli.specs.declared.trouble.Trouble.TheVariants as trouble
 use Rattle.wu_process.specs.Copies.{AreCopiesOf, memory_disk}
 use Rattle.wu_process.specs.declared.copy.FileBytes.{FileBytes}
 
--- an open database is checked, and what is left of it is let go
+-- An open database is checked, and then dropped.
 abbrev pub DropsChecked : {S W : Type 0} → StoreGhosts S → (W → Option (List ℕ)) → Held S → W → W → Result (Unit {0}) Trouble → Type 0
 DropsChecked {S} g contents conn old new done = (again : Held S) × ChecksOver g contents conn again old new done
 
 module _ {D : Type 0} {g : Ghosts D} where
-  -- a connection to the database in two files
+  -- This is a new connection to the database in the two files.
   pub record IsOpenedIn (files : Files D) (conn : Held (FileStore D g)) : Type 0 where
     pub opens : HasCleanDisk (file_state conn) → IsOpened conn
     pub finds : HasCleanDisk (file_state conn) → Finds files conn
     pub fresh : IsNew conn
 
 module _ {D W : Type 0} (g : Ghosts D) (contents : W → Option (List ℕ)) where
-  -- the database in the files is opened, and checked
+  -- The database in the files is opened and checked.
   pub record ChecksOpened (files : Files D) (old new : W) (done : Result (Unit {0}) Trouble) : Type 0 where
     pub conn : Held (FileStore D g)
     pub opened : IsOpenedIn files conn
     pub checks : DropsChecked over_files contents conn old new done
 
-  -- it can't be opened: the reason of that is told, and nothing goes out
+  -- The database in the files cannot be opened: the reason is reported, and nothing goes out.
   pub record ChecksUnopened (files : Files D) (old new : W) (done : Result (Unit {0}) Trouble) : Type 0 where
     pub error : Error
     pub rest : Leftover D g
@@ -51,7 +51,7 @@ module _ {D W : Type 0} (g : Ghosts D) (contents : W → Option (List ℕ)) wher
   ChecksFiles files old new done = ChecksOpened files old new done ⊎ ChecksUnopened files old new done
 
 module _ {W : Type 0} (contents : W → Option (List ℕ)) where
-  -- these bytes were read of the files at the path, and a copy is checked that has them, whole
+  -- These bytes were read of the files at the path, and a copy with exactly these bytes is checked.
   pub record ChecksCopy (path : List ℕ) (old new : W) (done : Result (Unit {0}) Trouble) : Type 0 where
     pub bytes : FileBytes
     pub read_at : bytes.path.now ≡ path
@@ -59,7 +59,7 @@ module _ {W : Type 0} (contents : W → Option (List ℕ)) where
     pub copied : AreCopiesOf bytes files
     pub checks : ChecksFiles memory_disk contents files old new done
 
-  -- they can't be read, or not be copied: why is told, and nothing goes out
+  -- The files cannot be read or copied: the reason is reported, and nothing goes out.
   abbrev pub IsUnchecked : W → W → Result (Unit {0}) Trouble → Type 0
   IsUnchecked old new done = (reason : Reason) × (done ≡ Err (trouble.Unchecked reason)) × (new ≡ old)
 

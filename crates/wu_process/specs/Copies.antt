@@ -7,17 +7,17 @@ use Rattle.sqlite_disk.specs.declared.Files.{Files}
 use Rattle.sqlite_disk.specs.declared.memory.Memory.{Memory}
 use Rattle.wu_process.specs.declared.copy.FileBytes.{FileBytes}
 
--- a file in memory has these bytes, and may be used
+-- The file in memory has these bytes, and can be used.
 pub record IsCopyOf (bytes : List ℕ) (file : Memory) : Type 0 where
   pub same : memory_bytes file ≡ bytes
   pub usable : IsTrue (memory_is_usable file)
 
--- so have the two of a database
+-- The two files of a database in memory have these bytes, and can be used.
 pub record AreCopiesOf (bytes : FileBytes) (files : Files Memory) : Type 0 where
   pub log : IsCopyOf bytes.log.items files.log
   pub db : IsCopyOf bytes.db.items files.db
 
--- what a file in memory is to a database: it tells no lie
+-- A file in memory as the disk of a database: it always returns what was written.
 abbrev pub memory_disk : Ghosts Memory
 memory_disk = record {
   seen = memory_bytes;

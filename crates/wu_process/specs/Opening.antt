@@ -1,4 +1,4 @@
--- What the opening of a database by its path gives. That the files lie at the path, no clause can say.
+-- What opening a database by its path gives. No clause can say that the files are at the path.
 use Rattle.std.specs.Prelude.{◌≡◌, ◌≢◌, ◌⊎◌, ℕ, false, true, List, codes, IfSome, IsTrue, None, Option}
 use Rattle.sqlite_disk.specs.declared.Disk.{Ghosts}
 use Rattle.sqlite_disk.specs.declared.Files.{Files}
@@ -23,19 +23,19 @@ use Rattle.wu_cli.specs.declared.trouble.Trouble.{Trouble}
 use Rattle.wu_cli.specs.declared.trouble.Trouble.TheVariants as trouble
 use Rattle.wu_core.specs.declared.fault.Fault.TheVariants.{Memory}
 
--- a path that names a database in memory, which no opening of files takes
+-- The path that names a database in memory; opening files refuses it.
 abbrev pub in_memory : List ℕ
 in_memory = codes ":memory:"
 
--- what is told where nothing is opened, for what lies at the path or beside it, or as there was no memory to see that
+-- The trouble of a database that is not opened, because of what lies at its path or beside it, or out of memory.
 abbrev pub IsBar : Trouble → Type 0
 IsBar told = (told ≡ trouble.Unopened) ⊎ (told ≡ trouble.Fault Memory)
 
--- what an opening may tell before it has opened the two files
+-- The errors that an opening may report before it has opened the two files.
 abbrev pub IsEarly : Error → Type 0
 IsEarly error = (error ≡ SqliteFailure CannotOpen) ⊎ ((error ≡ SqliteFailure OutOfMemory) ⊎ (error ≡ SqliteFailure DatabaseBusy))
 
--- a connection to the database of this path, over two files that held this as they were opened
+-- This is a connection to the database of this path, over two files that held this image when they were opened.
 pub record IsOpenedAt {D : Type 0} {g : Ghosts D} (path : List ℕ) (image : Image) (conn : Held (FileStore D g)) : Type 0 where
   pub of_file : path ≢ in_memory
   pub opens : HasCleanDisk (file_state conn) → IsOpened conn
@@ -45,13 +45,13 @@ pub record IsOpenedAt {D : Type 0} {g : Ghosts D} (path : List ℕ) (image : Ima
   pub guarded : HasCleanDisk (file_state conn) → (file_state conn).IsShielded
 
 module _ {S : Type 0} {c : calls.Ghosts Host} {s : start.Ghosts S} {g : Ghosts (Modelled Host S c s)} where
-  -- an opening of two files that held what the start says failed for this cause, and left this of them
+  -- Opening two files, which held what the start says, failed for this cause and left this of them.
   abbrev pub IsLeftUnopened : Error → Leftover (Modelled Host S c s) g → Type 0
   IsLeftUnopened error left =
       (files : Files (Modelled Host S c s)) × IsFresh true files.log × IsFresh false files.db
       × (IsCleanLeft left → FailsToOpenFiles files left error × LeavesFiles files left)
 
-  -- why the database of this path is not opened, and what is left of its files, if they were opened
+  -- Why the database of this path was not opened, and what is left of its files if they were opened.
   pub record IsUnopened (path : List ℕ) (error : Error) (left : Option (Leftover (Modelled Host S c s) g)) : Type 0 where
     pub named : IsTrue (is_open_error error)
     pub in_memory : path ≡ in_memory → error ≡ SqliteFailure CannotOpen

@@ -14,25 +14,26 @@ use Rattle.wu_cli.specs.Troubles.{unheard}
 use Rattle.wu_process.specs.Running.{Obeys, TellsTrouble}
 use Rattle.wu_process.specs.declared.End.{End}
 
--- with status 0 all that the demonstration prints went out
+-- With status 0, all that the demonstration prints went out.
 abbrev pub Demonstrates : Option (List ℕ) → Option (List ℕ) → ℕ → Type 0
 Demonstrates old new status = status ≡ 0 → IsDemonstrated old new
 
 module _ {S W E : Type 0} {c : calls.Ghosts Host} {s : start.Ghosts S} {g : Ghosts (Modelled Host S c s)} (contents : W → Option (List ℕ)) (told_of : E → Option (List ℕ)) (old new : W) (err_old err_new : E) (end : End (Modelled Host S c s) g) where
-  -- without a word after the program's name it is demonstrated, and nothing is told; else what they ask for is done
+  -- Without a word after the program's name, the demonstration runs and reports nothing; otherwise what the words ask
+  -- for is done.
   abbrev pub RunsGiven : Vec (String Global) Global → Type 0
   RunsGiven words =
       ((vec_len words ≤ 1) × Demonstrates (contents old) (contents new) end.status × (err_new ≡ err_old))
       ⊎ ((1 < vec_len words) × Obeys contents told_of (map string_bytes words.items) old new err_old err_new end)
 
-  -- words that could not be had are told as such, and nothing goes out
+  -- Words that the process cannot get are reported so, and nothing goes out.
   abbrev pub RunsProcess : Result (Vec (String Global) Global) Error → Type 0
   RunsProcess (Ok words) = RunsGiven words
   RunsProcess (Err error) =
       TellsTrouble {T = Unit {0}} told_of err_old err_new (Err (unheard (error_kind error))) end.status end.is_told × (new ≡ old)
 
--- the process ends with the status of such a run, over some words, outputs of these types and a database file of which
--- nothing is supposed
+-- The process ends with the status of such a run, over some words, some outputs of these types, and any start of its
+-- database file.
 pub record EndsAsRun {S W E : Type 0} {c : calls.Ghosts Host} {s : start.Ghosts S} (g : Ghosts (Modelled Host S c s)) (contents : W → Option (List ℕ)) (told_of : E → Option (List ℕ)) (status : ℕ) : Type 0 where
   pub words : Result (Vec (String Global) Global) Error
   pub old : W

@@ -27,43 +27,43 @@ use Rattle.wu_process.specs.Asking.{AsksFor, database_in, RefusesWords}
 use Rattle.wu_process.specs.Checks.{ChecksPath}
 use Rattle.wu_process.specs.Closing.{IsLeftByClose}
 use Rattle.wu_process.specs.Opening.{IsBar, IsOpenedAt, IsUnopened}
-use Rattle.wu_process.specs.declared.database.Left.{Left}
-use Rattle.wu_process.specs.declared.database.Left.TheVariants as left
+use Rattle.wu_process.specs.declared.database.LeftDatabase.{LeftDatabase}
+use Rattle.wu_process.specs.declared.database.LeftDatabase.TheVariants as left
 use Rattle.wu_process.specs.declared.End.{End}
 
--- without a trouble the status is 0 and nothing is told; else that of the trouble, whose text goes out, or a beginning
--- of it
+-- Without a trouble the status is 0 and nothing is reported. With one the status is the trouble's, and its text or a
+-- prefix of that goes out.
 abbrev pub TellsTrouble : {W T : Type 0} → (W → Option (List ℕ)) → W → W → Result T Trouble → ℕ → Bool → Type 0
 TellsTrouble contents old new (Ok done) status is_told = (status ≡ 0) × (new ≡ old) × (is_told ≡ true)
 TellsTrouble contents old new (Err trouble) status is_told =
     (status ≡ trouble_status trouble) × WritesAll (contents old) (contents new) (trouble_text trouble) is_told
 
--- a run ends with the status of its trouble, which is told, and with what is left of its database
-pub record EndsSo {D W : Type 0} {g : Ghosts D} (contents : W → Option (List ℕ)) (old new : W) (done : Result (Unit {0}) Trouble) (left : Option (Left D g)) (end : End D g) : Type 0 where
+-- A run ends with the status of its trouble, which is reported, and with what is left of its database.
+pub record EndsSo {D W : Type 0} {g : Ghosts D} (contents : W → Option (List ℕ)) (old new : W) (done : Result (Unit {0}) Trouble) (left : Option (LeftDatabase D g)) (end : End D g) : Type 0 where
   pub tells : TellsTrouble contents old new done end.status end.is_told
   pub same : end.left ≡ left
 
 module _ {D W : Type 0} {g : Ghosts D} (contents : W → Option (List ℕ)) where
-  -- the work is done over an open database, and that is closed
-  pub record DoesAndCloses (conn : Held (FileStore D g)) (work : Work) (old new : W) (done : Result (Unit {0}) Trouble) (left : Left D g) : Type 0 where
+  -- The work is done over an open database, which is then closed.
+  pub record DoesAndCloses (conn : Held (FileStore D g)) (work : Work) (old new : W) (done : Result (Unit {0}) Trouble) (left : LeftDatabase D g) : Type 0 where
     pub again : Held (FileStore D g)
     pub does : DoesOver over_files contents conn again old new work done
     pub drives : DrivesOver over_files conn again work done
     pub prints : PrintsOver over_files contents conn again old new work done
     pub closed : IsLeftByClose again left
 
--- nothing is opened: this is told, and nothing goes out
+-- Nothing is opened, which is reported, and nothing goes out.
 abbrev pub Bars : {W : Type 0} → W → W → Result (Unit {0}) Trouble → Type 0
 Bars old new done = (told : Trouble) × IsBar told × (done ≡ Err told) × (new ≡ old)
 
--- the words ask for work, and its database is not opened, for what lies at its path or beside it
+-- The words ask for work, and its database is not opened, because of what lies at its path or beside it.
 pub record BarsWords (words : List (List ℕ)) (told : Trouble) : Type 0 where
   pub order : Order
   pub work : Work
   pub asked : AsksFor words order work
   pub barred : IsBar told
 
--- the words ask for no work, or for none that can be begun: the trouble of that is told, and nothing goes out
+-- The words are refused, or their work is, or its database is not opened. That trouble is reported, and nothing goes out.
 pub record RunsNothing {W : Type 0} (words : List (List ℕ)) (old new : W) (done : Result (Unit {0}) Trouble) : Type 0 where
   pub trouble : Trouble
   pub refused : RefusesWords words trouble ⊎ BarsWords words trouble
@@ -71,50 +71,50 @@ pub record RunsNothing {W : Type 0} (words : List (List ℕ)) (old new : W) (don
   pub unwritten : new ≡ old
 
 module _ {W : Type 0} (contents : W → Option (List ℕ)) where
-  -- the words ask for a check, or for an explanation
+  -- The words ask for a check, or for an explanation.
   abbrev pub RunsAside : List (List ℕ) → W → W → Result (Unit {0}) Trouble → Type 0
   RunsAside words old new done =
       ((path : List ℕ) × IsOrderOf words (order.Check path) × ChecksPath contents path old new done)
       ⊎ ((topic : Topic) × IsOrderOf words (order.Explain topic) × ExplainsTopic contents old new done)
 
 module _ {S W : Type 0} {c : calls.Ghosts Host} {s : start.Ghosts S} {g : Ghosts (Modelled Host S c s)} (contents : W → Option (List ℕ)) where
-  -- the database of this path is opened, over two files that held what the start says, and the work is done over it
-  pub record DoesOpened (path : List ℕ) (work : Work) (old new : W) (done : Result (Unit {0}) Trouble) (left : Left (Modelled Host S c s) g) : Type 0 where
+  -- The database of this path is opened, over two files that held what the start says, and the work is done over it.
+  pub record DoesOpened (path : List ℕ) (work : Work) (old new : W) (done : Result (Unit {0}) Trouble) (left : LeftDatabase (Modelled Host S c s) g) : Type 0 where
     pub conn : Held (FileStore (Modelled Host S c s) g)
     pub opened : IsOpenedAt path (image_at s) conn
     pub does : DoesAndCloses contents conn work old new done left
 
-  -- it can't be opened: the trouble of that is told, and nothing goes out
+  -- The database cannot be opened: that trouble is reported, and nothing goes out.
   pub record DoesUnopened (path : List ℕ) (old new : W) (done : Result (Unit {0}) Trouble) (error : Error) (rest : Option (Leftover (Modelled Host S c s) g)) : Type 0 where
     pub unopened : IsUnopened path error rest
     pub told : done ≡ Err (trouble_of_opening (fault_of error))
     pub unwritten : new ≡ old
 
-  abbrev pub OpensAndDoes : List ℕ → Work → W → W → Result (Unit {0}) Trouble → Left (Modelled Host S c s) g → Type 0
+  abbrev pub OpensAndDoes : List ℕ → Work → W → W → Result (Unit {0}) Trouble → LeftDatabase (Modelled Host S c s) g → Type 0
   OpensAndDoes path work old new done (left.Unopened error rest) = DoesUnopened path old new done error rest
   OpensAndDoes path work old new done other = DoesOpened path work old new done other
 
-  -- what is asked is done over the database of this path; or it can't be asked, or the database is not opened, for what
-  -- lies there, and nothing is done or goes out
-  abbrev pub RunsWork : List ℕ → Result Work Trouble → W → W → Result (Unit {0}) Trouble → Option (Left (Modelled Host S c s) g) → Type 0
+  -- The work is done over the database of this path; or it is refused, or the database is not opened, and nothing goes
+  -- out.
+  abbrev pub RunsWork : List ℕ → Result Work Trouble → W → W → Result (Unit {0}) Trouble → Option (LeftDatabase (Modelled Host S c s) g) → Type 0
   RunsWork path (Ok work) old new done (Some left) = OpensAndDoes path work old new done left
   RunsWork path (Ok work) old new done None = Bars old new done
   RunsWork path (Err trouble) old new done (Some left) = ⊥
   RunsWork path (Err trouble) old new done None = (done ≡ Err trouble) × (new ≡ old)
 
-  -- the words ask for this work, and it is done over the database that they name
-  pub record RunsAsked (words : List (List ℕ)) (old new : W) (done : Result (Unit {0}) Trouble) (left : Left (Modelled Host S c s) g) : Type 0 where
+  -- The words ask for this work, and it is done over the database that they name.
+  pub record RunsAsked (words : List (List ℕ)) (old new : W) (done : Result (Unit {0}) Trouble) (left : LeftDatabase (Modelled Host S c s) g) : Type 0 where
     pub order : Order
     pub work : Work
     pub asked : AsksFor words order work
     pub runs : OpensAndDoes (database_in order) work old new done left
 
-  -- files of a database come back only where its work was asked for
-  abbrev pub RunsWords : List (List ℕ) → W → W → Result (Unit {0}) Trouble → Option (Left (Modelled Host S c s) g) → Type 0
+  -- A run leaves a database only if its words ask for work. Otherwise it is refused, a check, or an explanation.
+  abbrev pub RunsWords : List (List ℕ) → W → W → Result (Unit {0}) Trouble → Option (LeftDatabase (Modelled Host S c s) g) → Type 0
   RunsWords words old new done (Some left) = RunsAsked words old new done left
   RunsWords words old new done None = RunsNothing words old new done ⊎ RunsAside contents words old new done
 
-  -- what the words ask for is done up to the first trouble, and that is told with its status
+  -- What the words ask for is done up to the first trouble, which is reported with its status.
   pub record Obeys {E : Type 0} (told_of : E → Option (List ℕ)) (words : List (List ℕ)) (old new : W) (err_old err_new : E) (end : End (Modelled Host S c s) g) : Type 0 where
     pub done : Result (Unit {0}) Trouble
     pub runs : RunsWords words old new done end.left

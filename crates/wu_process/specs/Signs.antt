@@ -1,7 +1,7 @@
--- What a writer hands on before whose first bytes a line of a terminal may have to be wiped.
+-- What a writer hands on, if a progress line may have to be wiped before its first bytes.
 use Rattle.std.specs.Prelude.{ℕ, Bool, true, false, List, Option, None}
 
--- nothing is known where a line is to be wiped; else exactly what it is given
+-- Exactly what the writer is given; nothing is known if a line has to be wiped first.
 abbrev pub handed_on : Bool → Option (List ℕ) → Option (List ℕ)
 handed_on true known = None
 handed_on false known = known

@@ -1,6 +1,7 @@
 //! What lies at the path of a database and beside it, which may forbid its opening. No clause can say what files there are.
 
-ghost use Rattle.std.specs.Prelude.{IfErr};
+ghost use Rattle.std.specs.Prelude.{◌≡◌, IfErr};
+ghost use Rattle.wu_core.specs.declared.fault.Fault.TheVariants.{Memory};
 ghost use Rattle.wu_process.specs.Opening.{IsBar};
 
 use crate::files::HostFiles;
@@ -36,7 +37,10 @@ pub fn has_log(rt: &HostRuntime, path: &str) -> Result<bool, AllocError> {
 
 /// Returns whether the file at the path begins as no database does. An empty file can become one, and of a file that
 /// cannot be read it is not known. The only fault is `Memory`.
-pub fn is_foreign(rt: &HostRuntime, path: &str) -> Result<bool, Fault> {
+pub fn is_foreign(rt: &HostRuntime, path: &str) -> Result<bool, Fault>
+    // The only fault is `Memory`.
+    ensures { IfErr result (λ fault. fault ≡ Memory) }
+{
     match HostFiles::new(rt).read(path, HEADER.len() - 1)? {
         Some(bytes) => Ok(!bytes.is_empty() && bytes.as_slice() != HEADER),
         None => Ok(false),

@@ -26,7 +26,7 @@ fn check_and_drop<S: Alter + Drop, O: Write>(
     check_over(alloc, &mut conn, out)
 }
 
-/// Opens the database in two files, and checks it. Where it cannot be opened, the trouble is why, and nothing goes out.
+/// Opens the database in two files, and checks it. If it cannot be opened, the trouble is why, and nothing goes out.
 fn check_files<D: Disk + Drop, O: Write>(
     alloc: Global,
     files: Files<D>,
@@ -52,11 +52,11 @@ fn options(rt: &HostRuntime) -> Options {
     Options::new(seed)
 }
 
-/// Checks a copy of the database at the path. Where its files cannot be read or copied, the trouble is why, and nothing
+/// Checks a copy of the database at the path. If its files cannot be read or copied, the trouble is why, and nothing
 /// goes out.
 pub fn check_path<O: Write>(rt: &HostRuntime, path: &str, out: &mut O) -> Result<(), Trouble>
-    // A copy with just the bytes that were read of both files is checked; or why it cannot be is
-    // reported, and nothing goes out.
+    // A copy with exactly the bytes that were read of both files is opened and checked. Or the
+    // reason why it cannot be is reported, and nothing goes out.
     ensures { ChecksPath O.contents path.now out.old out.new result }
 {
     let bytes = match read_database(rt, path) {

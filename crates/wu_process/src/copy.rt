@@ -11,13 +11,14 @@ use sqlite_std_file::OpenError;
 use std::alloc::Global;
 use std::fs;
 use std::io::{self, ErrorKind};
+use std::ops::Range;
 use std::time::SystemTime;
 use wu_cli::Reason;
 
 /// The bytes of the files of a database.
 #[derive(Drop)]
 pub struct FileBytes<'a> {
-    /// Where the database lies.
+    /// The path of the database.
     pub path: &'a str,
     /// Of the log; empty if there is no log.
     pub log: Vec<u8>,
@@ -77,10 +78,12 @@ const ENCODING: Range<usize> = 56..60;
 /// Refuses a database of a kind that the store does not read: with auto-vacuum, or with texts in UTF-16. One that has no
 /// header yet is not refused.
 fn refuse_other_kind(db: &[u8]) -> Result<(), Reason> {
-    let has_vacuum = db.get(LARGEST_ROOT).is_some_and(|root| root != [0; 4]);
-    let has_utf16 = db
-        .get(ENCODING)
-        .is_some_and(|it| it != [0; 4] && it != [0, 0, 0, 1]);
+    let has_vacuum = db
+        .get(LARGEST_ROOT)
+        .is_some_and(|root| root != [0, 0, 0, 0].as_slice());
+    let has_utf16 = db.get(ENCODING).is_some_and(|encoding| {
+        encoding != [0, 0, 0, 0].as_slice() && encoding != [0, 0, 0, 1].as_slice()
+    });
     if has_vacuum || has_utf16 {
         return Err(Reason::OtherKind);
     }
@@ -139,10 +142,13 @@ fn read_at_once<'a>(
 
 /// Returns why a path leads to no file: where its log is there, the database has gone without it.
 fn lost(rt: &HostRuntime, path: &str, error: &io::Error) -> Reason {
-    match has_log(rt, path) {
-        Ok(true) if error.kind() == ErrorKind::NotFound => Reason::LogAlone,
-        Ok(_) => Reason::of_file(error),
-        Err(_) => Reason::Memory,
+    let Ok(has_log) = has_log(rt, path) else {
+        return Reason::Memory;
+    };
+    if has_log && error.kind() == ErrorKind::NotFound {
+        Reason::LogAlone
+    } else {
+        Reason::of_file(error)
     }
 }
 
@@ -158,7 +164,7 @@ fn refuse_foreign(rt: &HostRuntime, path: &str) -> Result<(), Reason> {
 /// Reads the bytes of the database at the path and of its log, as they are at one moment. A file that another program
 /// writes to meanwhile is in use. The log lies beside the file to which a link leads.
 pub fn read_database<'a>(rt: &HostRuntime, path: &'a str) -> Result<FileBytes<'a>, Reason>
-    // What is read is that of the path.
+    // The bytes carry the path that was asked for. What the bytes are is not stated.
     ensures { IfOk result (λ bytes. bytes.path.now ≡ path.now) }
 {
     let real = fs::canonicalize(rt, path).map_err(|error| lost(rt, path, &error))?;

@@ -10,7 +10,7 @@ use std::io::Write;
 use wu_cli::{Trouble, Work, unopened};
 
 /// What is left of the database that words name.
-pub enum Left<D: Disk> {
+pub enum LeftDatabase<D: Disk> {
     /// It could not be opened: the error, and what is left of its files, if they were opened.
     Unopened(Error, Option<Leftover<D>>),
     /// It was closed, and these are its files.
@@ -20,25 +20,25 @@ pub enum Left<D: Disk> {
 }
 
 // It is written out, so that a caller does not prove again how each part is dropped.
-impl<D: Disk + Drop> Drop for Left<D> {
+impl<D: Disk + Drop> Drop for LeftDatabase<D> {
     fn drop(self) {
         match self {
-            Left::Unopened(_error, _left) => {}
-            Left::Closed(_files) => {}
-            Left::Unclosed(_error, _store) => {}
+            LeftDatabase::Unopened(_error, _left) => {}
+            LeftDatabase::Closed(_files) => {}
+            LeftDatabase::Unclosed(_error, _store) => {}
         }
     }
 }
 
 /// Closes a database, as far as its files let it.
-fn close<D: Disk + Drop>(conn: Connection<FileStore<D>>) -> Left<D>
-    // The files come back closed, with the last commit copied into the database's where the disk
-    // had no fault; or the store with its error.
+fn close<D: Disk + Drop>(conn: Connection<FileStore<D>>) -> LeftDatabase<D>
+    // The files come back closed, with the last commit in the database file if the disk is clean.
+    // Or the store comes back, with the error.
     ensures { IsLeftByClose conn result }
 {
     match conn.close_files() {
-        Ok(files) => Left::Closed(files),
-        Err((error, store)) => Left::Unclosed(error, store),
+        Ok(files) => LeftDatabase::Closed(files),
+        Err((error, store)) => LeftDatabase::Unclosed(error, store),
     }
 }
 
@@ -50,7 +50,7 @@ fn open_and_do<S: Start, O: Write>(
     work: Work,
     start: S,
     out: &mut O,
-) -> (Result<(), Trouble>, Left<FileFrom<S>>)
+) -> (Result<(), Trouble>, LeftDatabase<FileFrom<S>>)
     // The work is done over the opened database, which is then closed; or nothing is opened, and that is reported.
     ensures { OpensAndDoes O.contents database.now work out.old out.new result.0 result.1 }
 {
@@ -61,24 +61,24 @@ fn open_and_do<S: Start, O: Write>(
         }
         Err((error, left)) => {
             let trouble = unopened(&error);
-            (Err(trouble), Left::Unopened(error, left))
+            (Err(trouble), LeftDatabase::Unopened(error, left))
         }
     }
 }
 
 /// Opens the database, does the work that is asked over it, and closes it. The work holds what its files held, so these
-/// were read before. Where `asked` is a trouble, or the database must not or cannot be opened, that is returned, and
-/// nothing is written.
+/// were read before. If `asked` is a trouble, or the database must not or cannot be opened, that is returned, and nothing
+/// is written.
 pub fn open_and_perform<S: Start, O: Write>(
     rt: &HostRuntime,
     database: &str,
     asked: Result<Work, Trouble>,
     start: S,
     out: &mut O,
-) -> (Result<(), Trouble>, Option<Left<FileFrom<S>>>)
+) -> (Result<(), Trouble>, Option<LeftDatabase<FileFrom<S>>>)
     // The database of this path is opened, its work is done and written, and it is closed. Or it
-    // cannot be opened, which is reported, and nothing goes out. Where `asked` is a trouble, that
-    // is returned, and nothing is opened.
+    // cannot be opened, which is reported, and nothing goes out. If `asked` is a trouble, that is
+    // returned, and nothing is opened.
     ensures { RunsWork O.contents database.now asked out.old out.new result.0 result.1 }
 {
     match asked {

@@ -18,7 +18,7 @@ mod files;
 mod signs;
 
 use check::check_path;
-pub use database::Left;
+pub use database::LeftDatabase;
 use database::open_and_perform;
 use files::HostFiles;
 use signs::{Cleared, Signs, Watched};
@@ -40,7 +40,7 @@ pub struct End<D: Disk> {
     /// Whether all of the text of a trouble went out.
     pub is_told: bool,
     /// What is left of the database that the words name; `None` if they ask for no work.
-    pub left: Option<Left<D>>,
+    pub left: Option<LeftDatabase<D>>,
 }
 
 /// Does what the words ask for, up to the first trouble. All files are read before the database is opened.
@@ -49,9 +49,9 @@ fn run_words<S: sqlite::Start, O: Write>(
     words: &[String],
     start: S,
     out: &mut O,
-) -> (Result<(), Trouble>, Option<Left<FileFrom<S>>>)
+) -> (Result<(), Trouble>, Option<LeftDatabase<FileFrom<S>>>)
     // Refused words, and a line or a script that cannot be run, are reported, and nothing goes out.
-    // Else the work is done over the database that the words name, or the check, or the
+    // Otherwise the work is done over the database that the words name, or the check, or the
     // explanation.
     ensures { RunsWords O.contents (map string_bytes words.now)
         out.old out.new result.0 result.1 }
@@ -75,8 +75,8 @@ fn run_words<S: sqlite::Start, O: Write>(
 
 /// Reports the trouble that ended a run, if one did. Returns the status to end with, and whether all of it went out.
 fn tell<E: Write>(done: Result<(), Trouble>, err: &mut E) -> (u8, bool)
-    // Without a trouble the status is 0 and nothing is written. Else it is the trouble's, whose
-    // text goes out, or a prefix of it.
+    // Without a trouble the status is 0 and nothing is written. With one the status is the
+    // trouble's, and its text or a prefix of it goes out.
     ensures { TellsTrouble E.contents err.old err.new done result.0 result.1 }
 {
     match done {
@@ -89,7 +89,10 @@ fn tell<E: Write>(done: Result<(), Trouble>, err: &mut E) -> (u8, bool)
 }
 
 /// Reports the trouble that ended a run, if one did, and returns how it ended.
-fn ended<D: Disk, E: Write>(run: (Result<(), Trouble>, Option<Left<D>>), err: &mut E) -> End<D>
+fn ended<D: Disk, E: Write>(
+    run: (Result<(), Trouble>, Option<LeftDatabase<D>>),
+    err: &mut E,
+) -> End<D>
     // The trouble is reported with its status, and what is left of the database is handed on.
     ensures { EndsSo E.contents err.old err.new run.0 run.1 result }
 {
@@ -122,9 +125,10 @@ pub fn run_with<S: sqlite::Start, O: Write, E: Write>(
     out: &mut O,
     err: &mut E,
 ) -> End<FileFrom<S>>
-    // Without a word after the program's name the demonstration runs. Else what the words ask for
-    // is done up to the first trouble, which is reported with its status. Words that cannot be read
-    // are reported as no UTF-8 text, or as out of memory, and nothing goes out.
+    // Without a word after the program's name the demonstration runs: with status 0 all of it went
+    // out, and nothing goes to `err`. Otherwise what the words ask for is done up to the first
+    // trouble, which is reported with its status. Words that cannot be read are reported as no
+    // UTF-8 text, or as out of memory, and nothing goes out.
     ensures { RunsProcess O.contents E.contents out.old out.new err.old err.new result words }
 {
     match words {
@@ -143,12 +147,12 @@ fn words(rt: &HostRuntime) -> io::Result<Vec<String>> {
     Ok(env::args(rt)?.collect(rt.alloc())?)
 }
 
-/// Does what the words of the command line ask for, as `run_with`, with the outputs of the process, over a database
-/// file of which nothing is supposed. Where standard error is a terminal, it shows meanwhile how many answers have gone
-/// out, and the last one. Returns the status to end with.
+/// Does what the words of the command line ask for, as `run_with`, with the outputs of the process. Nothing is assumed
+/// of the database file. If standard error is a terminal, it shows in the meantime how many answers have gone out, and
+/// the last one. Returns the status to end with.
 pub fn run(rt: &HostRuntime) -> u8
-    // The status is that of a call of `run_with` over some words and outputs and any database file,
-    // or 4.
+    // The status is that of some call of `run_with`, over some words, some outputs and a database
+    // file with any contents; or it is 4.
     ensures { EndsAsRun ⟦<FileFrom<Wary> as Disk>⟧
         ⟦<Watched<BufWriter<Stdout>, Stderr> as Write>⟧.contents
         ⟦<Cleared<Stderr> as Write>⟧.contents result

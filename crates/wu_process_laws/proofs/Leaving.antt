@@ -84,7 +84,7 @@ use Rattle.wu_lives.specs.Runs.{HoldsWorld}
 use Rattle.wu_process.specs.Opening.{IsOpenedAt}
 use Rattle.wu_process.specs.Running.{TellsTrouble}
 use Rattle.wu_process.specs.declared.End.{End}
-use Rattle.wu_process.specs.declared.database.Left.TheVariants as left
+use Rattle.wu_process.specs.declared.database.LeftDatabase.TheVariants as left
 use Rattle.wu_process_laws.specs.Runs.{BeginsWhereOneEnded, BeginsWhereOneStopped, done_by, done_by_unclosed, HoldAfter, HoldAfterOneMore, Holds, LeavesAsItWas, LeavesDone, LeavesItsDone, LeavesItsDoneOrMore, LeavesItsWork, LeavesItsWorkUnclosed, OfEachImage, ImageRefines, TellsDone}
 
 -- ---- statuses

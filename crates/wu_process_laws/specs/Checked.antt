@@ -1,4 +1,4 @@
--- What a check tells of the files whose bytes it read.
+-- What a check reports of the files whose bytes it read.
 use Rattle.std.specs.Prelude.{◌≡◌, ◌⊎◌, ℕ, List, Option, Result, Ok, Err, IfErr}
 use Rattle.std.specs.Io.KnownBytes.{Appends}
 use Rattle.sqlite.specs.Effect.{Database, IsDatabase}
@@ -19,18 +19,18 @@ use Rattle.wu_lives.specs.Runs.{HoldsWorld}
 use Rattle.wu_process.specs.Checks.{ChecksCopy}
 use Rattle.wu_process.specs.declared.copy.FileBytes.{FileBytes}
 
--- the two files with these bytes
+-- The two files with these bytes.
 abbrev pub image_of_bytes : FileBytes → Image
 image_of_bytes bytes = record { log = bytes.log.items; db = bytes.db.items }
 
--- an opening of the files finds a database of which this holds, where no row of it is shorter than its table
+-- Opening the files finds a database, and this holds of it if no row of a workunit or of the queue is short.
 pub record FindsWith (image : Image) (Holds : Database → Type 0) : Type 0 where
   pub db : Database
   pub found : AreFoundIn image db.trees
   pub sound : IsDatabase db
   pub holds : HasWholeRows db → Holds db
 
--- what went out is the line of a sound project, and the files hold one with these numbers
+-- The line of a sound project went out, and the files hold a sound project with these numbers.
 pub record FindsSound (image : Image) (before after : Option (List ℕ)) : Type 0 where
   pub version : ℕ
   pub workunits : ℕ
@@ -38,26 +38,27 @@ pub record FindsSound (image : Image) (before after : Option (List ℕ)) : Type 
   pub told : Appends before after (sound_line version workunits results)
   pub found : FindsWith image (λ db. IsSoundAs db version workunits results)
 
--- what is told is true, and a later version is told before all else
+-- The finding is true of the database, and a later version is reported before all else.
 pub record IsToldTruly (db : Database) (finding : Finding) : Type 0 where
   pub tells : Tells db finding
   pub later : PutsLaterFirst db finding
 
--- want of memory, or of the disk or the output
+-- The trouble is out of memory, a failed disk or a failed output.
 abbrev pub IsWant : Trouble → Type 0
 IsWant (trouble.Fault fault) = IsFailure fault ⊎ (fault ≡ Output)
 IsWant (trouble.Unchecked reason) = (reason ≡ Memory) ⊎ ((reason ≡ FailingDisk) ⊎ ((reason ≡ Damaged) ⊎ (reason ≡ FullDisk)))
 IsWant _ = ⊥
 
 pub record TellsOfFiles (image : Image) (before after : Option (List ℕ)) (done : Result (Unit {0}) Trouble) : Type 0 where
-  -- `ok` tells of a sound project of a known version, which the files hold, and of its numbers
+  -- If `ok` is reported, the files hold a sound project of a known version with the printed numbers.
   pub sound : done ≡ Ok tt → FindsSound image before after
-  -- of one that they hold nothing else is told, but want of memory or of the disk
+  -- If the files hold a sound project of a known version, no trouble is reported except out of memory, a failed disk or
+  -- a failed output.
   pub unsound : (world : World) → HoldsWorld image world → IsSound world → IsKnown world.version → IfErr done IsWant
-  -- and what is told to be wrong is
+  -- If something is reported to be wrong, it is wrong.
   pub why : (finding : Finding) → done ≡ Err (trouble.Unsound finding) → FindsWith image (λ db. IsToldTruly db finding)
 
--- so it is of each check
+-- Each check of copied files reports what is true of the files.
 abbrev pub EachCheckIsTrue : {W : Type 0} → (W → Option (List ℕ)) → Type 0
 EachCheckIsTrue {W} contents =
     (path : List ℕ) (old new : W) (done : Result (Unit {0}) Trouble) (check : ChecksCopy contents path old new done)

@@ -35,19 +35,19 @@ use Rattle.wu_stops.specs.Closing.{IsNumbered}
 use Rattle.wu_lives.specs.Runs.{HoldsWorld}
 use Rattle.wu_process.specs.Running.{Obeys, RunsAsked, RunsWords}
 use Rattle.wu_process.specs.declared.End.{End}
-use Rattle.wu_process.specs.declared.database.Left.TheVariants as left
+use Rattle.wu_process.specs.declared.database.LeftDatabase.TheVariants as left
 
--- the files hold the tables of this world; or the database has no byte, and it is the empty world
+-- The files hold the tables of this world; or the database has no byte, and the world is the empty one.
 abbrev pub ImageRefines : Image → World → Type 0
 ImageRefines image world = HoldsWorld image world ⊎ ((image.db ≡ []) × (world ≡ empty_world))
 
--- The files hold the machine's world after so many commands of a list, in order: none of them is lost, none was
--- skipped, and none is there in part. Further commands go on from there.
+-- The files hold the machine's world after the first so many commands: in order, none skipped and none in part. Further
+-- commands may run over that world.
 pub record HoldAfter (world : World) (commands : List Command) (count : ℕ) (image : Image) : Type 0 where
   pub held : HoldsWorld image (world_after world commands count)
   pub project : IsProject (world_after world commands count)
 
--- they hold that after so many, or after one more
+-- The files hold the world after so many commands, or after one more.
 pub record HoldAfterOneMore (world : World) (commands : List Command) (count : ℕ) (image : Image) : Type 0 where
   pub kept : ℕ
   pub within : kept ≤ length commands
@@ -55,33 +55,34 @@ pub record HoldAfterOneMore (world : World) (commands : List Command) (count : �
   pub at_most_one_more : kept ≤ count + 1
   pub after : HoldAfter world commands kept image
 
--- what is said of an image after so many commands
+-- A property of an image of the files, after so many commands.
 abbrev pub Holds : Type 1
 Holds = World → List Command → ℕ → Image → Type 0
 
 module _ {D : Type 0} (g : Ghosts D) (files : Files D) where
-  -- this holds of each image that a stop may leave of the files
+  -- This holds of each image of the files that a crash may leave.
   abbrev pub OfEachImage : (Image → Type 0) → Type 0
   OfEachImage holds = (image : Image) → outcomes g files.log files.db image → ∥ holds image ∥₁
 
-  -- Nothing was adopted, for such a fault, whose status is told; and a world that the files held they hold still.
+  -- No project was adopted, for this fault, and the status is that fault's. A world that the files held they hold
+  -- still.
   pub record LeavesAsItWas (first : Image) (world : World) (status : ℕ) : Type 0 where
     pub fault : Fault
     pub told : status ≡ fault_status fault
     pub why : IsAdoptionFault fault
     pub held : HoldsWorld first world → OfEachImage (λ image. HoldsWorld image world)
 
--- What went out tells of as many commands as were done, so that none that was told is lost. Of a line these are the
--- texts of the answers, the last of them cut only with `Output`; of a script what its steps print, up to the one that
--- ended it. Of a view it is a beginning.
+-- What went out reports as many commands as were done. Of a line, these are the texts of the answers, the last one cut
+-- only with `Output`. Of a script, these are the texts of its steps, up to the one that ended it. Of a view, this is a
+-- prefix.
 abbrev pub TellsDone : Option (List ℕ) → Option (List ℕ) → World → Work → List Answer → ℕ → Type 0
 TellsDone before after world (work.Line (Commands commands)) answers count = (end : Option Fault) × WritesAnswers before after answers (record { acknowledged = count; end = end })
 TellsDone before after world (work.Line (Look view)) answers count = AppendsFront before after (view_text world view)
 TellsDone before after world (work.Script steps) answers count = (end : Option LineFault) × TellsSteps before after world (unrolled world steps) count end
 
 module _ {D : Type 0} (g : Ghosts D) (files : Files D) (says : Holds) (before after : Option (List ℕ)) where
-  -- So many commands of the work were done, in order, each with the machine's reply; with status 0 all were. What is
-  -- said of so many commands holds of the files, whatever a stop leaves of them.
+  -- So many commands of the work were done, in order, each with the machine's reply; with status 0 all were. This
+  -- property holds of each image of the files that a crash may leave.
   pub record LeavesDone (world : World) (asked : Work) (status : ℕ) : Type 0 where
     pub count : ℕ
     pub within : count ≤ length (commands_of_work world asked)
@@ -91,7 +92,7 @@ module _ {D : Type 0} (g : Ghosts D) (files : Files D) (says : Holds) (before af
     pub whole : status ≡ 0 → count ≡ length (commands_of_work world asked)
     pub held : OfEachImage g files (says world (commands_of_work world asked) count)
 
-  -- over each world of a project that was there at first, where the disk had no fault by the end
+  -- If the disk is clean at the end, this holds of each world of a project that the files held at first.
   abbrev pub LeavesBeginning : Image → Work → ℕ → Type 0
   LeavesBeginning first asked status =
       AreClean g files.log files.db → (world : World) → IsProject world → ImageRefines first world
@@ -100,7 +101,7 @@ module _ {D : Type 0} (g : Ghosts D) (files : Files D) (says : Holds) (before af
 -- ---- one run
 
 module _ {S W E : Type 0} {c : calls.Ghosts Host} {s : start.Ghosts S} {g : Ghosts (Modelled Host S c s)} (contents : W → Option (List ℕ)) (told_of : E → Option (List ℕ)) where
-  -- a run that ended so, and closed its database: its words and outputs, and the two files
+  -- A run that ended so and closed its database: its words and outputs, and the two files.
   pub record ClosedRun (end : End (Modelled Host S c s) g) : Type 0 where
     pub words : List (List ℕ)
     pub old : W
@@ -111,8 +112,8 @@ module _ {S W E : Type 0} {c : calls.Ghosts Host} {s : start.Ghosts S} {g : Ghos
     pub files : Files (Modelled Host S c s)
     pub closed : end.left ≡ Some (left.Closed files)
 
-  -- a run that ended so, and whose close failed, as where the disk stopped amid the run: it left a store, with two
-  -- files
+  -- A run that ended so and whose close failed, as after a failed disk: its words and outputs, the store that it left,
+  -- and the two files.
   pub record UnclosedRun (end : End (Modelled Host S c s) g) : Type 0 where
     pub words : List (List ℕ)
     pub old : W
@@ -127,21 +128,21 @@ module _ {S W E : Type 0} {c : calls.Ghosts Host} {s : start.Ghosts S} {g : Ghos
     pub files : Files (Modelled Host S c s)
     pub files_are : (files.log, files.db) ≡ store_files store
 
-  -- how it opened its database and did what its words ask for
+  -- How the run opened its database and did what its words ask for.
   abbrev pub done_by : (end : End (Modelled Host S c s) g) → (run : ClosedRun end) → RunsAsked {g = g} contents run.words run.old run.new run.obeys.done (left.Closed run.files)
   done_by end run = subst (λ l. RunsWords {g = g} contents run.words run.old run.new run.obeys.done l) run.closed run.obeys.runs
 
   abbrev pub done_by_unclosed : (end : End (Modelled Host S c s) g) → (run : UnclosedRun end) → RunsAsked {g = g} contents run.words run.old run.new run.obeys.done (left.Unclosed run.error run.store)
   done_by_unclosed end run = subst (λ l. RunsWords {g = g} contents run.words run.old run.new run.obeys.done l) run.unclosed run.obeys.runs
 
-  -- its files hold a beginning of the work that it did, and no more
+  -- The files hold a prefix of the work that was done, and no more.
   abbrev pub LeavesItsDone : (end : End (Modelled Host S c s) g) → ClosedRun end → Type 0
   LeavesItsDone end run = LeavesBeginning g run.files HoldAfter (contents run.old) (contents run.new) (image_at s) (done_by end run).work end.status
 
   abbrev pub LeavesItsWork : End (Modelled Host S c s) g → Type 0
   LeavesItsWork end = (run : ClosedRun end) → LeavesItsDone end run
 
-  -- they hold what was done, and at most the one command that was cut
+  -- The files hold what was done, and at most the one command that was cut.
   abbrev pub LeavesItsDoneOrMore : (end : End (Modelled Host S c s) g) → UnclosedRun end → Type 0
   LeavesItsDoneOrMore end run = LeavesBeginning g run.files HoldAfterOneMore (contents run.old) (contents run.new) (image_at s) (done_by_unclosed end run).work end.status
 
@@ -152,12 +153,12 @@ module _ {S W E : Type 0} {c : calls.Ghosts Host} {s : start.Ghosts S} {g : Ghos
 
 module _ {S T W E : Type 0} {c d : calls.Ghosts Host} {s : start.Ghosts S} {t : start.Ghosts T} {g : Ghosts (Modelled Host S c s)} {h : Ghosts (Modelled Host T d t)} (contents : W → Option (List ℕ)) (told_of : E → Option (List ℕ))
     (first : End (Modelled Host S c s) g) (second : End (Modelled Host T d t) h) where
-  -- over this world the second did a beginning of its work, or it adopted nothing
+  -- Over this world, the second run did a prefix of its work, or adopted no project.
   abbrev pub DoesNext : ClosedRun contents told_of second → Work → World → Type 0
   DoesNext run asked world =
       LeavesDone h run.files HoldAfter (contents run.old) (contents run.new) world asked second.status ⊎ LeavesAsItWas h run.files (image_at t) world second.status
 
-  -- so it is over the world after so many commands of the first, or after one more
+  -- The second run did so over the world after so many commands of the first, or after one more.
   pub record DoesNextAfter (run : ClosedRun contents told_of second) (asked : Work) (world : World) (commands : List Command) (count : ℕ) : Type 0 where
     pub kept : ℕ
     pub within : kept ≤ length commands
@@ -165,7 +166,7 @@ module _ {S T W E : Type 0} {c d : calls.Ghosts Host} {s : start.Ghosts S} {t : 
     pub at_most_one_more : kept ≤ count + 1
     pub next : DoesNext run asked (world_after world commands kept)
 
-  -- the second went on from the world that the first left: that after what the first did, or the one of before
+  -- The second run went on from the world that the first left: the one after what the first did, or the one before it.
   pub record GoInTurn (one : ClosedRun contents told_of first) (two : ClosedRun contents told_of second) : Type 0 where
     pub left : LeavesItsDone contents told_of first one
     pub next : LeavesItsDone contents told_of second two
@@ -176,7 +177,8 @@ module _ {S T W E : Type 0} {c d : calls.Ghosts Host} {s : start.Ghosts S} {t : 
         AreClean h two.files.log two.files.db → (world : World) → IsProject world → HoldsWorld (image_at s) world → LeavesAsItWas g one.files (image_at s) world first.status
         → ∥ DoesNext two (done_by contents told_of second two).work world ∥₁
 
-  -- so it did after one whose close failed, where the command that was cut may be in that world
+  -- Likewise after a first run whose close failed; its cut command may be in the world that the second run goes on
+  -- from.
   pub record GoAfterStop (one : UnclosedRun contents told_of first) (two : ClosedRun contents told_of second) : Type 0 where
     pub left : LeavesItsDoneOrMore contents told_of first one
     pub next : LeavesItsDone contents told_of second two
@@ -187,7 +189,7 @@ module _ {S T W E : Type 0} {c d : calls.Ghosts Host} {s : start.Ghosts S} {t : 
         AreClean h two.files.log two.files.db → (world : World) → IsProject world → HoldsWorld (image_at s) world → LeavesAsItWas g one.files (image_at s) world first.status
         → ∥ DoesNext two (done_by contents told_of second two).work world ∥₁
 
-  -- whatever two runs did that ended so, where the second began with what a stop left of the first
+  -- If the second run begins over what a crash left of the first, it goes on from there.
   abbrev pub BeginsWhereOneEnded : Type 0
   BeginsWhereOneEnded =
       (one : ClosedRun contents told_of first) (two : ClosedRun contents told_of second) → outcomes g one.files.log one.files.db (image_at t)

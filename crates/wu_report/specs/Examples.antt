@@ -11,40 +11,40 @@ use Rattle.wu_rules.specs.Assimilation.{archived_row}
 use Rattle.wu_machine.specs.Examples.{three_classes}
 use Rattle.wu_rules.specs.Examples.{credit, h1, h2, job, masked, too_many_errors}
 
--- a workunit as a batch adds it, and one with these instances
+-- The workunit that a batch adds, and one with these instances.
 abbrev pub first_job : Workunit
 first_job = job default_parameters []
 
 abbrev pub job_having : List Instance → Workunit
 job_having instances = job default_parameters instances
 
--- a world of one workunit
+-- A world of one workunit.
 abbrev pub holding : Workunit → World
 holding w = record empty_world { workunits = w ∷ []; next_number = 2 }
 
--- after a batch of one job, and a transition that made two instances of it
+-- A world after a batch of one job, and a transition that made two instances.
 abbrev pub after_a_batch : World
 after_a_batch =
     record (holding (job_having (fresh ∷ fresh ∷ []))) {
       imports = record { kind = Batch; name = []; template = []; content = []; first_number = 1; verdicts = 0 ∷ [] } ∷ [];
     }
 
--- the archived row of a workunit that had too many errors, assimilated on 2026-03-02 at midnight
+-- The archived row of a workunit with too many errors, assimilated on 2026-03-02 at midnight.
 abbrev pub given_up_row : Archived
 given_up_row = archived_row (masked too_many_errors first_job) 1772409600
 
--- the same of one that was decided, with an output of two bytes
+-- The archived row of a workunit that was decided, with an output of two bytes.
 abbrev pub decided_row : Archived
 decided_row = record (archived_row first_job 1772409600) { canonical = Some 0; output = 0 ∷ 255 ∷ [] }
 
--- a world with one archived row
+-- A world with one archived row.
 abbrev pub archiving : Archived → World
 archiving row = record empty_world { archived = row ∷ [] }
 
--- three credits of two hosts
+-- Three grants of two hosts.
 abbrev pub three_grants : World
 three_grants = record empty_world { grants = credit 0 h2 ∷ credit 1 h1 ∷ credit 2 h2 ∷ [] }
 
--- three hosts that have classes
+-- Three hosts with classes.
 abbrev pub three_hosts : World
 three_hosts = record empty_world { classes = three_classes }

@@ -10,16 +10,17 @@ use Rattle.wu_passes.specs.Standing.{GoesOn}
 use Rattle.wu_passes.specs.declared.project.Project.{Project}
 use Rattle.wu_passes.specs.Projects.{IsSessionOpen, IsSessionEnded, KeepsLimit, KeepsVersion, state_of}
 
--- where the disk did not fail, the session goes on over each world over which it went on before
+-- On a clean disk, the session goes on over each world over which it went on before.
 abbrev pub StillGoesOn : {S : Type 0} {store : Ghosts S} → Project S store → Project S store → Type 0
 StillGoesOn old new =
     HasCleanDisk (state_of new) → (world : World) → GoesOn (state_of old) world → GoesOn (state_of new) world
 
--- a call that ends a session answers Broken
+-- A call that ends a session answers `Broken`.
 abbrev pub EndsAsBroken : {S T : Type 0} {store : Ghosts S} → Project S store → Project S store → Result T Fault → Type 0
 EndsAsBroken old new result = IsSessionOpen old → IsSessionEnded new → result ≡ Err Broken
 
--- It only reads: nothing is committed, and the limit on steps and the version stay. Where it ends a session it answers Broken.
+-- The call only reads: nothing is committed, and the limit on steps and the version stay. If it ends a session, it
+-- answers `Broken`.
 pub record ReadsSession {S T : Type 0} {store : Ghosts S} (old new : Project S store) (result : Result T Fault) : Type 0 where
   pub read : IsReadOnly (state_of old) (state_of new)
   pub limit : KeepsLimit old new

@@ -1,4 +1,4 @@
--- All that is known of a view that is shown.
+-- All that is known of a shown view.
 use Rattle.std.specs.Prelude.{◌≡◌, ◌≤◌, ℕ, List, Option, Result, Err}
 use Rattle.sqlite_trees.specs.declared.store.Store.{Ghosts}
 use Rattle.wu_core.specs.declared.fault.Fault.{Fault}
@@ -17,13 +17,13 @@ pub record Sees {S W T : Type 0} {store : Ghosts S} (contents : W → Option (Li
   pub text : Shows contents old new out_old out_new view result
   pub goes : StillGoesOn old new
   pub reads : IsReadOnly (state_of old) (state_of new)
-  -- what is doubted of the disk stays doubted, and no fault of it is forgotten
+  -- A disk that is not clean stays so, and no fault of the disk is forgotten.
   pub clean : FaultsOnlyGrow (state_of old) (state_of new)
   pub counts : (state_of old).faults ≤ (state_of new).faults
   pub limit : KeepsLimit old new
-  -- after the end of a session, and over an older version, nothing is shown
+  -- After the end of a session, and over an older version, nothing is shown.
   pub refused : RefusesView contents old new out_old out_new result
-  -- the session ends with `Broken` alone
+  -- The session ends only with `Broken`.
   pub ends : EndsAsBroken old new result
   pub broken : result ≡ Err Broken → IsSessionEnded new
   pub fault : ShowsOrFails old result
@@ -31,5 +31,5 @@ pub record Sees {S W T : Type 0} {store : Ghosts S} (contents : W → Option (Li
   pub broke : BreaksOn old new result
   pub opens : IsSessionOpen old → ServesShown old new result
   pub version : KeepsVersion old new
-  -- a summary counts each row, whatever the tables stand for
+  -- A summary counts each row, whatever the tables represent.
   pub counted : view ≡ Summary → CountsShown contents old new out_old out_new result

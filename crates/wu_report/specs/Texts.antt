@@ -20,27 +20,27 @@ use Rattle.wu_machine.specs.declared.view.View.TheVariants as view
 abbrev pub line_end : List ℕ
 line_end = 10 ∷ []
 
--- the text of what is there, or '-'
+-- The text of a value, or '-' without one.
 abbrev pub or_dash : {T : Type 0} → (T → List ℕ) → Option T → List ℕ
 or_dash text (Some it) = text it
 or_dash text None = codes "-"
 
--- at least two digits, and at least four
+-- The number in decimal with at least two digits, and with at least four.
 abbrev pub two_digits : ℕ → List ℕ
 two_digits n = (48 + n / 10) ∷ (48 + n % 10) ∷ []
 
 abbrev pub four_digits : ℕ → List ℕ
 four_digits n = two_digits (n / 100) ++ two_digits (n % 100)
 
--- the year of a day that is counted from the start of 1970: the last one that has begun
+-- The year of a day that is counted from the start of 1970: the last one that has begun by then.
 unfoldable pub year_of_day : ℕ → ℕ
 year_of_day day = 1969 + count_by (λ year. int_le (days_from_civil (pos year) 1 1) (pos day)) (range_with_len 1970 131)
 
--- its month: the last one of the year that has begun
+-- The month of a day: the last one of its year that has begun by then.
 unfoldable pub month_of_day : ℕ → ℕ → ℕ
 month_of_day year day = count_by (λ month. int_le (days_from_civil (pos year) month 1) (pos day)) (range_with_len 1 12)
 
--- its day of the month
+-- The day of the month.
 abbrev pub day_of_month : ℕ → ℕ → ℕ → ℕ
 day_of_month year month day = 1 + (day - unsigned_abs (days_from_civil (pos year) month 1))
 
@@ -55,7 +55,7 @@ date_text day = date_in_year (year_of_day day) day
 abbrev pub clock_text : ℕ → List ℕ
 clock_text second = two_digits (second / 3600) ++ codes ":" ++ two_digits (second / 60 % 60) ++ codes ":" ++ two_digits (second % 60)
 
--- a moment or a deadline, as YYYY-MM-DDTHH:MM:SSZ
+-- The text of a moment or a deadline, as YYYY-MM-DDTHH:MM:SSZ.
 unfoldable pub moment_text : ℕ → List ℕ
 moment_text seconds = date_text (seconds / 86400) ++ codes "T" ++ clock_text (seconds % 86400) ++ codes "Z"
 
@@ -66,7 +66,7 @@ parameters_text w =
     ++ codes " max_success=" ++ decimal w.params.max_success_results ++ codes " delay=" ++ decimal w.params.delay_bound
     ++ codes " credit=" ++ decimal w.params.credit
 
--- the line of a workunit, by its values
+-- The line of a workunit.
 abbrev pub workunit_line : WorkunitLine → List ℕ
 workunit_line w =
     decimal w.number ++ codes " " ++ w.name ++ codes " input=" ++ decimal w.input ++ parameters_text w
@@ -74,7 +74,7 @@ workunit_line w =
     ++ codes " assimilate=" ++ assimilate_word w.assimilate ++ codes " delete=" ++ file_delete_word w.file_delete
     ++ codes " done=" ++ or_dash moment_text w.done_at ++ codes " class=" ++ decimal w.class ++ line_end
 
--- the line of an instance
+-- The line of an instance.
 abbrev pub result_line : ResultLine → List ℕ
 result_line r =
     r.workunit ++ codes "_" ++ decimal r.n ++ codes " " ++ server_state_word r.server_state ++ codes " " ++ outcome_word r.outcome
@@ -83,30 +83,30 @@ result_line r =
     ++ codes " deadline=" ++ or_dash moment_text r.deadline ++ codes " received=" ++ or_dash moment_text r.received_at
     ++ codes " output=" ++ decimal r.output ++ line_end
 
--- the line of a host
+-- The line of a host.
 abbrev pub host_line : HostLine → List ℕ
 host_line host = host.name ++ codes " total=" ++ decimal host.total ++ codes " grants=" ++ decimal host.grants ++ line_end
 
--- hex, or '-' where there are no bytes
+-- The bytes in hex, or '-' without a byte.
 abbrev pub bytes_text : List ℕ → List ℕ
 bytes_text [] = codes "-"
 bytes_text (byte ∷ bytes) = encode_lower (byte ∷ bytes)
 
--- the line of an archived row
+-- The line of an archived row.
 abbrev pub archived_line : Archived → List ℕ
 archived_line row =
     decimal row.number ++ codes " " ++ row.name ++ codes " mask=" ++ decimal (error_mask_code row.error_mask)
     ++ codes " canonical=" ++ or_dash decimal row.canonical ++ codes " done=" ++ moment_text row.done_at
     ++ codes " output=" ++ bytes_text row.output ++ line_end
 
--- the line of a host that has a class
+-- The line of a host and its class.
 abbrev pub class_line : HostClass → List ℕ
 class_line it = it.host ++ codes " class=" ++ decimal it.class ++ line_end
 
 abbrev pub counted : List ℕ → ℕ → List ℕ
 counted word n = word ++ codes " " ++ decimal n ++ line_end
 
--- the twelve lines of a summary
+-- The twelve lines of a summary.
 abbrev pub summary_lines : Summary → List ℕ
 summary_lines s =
     counted (codes "version") s.version
@@ -122,7 +122,7 @@ summary_lines s =
     ++ counted (codes "imports") s.imports
     ++ counted (codes "classes") s.classes
 
--- the text of a view
+-- The text of a view.
 abbrev pub view_text : World → View → List ℕ
 view_text world view.Workunits = flat_map workunit_line (workunit_lines world)
 view_text world view.Results = flat_map result_line (result_lines world)

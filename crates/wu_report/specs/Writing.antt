@@ -1,4 +1,4 @@
--- What a call leaves in a writer, where what it holds is known.
+-- What a call leaves in a writer whose contents are known.
 use Rattle.std.specs.Prelude.{ℕ, ◌<◌, List, length, take, Option, Result, IfErr, MatchResult}
 use Rattle.std.specs.Fmt.{decimal}
 use Rattle.std.specs.Io.KnownBytes.{Appends}
@@ -7,27 +7,27 @@ use Rattle.wu_report.specs.declared.output.Piece.{Piece}
 use Rattle.wu_report.specs.declared.output.Piece.TheVariants.{Text, Number, Place, When, Due, Hex}
 use Rattle.wu_report.specs.Texts.{or_dash, moment_text}
 
--- some beginning of the bytes was appended
+-- A prefix of the bytes was appended.
 abbrev pub AppendsFront : Option (List ℕ) → Option (List ℕ) → List ℕ → Type 0
 AppendsFront old new bytes = (count : ℕ) × Appends old new (take count bytes)
 
--- with success exactly these bytes were appended, and else some beginning of them
+-- With success exactly these bytes were appended, and otherwise a prefix of them.
 abbrev pub WritesBytes : {T E : Type 0} → Option (List ℕ) → Option (List ℕ) → List ℕ → Result T E → Type 0
 WritesBytes old new bytes result = MatchResult result (λ _. Appends old new bytes) (λ _. AppendsFront old new bytes)
 
--- so it is with the contents of a writer before a call and after it
+-- With success exactly this text was appended to the contents of the writer, and otherwise a prefix of it.
 abbrev pub WritesTo : {W T E : Type 0} → (W → Option (List ℕ)) → W → W → List ℕ → Result T E → Type 0
 WritesTo contents old new text result = WritesBytes (contents old) (contents new) text result
 
--- a beginning of the bytes was appended that is not all of them
+-- A prefix of the bytes was appended that is not all of them.
 unfoldable pub IsCut : Option (List ℕ) → Option (List ℕ) → List ℕ → Type 0
 IsCut old new bytes = (count : ℕ) × (count < length bytes) × Appends old new (take count bytes)
 
--- what fails has cut the text: one that went out whole is never told as failed
+-- A call that fails has cut the text: a text that went out whole is never reported as failed.
 abbrev pub CutsWhatFails : {W T E : Type 0} → (W → Option (List ℕ)) → W → W → List ℕ → Result T E → Type 0
 CutsWhatFails contents old new text result = IfErr result (λ _. IsCut (contents old) (contents new) text)
 
--- the text of a piece
+-- The text of a piece.
 abbrev pub piece_text : Piece → List ℕ
 piece_text (Text text) = text.now
 piece_text (Number number) = decimal number

@@ -11,7 +11,7 @@ use wu_core::{Archived, Bytes, Fault, HostClass, Name};
 use wu_views::{HostLine, ResultLine, Summary, WorkunitLine};
 
 /// What a view shows on a line of its own.
-pub trait Line: Drop {
+pub trait ViewLine: Drop {
     ghost use Rattle.std.specs.Prelude.{ℕ, List, IsOkUnless};
     ghost use Rattle.wu_core.specs.declared.fault.Fault.TheVariants.{Output};
     ghost use Rattle.wu_report.specs.Writing.{CutsWhatFails, WritesTo};
@@ -29,7 +29,7 @@ pub trait Line: Drop {
         ensures fault { IsOkUnless result Output };
 }
 
-impl Line for WorkunitLine {
+impl ViewLine for WorkunitLine {
     ghost use Rattle.wu_report.specs.Texts.{workunit_line};
 
     ghost text = { workunit_line };
@@ -86,7 +86,7 @@ fn name_or_dash(name: &Option<Name>) -> Piece<'_>
     }
 }
 
-impl Line for ResultLine {
+impl ViewLine for ResultLine {
     ghost use Rattle.wu_report.specs.Texts.{result_line};
 
     ghost text = { result_line };
@@ -122,7 +122,7 @@ impl Line for ResultLine {
     }
 }
 
-impl Line for HostLine {
+impl ViewLine for HostLine {
     ghost use Rattle.wu_report.specs.Texts.{host_line};
 
     ghost text = { host_line };
@@ -153,7 +153,7 @@ fn hex_or_dash(bytes: &Bytes) -> Piece<'_>
     }
 }
 
-impl Line for Archived {
+impl ViewLine for Archived {
     ghost use Rattle.wu_report.specs.Texts.{archived_line};
 
     ghost text = { archived_line };
@@ -179,7 +179,7 @@ impl Line for Archived {
     }
 }
 
-impl Line for HostClass {
+impl ViewLine for HostClass {
     ghost use Rattle.wu_report.specs.Texts.{class_line};
 
     ghost text = { class_line };

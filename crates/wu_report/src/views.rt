@@ -5,7 +5,7 @@ ghost use Rattle.wu_report.specs.Seeing.{Sees};
 ghost use Rattle.wu_report.specs.Texts.{view_text};
 ghost use Rattle.wu_report.specs.Views.{CanBeShown, CountsShown, WritesView};
 
-use crate::lines::{Line, write_summary};
+use crate::lines::{ViewLine, write_summary};
 use crate::output::flush;
 use sqlite::Alter;
 use std::alloc::Global;
@@ -23,14 +23,14 @@ struct LineWriter<'a, W: Write> {
     out: &'a mut W,
 }
 
-impl<T: Line, W: Write> Takes<T> for LineWriter<'_, W> {
+impl<T: ViewLine, W: Write> Takes<T> for LineWriter<'_, W> {
     ghost use Rattle.wu_report.specs.Writers.{CutsLine, WritesLine};
 
     // A line that it takes went out whole.
-    ghost takes = { λ old new line. WritesLine W.Write.contents old new (T.Line.text line) };
+    ghost takes = { λ old new line. WritesLine W.Write.contents old new (T.ViewLine.text line) };
 
     // A line that it refuses was cut: some of its bytes did not go out.
-    ghost refuses = { λ old new line. CutsLine W.Write.contents old new (T.Line.text line) };
+    ghost refuses = { λ old new line. CutsLine W.Write.contents old new (T.ViewLine.text line) };
 
     fn take(&mut self, line: &T) -> Result<(), Fault> {
         line.write(self.out)
@@ -44,12 +44,12 @@ fn write_listing<S: Alter, L: Listing, W: Write>(
     out: &mut W,
 ) -> Result<(), Fault>
 where
-    L::Line: Line,
+    L::Item: ViewLine,
     // Over a world with classes its lines are written, in order: all, or a prefix with a fault, and
     // with `Output` not all of them. The project is only read. Where the values can be read, and
     // steps have no limit, the fault is never `NotAProject`.
     ensures { WritesView W.Write.contents project.old project.new out.old out.new
-        (λ world. flat_map L.Line.Line.text (L.Listing.lines world)) L.Listing.is_readable result }
+        (λ world. flat_map L.Item.ViewLine.text (L.Listing.lines world)) L.Listing.is_readable result }
 {
     let mut writer = LineWriter { out };
     project.walk::<L, LineWriter<'_, W>>(alloc, &mut writer)

@@ -10,12 +10,12 @@ use Rattle.wu_core.specs.declared.states.FileDelete.TheVariants as file_delete
 use Rattle.wu_rules.specs.Instances.{is_over, is_ready_assimilate, is_done_assimilate, is_ready_file, is_deleted_file}
 use Rattle.wu_rules.specs.Validation.{output_at}
 
--- a workunit that is ready is done at this moment
+-- The workunit after assimilation: one that is ready is DONE at this moment, and any other stays.
 unfoldable pub assimilated : Workunit → ℕ → Workunit
 assimilated w now =
     if is_ready_assimilate w.assimilate then record w { assimilate = assimilate.Done; done_at = Some now } else w
 
--- the canonical output, or no bytes where there is none
+-- The output of the canonical result; no byte without one.
 abbrev pub canonical_output : Workunit → List ℕ
 canonical_output w = option_map_or (output_at w.instances) w.canonical []
 
@@ -29,16 +29,16 @@ archived_row w now = record {
   done_at = now;
 }
 
--- what is kept for good of a workunit that is ready
+-- The row that is archived permanently of a workunit that is ready; `None` for any other.
 unfoldable pub archived : Workunit → ℕ → Option Archived
 archived w now = if is_ready_assimilate w.assimilate then Some (archived_row w now) else None
 
--- an output that is ready for deletion is emptied and done
+-- The instance without its output, if that is ready for deletion.
 abbrev pub without_output : Instance → Instance
 without_output i =
     if is_ready_file i.file_delete then record i { file_delete = file_delete.Done; output = [] } else i
 
--- each input or output that is ready for deletion is emptied and done
+-- The workunit after file deletion: each input or output that is ready for deletion is emptied and DONE.
 unfoldable pub emptied : Workunit → Workunit
 emptied w = record w {
   input = if is_ready_file w.file_delete then [] else w.input;
@@ -46,15 +46,16 @@ emptied w = record w {
   instances = map without_output w.instances;
 }
 
--- something is ready for deletion
+-- Whether an input or an output of the workunit is ready for deletion.
 unfoldable pub is_to_delete : Workunit → Bool
 is_to_delete w = is_ready_file w.file_delete || list_any (λ i. is_ready_file i.file_delete) w.instances
 
--- an instance that is over and whose output is gone
+-- Whether an instance is over and its output is deleted.
 abbrev pub is_spent : Instance → Bool
 is_spent i = is_over i && is_deleted_file i.file_delete
 
--- assimilated at least so long ago, with nothing left to come or to delete
+-- Whether a workunit may be purged: it was assimilated at least so long ago, all its instances are over, and all its
+-- files are deleted.
 unfoldable pub is_purgeable : Workunit → ℕ → ℕ → Bool
 is_purgeable w now min_age =
     is_done_assimilate w.assimilate

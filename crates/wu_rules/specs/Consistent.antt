@@ -1,5 +1,4 @@
--- When the states and verdicts of a workunit agree, and what a rule makes of one: its image, its grants and its
--- archived rows, so that they go on agreeing.
+-- When the states and verdicts of a workunit agree, and what a rule makes of one so that they still agree.
 use Rattle.std.specs.Prelude.{◌≡◌, ◌≢◌, ℕ, ◌==◌, Bool, true, false, not, ◌&&◌, if◌then◌else◌, List, filter, length, All, IfSome, is_none, is_some, slice_get, option_map, Option, Some, None}
 use Rattle.std.specs.List.{list_any}
 use Rattle.std.specs.Option.{option_map_or}
@@ -19,7 +18,8 @@ use Rattle.wu_core.specs.Formed.{IsWorkunit}
 use Rattle.wu_rules.specs.Counts.{is_clear}
 use Rattle.wu_rules.specs.Instances.{is_active, is_done_assimilate, is_open_verdict, is_success, is_unsent}
 
--- no state stands that this project never sets; only a success has a verdict, and what was refused as no result
+-- The instance has no state that this project never sets. Only a success has a verdict, except an instance that was
+-- refused for an empty output.
 pub record IsPossible (i : Instance) : Type 0 where
   pub active : i.server_state ≢ server.Inactive
   pub sendable : i.outcome ≢ outcome.CouldntSend
@@ -27,7 +27,7 @@ pub record IsPossible (i : Instance) : Type 0 where
   pub deletable : i.file_delete ≢ file_delete.Error
   pub judged : is_success i ≡ false → i.outcome ≢ outcome.ValidateError → i.validate_state ≡ validate.Init
 
--- A workunit is undecided, given up or decided, and not two of them; one that was sent to no host has no class.
+-- The workunit is in one state: undecided, given up or decided. If no instance was sent to a host, it has no class.
 pub record IsConsistent (w : Workunit) : Type 0 where
   pub instances : All IsPossible w.instances
   pub deletable : w.file_delete ≢ file_delete.Error
@@ -45,68 +45,68 @@ abbrev pub is_valid_verdict : ValidateState → Bool
 is_valid_verdict validate.Valid = true
 is_valid_verdict _ = false
 
--- the instance of this number is there, and VALID
+-- Whether the instance of this number is there and VALID.
 abbrev pub is_valid_at : List Instance → ℕ → Bool
 is_valid_at instances n = option_map_or (λ i. is_valid_verdict i.validate_state) (slice_get instances n) false
 
--- the host of the instance of this number, if there is one
+-- The host of the instance of this number, if it has one.
 abbrev pub instance_host : List Instance → ℕ → Option (List ℕ)
 instance_host instances n = option_map_or (λ i. i.host) (slice_get instances n) None
 
 abbrev pub is_done : Workunit → Bool
 is_done w = is_done_assimilate w.assimilate
 
--- one where it is so, and else none
+-- 1 if this is true, else 0.
 abbrev pub one_if : Bool → ℕ
 one_if b = if b then 1 else 0
 
--- a grant is for the host of its instance, with its workunit's credit
+-- The grant is for the host of its instance, with the credit of its workunit.
 pub record IsGrantFor (w : Workunit) (grant : Grant) : Type 0 where
   pub host : instance_host w.instances grant.n ≡ Some grant.host
   pub credit : grant.credit ≡ w.params.credit
 
--- an instance has one grant exactly where it is made VALID
+-- An instance gets one grant if it becomes VALID, and else none.
 pub record GrantsToTheNew (old new : Workunit) (grants : List Grant) : Type 0 where
   pub workunit : All (λ grant. grant.workunit ≡ old.number) grants
   pub each : (n : ℕ) → length (filter (λ grant. grant.n == n) grants)
       ≡ one_if (is_valid_at new.instances n && not (is_valid_at old.instances n))
   pub own : All (IsGrantFor new) grants
 
--- an archived row has the canonical number, the error mask and the moment of its workunit
+-- The archived row has the canonical number, the error mask and the moment of its workunit.
 abbrev pub IsRowOf : Workunit → Archived → Type 0
 IsRowOf w row = (row.canonical ≡ w.canonical) × (row.error_mask ≡ w.error_mask) × (w.done_at ≡ Some row.done_at)
 
--- a workunit has one archived row exactly where it is made DONE, of its number and its name, as it is then
+-- A workunit gets one archived row if it becomes DONE, and else none. The row has its number, its name and its values.
 pub record ArchivesTheNew (old new : Workunit) (archived : List Archived) : Type 0 where
   pub once : length archived ≡ one_if (is_done new && not (is_done old))
   pub own : All (λ row. (row.number ≡ old.number) × (row.name ≡ old.name) × IsRowOf new row) archived
 
--- the final verdicts of the old instances are those of the new ones at their places
+-- Each instance with a final verdict keeps it, at its place.
 abbrev pub KeepsVerdicts : Workunit → Workunit → Type 0
 KeepsVerdicts old new =
     (n : ℕ) (i : Instance) → slice_get old.instances n ≡ Some i → is_open_verdict i.validate_state ≡ false
     → option_map (λ j. j.validate_state) (slice_get new.instances n) ≡ Some i.validate_state
 
--- a host has at most one instance of the workunit
+-- No host has two instances of the workunit.
 abbrev pub HostsApart : Workunit → Type 0
 HostsApart w =
     (m n : ℕ) (host : List ℕ) → instance_host w.instances m ≡ Some host → instance_host w.instances n ≡ Some host
     → m ≡ n
 
--- an instance that was sent stays with its host
+-- An instance that was sent stays with its host.
 abbrev pub KeepsHosts : Workunit → Workunit → Type 0
 KeepsHosts old new =
     (n : ℕ) (host : List ℕ) → instance_host old.instances n ≡ Some host
     → instance_host new.instances n ≡ Some host
 
--- each active instance is of a host of the workunit's class, where the hosts have these classes
+-- Each active instance is at a host of the workunit's class, given the classes of hosts.
 abbrev pub IsOneClass : List HostClass → Workunit → Type 0
 IsOneClass classes w =
     All (λ i. is_active i ≡ true → IfSome i.host (λ host. class_of classes host ≡ w.class)) w.instances
 
--- What a rule makes of a consistent workunit, with what it grants and archives. What was decided stays: who is VALID,
--- with its host, each final verdict, the canonical result, that it was given up, and that it is DONE, with its mask and
--- its moment. What was sent stays with its host, and a host that has an instance gets no second one.
+-- What a rule makes of a consistent workunit, with its grants and archived rows. What was decided stays: VALID
+-- instances with their hosts, final verdicts, the canonical result, given up, and DONE with its mask and moment. What
+-- was sent stays with its host, and no host gets a second instance.
 pub record Rewrites (old new : Workunit) (grants : List Grant) (archived : List Archived) : Type 0 where
   pub number : new.number ≡ old.number
   pub name : new.name ≡ old.name

@@ -1,4 +1,4 @@
--- Counts over all instances of a workunit, what agrees, and what is open.
+-- Counts over the instances of a workunit, what agrees, and what is undecided.
 use Rattle.std.specs.Prelude.{ℕ, ◌+◌, ◌/◌, ◌==◌, nat_le, Bool, ◌&&◌, List, length, filter, bytes_eq, is_none, Option}
 use Rattle.std.specs.List.{position_from, list_any}
 use Rattle.wu_core.specs.declared.workunit.Instance.{Instance}
@@ -16,38 +16,38 @@ in_progress w = length (filter is_in_progress w.instances)
 abbrev pub errors : Workunit → ℕ
 errors w = length (filter is_error w.instances)
 
--- successes that are not INVALID
+-- The number of successes that are not INVALID.
 abbrev pub kept : Workunit → ℕ
 kept w = length (filter is_kept w.instances)
 
--- successes without a final verdict, in order of their numbers
+-- The successes without a final verdict, in order of their numbers.
 abbrev pub viable : Workunit → List Instance
 viable w = filter is_viable w.instances
 
--- there is a success without any verdict
+-- Whether there is a success without any verdict.
 abbrev pub has_new_success : Workunit → Bool
 has_new_success w = list_any is_new w.instances
 
--- an instance is in progress, or a viable success
+-- Whether an instance is in progress or a viable success.
 abbrev pub has_active : Workunit → Bool
 has_active w = list_any is_active w.instances
 
--- no bit of the mask is set
+-- Whether no bit of the mask is set.
 abbrev pub is_clear : ErrorMask → Bool
 is_clear mask = error_mask_code mask == 0
 
--- neither a canonical result nor an error
+-- Whether the workunit has neither a canonical result nor an error.
 abbrev pub is_undecided : Workunit → Bool
 is_undecided w = is_none w.canonical && is_clear w.error_mask
 
--- those whose output equals this one, byte for byte
+-- The successes whose output equals this one, byte for byte.
 abbrev pub agreeing : List ℕ → List Instance → List Instance
 agreeing output successes = filter (λ i. bytes_eq i.output output) successes
 
--- this viable success agrees, itself included, with at least half of the quorum plus one
+-- Whether this viable success agrees with at least half of the quorum plus one, itself included.
 abbrev pub is_agreed : Workunit → Instance → Bool
 is_agreed w i = is_viable i && nat_le (w.params.min_quorum / 2 + 1) (length (agreeing i.output (viable w)))
 
--- the number of the first viable success on which enough agree
+-- The number of the first viable success with which enough agree; `None` without a consensus.
 abbrev pub consensus : Workunit → Option ℕ
 consensus w = position_from (is_agreed w) 0 w.instances

@@ -1,4 +1,4 @@
--- Workunits as they stand in the worked examples.
+-- The workunits of the worked examples.
 use Rattle.std.specs.Prelude.{ℕ, List, [], ◌∷◌, Some, None, true, codes}
 use Rattle.wu_core.specs.Classes.{with_class}
 use Rattle.wu_core.specs.Mask.{no_errors}
@@ -18,7 +18,7 @@ use Rattle.wu_core.specs.declared.states.Assimilate.TheVariants as assimilate
 use Rattle.wu_core.specs.declared.states.FileDelete.{FileDelete}
 use Rattle.wu_core.specs.declared.states.FileDelete.TheVariants as file_delete
 
--- an undecided workunit with these parameters and instances
+-- An undecided workunit with these parameters and instances.
 abbrev pub job : Parameters → List Instance → Workunit
 job params instances = record {
   number = 1;
@@ -34,26 +34,26 @@ job params instances = record {
   instances = instances;
 }
 
--- 2026-03-01T12:00:00Z
+-- Noon: 2026-03-01T12:00:00Z.
 abbrev pub noon : ℕ
 noon = 1772366400
 
--- an hour later, and a week after that
+-- An hour after noon, and the deadline a week after that.
 abbrev pub sending : ℕ
 sending = 1772370000
 
 abbrev pub due : ℕ
 due = 1772974800
 
--- a second after the deadline
+-- A second after the deadline.
 abbrev pub a_second_late : ℕ
 a_second_late = 1772974801
 
--- an hour after the sending
+-- An hour after the sending.
 abbrev pub reporting : ℕ
 reporting = 1772373600
 
--- sent to a host
+-- An instance that was sent to this host.
 abbrev pub out : List ℕ → Instance
 out host = record fresh {
   server_state = server.InProgress;
@@ -62,7 +62,7 @@ out host = record fresh {
   deadline = Some due;
 }
 
--- reported by a host
+-- An instance that this host reported.
 abbrev pub back : List ℕ → Outcome → List ℕ → Instance
 back host how output = record (out host) {
   server_state = server.Over;
@@ -71,19 +71,19 @@ back host how output = record (out host) {
   output = output;
 }
 
--- reported as an error
+-- An instance that this host reported as an error.
 abbrev pub failed : List ℕ → Instance
 failed host = back host outcome.ClientError []
 
--- a success with this verdict
+-- A success with this verdict.
 abbrev pub success : List ℕ → List ℕ → ValidateState → Instance
 success host output verdict = record (back host outcome.Success output) { validate_state = verdict }
 
--- over without a reply
+-- An instance that is over without a reply.
 abbrev pub lost : List ℕ → Instance
 lost host = record (out host) { server_state = server.Over; outcome = outcome.NoReply }
 
--- over, since it was not needed
+-- An instance that is over because it was not needed.
 abbrev pub unneeded : Instance
 unneeded = record fresh { server_state = server.Over; outcome = outcome.DidntNeed }
 
@@ -96,7 +96,7 @@ h2 = codes "h2"
 abbrev pub h3 : List ℕ
 h3 = codes "h3"
 
--- one byte of output
+-- An output of one byte.
 abbrev pub aa : List ℕ
 aa = 0xaa ∷ []
 
@@ -106,7 +106,7 @@ ab = 0xab ∷ []
 abbrev pub bb : List ℕ
 bb = 0xbb ∷ []
 
--- one credit of workunit 1
+-- A grant of one credit for an instance of workunit 1.
 abbrev pub credit : ℕ → List ℕ → Grant
 credit n host = record { workunit = 1; n = n; host = host; credit = 1 }
 
@@ -116,7 +116,7 @@ with_target n = record default_parameters { target_nresults = n }
 abbrev pub with_quorum : ℕ → ℕ → Parameters
 with_quorum quorum target = record default_parameters { min_quorum = quorum; target_nresults = target }
 
--- given up for this reason
+-- The workunit, given up for this reason.
 abbrev pub masked : ErrorMask → Workunit → Workunit
 masked mask w = record w { error_mask = mask }
 
@@ -132,22 +132,22 @@ too_many_successes = record no_errors { too_many_success_results = true }
 abbrev pub cancelled_mask : ErrorMask
 cancelled_mask = record no_errors { cancelled = true }
 
--- ready to be assimilated
+-- The workunit, ready to be assimilated.
 abbrev pub ready : Workunit → Workunit
 ready w = record w { assimilate = assimilate.Ready }
 
--- decided for this instance
+-- The workunit, decided for this instance.
 abbrev pub decided_for : ℕ → Workunit → Workunit
 decided_for n w = record (ready w) { canonical = Some n }
 
 abbrev pub with_file : FileDelete → Instance → Instance
 with_file f i = record i { file_delete = f }
 
--- emptied after its deletion
+-- The instance, emptied after its output was deleted.
 abbrev pub gone : Instance → Instance
 gone i = record i { file_delete = file_delete.Done; output = [] }
 
--- assimilated at this moment, with the input in this state of deletion
+-- The workunit, assimilated at this moment, with its input in this state of deletion.
 abbrev pub assimilated_at : ℕ → FileDelete → Workunit → Workunit
 assimilated_at now f w = record w { assimilate = assimilate.Done; done_at = Some now; file_delete = f }
 
@@ -162,7 +162,7 @@ two_unsent = job default_parameters (fresh ∷ fresh ∷ [])
 abbrev pub one_out : Workunit
 one_out = job default_parameters (out h1 ∷ fresh ∷ [])
 
--- and what was lost is made good
+-- A new instance replaces one without a reply.
 abbrev pub one_lost : Workunit
 one_lost = job default_parameters (lost h1 ∷ fresh ∷ fresh ∷ [])
 
@@ -172,33 +172,33 @@ one_failed = job default_parameters (failed h1 ∷ fresh ∷ [])
 abbrev pub one_back : Workunit
 one_back = job default_parameters (success h1 aa validate.Init ∷ fresh ∷ [])
 
--- the reply that was missed comes after all
+-- The missing reply comes after all, a second late.
 abbrev pub one_late : Workunit
 one_late = job default_parameters (record (success h1 aa validate.Init) { received_at = Some a_second_late } ∷ fresh ∷ fresh ∷ [])
 
 -- ---- classes of hosts
 
--- bound to this class
+-- The workunit, bound to this class.
 abbrev pub in_class : ℕ → Workunit → Workunit
 in_class class w = record w { class = class }
 
 abbrev pub h4 : List ℕ
 h4 = codes "h4"
 
--- these three have classes, the fourth has none
+-- Three hosts with classes; a fourth host has none.
 abbrev pub three_classed : List HostClass
 three_classed = with_class h1 1 (with_class h2 2 (with_class h3 1 []))
 
--- an hour after a deadline
+-- An hour after the deadline.
 abbrev pub an_hour_late : ℕ
 an_hour_late = 1772978400
 
--- sent to a second host when the first one's reply was missed
+-- An instance was sent to a second host when the first host's reply was missing.
 abbrev pub second_out_and : Instance → Workunit
 second_out_and first =
     in_class 2 (job default_parameters (first ∷ record (out h2) { sent_at = Some an_hour_late; deadline = Some 1773583200 } ∷ fresh ∷ []))
 
--- the success that was missed
+-- The success that was missing, an hour late.
 abbrev pub late_success : Instance
 late_success = record (success h1 aa validate.Init) { received_at = Some an_hour_late }
 
@@ -207,7 +207,7 @@ late_success = record (success h1 aa validate.Init) { received_at = Some an_hour
 abbrev pub two_differ : Workunit
 two_differ = job default_parameters (success h1 aa validate.Init ∷ success h2 ab validate.Init ∷ [])
 
--- both are inconclusive, and a third is wanted
+-- Both results are inconclusive, and a third is needed.
 abbrev pub two_doubted_and : List Instance → Workunit
 two_doubted_and more = job (with_target 3) (success h1 aa validate.Inconclusive ∷ success h2 ab validate.Inconclusive ∷ more)
 
@@ -217,7 +217,7 @@ two_doubted = two_doubted_and []
 abbrev pub third_unsent : Workunit
 third_unsent = two_doubted_and (fresh ∷ [])
 
--- the third agrees with the second
+-- The third result agrees with the second.
 abbrev pub third_agrees : Workunit
 third_agrees = two_doubted_and (success h3 ab validate.Init ∷ [])
 
@@ -232,7 +232,7 @@ two_of_three = job (with_quorum 3 3) (success h1 aa validate.Init ∷ success h2
 abbrev pub two_of_three_chosen : Workunit
 two_of_three_chosen = decided_for 0 (job (with_quorum 3 3) (success h1 aa validate.Valid ∷ success h2 bb validate.Invalid ∷ success h3 aa validate.Valid ∷ []))
 
--- two agree, and the other two
+-- Two results agree, and the other two agree.
 abbrev pub two_and_two : ValidateState → List Instance
 two_and_two verdict = success h1 aa verdict ∷ success h2 bb verdict ∷ success h3 bb verdict ∷ success h1 aa verdict ∷ []
 
@@ -242,7 +242,7 @@ two_of_four = job (with_quorum 4 4) (two_and_two validate.Init)
 abbrev pub two_of_four_doubted : Workunit
 two_of_four_doubted = job (with_quorum 4 5) (two_and_two validate.Inconclusive)
 
--- one result for a quorum of one
+-- One result for a quorum of one.
 abbrev pub one_of_one : Workunit
 one_of_one = job (with_quorum 1 1) (success h1 aa validate.Init ∷ [])
 
@@ -251,7 +251,7 @@ one_of_one_chosen = decided_for 0 (job (with_quorum 1 1) (success h1 aa validate
 
 -- ---- ends without a result
 
--- a success with this verdict, and four errors where three are borne
+-- A success with this verdict, and four errors where three are allowed.
 abbrev pub four_failed_and : ValidateState → Workunit
 four_failed_and verdict = job (with_target 5) (success h1 aa verdict ∷ failed h2 ∷ failed h3 ∷ failed h2 ∷ failed h3 ∷ [])
 
@@ -261,7 +261,7 @@ four_failed = four_failed_and validate.Init
 abbrev pub ended_by_errors : Workunit
 ended_by_errors = ready (masked too_many_errors (four_failed_and validate.NoCheck))
 
--- no more than two instances may be made: one failed, and this one
+-- At most two instances may be made: one failed, and this one.
 abbrev pub one_failed_and : Instance → Workunit
 one_failed_and other = job (record default_parameters { max_total_results = 2 }) (failed h1 ∷ other ∷ [])
 
@@ -271,7 +271,7 @@ last_out = one_failed_and (out h2)
 abbrev pub ended_by_total : Workunit
 ended_by_total = ready (masked too_many_total (one_failed_and (lost h2)))
 
--- two successes without a consensus are borne
+-- A workunit that allows two successes without a consensus.
 abbrev pub bears_two : List Instance → Workunit
 bears_two instances = job (record default_parameters { target_nresults = 4; max_success_results = 2 }) instances
 
@@ -281,7 +281,7 @@ three_differ = bears_two (success h1 aa validate.Init ∷ success h2 ab validate
 abbrev pub three_doubted : Workunit
 three_doubted = masked too_many_successes (bears_two (success h1 aa validate.Inconclusive ∷ success h2 ab validate.Inconclusive ∷ success h3 bb validate.Inconclusive ∷ unneeded ∷ []))
 
--- given up for its successes, of which one with this verdict is left
+-- A workunit that was given up for its successes; one with this verdict is left.
 abbrev pub one_left : ValidateState → Workunit
 one_left verdict = masked too_many_successes (bears_two (success h1 aa verdict ∷ unneeded ∷ []))
 
@@ -299,36 +299,37 @@ two_agree = job (with_target 3) (two_agree_and validate.Init (out h3))
 abbrev pub first_chosen : Workunit
 first_chosen = decided_for 0 (job (with_target 3) (two_agree_and validate.Valid (out h3)))
 
--- assimilated while the third is out: the second output may go, the first and the input not yet
+-- The workunit is assimilated while the third instance is out: the second output may be deleted, the first and the
+-- input not yet.
 abbrev pub second_may_go : Workunit
 second_may_go = assimilated_at sending file_delete.Init (decided_for 0 (job (with_target 3) (success h1 aa validate.Valid ∷ with_file file_delete.Ready (success h2 aa validate.Valid) ∷ out h3 ∷ [])))
 
--- input and outputs are gone, and this is the third
+-- Input and outputs are deleted, and this is the third instance.
 abbrev pub after_all : Instance → Workunit
 after_all third = assimilated_at sending file_delete.Done (decided_for 0 (job (with_target 3) (gone (success h1 aa validate.Valid) ∷ gone (success h2 aa validate.Valid) ∷ third ∷ [])))
 
--- a success with this verdict
+-- The third instance is a success with this verdict.
 abbrev pub third_after_all : ValidateState → Workunit
 third_after_all verdict = after_all (success h3 aa verdict)
 
 -- ---- empty outputs
 
--- a success with no bytes
+-- A success with an empty output.
 abbrev pub empty : List ℕ → Instance
 empty host = success host [] validate.Init
 
--- which is no result
+-- An instance that was refused for its empty output.
 abbrev pub no_result : List ℕ → Instance
 no_result host = record (back host outcome.ValidateError []) { validate_state = validate.Invalid }
 
--- this one, and a result
+-- This instance, and a success with an output.
 abbrev pub one_and_a_result : Instance → List Instance → Workunit
 one_and_a_result one more = job default_parameters (one ∷ success h2 aa validate.Init ∷ more)
 
 abbrev pub two_of : Instance → Instance → Workunit
 two_of one other = job default_parameters (one ∷ other ∷ [])
 
--- decided, and this one came after that
+-- The workunit is decided, and this instance was reported after that.
 abbrev pub after_decision : Instance → Workunit
 after_decision third = decided_for 0 (job (with_target 3) (two_agree_and validate.Valid third))
 
@@ -340,14 +341,14 @@ cancelled_with instances = masked cancelled_mask (job default_parameters instanc
 abbrev pub two_unneeded : Workunit
 two_unneeded = cancelled_with (unneeded ∷ unneeded ∷ [])
 
--- assimilated, and its input and outputs may go
+-- The workunit is assimilated, and its input and outputs may be deleted.
 abbrev pub two_may_go : Workunit
 two_may_go = assimilated_at sending file_delete.Ready (cancelled_with (with_file file_delete.Ready unneeded ∷ with_file file_delete.Ready unneeded ∷ []))
 
 abbrev pub one_may_go : Workunit
 one_may_go = assimilated_at sending file_delete.Ready (cancelled_with (with_file file_delete.Ready unneeded ∷ []))
 
--- assimilated at this moment, and all is deleted
+-- The workunit was assimilated at this moment, and all its files are deleted.
 abbrev pub one_gone_since : ℕ → Workunit
 one_gone_since moment = assimilated_at moment file_delete.Done (cancelled_with (gone unneeded ∷ []))
 

@@ -1,4 +1,5 @@
--- What one instance is, and what the rules make of one. Names and states are BOINC's, the rules this project's profile.
+-- One instance, and what the rules make of it. The names and the states are BOINC's; the rules are this project's
+-- profile.
 use Rattle.std.specs.Prelude.{ℕ, nat_lt, Bool, true, false, not, ◌&&◌, ◌||◌, if◌then◌else◌}
 use Rattle.std.specs.Option.{option_map_or}
 use Rattle.wu_core.specs.declared.workunit.Instance.{Instance}
@@ -42,7 +43,7 @@ abbrev pub is_invalid_verdict : ValidateState → Bool
 is_invalid_verdict validate.Invalid = true
 is_invalid_verdict _ = false
 
--- no final verdict
+-- Whether the verdict is not final.
 abbrev pub is_open_verdict : ValidateState → Bool
 is_open_verdict validate.Init = true
 is_open_verdict validate.Inconclusive = true
@@ -81,58 +82,58 @@ is_in_progress i = is_in_progress_state i.server_state
 abbrev pub is_over : Instance → Bool
 is_over i = is_over_state i.server_state
 
--- a success is an instance that is over with outcome SUCCESS
+-- A success is an instance that is over with outcome SUCCESS.
 abbrev pub is_success : Instance → Bool
 is_success i = is_over_state i.server_state && is_success_outcome i.outcome
 
--- a new success has no verdict yet
+-- A new success has no verdict yet.
 abbrev pub is_new : Instance → Bool
 is_new i = is_success i && is_init_verdict i.validate_state
 
--- a viable success has no final verdict
+-- A viable success has no final verdict.
 abbrev pub is_viable : Instance → Bool
 is_viable i = is_success i && is_open_verdict i.validate_state
 
--- an instance whose host's class binds its workunit: it is in progress, or a viable success
+-- An active instance binds its workunit to the class of its host: it is in progress, or a viable success.
 abbrev pub is_active : Instance → Bool
 is_active i = is_in_progress i || is_viable i
 
--- a kept success is one that is not INVALID
+-- A kept success is one that is not INVALID.
 abbrev pub is_kept : Instance → Bool
 is_kept i = is_success i && not (is_invalid_verdict i.validate_state)
 
--- an error is an instance with outcome CLIENT_ERROR, or VALIDATE_ERROR
+-- An error is an instance with outcome CLIENT_ERROR or VALIDATE_ERROR.
 abbrev pub is_error : Instance → Bool
 is_error i = is_error_outcome i.outcome
 
--- in progress with a deadline before now
+-- An overdue instance is in progress with a deadline before now.
 abbrev pub is_overdue : ℕ → Instance → Bool
 is_overdue now i = is_in_progress i && option_map_or (λ deadline. nat_lt deadline now) i.deadline false
 
--- over, since its host never replied
+-- The instance, over because its host never replied.
 abbrev pub without_reply : Instance → Instance
 without_reply i = record i { server_state = server.Over; outcome = outcome.NoReply }
 
--- an overdue instance is over without a reply, each other stays
+-- The instance, over without a reply if it is overdue; any other stays.
 abbrev pub timed_out : ℕ → Instance → Instance
 timed_out now i = if is_overdue now i then without_reply i else i
 
--- an unsent instance is over, since it was not needed; each other stays
+-- The instance, over because it was not needed if it is unsent; any other stays.
 abbrev pub closed : Instance → Instance
 closed i = if is_unsent i then record i { server_state = server.Over; outcome = outcome.DidntNeed } else i
 
--- with a workunit that is given up: unsent ones are closed, viable successes are not checked
+-- The instance of a workunit that is given up: closed if unsent, and not checked if a viable success.
 abbrev pub given_up : Instance → Instance
 given_up i = if is_viable i then record i { validate_state = validate.NoCheck } else closed i
 
--- a workunit that waited for a decision is ready to be assimilated
+-- A workunit that waited for a decision is ready to be assimilated.
 abbrev pub readied_assimilate : Assimilate → Assimilate
 readied_assimilate a = if is_init_assimilate a then assimilate.Ready else a
 
--- a file that may go, and was not yet named for deletion, is
+-- A file that may be deleted is ready for deletion, if it was not yet.
 abbrev pub readied_file : Bool → FileDelete → FileDelete
 readied_file may_go f = if may_go && is_init_file f then file_delete.Ready else f
 
--- an instance with its output named for deletion if it may go
+-- The instance, with its output ready for deletion if it may be deleted.
 abbrev pub output_readied : Bool → Instance → Instance
 output_readied may_go i = record i { file_delete = readied_file may_go i.file_delete }

@@ -1,4 +1,4 @@
--- The marks of a workunit: what each pass would select it by, whatever the moment.
+-- The marks of a workunit: what each pass selects it by, whatever the moment.
 use Rattle.std.specs.Prelude.{ℕ, ◌+◌, nat_le, Bool, false, ◌&&◌, if◌then◌else◌, Option, None}
 use Rattle.std.specs.List.{list_all}
 use Rattle.std.specs.Option.{option_map_or}
@@ -11,11 +11,12 @@ use Rattle.wu_rules.specs.declared.due.Pass.{Pass}
 use Rattle.wu_rules.specs.declared.due.Pass.TheVariants.{Transition, Validate, Assimilate, Delete, Purge}
 use Rattle.wu_core.specs.declared.marks.Marks.{Marks}
 
--- assimilated, with nothing left to come or to delete: only its age is wanted
+-- Whether a workunit is assimilated, all its instances are over, and all its files are deleted; only its age may still
+-- be too low for a purge.
 abbrev pub is_through : Workunit → Bool
 is_through w = is_done_assimilate w.assimilate && is_deleted_file w.file_delete && list_all is_spent w.instances
 
--- since when a workunit that is through waits for its purge
+-- The moment since which a workunit waits for its purge; `None` if it does not.
 abbrev pub purge_from : Workunit → Option ℕ
 purge_from w = if is_through w then w.done_at else None
 
@@ -28,7 +29,7 @@ marks w = record {
   purge_from = purge_from w;
 }
 
--- a pass selects by one of the marks, and by the moment where that mark is one
+-- Whether a pass selects by these marks, at this moment and least age.
 abbrev pub selects : Pass → ℕ → ℕ → Marks → Bool
 selects Transition now min_age m = option_map_or (λ moment. nat_le moment now) m.wake false
 selects Validate now min_age m = m.to_validate

@@ -1,4 +1,4 @@
--- A workunit's instance is reported by a host: the verdict, and what it makes of the workunit.
+-- A host reports an instance of a workunit: the verdict, and what it makes of the workunit.
 use Rattle.std.specs.Prelude.{ℕ, nat_lt, Bool, true, false, not, ◌&&◌, if◌then◌else◌, List, is_none, slice_get, Some}
 use Rattle.std.specs.Option.{option_map_or}
 use Rattle.wu_core.specs.declared.workunit.Instance.{Instance}
@@ -20,11 +20,12 @@ abbrev pub is_no_reply : Outcome → Bool
 is_no_reply outcome.NoReply = true
 is_no_reply _ = false
 
--- the instance was sent after this moment
+-- Whether the instance was sent after this moment.
 abbrev pub is_sent_after : ℕ → Instance → Bool
 is_sent_after moment instance = option_map_or (nat_lt moment) instance.sent_at false
 
--- of an instance that was sent to this host, by this moment, and has not ended but for want of a reply
+-- A report is applied to an instance that was sent to this host by this moment, and that is not over except for a
+-- missing reply.
 abbrev pub report_verdict_of : List ℕ → ℕ → Instance → ReportVerdict
 report_verdict_of host moment instance =
     if is_none instance.host then verdict.NotSent
@@ -33,11 +34,11 @@ report_verdict_of host moment instance =
     else if is_over instance && not (is_no_reply instance.outcome) then verdict.Over
     else verdict.Applied
 
--- of the instance of this number, where the workunit has one
+-- The verdict on a report of the instance of this number; `Unknown` if the workunit has none.
 abbrev pub report_verdict_in : Workunit → ℕ → List ℕ → ℕ → ReportVerdict
 report_verdict_in w n host moment = option_map_or (report_verdict_of host moment) (slice_get w.instances n) verdict.Unknown
 
--- over at this moment with what the host says, not yet validated, and its output kept
+-- The instance, over at this moment as the host reports, with its output and without a verdict.
 abbrev pub reported_as : ℕ → Status → List ℕ → Instance → Instance
 reported_as moment status output instance = record instance {
   server_state = server.Over;
@@ -48,7 +49,7 @@ reported_as moment status output instance = record instance {
   output = output;
 }
 
--- the workunit with its instance of this number reported
+-- The workunit with its instance of this number reported.
 abbrev pub reported_in : Workunit → ℕ → ℕ → Status → List ℕ → Workunit
 reported_in w n moment status output =
     option_map_or (λ instance. with_instance_set w n (reported_as moment status output instance)) (slice_get w.instances n) w

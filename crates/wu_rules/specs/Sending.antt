@@ -1,4 +1,4 @@
--- A workunit's instance is sent to a host: the verdict, and what it makes of the workunit.
+-- An instance of a workunit is sent to a host: the verdict, and what it makes of the workunit.
 use Rattle.std.specs.Prelude.{ℕ, ◌+◌, ◌==◌, Bool, false, not, ◌&&◌, if◌then◌else◌, List, bytes_eq, slice_get, Some}
 use Rattle.std.specs.List.{list_any}
 use Rattle.std.specs.Option.{option_map_or}
@@ -11,16 +11,16 @@ use Rattle.wu_rules.specs.Instances.{is_unsent}
 use Rattle.wu_rules.specs.declared.verdicts.SendVerdict.{SendVerdict}
 use Rattle.wu_rules.specs.declared.verdicts.SendVerdict.TheVariants as verdict
 
--- the instance is this host's
+-- Whether the instance is at this host.
 abbrev pub is_of : List ℕ → Instance → Bool
 is_of host instance = option_map_or (λ its. bytes_eq its host) instance.host false
 
--- an active workunit is bound to the class of its hosts
+-- Whether the workunit is active and bound to another class than this.
 abbrev pub is_bound_elsewhere : Workunit → ℕ → Bool
 is_bound_elsewhere w class = has_active w && not (w.class == class)
 
--- an instance that waits to be sent goes to a host of this class that has none of its workunit, nor is the workunit bound
--- to another class
+-- A send is applied to an unsent instance whose workunit has no instance at this host, and is not bound to another
+-- class.
 abbrev pub send_verdict_of : Workunit → List ℕ → ℕ → Instance → SendVerdict
 send_verdict_of w host class instance =
     if not (is_unsent instance) then verdict.NotUnsent
@@ -28,11 +28,11 @@ send_verdict_of w host class instance =
     else if is_bound_elsewhere w class then verdict.Class
     else verdict.Applied
 
--- of the instance of this number, where the workunit has one
+-- The verdict on a send of the instance of this number; `Unknown` if the workunit has none.
 abbrev pub send_verdict_in : Workunit → ℕ → List ℕ → ℕ → SendVerdict
 send_verdict_in w n host class = option_map_or (send_verdict_of w host class) (slice_get w.instances n) verdict.Unknown
 
--- on its way to the host since this moment, with this deadline
+-- The instance, sent to the host at this moment, with this deadline.
 abbrev pub due_at : ℕ → List ℕ → ℕ → Instance → Instance
 due_at deadline host moment instance = record instance {
   server_state = server.InProgress;
@@ -41,14 +41,14 @@ due_at deadline host moment instance = record instance {
   deadline = Some deadline;
 }
 
--- due after the workunit's delay
+-- The instance, sent to the host at this moment, with a deadline after its workunit's delay.
 abbrev pub sent_to : Workunit → List ℕ → ℕ → Instance → Instance
 sent_to w host moment = due_at (moment + w.params.delay_bound) host moment
 
--- the workunit of this class, with its instance of this number sent
+-- The workunit of this class, with its instance of this number sent.
 abbrev pub sent_as : Workunit → ℕ → List ℕ → ℕ → ℕ → Instance → Workunit
 sent_as w n host class moment instance = record (with_instance_set w n (sent_to w host moment instance)) { class = class }
 
--- the workunit with its instance of this number sent to a host of this class, which it is bound to
+-- The workunit with its instance of this number sent to a host of this class, to which it is then bound.
 abbrev pub sent_in : Workunit → ℕ → List ℕ → ℕ → ℕ → Workunit
 sent_in w n host class moment = option_map_or (sent_as w n host class moment) (slice_get w.instances n) w

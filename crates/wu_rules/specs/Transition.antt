@@ -9,39 +9,39 @@ use Rattle.wu_rules.specs.Instances.{is_over, is_viable, timed_out, given_up, re
 use Rattle.wu_rules.specs.Counts.{has_active, unsent, in_progress, errors, kept, is_clear, is_undecided}
 use Rattle.wu_rules.specs.Validation.{is_to_validate}
 
--- each instance in progress whose deadline has passed is over without a reply
+-- The workunit after timeouts: each instance in progress whose deadline has passed is over without a reply.
 abbrev pub timed : Workunit → ℕ → Workunit
 timed w now = record w { instances = map (timed_out now) w.instances }
 
--- an undecided workunit with more errors than it bears is given up
+-- Whether an undecided workunit has more errors than it allows, so that it is given up.
 abbrev pub has_too_many_errors : Workunit → Bool
 has_too_many_errors w = is_undecided w && nat_lt w.params.max_error_results (errors w)
 
--- undecided, and its errors are borne
+-- Whether the workunit is undecided with no more errors than it allows.
 abbrev pub is_open : Workunit → Bool
 is_open w = is_undecided w && not (nat_lt w.params.max_error_results (errors w))
 
--- results that are still wanted
+-- How many results are still needed.
 abbrev pub needed : Workunit → ℕ
 needed w = w.params.target_nresults - (unsent w + in_progress w + kept w)
 
--- instances that may still be made
+-- How many instances may still be made.
 abbrev pub allowed : Workunit → ℕ
 allowed w = w.params.max_total_results - length w.instances
 
--- instances that are made
+-- How many instances are made.
 abbrev pub added : Workunit → ℕ
 added w = if is_open w then min (needed w) (allowed w) else 0
 
--- it waits for nobody and has nothing to validate
+-- Whether no instance is unsent or in progress, and the validator has nothing to do.
 abbrev pub is_idle : Workunit → Bool
 is_idle w = unsent w == 0 && in_progress w == 0 && not (is_to_validate w)
 
--- an open and idle workunit that wants more instances and may have none is given up
+-- Whether an open and idle workunit needs more instances and may have none, so that it is given up.
 abbrev pub has_too_many_total : Workunit → Bool
 has_too_many_total w = is_open w && nat_lt 0 (needed w) && allowed w == 0 && is_idle w
 
--- with its new bits and its new instances
+-- The workunit with the new bits of its mask and its new instances.
 abbrev pub extended : Workunit → Workunit
 extended w = record w {
   error_mask = record w.error_mask {
@@ -51,24 +51,24 @@ extended w = record w {
   instances = w.instances ++ replicate (added w) fresh;
 }
 
--- a workunit that is given up: unsent instances are closed, viable successes are not checked, and it is ready to be
--- assimilated
+-- The workunit after it is given up: unsent instances are closed, viable successes are not checked, and it is ready to
+-- be assimilated.
 abbrev pub ended : Workunit → Workunit
 ended w = record w { assimilate = readied_assimilate w.assimilate; instances = map given_up w.instances }
 
--- under a mask it is given up
+-- The workunit, ended if it is given up.
 abbrev pub settled : Workunit → Workunit
 settled w = if is_clear w.error_mask then w else ended w
 
--- nothing comes any more: all instances are over
+-- Whether all instances are over, so that no result can come.
 abbrev pub is_all_over : Workunit → Bool
 is_all_over w = list_all is_over w.instances
 
--- over, and with nothing left to validate
+-- Whether an instance is over, and no viable success.
 abbrev pub is_finished : Instance → Bool
 is_finished i = is_over i && not (is_viable i)
 
--- an output may go when its instance is finished; the canonical one when all instances are
+-- Whether an output may be deleted: once its instance is finished; the canonical one once all instances are.
 abbrev pub may_output_go : Option ℕ → Bool → ℕ → Instance → Bool
 may_output_go canonical is_all_finished n i =
     if option_map_or (λ c. c == n) canonical false then is_all_finished else is_finished i
@@ -81,21 +81,22 @@ abbrev pub outputs_readied : Option ℕ → List Instance → List Instance
 outputs_readied canonical instances =
     map (λ p. with_output_readied canonical (list_all is_finished instances) p.0 p.1) (enumerate_from 0 instances)
 
--- its input may go when all instances are over, and outputs as said above
+-- The workunit with its files ready for deletion: its input if all instances are over, and each output that may be
+-- deleted.
 abbrev pub with_files_readied : Workunit → Workunit
 with_files_readied w = record w {
   file_delete = readied_file (is_all_over w) w.file_delete;
   instances = outputs_readied w.canonical w.instances;
 }
 
--- once the workunit is assimilated, what may go is named for deletion
+-- The workunit, with its files ready for deletion once it is assimilated.
 abbrev pub readied : Workunit → Workunit
 readied w = if is_done_assimilate w.assimilate then with_files_readied w else w
 
--- a workunit that is not active is bound to no class
+-- The workunit, bound to no class if it is not active.
 abbrev pub unbound : Workunit → Workunit
 unbound w = record w { class = if has_active w then w.class else 0 }
 
--- what the transitioner makes of a workunit at a moment
+-- What the transitioner makes of a workunit at a moment.
 unfoldable pub transitioned : Workunit → ℕ → Workunit
 transitioned w now = unbound (readied (settled (extended (timed w now))))

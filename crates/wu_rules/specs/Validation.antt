@@ -12,17 +12,17 @@ use Rattle.wu_core.specs.Parameters.{Parameters}
 use Rattle.wu_rules.specs.Instances.{is_viable, is_new, is_deleted_file, closed, readied_assimilate}
 use Rattle.wu_rules.specs.Counts.{viable, has_new_success, is_clear, consensus}
 
--- the validator looks at a workunit without error that has a new success, and that has a canonical result already or
--- viable successes enough for the quorum
+-- Whether the validator looks at a workunit: it has no error and a new success. It also has a canonical result, or at
+-- least as many viable successes as its quorum.
 abbrev pub is_to_validate : Workunit → Bool
 is_to_validate w =
     is_clear w.error_mask
     && has_new_success w
     && (if is_none w.canonical then nat_le w.params.min_quorum (length (viable w)) else true)
 
--- ---- what is no result
+-- ---- what is refused
 
--- before the decision the validator judges viable successes, after it new ones
+-- Whether the validator judges an instance: viable successes before the decision, and new ones after it.
 abbrev pub is_judged_where : Bool → Instance → Bool
 is_judged_where undecided i = if undecided then is_viable i else is_new i
 
@@ -33,51 +33,51 @@ abbrev pub is_empty : List ℕ → Bool
 is_empty [] = true
 is_empty (byte ∷ bytes) = false
 
--- a success that it judges, with an empty output, is no result
+-- Whether the validator judges a success whose output is empty.
 abbrev pub is_no_result : Bool → Instance → Bool
 is_no_result undecided i = is_judged_where undecided i && is_empty i.output
 
--- that is an error of validation, and INVALID
+-- The instance, refused: an error of validation, and INVALID.
 abbrev pub refused : Instance → Instance
 refused i = record i { outcome = outcome.ValidateError; validate_state = validate.Invalid }
 
 abbrev pub refused_where : Bool → Instance → Instance
 refused_where undecided i = if is_no_result undecided i then refused i else i
 
--- the workunit with what is no result refused
+-- The workunit with its judged empty successes refused.
 abbrev pub with_refused : Bool → Workunit → Workunit
 with_refused undecided w = record w { instances = map (refused_where undecided) w.instances }
 
--- of a workunit that the validator looks at, what is no result is refused
+-- The workunit, with its judged empty successes refused if the validator looks at it.
 abbrev pub checked : Workunit → Workunit
 checked w = if is_to_validate w then with_refused (is_none w.canonical) w else w
 
 -- ---- what the others decide
 
--- the output of the instance of this number, or no bytes where there is none
+-- The output of the instance of this number; no byte without that instance.
 abbrev pub output_at : List Instance → ℕ → List ℕ
 output_at instances n = option_map_or (λ i. i.output) (slice_get instances n) []
 
--- the output of the instance of this number was deleted
+-- Whether the output of the instance of this number was deleted.
 abbrev pub is_deleted_at : List Instance → ℕ → Bool
 is_deleted_at instances n = option_map_or (λ i. is_deleted_file i.file_delete) (slice_get instances n) false
 
--- equal bytes are right, others are not
+-- Equal bytes are VALID, and others INVALID.
 abbrev pub verdict : Bool → ValidateState
 verdict is_equal = if is_equal then validate.Valid else validate.Invalid
 
--- once there is a canonical output: each viable success has its verdict, and unsent instances are closed
+-- Once there is a canonical output: each viable success gets its verdict, and unsent instances are closed.
 abbrev pub judged : Bool → Instance → Instance
 judged is_equal i = if is_viable i then record i { validate_state = verdict is_equal } else closed i
 
 abbrev pub judged_by : List ℕ → Instance → Instance
 judged_by output i = judged (bytes_eq i.output output) i
 
--- all are judged by the output of the one of this number
+-- All instances, judged by the output of the instance of this number.
 abbrev pub all_judged : ℕ → List Instance → List Instance
 all_judged n instances = map (judged_by (output_at instances n)) instances
 
--- the canonical result is that of this number
+-- The workunit with the instance of this number as its canonical result.
 abbrev pub agreed_on : Workunit → ℕ → Workunit
 agreed_on w n = record w {
   canonical = Some n;
@@ -85,19 +85,19 @@ agreed_on w n = record w {
   instances = all_judged n w.instances;
 }
 
--- without a consensus each viable success is inconclusive
+-- Without a consensus each viable success is INCONCLUSIVE.
 abbrev pub doubted : Instance → Instance
 doubted i = if is_viable i then record i { validate_state = validate.Inconclusive } else i
 
--- and, where the workunit is given up for it, unsent instances are closed
+-- If the workunit is given up for lack of a consensus, unsent instances are closed too.
 abbrev pub doubted_or_closed : Instance → Instance
 doubted_or_closed i = if is_viable i then record i { validate_state = validate.Inconclusive } else closed i
 
--- a target that the viable successes have reached without a consensus is raised to one more
+-- The target: if the viable successes have reached it without a consensus, it is raised to one more than they are.
 abbrev pub raised_target : Parameters → ℕ → ℕ
 raised_target p successes = if nat_le p.target_nresults successes then successes + 1 else p.target_nresults
 
--- no consensus: more successes than are borne end the workunit, and otherwise one more may be wanted
+-- Without a consensus, more successes than allowed end the workunit; otherwise its target may be raised.
 abbrev pub left_open : Workunit → Workunit
 left_open w =
     if nat_lt w.params.max_success_results (length (viable w))
@@ -110,7 +110,7 @@ left_open w =
       instances = map doubted w.instances;
     }
 
--- a new success after the decision: too late where the canonical output is gone, else judged by it
+-- The verdict on a new success after the decision: TOO_LATE if the canonical output is deleted, else by that output.
 abbrev pub late_verdict : Bool → Bool → ValidateState
 late_verdict is_gone is_equal = if is_gone then validate.TooLate else verdict is_equal
 
@@ -136,23 +136,23 @@ abbrev pub validated_by : Workunit → Option ℕ → Workunit
 validated_by w (Some n) = judged_after w n
 validated_by w None = decided w (consensus w)
 
--- what comes of a workunit without such, where there is still something to look at
+-- The workunit after the validator has judged what is not refused, if there is still something to look at.
 unfoldable pub concluded : Workunit → Workunit
 concluded w = if is_to_validate w then validated_by w w.canonical else w
 
--- what the validator makes of a workunit: what is no result is refused, and the others decide
+-- What the validator makes of a workunit: empty successes are refused, and the others decide.
 unfoldable pub validated : Workunit → Workunit
 validated w = concluded (checked w)
 
--- the credit of an instance for its host
+-- The grant for an instance, to its host.
 abbrev pub grant_of : Workunit → ℕ → Instance → Option Grant
 grant_of w n i = option_map (λ host. record { workunit = w.number; n = n; host = host; credit = w.params.credit }) i.host
 
--- the credit of an instance that is made VALID by this output
+-- The grant for an instance that becomes VALID by this output; else `None`.
 abbrev pub granted_to : Workunit → List ℕ → ℕ → Instance → Option Grant
 granted_to w output n i = if is_judged w i && bytes_eq i.output output then grant_of w n i else None
 
--- one grant for each instance that is made VALID by this output, in order of their numbers
+-- One grant for each instance that becomes VALID by this output, in order of their numbers.
 abbrev pub grants_by : Workunit → List ℕ → List Grant
 grants_by w output = filter_map (λ p. granted_to w output p.0 p.1) (enumerate_from 0 w.instances)
 
@@ -170,10 +170,10 @@ abbrev pub granted_by : Workunit → Option ℕ → List Grant
 granted_by w (Some n) = grants_after w n
 granted_by w None = grants_by_consensus w
 
--- what is granted to those that decide
+-- What is granted to the successes that decide.
 unfoldable pub credited : Workunit → List Grant
 credited w = if is_to_validate w then granted_by w w.canonical else []
 
--- what the validator grants
+-- What the validator grants.
 unfoldable pub grants : Workunit → List Grant
 grants w = credited (checked w)

@@ -1,11 +1,11 @@
--- The numbers and the words that stand for what becomes of a row of sends or of reports.
+-- The numbers and the words of verdicts on rows of sends and of reports.
 use Rattle.std.specs.Prelude.{ℕ, List, codes, Option, Some, None}
 use Rattle.wu_rules.specs.declared.verdicts.SendVerdict.{SendVerdict}
 use Rattle.wu_rules.specs.declared.verdicts.SendVerdict.TheVariants as send
 use Rattle.wu_rules.specs.declared.verdicts.ReportVerdict.{ReportVerdict}
 use Rattle.wu_rules.specs.declared.verdicts.ReportVerdict.TheVariants as report
 
--- as a table stores it
+-- The number of the verdict, as a table stores it.
 abbrev pub send_verdict_code : SendVerdict → ℕ
 send_verdict_code send.Applied = 0
 send_verdict_code send.Unknown = 1
@@ -21,7 +21,7 @@ report_verdict_code report.WrongHost = 3
 report_verdict_code report.BeforeSent = 4
 report_verdict_code report.Over = 5
 
--- why a row of sends was skipped, if it was
+-- Why a row of sends was skipped; `None` if it was applied.
 abbrev pub send_verdict_word : SendVerdict → Option (List ℕ)
 send_verdict_word send.Applied = None
 send_verdict_word send.Unknown = Some (codes "unknown")
@@ -29,7 +29,7 @@ send_verdict_word send.NotUnsent = Some (codes "not_unsent")
 send_verdict_word send.SameHost = Some (codes "same_host")
 send_verdict_word send.Class = Some (codes "class")
 
--- why a row of reports was skipped, if it was
+-- Why a row of reports was skipped; `None` if it was applied.
 abbrev pub report_verdict_word : ReportVerdict → Option (List ℕ)
 report_verdict_word report.Applied = None
 report_verdict_word report.Unknown = Some (codes "unknown")

@@ -7,32 +7,32 @@ use Rattle.wu_rules.specs.Instances.{is_unsent, is_viable, is_in_progress, is_in
 use Rattle.wu_rules.specs.Counts.{has_active, is_clear}
 use Rattle.wu_rules.specs.Transition.{has_too_many_errors, has_too_many_total, added, is_all_over, is_finished, may_output_go}
 
--- under a mask, something is not settled yet
+-- Whether a workunit that is given up has an instance or a state that is not settled yet.
 abbrev pub is_unsettled : Workunit → Bool
 is_unsettled w =
     not (is_clear w.error_mask)
     && (is_init_assimilate w.assimilate || list_any is_unsent w.instances || list_any is_viable w.instances)
 
--- this output may go and was not yet named for deletion
+-- Whether this output may be deleted and is not yet ready for it.
 abbrev pub is_output_to_ready : Option ℕ → Bool → ℕ → Instance → Bool
 is_output_to_ready canonical is_all_finished n i = may_output_go canonical is_all_finished n i && is_init_file i.file_delete
 
--- an output may go that was not yet named for deletion
+-- Whether an output may be deleted and is not yet ready for it.
 abbrev pub has_output_to_ready : Option ℕ → List Instance → Bool
 has_output_to_ready canonical instances =
     list_any (λ p. is_output_to_ready canonical (list_all is_finished instances) p.0 p.1) (enumerate_from 0 instances)
 
--- after assimilation, something may go that was not yet named for deletion
+-- Whether, after assimilation, a file may be deleted and is not yet ready for it.
 abbrev pub has_files_to_ready : Workunit → Bool
 has_files_to_ready w =
     is_done_assimilate w.assimilate
     && ((is_all_over w && is_init_file w.file_delete) || has_output_to_ready w.canonical w.instances)
 
--- bound to a class though it is not active
+-- Whether the workunit is bound to a class though it is not active.
 abbrev pub is_to_unbind : Workunit → Bool
 is_to_unbind w = not (has_active w) && nat_lt 0 w.class
 
--- the transitioner has something to do, whatever the moment
+-- Whether the transitioner has something to do, whatever the moment.
 abbrev pub is_due : Workunit → Bool
 is_due w =
     has_too_many_errors w
@@ -42,10 +42,11 @@ is_due w =
     || has_files_to_ready w
     || is_to_unbind w
 
--- of an instance in progress: the first second after its deadline
+-- The first second after the deadline of an instance in progress; else `None`.
 abbrev pub overdue_from : Instance → Option ℕ
 overdue_from i = if is_in_progress i then option_map (λ deadline. deadline + 1) i.deadline else None
 
--- the first moment at which the transitioner has something to do: at once, or when the first deadline has passed
+-- The first moment at which the transitioner has something to do: at once, or after the first deadline; `None` if it
+-- never has.
 unfoldable pub wake : Workunit → Option ℕ
 wake w = if is_due w then Some 0 else reduce min (filter_map overdue_from w.instances)

@@ -18,7 +18,7 @@ use wu_core::{Assimilate, ErrorMask, Fault, FileDelete, Instance, Instances, Mom
 
 /// What a transition does with the bits of a workunit's mask and with new instances, after timeouts.
 #[derive(Clone, Copy, PartialEq, Eq)]
-pub struct Plan {
+pub struct TransitionPlan {
     pub has_too_many_errors: bool,
     pub has_too_many_total: bool,
     pub added: usize,
@@ -51,7 +51,7 @@ fn is_idle(workunit: &Workunit, now: Moment) -> bool
 }
 
 /// Returns what a transition at this moment does with the bits of the mask and with new instances.
-pub fn plan_of(workunit: &Workunit, now: Moment) -> Plan
+pub fn plan_of(workunit: &Workunit, now: Moment) -> TransitionPlan
     // `has_too_many_errors` is true exactly if, after timeouts, an undecided workunit has more
     // errors than `max_error_results`.
     ensures errors { result.has_too_many_errors ≡ has_too_many_errors (timed workunit.now now) }
@@ -70,7 +70,7 @@ pub fn plan_of(workunit: &Workunit, now: Moment) -> Plan
     let is_open = is_undecided && !has_too_many_errors;
     let needed = needed_count(workunit, now);
     let allowed = allowed_count(workunit);
-    Plan {
+    TransitionPlan {
         has_too_many_errors: is_undecided && has_too_many_errors,
         has_too_many_total: is_open && needed > 0 && allowed == 0 && is_idle(workunit, now),
         added: if is_open { needed.min(allowed) } else { 0 },
@@ -78,7 +78,7 @@ pub fn plan_of(workunit: &Workunit, now: Moment) -> Plan
 }
 
 /// Returns what a transition does with the bits of the mask and with new instances before any timeout.
-pub fn plan_at_once(workunit: &Workunit) -> Plan
+pub fn plan_at_once(workunit: &Workunit) -> TransitionPlan
     // `has_too_many_errors` is true exactly if an undecided workunit has more errors than
     // `max_error_results`.
     ensures errors { result.has_too_many_errors ≡ has_too_many_errors workunit.now }
@@ -93,7 +93,7 @@ pub fn plan_at_once(workunit: &Workunit) -> Plan
 }
 
 /// Sets the new bits of the mask.
-fn mark(mask: &mut ErrorMask, plan: Plan)
+fn mark(mask: &mut ErrorMask, plan: TransitionPlan)
     // A bit is set exactly if it was, or the plan sets it; the other bits stay.
     ensures { mask.new ≡ record mask.old {
       too_many_error_results = mask.old.too_many_error_results || plan.has_too_many_errors;

@@ -1,4 +1,4 @@
--- Each rule keeps a workunit consistent, and no final verdict changes.
+-- Each rule keeps a workunit consistent, and changes no final verdict.
 use Rattle.std.specs.Prelude.{◌≡◌, ◌↔◌, ℕ, true, false, All, List, [], None, Some, option_to_list, slice_get, IsSomeAnd}
 use Rattle.wu_core.specs.declared.workunit.Workunit.{Workunit}
 use Rattle.wu_core.specs.declared.workunit.HostClass.{HostClass}
@@ -18,7 +18,8 @@ use Rattle.wu_rules.specs.Transition.{transitioned}
 use Rattle.wu_rules.specs.Validation.{validated, grants}
 use Rattle.wu_rules.specs.Consistent.{IsConsistent, IsOneClass, KeepsVerdicts, Rewrites, instance_host}
 
--- each rule rewrites, a cancel where the workunit is undecided, a send and a report where they are applied
+-- Each rule makes a consistent workunit of this one: a cancel if it is undecided, a send and a report if they are
+-- applied.
 pub record RulesRewrite (w : Workunit) : Type 0 where
   pub transitioned : (now : ℕ) → Rewrites w (transitioned w now) [] []
   pub validated : Rewrites w (validated w) (grants w) []
@@ -30,11 +31,11 @@ pub record RulesRewrite (w : Workunit) : Type 0 where
   pub reported : (n : ℕ) (host : List ℕ) (moment : ℕ) (status : Status) (output : List ℕ)
       → report_verdict_in w n host moment ≡ report.Applied → Rewrites w (reported_in w n moment status output) [] []
 
--- a consistent workunit is rewritten by each rule, and so stays one
+-- Each rule makes a consistent workunit of a consistent one.
 abbrev pub KeepsWorkunitsConsistent : Type 0
 KeepsWorkunitsConsistent = (w : Workunit) → IsWorkunit w → IsConsistent w → RulesRewrite w
 
--- no final verdict changes; not even a report that is taken changes one, where the workunit is consistent
+-- No rule changes a final verdict. An applied report does not either, if the workunit is consistent.
 pub record RulesKeepVerdicts (w : Workunit) : Type 0 where
   pub transitioned : (now : ℕ) → KeepsVerdicts w (transitioned w now)
   pub validated : KeepsVerdicts w (validated w)
@@ -48,9 +49,9 @@ pub record RulesKeepVerdicts (w : Workunit) : Type 0 where
 abbrev pub KeepsAllVerdicts : Type 0
 KeepsAllVerdicts = (w : Workunit) → RulesKeepVerdicts w
 
--- Where the active instances of a workunit are of one class, and hosts keep their classes, each rule leaves it so: a
--- send does that tells the class of its host, and a report, but for a success from a host of another class than the
--- workunit's. The host of an instance that is in progress is of that class.
+-- If active instances are of one class, each rule leaves it so while hosts keep their classes. A send does, given its
+-- host's class. A report does exactly if it reports no success from a host of another class. A host whose instance is
+-- in progress is of the workunit's class.
 pub record RulesKeepOneClass (classes : List HostClass) (w : Workunit) : Type 0 where
   pub transitioned : (now : ℕ) → IsOneClass classes (transitioned w now)
   pub validated : IsOneClass classes (validated w)
@@ -68,13 +69,13 @@ pub record RulesKeepOneClass (classes : List HostClass) (w : Workunit) : Type 0 
 abbrev pub KeepsOneClass : Type 0
 KeepsOneClass = (classes : List HostClass) (w : Workunit) → IsOneClass classes w → RulesKeepOneClass classes w
 
--- a workunit that has no active instance is of one class, whatever classes hosts have
+-- A workunit without an active instance is of one class, whatever classes hosts have.
 abbrev pub IdleIsOneClass : Type 0
 IdleIsOneClass =
     (classes : List HostClass) (w : Workunit) → has_active w ≡ false → IsOneClass classes w
 
--- Where the active instances of a workunit are of one class, so is what agreed: each host that the validator grants
--- credit to is of the workunit's class, and the host of the result that it chooses.
+-- If the active instances of a workunit are of one class, so is what agrees: each host that gets a grant, and the host
+-- of the chosen result.
 pub record AgreesWithin (classes : List HostClass) (w : Workunit) : Type 0 where
   pub granted : All (λ grant. class_of classes grant.host ≡ w.class) (grants w)
   pub chosen : (n : ℕ) (host : List ℕ) → w.canonical ≡ None → (validated w).canonical ≡ Some n
@@ -84,7 +85,7 @@ abbrev pub AgreesWithinOneClass : Type 0
 AgreesWithinOneClass =
     (classes : List HostClass) (w : Workunit) → IsOneClass classes w → AgreesWithin classes w
 
--- what is decided or given up has nothing to send: a send is applied of an undecided workunit alone
+-- A send is applied only to an undecided workunit.
 abbrev pub SendsWhatIsUndecided : Type 0
 SendsWhatIsUndecided =
     (w : Workunit) (n : ℕ) (host : List ℕ) (class : ℕ) → IsConsistent w → send_verdict_in w n host class ≡ send.Applied

@@ -1,8 +1,8 @@
--- Marks as they stand in the worked examples.
+-- The marks of the worked examples.
 use Rattle.std.specs.Prelude.{ℕ, false, Option, None}
 use Rattle.wu_core.specs.declared.marks.Marks.{Marks}
 
--- the transitioner alone has something to do, from this moment
+-- Only the transitioner has something to do, from this moment on.
 abbrev pub wakes_at : Option ℕ → Marks
 wakes_at moment = record {
   wake = moment;

@@ -1,4 +1,4 @@
--- Which instances may be sent and reported, and what becomes of them, in the words of the field.
+-- Which instances may be sent and reported, and what becomes of them, in BOINC's words.
 use Rattle.std.specs.Prelude.{◌≡◌, ◌≢◌, ◌↔◌, ℕ, ◌+◌, ◌≤◌, true, List, Some, IfSome, IsSomeAnd, slice_get}
 use Rattle.wu_core.specs.declared.workunit.Instance.{Instance}
 use Rattle.wu_core.specs.declared.workunit.Workunit.{Workunit}
@@ -14,18 +14,18 @@ use Rattle.wu_rules.specs.Counts.{has_active}
 use Rattle.wu_rules.specs.Reporting.{report_verdict_in, reported_in}
 use Rattle.wu_rules.specs.Sending.{send_verdict_in, sent_in}
 
--- nothing but the instance of this number is another
+-- Only the instance of this number changes.
 pub record ChangesOnlyAt (old new : Workunit) (n : ℕ) : Type 0 where
   pub others : (k : ℕ) → k ≢ n → slice_get new.instances k ≡ slice_get old.instances k
   pub rest : new ≡ record old { instances = new.instances }
 
--- it waits to be sent, the host has no instance of its workunit, and where that is active it is of the host's class
+-- The instance is unsent, the host has no instance of its workunit, and an active workunit is of the host's class.
 pub record MayBeSent (w : Workunit) (n : ℕ) (host : List ℕ) (class : ℕ) : Type 0 where
   pub waits : IsSomeAnd (slice_get w.instances n) (λ i. i.server_state ≡ server.Unsent)
   pub another : (k : ℕ) (i : Instance) → slice_get w.instances k ≡ Some i → i.host ≢ Some host
   pub alike : has_active w ≡ true → w.class ≡ class
 
--- it is out at this host since this moment, due after its workunit's delay; all else stays
+-- The instance is out at this host since this moment, due after its workunit's delay, and all else of it stays.
 pub record IsSent (w : Workunit) (host : List ℕ) (moment : ℕ) (i j : Instance) : Type 0 where
   pub out : j.server_state ≡ server.InProgress
   pub at : j.host ≡ Some host
@@ -35,8 +35,8 @@ pub record IsSent (w : Workunit) (host : List ℕ) (moment : ℕ) (i j : Instanc
   pub report : (j.received_at ≡ i.received_at) × (j.output ≡ i.output)
       × (j.file_delete ≡ i.file_delete)
 
--- a send is applied exactly where the instance may be sent; then it is sent, its workunit is of the host's class, and
--- nothing else changes
+-- A send is applied exactly if the instance may be sent. It is then sent, its workunit is of the host's class, and
+-- nothing else changes.
 pub record Sends (w : Workunit) (n : ℕ) (host : List ℕ) (class : ℕ) (moment : ℕ) : Type 0 where
   pub applied : (send_verdict_in w n host class ≡ send.Applied) ↔ MayBeSent w n host class
   pub sent : (i : Instance) → slice_get w.instances n ≡ Some i
@@ -48,14 +48,14 @@ pub record Sends (w : Workunit) (n : ℕ) (host : List ℕ) (class : ℕ) (momen
 abbrev pub SendsAsTold : Type 0
 SendsAsTold = (w : Workunit) (n : ℕ) (host : List ℕ) (class : ℕ) (moment : ℕ) → Sends w n host class moment
 
--- it was sent to this host, by this moment, and if it is over, then for want of a reply alone
+-- The instance was sent to this host by this moment, and it is not over except without a reply.
 pub record MayBeReported (host : List ℕ) (moment : ℕ) (i : Instance) : Type 0 where
   pub its : i.host ≡ Some host
   pub after : IfSome i.sent_at (λ since. since ≤ moment)
   pub awaited : i.server_state ≡ server.Over → i.outcome ≡ outcome.NoReply
 
--- it is over at this moment as its host says, with the output that it sent, and has no verdict yet; it stays as it was
--- sent
+-- The instance is over at this moment as its host reports, with the reported output and without a verdict. Its sending
+-- stays.
 pub record IsReported (moment : ℕ) (said : Status) (output : List ℕ) (i j : Instance) : Type 0 where
   pub over : (j.server_state ≡ server.Over) × (j.received_at ≡ Some moment)
   pub success : said ≡ status.Success → j.outcome ≡ outcome.Success
@@ -65,7 +65,7 @@ pub record IsReported (moment : ℕ) (said : Status) (output : List ℕ) (i j : 
   pub unjudged : (j.validate_state ≡ validate.Init) × (j.file_delete ≡ file_delete.Init)
   pub sending : (j.host ≡ i.host) × (j.sent_at ≡ i.sent_at) × (j.deadline ≡ i.deadline)
 
--- a report is applied exactly where the instance may be reported; then it is as told, and nothing else changes
+-- A report is applied exactly if the instance may be reported. It is then as reported, and nothing else changes.
 pub record Reports (w : Workunit) (n : ℕ) (host : List ℕ) (moment : ℕ) (said : Status) (output : List ℕ) : Type 0 where
   pub applied : (report_verdict_in w n host moment ≡ report.Applied)
       ↔ IsSomeAnd (slice_get w.instances n) (MayBeReported host moment)

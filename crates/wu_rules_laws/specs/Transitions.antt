@@ -1,4 +1,4 @@
--- What a transition makes of a workunit, in the words of the field.
+-- What a transition makes of a workunit, in BOINC's words.
 use Rattle.std.specs.Prelude.{Bool, ◌≡◌, ◌≢◌, ◌↔◌, ◌⊎◌, ℕ, ◌+◌, ◌<◌, ◌≤◌, length, true, false, not, All, Some, slice_get, IsSomeAnd}
 use Rattle.wu_core.specs.declared.workunit.Instance.{Instance}
 use Rattle.wu_core.specs.declared.workunit.Workunit.{Workunit}
@@ -16,13 +16,13 @@ use Rattle.wu_rules.specs.Validation.{is_to_validate}
 
 -- ---- new instances
 
--- the results that a workunit has, and those that may still come: successes that are not INVALID, unsent instances and
--- those in progress
+-- The number of results that a workunit has or may still get: successes that are not INVALID, unsent instances and
+-- those in progress.
 abbrev pub hoped_for : Workunit → ℕ
 hoped_for w = unsent w + in_progress w + kept w
 
--- A workunit that stays undecided gets just as many new instances as bring what is hoped for up to its target, and no
--- more than its total allows; one that is decided, or given up by now, gets none.
+-- An undecided workunit gets as many new instances as bring the results that it may get up to its target, within its
+-- total. A workunit that is decided or given up by then gets none.
 pub record BringsUp (old new : Workunit) : Type 0 where
   pub none_gone : length old.instances ≤ length new.instances
   pub enough : is_undecided new ≡ true → length new.instances < new.params.max_total_results
@@ -41,8 +41,8 @@ BringsUpToTheTarget = (w : Workunit) (now : ℕ) → BringsUp w (transitioned w 
 
 -- ---- what is given up
 
--- It gets no further: its errors are borne and it wants more results than it keeps, but it has all the instances that
--- it may, none of them is still to come, and the validator has nothing to look at.
+-- The workunit gets no further. Its errors are allowed and it needs more results, but it has all the instances that it
+-- may have. None of them is unsent or in progress, and the validator has nothing to look at.
 pub record GetsNoFurther (w : Workunit) : Type 0 where
   pub borne : errors w ≤ w.params.max_error_results
   pub wanting : kept w < w.params.target_nresults
@@ -51,8 +51,8 @@ pub record GetsNoFurther (w : Workunit) : Type 0 where
   pub nothing_out : in_progress w ≡ 0
   pub nothing_to_validate : is_to_validate w ≡ false
 
--- An undecided workunit is given up exactly where it has more errors than it bears, or gets no further, counted once
--- what is late is over; no other bit of the mask changes, and none of a workunit that is not undecided.
+-- With late instances over, an undecided workunit is given up exactly if it has more errors than it allows, or gets no
+-- further. No other bit of the mask changes, and none of a workunit that is not undecided.
 pub record GivesUp (w : Workunit) (now : ℕ) : Type 0 where
   pub too_many_errors : is_undecided w ≡ true
       → ((transitioned w now).error_mask.too_many_error_results ≡ true)
@@ -71,8 +71,8 @@ GivesUpWhatGetsNoFurther = (w : Workunit) (now : ℕ) → GivesUp w now
 
 -- ---- each instance
 
--- What becomes of an instance: in progress past its deadline it is over without a reply; of a workunit that is given up
--- an unsent one is over since it was not needed, and a viable success is not checked. All else stays.
+-- What becomes of an instance. In progress past its deadline, it is over without a reply. If the workunit is given up,
+-- an unsent one is over because it was not needed, and a viable success is not checked. All else stays.
 pub record Becomes (now : ℕ) (is_given_up : Bool) (i j : Instance) : Type 0 where
   pub late : is_overdue now i ≡ true
       → (j.server_state ≡ server.Over) × (j.outcome ≡ outcome.NoReply)
@@ -92,8 +92,8 @@ EndsWhatIsNotAwaited =
     → IsSomeAnd (slice_get (transitioned w now).instances n)
     (Becomes now (not (is_clear (transitioned w now).error_mask)) i)
 
--- under a mask a transition leaves no instance unsent, no success without a final verdict, and the workunit to be
--- assimilated, if it was not
+-- After a transition of a workunit that is given up, no instance is unsent, each success has a final verdict, and it is
+-- ready for assimilation or past it.
 pub record IsThrough (new : Workunit) : Type 0 where
   pub nothing_unsent : (n : ℕ) (i : Instance) → slice_get new.instances n ≡ Some i
       → is_unsent i ≡ false
@@ -106,25 +106,26 @@ LeavesNothingOpen =
     (w : Workunit) (now : ℕ) → is_clear (transitioned w now).error_mask ≡ false
     → IsThrough (transitioned w now)
 
--- ---- what is named for deletion
+-- ---- what becomes ready for deletion
 
--- a file is named for deletion that was not yet
+-- The file was not ready for deletion before, and now is.
 abbrev pub IsNamed : FileDelete → FileDelete → Type 0
 IsNamed old new = (old ≡ file_delete.Init) × (new ≡ file_delete.Ready)
 
--- its host has nothing more to say of it, and the validator neither
+-- The instance is over, and no viable success.
 abbrev pub IsFinished : Instance → Type 0
 IsFinished i = (is_over i ≡ true) × (is_viable i ≡ false)
 
--- when an output may go: its workunit is assimilated, it is finished, and where it is the canonical one so are all
+-- When an output may be deleted: its workunit is assimilated and it is finished; for the canonical output all instances
+-- are finished.
 pub record MayGo (old new : Workunit) (n : ℕ) (i j : Instance) : Type 0 where
   pub assimilated : old.assimilate ≡ assimilate.Done
   pub not_yet : i.file_delete ≡ file_delete.Init
   pub finished : IsFinished j
   pub after_all : old.canonical ≡ Some n → All IsFinished new.instances
 
--- The input is named exactly where the workunit is assimilated and all instances are over, an output exactly where it
--- may go; else each file stays as it was.
+-- The input becomes ready for deletion exactly if the workunit is assimilated and all instances are over, and an output
+-- exactly if it may be deleted. Each other file stays as it was.
 pub record NamesFiles (old new : Workunit) : Type 0 where
   pub input : IsNamed old.file_delete new.file_delete
       ↔ ((old.assimilate ≡ assimilate.Done) × (old.file_delete ≡ file_delete.Init)

@@ -14,21 +14,20 @@ use Rattle.wu_core.specs.declared.fault.Fault.TheVariants.{Broken}
 use Rattle.wu_schema.specs.Calls.{HasBroken, IsBack}
 use Rattle.wu_schema.specs.Faults.{fault_of, IsFailure}
 
--- the text is a SELECT
+-- The text is a SELECT.
 pub record IsSelect (text : List ℕ) : Type 0 where
   pub parsed : Parsed
   pub select : Select
   pub read : first text ≡ Ok parsed
   pub is : parsed.statement ≡ written.Select select
 
--- all is as it was, after what was asked, or since nothing was asked
+-- All is as it was: nothing was asked, or what was asked changed nothing.
 abbrev pub IsAsBefore : {S : Type 0} → Ghosts S → Held S → Held S → Type 0
 IsAsBefore g old new = (new ≡ old) ⊎ IsUnchanged (state g old) (state g new)
 
--- What any number of questions do to a connection, whatever they answer. No transaction is begun, and nothing is
--- committed: a stop leaves what it left before. With an answer, and with each fault but want of memory or of the disk,
--- all is as it was; after these an open connection shows what it showed, or the last commit. `Broken` tells that the
--- disk failed, or that the connection was not open.
+-- What any number of questions do to a connection, whatever they answer. They begin no transaction and commit nothing.
+-- Except after `Memory` and `Broken`, all is as it was; after these an open connection shows what it showed, or the
+-- last commit. `Broken` means that the disk failed, or that the connection was not open.
 pub record Asks {S T : Type 0} (g : Ghosts S) (old new : Held S) (result : Result T Fault) : Type 0 where
   pub mode : old.in_transaction ≡ false → new.in_transaction ≡ false
   pub crash : Survives (state g old) (state g new) (λ _. ⊥)
@@ -37,20 +36,20 @@ pub record Asks {S T : Type 0} (g : Ghosts S) (old new : Held S) (result : Resul
   pub back : HasCleanDisk (state g new) → IsBack (state g old) (state g new)
   pub broken : HasCleanDisk (state g new) → result ≡ Err Broken → HasBroken g old new
 
--- after an answer, and after each fault but want of memory or of the disk, the connection is open
+-- On a clean disk, after an answer and after each fault except `Memory` and `Broken`, the connection is open.
 abbrev pub ServesUnlessFailed : {S T : Type 0} → Ghosts S → Held S → Result T Fault → Type 0
 ServesUnlessFailed g new result =
     HasCleanDisk (state g new)
     → MatchResult result (λ _. IsTrue (state g new).is_open) (λ fault. IsFailure fault ⊎ IsTrue (state g new).is_open)
 
--- the fault tells of an error of the question
+-- The fault reports an error of the question.
 abbrev pub TellsQuery : List ℕ → Row → State → State → Fault → Type 0
 TellsQuery sql params old new fault = (error : Error) × (fault ≡ fault_of error) × FailsToQuery sql params old new error
 
--- with Ok, these rows are the answer
+-- On a clean disk, the rows of the answer are those of the question.
 abbrev pub ShowsAll : {S A : Type 0} → Ghosts S → Held S → Held S → Result (Vec Row A) Fault → List ℕ → Row → Type 0
 ShowsAll g old new result sql params = HasCleanDisk (state g new) → IfOk result (λ rows. Shown sql params (state g old) (state g new) rows.items)
 
--- with a fault, it tells of an error of the question
+-- On a clean disk, a fault reports an error of the question.
 abbrev pub FailsAll : {S T : Type 0} → Ghosts S → Held S → Held S → Result T Fault → List ℕ → Row → Type 0
 FailsAll g old new result sql params = HasCleanDisk (state g new) → IfErr result (TellsQuery sql params (state g old) (state g new))

@@ -10,7 +10,8 @@ use Rattle.wu_schema.specs.Refines.{ListsAll, Refines}
 use Rattle.wu_schema.specs.Stored.{class_row}
 use Rattle.wu_schema.specs.Tables.{HasNamed, host_class_at, workunit_class_at}
 
--- both tables are there, each in a tree of its own: no host has a class, and the workunits of these numbers have these
+-- Both tables of classes are there, each in a tree of its own. No host has a class, and the workunits of these numbers
+-- have these classes.
 pub record HasClassTables (db : Database) (classed : List (ℕ × ℕ)) : Type 0 where
   pub host_class : ℕ
   pub workunit_class : ℕ
@@ -19,11 +20,11 @@ pub record HasClassTables (db : Database) (classed : List (ℕ × ℕ)) : Type 0
   pub none : db.trees host_class ≡ []
   pub rows : ListsAll (db.trees workunit_class) (map class_row classed)
 
--- the number of each workunit, with class 0
+-- The number of each workunit, with class 0.
 abbrev pub unbound_in : World → List (ℕ × ℕ)
 unbound_in world = map (λ (w : Workunit). (w.number, 0)) world.workunits
 
--- both are made, with no row, beside the world that the tables stand for, and beside a queue
+-- Both tables of classes are made without a row. The world that the tables represent stays, and so does a queue.
 pub record MakesClasses (old new : Database) : Type 0 where
   pub classes : HasClassTables new []
   pub stands : (world : World) → Refines old world → Refines new world

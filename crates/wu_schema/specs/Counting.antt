@@ -1,4 +1,4 @@
--- What questions answer that count the rows of a table.
+-- What the questions that count rows answer.
 use Rattle.std.specs.Prelude.{◌≡◌, ◌≢◌, ◌↔◌, ℕ, ℤ, Bool, IsTrue, List, [], ◌∷◌, length, map, count_by}
 use Rattle.std.specs.List.{AllByRecursion}
 use Rattle.std.specs.List.Sorted.{IsPermutation}
@@ -10,23 +10,23 @@ use Rattle.sqlite_trees.specs.View.{is_int}
 use Rattle.sqlite_sql.specs.Aggregate.{count}
 use Rattle.sqlite_rules.specs.Lists.{Has}
 
--- each row has an integer in the column
+-- Each row has an integer in the column.
 abbrev pub HasIntegers : ℕ → List Row → Type 0
 HasIntegers at rows = AllByRecursion (λ row. IsTrue (is_int (column row at))) rows
 
--- the row has this integer in the column
+-- Whether the row has this integer in the column.
 abbrev pub has_integer : ℕ → ℤ → Row → Bool
 has_integer at n row = is_eq (value_cmp (column row at) (Int n))
 
--- All rows are counted. A count goes as far as the integers of SQL, to 2^63 - 1.
+-- The answer is the number of all rows; a count goes up to 2^63 - 1, as the integers of SQL do.
 pub record CountsAll (rows answer : List Row) : Type 0 where
   pub one : answer ≡ (count (length rows) ∷ []) ∷ []
 
--- The rows are counted by a column of integers.
+-- The answer counts the rows by a column of integers.
 pub record CountsEach (at : ℕ) (rows answer : List Row) : Type 0 where
-  -- the integers that stand in the column, each once
+  -- The integers in the column, each once.
   pub integers : List ℤ
   pub once : IsAscending (λ m n. m ≢ n) integers
   pub all : (n : ℤ) → Has integers n ↔ Has (map (λ row. column row at) rows) (Int n)
-  -- a row for each, in some order: the integer, and how many rows have it
+  -- The answer has a row for each integer, in some order: the integer, and how many rows have it.
   pub same : IsPermutation (map (λ n. Int n ∷ count (count_by (has_integer at n) rows) ∷ []) integers) answer

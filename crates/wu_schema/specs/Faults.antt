@@ -1,4 +1,4 @@
--- What an error of the store is told as.
+-- The fault that reports an error of the store.
 use Rattle.std.specs.Prelude.{◌≡◌, ◌⊎◌}
 use Rattle.sqlite.specs.declared.error.Error.{Error}
 use Rattle.sqlite.specs.declared.error.Error.TheVariants.{SqliteFailure, SqlInputError}
@@ -8,7 +8,8 @@ use Rattle.sqlite_syntax.specs.declared.error.ParseError.TheVariants as parse
 use Rattle.wu_core.specs.declared.fault.Fault.{Fault}
 use Rattle.wu_core.specs.declared.fault.Fault.TheVariants.{NotAProject, Memory, Broken}
 
--- want of memory, of the store, its compiler or its parser; disk or size; any other
+-- The fault of an error. `Memory`: the store, its compiler or its parser is out of memory. `Broken`: the disk failed or
+-- is full, the database is damaged, the connection is closed, or a size is too big. `NotAProject`: any other error.
 abbrev pub fault_of : Error → Fault
 fault_of (SqliteFailure code.OutOfMemory) = Memory
 fault_of (SqlInputError compile.OutOfMemory) = Memory
@@ -24,14 +25,14 @@ abbrev pub unless_known : Fault → Fault
 unless_known NotAProject = Broken
 unless_known fault = fault
 
--- of a commit or a rollback
+-- The fault of an error of a commit or a rollback: `Memory`, or `Broken` for any other error.
 abbrev pub commit_fault_of : Error → Fault
 commit_fault_of error = unless_known (fault_of error)
 
--- a fault of the store: of memory, of the disk or of size, or of a statement or a row
+-- The fault is one of the store: `Memory`, `Broken`, or `NotAProject` for a statement or a row.
 abbrev pub IsStoreFault : Fault → Type 0
 IsStoreFault fault = (fault ≡ Memory) ⊎ ((fault ≡ Broken) ⊎ (fault ≡ NotAProject))
 
--- memory, disk or size failed
+-- The fault is `Memory` or `Broken`.
 abbrev pub IsFailure : Fault → Type 0
 IsFailure fault = (fault ≡ Memory) ⊎ (fault ≡ Broken)

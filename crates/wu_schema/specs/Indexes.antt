@@ -1,4 +1,4 @@
--- Indexes: texts that make one, what it leaves of a world, and what each has.
+-- Indexes: the texts that make one, what making one leaves of a world, and the indexes of the queue.
 use Rattle.std.specs.Prelude.{◌≡◌, ℕ, List, [], ◌∷◌, ◌++◌, codes, slice_range, false, Ok}
 use Rattle.sqlite.specs.Held.{Held, state}
 use Rattle.sqlite.specs.State.{Executes}
@@ -15,7 +15,7 @@ use Rattle.sqlite_ast.specs.declared.Statement.TheVariants as written
 use Rattle.sqlite_syntax.specs.declared.statement.Parsed.{Parsed}
 use Rattle.sqlite_resolve.specs.Compile.{first}
 
--- the text makes an index that is not unique on the table of this name
+-- The text makes an index, not unique, on the table of this name.
 pub record DefinesIndex (text name : List ℕ) : Type 0 where
   pub parsed : Parsed
   pub def : CreateIndex
@@ -27,26 +27,26 @@ pub record DefinesIndex (text name : List ℕ) : Type 0 where
   pub shared : def.is_unique ≡ false
   pub text_is : slice_range text parsed.start parsed.end ≡ text
 
--- run where its name finds a table, the text leaves the world that the tables stand for
+-- If its name finds a table, the text leaves each represented world as it is.
 abbrev pub LeavesWorlds : {S : Type 0} → Ghosts S → (text name : List ℕ) → Type 0
 LeavesWorlds {S} g text name =
     (old new : Held S) (at : ℕ) (table : Table) → HasTable (state g old).now.schema name at table
     → (count : ℕ) → Executes text [] (state g old) (state g new) (Ok count)
     → (world : World) → Refines (state g old).now world → Refines (state g new).now world
 
--- an index by its name and by the places of its columns in a row, 0 for the rowid
+-- The name of an index, and the places of its columns in a row; 0 is the rowid.
 abbrev pub NamedIndex : Type 0
 NamedIndex = List ℕ × List ℕ
 
--- as it stands on the table in the first tree, kept in the second: its columns ascend, and need not be unique
+-- The index on the table in the first tree, in the second tree: its columns ascend, and it is not unique.
 abbrev pub index_at : NamedIndex → (table tree : ℕ) → Index
 index_at named table tree = record { name = named.0; tree = tree; table = table; columns = named.1; order = record { digits = 0 }; is_unique = false }
 
--- the table in this tree has the index
+-- The table in this tree has the index.
 abbrev pub IsIndexed : Schema → ℕ → NamedIndex → Type 0
 IsIndexed schema table named = (tree : ℕ) × Has schema.indexes (index_at named table tree)
 
--- the queue by the moments of its workunits, and by each mark with their numbers
+-- The indexes of the queue: by the moment, and by each mark with the number of the workunit.
 abbrev pub queue_wake : NamedIndex
 queue_wake = (codes "queue_wake", 2 ∷ [])
 
@@ -68,6 +68,6 @@ mark_indexes = queue_validate ∷ queue_assimilate ∷ queue_delete ∷ []
 abbrev pub moment_indexes : List NamedIndex
 moment_indexes = queue_wake ∷ queue_purge ∷ []
 
--- all five
+-- All five indexes of the queue.
 abbrev pub queue_indexes : List NamedIndex
 queue_indexes = mark_indexes ++ moment_indexes

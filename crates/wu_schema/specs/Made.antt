@@ -15,7 +15,7 @@ use Rattle.wu_core.specs.World.{empty_world}
 use Rattle.wu_schema.specs.Tables.{HasTable, OwnsTree, project_at, workunit_at, result_at, grant_at, host_at, archived_at, import_at, host_class_at, workunit_class_at}
 use Rattle.wu_schema.specs.Refines.{IsFree, Refines}
 
--- one row is put in, and every other table stays
+-- One row is added, and every other table stays.
 pub record PutsOne (old new : Database) (tree : ℕ) (row : Row) : Type 0 where
   pub schema : new.schema ≡ old.schema
   pub fresh : is_taken (old.trees tree) row ≡ false
@@ -23,27 +23,27 @@ pub record PutsOne (old new : Database) (tree : ℕ) (row : Row) : Type 0 where
   pub tables : AllByRecursion (λ t. t.tree ≢ tree → new.trees t.tree ≡ old.trees t.tree) old.schema.tables
   pub sound : IsDatabase new
 
--- a name, and its table in any tree
+-- A name, and the table of this name in any tree.
 abbrev pub Named : Type 0
 Named = List ℕ × (ℕ → Table)
 
--- the indexes that a table's unique keys make, in trees from this one on
+-- The indexes that a table's unique keys make, in trees from this one on.
 abbrev pub keys_of : Table → ℕ → List Index
 keys_of table tree = automatics table 0 tree table.uniques
 
--- the table that SQLite itself keeps where some table counts its rows
+-- This is the table that SQLite itself keeps if some table counts its rows.
 abbrev pub IsSequence : Table → Type 0
 IsSequence table = table.name ≡ codes "sqlite_sequence"
 
--- their names
+-- The names of these tables.
 abbrev pub names_of : List Named → List (List ℕ)
 names_of made = map (λ named. named.0) made
 
--- nothing has one of these names
+-- Nothing has one of these names.
 abbrev pub AreFree : Schema → List (List ℕ) → Type 0
 AreFree schema names = AllByRecursion (IsFree schema) names
 
--- the table is there and is empty, nothing had its name, and what was there stays
+-- The table is there and empty, nothing had its name, and what was there stays.
 pub record HasMade (old new : Database) (named : Named) : Type 0 where
   pub free : IsFree old.schema named.0
   pub has : HasTable new.schema named.0 (length old.schema.tables) (named.1 (next_tree old.schema))
@@ -56,74 +56,74 @@ pub record HasMade (old new : Database) (named : Named) : Type 0 where
   pub keeps_own : (t : Table) → Has old.schema.tables t → OwnsTree old.schema t → OwnsTree new.schema t
   pub views : new.schema.views ≡ old.schema.views
   pub indexes : (i : Index) → Has old.schema.indexes i → Has new.schema.indexes i
-  -- each new table is this one, or the store's own, and each new index one of this table's own keys
+  -- Each new table is this one or SQLite's own, and each new index is one of this table's keys.
   pub new_tables : (t : Table) → Has new.schema.tables t
       → Has old.schema.tables t ⊎ ((t ≡ named.1 (next_tree old.schema)) ⊎ IsSequence t)
   pub new_indexes : (i : Index) → Has new.schema.indexes i
       → Has old.schema.indexes i ⊎ Has (keys_of (named.1 (next_tree old.schema)) (next_tree old.schema + 1)) i
   pub sound : IsDatabase new
 
--- the table of this name is made
+-- The table of this name is made.
 abbrev pub MakesTable : Named → Database → Database → Type 0
 MakesTable named old new = HasMade old new named
 
--- one after another
+-- These tables are made, one after another.
 abbrev pub MakesAll : Database → Database → List Named → Type 0
 MakesAll old new [] = new ≡ old
 MakesAll old new (named ∷ more) = (mid : Database) × HasMade old mid named × MakesAll mid new more
 
--- these tables are made, in this order
+-- These tables are made, in this order.
 abbrev pub MakesTables : List Named → Database → Database → Type 0
 MakesTables made old new = MakesAll old new made
 
--- no index stands on the tree
+-- The tree has no index.
 abbrev pub IsUnindexed : Schema → ℕ → Type 0
 IsUnindexed schema tree = (i : Index) → Has schema.indexes i → i.table ≢ tree
 
--- the table `project` is there, and no index stands on it
+-- The table `project` is there, and has no index.
 abbrev pub HasBareProject : Database → Type 0
 HasBareProject db = (at tree : ℕ) × HasTable db.schema (codes "project") at (project_at tree) × IsUnindexed db.schema tree
 
--- the row of a fresh project of this version is put in
+-- The row of a fresh project of this version is added.
 abbrev pub PutsProject : ℤ → Database → Database → Type 0
 PutsProject version old new = (at tree : ℕ) → HasTable old.schema (codes "project") at (project_at tree) → PutsOne old new tree (Int (pos 1) ∷ Null ∷ Int version ∷ Int (pos 1) ∷ [])
 
--- of a project and its workunits
+-- The tables of a project and its workunits.
 abbrev pub work_tables : List Named
 work_tables = (codes "project", project_at) ∷ (codes "workunit", workunit_at) ∷ (codes "result", result_at) ∷ []
 
--- of what is kept for good
+-- The tables of what is kept permanently.
 abbrev pub record_tables : List Named
 record_tables = (codes "credit_grant", grant_at) ∷ (codes "host", host_at) ∷ (codes "archived", archived_at) ∷ (codes "import", import_at) ∷ []
 
--- of classes
+-- The tables of classes.
 abbrev pub class_tables : List Named
 class_tables = (codes "host_class", host_class_at) ∷ (codes "workunit_class", workunit_class_at) ∷ []
 
--- what was there, ours or not, is as it was
+-- What was there stays as it was, whoever made it.
 pub record KeepsOthers (old new : Database) : Type 0 where
   pub tables : (t : Table) → Has old.schema.tables t → Has new.schema.tables t × (new.trees t.tree ≡ old.trees t.tree)
   pub indexes : (i : Index) → Has old.schema.indexes i → Has new.schema.indexes i
   pub views : new.schema.views ≡ old.schema.views
 
--- the tables of a project, but for its queue
+-- The tables of a project, except its queue.
 abbrev pub project_tables : List Named
 project_tables = work_tables ++ (record_tables ++ class_tables)
 
--- one of them, in any tree
+-- The table is one of a project, in any tree.
 abbrev pub IsOurTable : Table → Type 0
 IsOurTable t = (named : Named) × (tree : ℕ) × Has project_tables named × (t ≡ named.1 tree)
 
--- a unique key of one of them
+-- The index is a unique key of such a table.
 abbrev pub IsOurKey : Index → Type 0
 IsOurKey i = (t : Table) × (tree : ℕ) × IsOurTable t × Has (keys_of t tree) i
 
--- what is there now was there, or is the project's own
+-- What is there now was there before, or belongs to the project.
 pub record AddsOurs (old new : Database) : Type 0 where
   pub tables : (t : Table) → Has new.schema.tables t → Has old.schema.tables t ⊎ (IsOurTable t ⊎ IsSequence t)
   pub indexes : (i : Index) → Has new.schema.indexes i → Has old.schema.indexes i ⊎ IsOurKey i
 
--- they stand for the empty world beside what was there, where nothing had their names
+-- The tables represent the empty world beside what was there; nothing had their names before.
 pub record MakesEmpty (old new : Database) : Type 0 where
   pub free : AreFree old.schema (names_of project_tables)
   pub stands : Refines new empty_world

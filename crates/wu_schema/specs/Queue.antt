@@ -1,4 +1,4 @@
--- The queue of schema version 2, beside the tables of a world: which rows it has, and what makes it.
+-- The queue of schema version 2: which rows it has beside the tables of a world, and what makes it.
 use Rattle.std.specs.Prelude.{◌≡◌, ◌⊎◌, ℕ, List, [], ◌∷◌, map, codes}
 use Rattle.std.specs.List.{AllByRecursion}
 use Rattle.sqlite.specs.Effect.{Database, IsDatabase}
@@ -14,61 +14,61 @@ use Rattle.wu_schema.specs.Refines.{IsFree, ListsAll, Refines}
 use Rattle.wu_schema.specs.Stored.{stored_marks}
 use Rattle.wu_schema.specs.Tables.{HasNamed, HasTable, queue_at}
 
--- its name, and it in any tree
+-- The name of the queue, and the queue in any tree.
 abbrev pub queue_table : Named
 queue_table = (codes "queue", queue_at)
 
--- the queue is there, in a tree of its own and with its five indexes, and has one row for each of these workunits: its
--- number and its marks
+-- The queue is there, in a tree of its own and with its five indexes. It has one row for each of these workunits: its
+-- number and its marks.
 pub record HasQueue (db : Database) (marked : List (ℕ × Marks)) : Type 0 where
   pub tree : ℕ
   pub table : HasNamed db.schema (codes "queue") (queue_at tree)
   pub indexes : AllByRecursion (IsIndexed db.schema tree) queue_indexes
   pub rows : ListsAll (db.trees tree) (map stored_marks marked)
 
--- one index more is there, on this table, nothing had its name, and all else is as it was
+-- One more index is there on this table, nothing had its name, and all else is as it was.
 pub record AddsIndex (old new : Database) (table : Table) (named : NamedIndex) : Type 0 where
   pub free : IsFree old.schema named.0
   pub schema : new.schema ≡ with_index old.schema (index_at named table.tree (next_tree old.schema))
   pub rows : KeepsRows old.schema.tables old.trees new.trees
   pub sound : IsDatabase new
 
--- one after another
+-- These indexes are added, one after another.
 abbrev pub AddsIndexes : Database → Database → Table → List NamedIndex → Type 0
 AddsIndexes old new table [] = new ≡ old
 AddsIndexes old new table (named ∷ more) = (mid : Database) × AddsIndex old mid table named × AddsIndexes mid new table more
 
--- the table gets the index, where its name finds it
+-- The table gets the index, if its name finds it.
 abbrev pub MakesIndex : Named → NamedIndex → Database → Database → Type 0
 MakesIndex table named old new = (at tree : ℕ) → HasTable old.schema table.0 at (table.1 tree) → AddsIndex old new (table.1 tree) named
 
--- it gets these, in this order
+-- The table gets these indexes, in this order.
 abbrev pub MakesIndexes : Named → List NamedIndex → Database → Database → Type 0
 MakesIndexes table named old new = (at tree : ℕ) → HasTable old.schema table.0 at (table.1 tree) → AddsIndexes old new (table.1 tree) named
 
--- its name finds the table, which has no row
+-- The name finds the table, which has no row.
 abbrev pub HasEmpty : Named → Database → Type 0
 HasEmpty table db = (at tree : ℕ) × HasTable db.schema table.0 at (table.1 tree) × (db.trees (table.1 tree).tree ≡ [])
 
--- one of the queue's indexes, wherever they are
+-- The index is one of the queue's, wherever the queue is.
 abbrev pub IsQueueIndex : Index → Type 0
 IsQueueIndex i = (named : NamedIndex) × (table tree : ℕ) × Has queue_indexes named × (i ≡ index_at named table tree)
 
--- the queue, wherever it is
+-- The table is the queue, wherever it is.
 abbrev pub IsQueueTable : Table → Type 0
 IsQueueTable t = (tree : ℕ) × (t ≡ queue_at tree)
 
--- what is there now was there, or is the queue's own
+-- What is there now was there before, or belongs to the queue.
 pub record AddsQueue (old new : Database) : Type 0 where
   pub tables : (t : Table) → Has new.schema.tables t
       → Has old.schema.tables t ⊎ (IsQueueTable t ⊎ IsSequence t)
   pub indexes : (i : Index) → Has new.schema.indexes i → Has old.schema.indexes i ⊎ IsQueueIndex i
 
--- the names of the queue and of its indexes
+-- The names of the queue and of its indexes.
 abbrev pub queue_names : List (List ℕ)
 queue_names = queue_table.0 ∷ map (λ named. named.0) queue_indexes
 
--- the queue is made, with no row, beside the world that the tables stand for, where nothing had its names
+-- The queue is made without a row; nothing had its names before. The world that the tables represent stays.
 pub record MakesQueue (old new : Database) : Type 0 where
   pub free : AreFree old.schema queue_names
   pub queue : HasQueue new []

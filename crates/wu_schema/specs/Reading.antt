@@ -1,4 +1,4 @@
--- How stored columns and rows read as values: exactly as those that they stand for, want of memory aside.
+-- How stored columns and rows read as values: exactly as the values that are stored so, or out of memory.
 use Rattle.std.specs.Prelude.{◌≡◌, ◌⊎◌, ℕ, List, [], ◌∷◌, map, take}
 use Rattle.std.specs.List.{range_with_len}
 use Rattle.sqlite.specs.Order.{Row, column}
@@ -23,11 +23,11 @@ use Rattle.sqlite.specs.declared.types.Value.{Value}
 use Rattle.sqlite.specs.declared.types.Value.TheVariants.{Text, Blob}
 use Rattle.wu_core.specs.Storable.{IsPlace, IsStoredInstance, IsStamped, AreMoments, AreVerdicts}
 
--- so many columns from this one on
+-- So many columns from this one on.
 abbrev pub columns : Row → ℕ → ℕ → Row
 columns row from count = map (column row) (range_with_len from count)
 
--- states, the mask and verdicts, as columns
+-- The columns of a mask, of states and of verdicts.
 abbrev pub mask_cell : ErrorMask → Value
 mask_cell mask = number (error_mask_code mask)
 
@@ -49,7 +49,7 @@ validate_state_cell state = number (validate_state_code state)
 abbrev pub verdicts_cell : List ℕ → Value
 verdicts_cell verdicts = Text (verdict_digits verdicts)
 
--- the columns of how far a workunit is
+-- The columns of how far a workunit is.
 abbrev pub progress_cells : Progress → Row
 progress_cells p =
     number (error_mask_code p.error_mask) ∷ number_or_null p.canonical ∷ number (assimilate_code p.assimilate)
@@ -59,7 +59,7 @@ pub record IsProgress (p : Progress) : Type 0 where
   pub canonical : IsPlace p.canonical
   pub stamped : IsStamped p.assimilate p.done_at
 
--- the columns of an instance's states, and those of its moments
+-- The columns of an instance's states, and of its moments.
 abbrev pub state_cells : States → Row
 state_cells s =
     number (server_state_code s.server_state) ∷ number (outcome_code s.outcome) ∷ number (validate_state_code s.validate_state)
@@ -71,16 +71,16 @@ moment_cells m = number_or_null m.sent_at ∷ number_or_null m.deadline ∷ numb
 abbrev pub HasMoments : Moments → Type 0
 HasMoments m = AreMoments m.sent_at m.deadline m.received_at
 
--- the columns of an instance but for its output, the last one
+-- The columns of an instance except its output, the last one.
 abbrev pub bare_instance_row : Instance → Row
 bare_instance_row i = take 8 (instance_row i)
 
--- what these stand for: an instance without its output
+-- An instance without its output, as these columns are read.
 pub record IsBareInstance (i : Instance) : Type 0 where
   pub stored : IsStoredInstance i
   pub bare : i.output ≡ []
 
--- what a row of an import keeps, as it is read
+-- The row of an import, as it is read.
 abbrev pub stored_import_row : StoredImport → Row
 stored_import_row import =
     Blob import.template ∷ Blob import.content ∷ number import.first_number ∷ Text (verdict_digits import.verdicts) ∷ []
@@ -88,6 +88,6 @@ stored_import_row import =
 abbrev pub IsStoredImport : ImportKind → StoredImport → Type 0
 IsStoredImport kind import = AreVerdicts kind import.verdicts
 
--- a row that is no value of its type, or want of memory
+-- The fault is that the row is no value of its type, or out of memory.
 abbrev pub IsReadFault : Fault → Type 0
 IsReadFault fault = (fault ≡ Memory) ⊎ (fault ≡ NotAProject)

@@ -1,4 +1,4 @@
--- When a database stands for a world: the tables are there, and their rows are what the world holds.
+-- When a database represents a world: the tables are there, and their rows are what the world holds.
 use Rattle.std.specs.Prelude.{◌≡◌, false, ℕ, List, [], ◌∷◌, map, drop, None}
 use Rattle.std.specs.List.{AllByRecursion, enumerate_from, flat_map}
 use Rattle.std.specs.List.Sorted.{IsPermutation}
@@ -18,35 +18,35 @@ use Rattle.wu_core.specs.World.{World, Import, is_import, MayBeKept}
 use Rattle.wu_schema.specs.Stored.{stored_project, stored_workunit, stored_grant, stored_archived, stored_class, class_cells, instance_cells, host_cells, import_cells}
 use Rattle.wu_schema.specs.Tables.{ProjectTrees, HasTables, IsClassedVersion}
 
--- the instances of a workunit, numbered from 0
+-- The rows of a workunit's instances, numbered from 0.
 abbrev pub instances_of : Workunit → List Row
 instances_of w = map (λ (p : ℕ × Instance). instance_cells w.number p.0 p.1) (enumerate_from 0 w.instances)
 
--- a host with the credit and the number of its grants
+-- The row of a host, with the credit and the number of its grants.
 abbrev pub host_of : List Grant → List ℕ → Row
 host_of grants name = host_cells name (credit_of grants name) (grants_of grants name)
 
--- the rows of a table whose key is the rowid, in order of the key
+-- The rows of a table whose key is the rowid are these, in order of the key.
 pub record ListsAll (rows stored : List Row) : Type 0 where
   pub shaped : IsShaped shape.Table rows
   pub same : rows ≡ stored
 
--- the rows of a table whose rowids the store chooses: these cells behind the rowids, in some order
+-- The rows of a table whose rowids the store chooses are these cells after the rowids, in some order.
 pub record HoldsAll (rows cells : List Row) : Type 0 where
   pub shaped : IsShaped shape.Table rows
   pub same : IsPermutation cells (map (drop 1) rows)
 
--- the rows of the tables of classes are what the world holds
+-- The rows of the tables of classes are what the world holds.
 pub record HasClasses (db : Trees) (trees : ProjectTrees) (world : World) : Type 0 where
   pub hosts : HoldsAll (db trees.host_class) (map class_cells world.classes)
   pub workunits : ListsAll (db trees.workunit_class) (map stored_class world.workunits)
 
--- no host and no workunit has a class
+-- No host and no workunit has a class.
 pub record IsClassless (world : World) : Type 0 where
   pub hosts : world.classes ≡ []
   pub workunits : AllByRecursion (λ (w : Workunit). w.class ≡ 0) world.workunits
 
--- the rows of the tables are what the world holds, the queue aside
+-- The rows of the tables are what the world holds, except those of the queue.
 pub record HasRows (db : Trees) (trees : ProjectTrees) (world : World) : Type 0 where
   pub project : db trees.project ≡ stored_project world ∷ []
   pub workunits : ListsAll (db trees.workunit) (map stored_workunit world.workunits)
@@ -55,23 +55,24 @@ pub record HasRows (db : Trees) (trees : ProjectTrees) (world : World) : Type 0 
   pub hosts : HoldsAll (db trees.host) (map (host_of world.grants) (hosts_of world.grants))
   pub archived : ListsAll (db trees.archived) (map stored_archived (enumerate_from 1 world.archived))
   pub imports : HoldsAll (db trees.import) (map import_cells world.imports)
-  -- no two imports are of one kind and name
+  -- No two imports have the same kind and name.
   pub imported_once : IsAscending (λ (a b : Import). is_import a.kind a.name b ≡ false) world.imports
   pub imports_kept : AllByRecursion MayBeKept world.imports
-  -- classes stand in tables of their own from their version on, and before it there are none
+  -- From version 3 on, classes are in tables of their own; before it no host and no workunit has a class.
   pub classes : IsClassedVersion world.version → HasClasses db trees world
   pub classless : ¬ IsClassedVersion world.version → IsClassless world
   pub classes_in_order : AreInOrder world.classes
 
--- the tables are there, wherever the store put them and whatever else there is, and have these rows
+-- The tables are there, wherever the store put them and whatever else is there, and their rows are what the world
+-- holds.
 pub record Refines (db : Database) (world : World) : Type 0 where
   pub trees : ProjectTrees
   pub tables : HasTables world.version db.schema trees
   pub rows : HasRows db.trees trees world
-  -- the trees list the schema and obey it, so that what an open finds in these trees is this database
+  -- The trees list the schema and obey it, so that opening these trees finds this database.
   pub sound : IsDatabase db
 
--- nothing has this name
+-- Nothing has this name.
 pub record IsFree (schema : Schema) (name : List ℕ) : Type 0 where
   pub table : table_named schema name ≡ None
   pub index : index_named schema name ≡ None

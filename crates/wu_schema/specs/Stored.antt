@@ -1,4 +1,4 @@
--- Values as rows of the tables: each column what the value has there.
+-- Values as rows of the tables, column by column.
 use Rattle.std.specs.Prelude.{ℕ, ◌+◌, pos, Bool, if◌then◌else◌, List, [], ◌∷◌, ◌++◌, map, Option}
 use Rattle.sqlite.specs.Order.{Row}
 use Rattle.sqlite.specs.Values as values
@@ -29,85 +29,85 @@ parameter_cells p =
     number p.min_quorum ∷ number p.target_nresults ∷ number p.max_error_results ∷ number p.max_total_results
     ∷ number p.max_success_results ∷ number p.delay_bound ∷ number p.credit ∷ []
 
--- the columns of a workunit after its number
+-- The columns of a workunit after its number.
 abbrev pub workunit_cells : Workunit → Row
 workunit_cells w =
     Text w.name ∷ parameter_cells w.params
     ++ (Blob w.input ∷ number (error_mask_code w.error_mask) ∷ number_or_null w.canonical ∷ number (assimilate_code w.assimilate)
     ∷ number (file_delete_code w.file_delete) ∷ number_or_null w.done_at ∷ [])
 
--- as it is given and read, its columns in order
+-- The row of a workunit as it is written and read.
 abbrev pub workunit_row : Workunit → Row
 workunit_row w = number w.number ∷ workunit_cells w
 
--- as the table keeps it: the key first, and nothing in the key's own column
+-- The row of a workunit as the table keeps it: the key first, and NULL in the key's own column.
 abbrev pub stored_workunit : Workunit → Row
 stored_workunit w = number w.number ∷ Null ∷ workunit_cells w
 
--- the columns of an instance after its workunit's number and its own
+-- The columns of an instance after its workunit's number and its own.
 abbrev pub instance_row : Instance → Row
 instance_row i =
     number (server_state_code i.server_state) ∷ number (outcome_code i.outcome) ∷ number (validate_state_code i.validate_state)
     ∷ number (file_delete_code i.file_delete) ∷ text_or_null i.host ∷ number_or_null i.sent_at ∷ number_or_null i.deadline
     ∷ number_or_null i.received_at ∷ Blob i.output ∷ []
 
--- an instance of a workunit, by its number there
+-- The row of an instance, with its workunit's number and its own.
 abbrev pub instance_cells : ℕ → ℕ → Instance → Row
 instance_cells workunit n i = number workunit ∷ number n ∷ instance_row i
 
--- the columns of a grant after its place
+-- The columns of a grant after its place.
 abbrev pub grant_cells : Grant → Row
 grant_cells g = number g.workunit ∷ number g.n ∷ Text g.host ∷ number g.credit ∷ []
 
--- as the table keeps it, by its place in the list, from 1
+-- The row of a grant as the table keeps it, by its place in the list, from 1.
 abbrev pub stored_grant : ℕ × Grant → Row
 stored_grant p = number p.0 ∷ Null ∷ grant_cells p.1
 
--- the columns of an archived workunit after its place
+-- The columns of an archived workunit after its place.
 abbrev pub archived_cells : Archived → Row
 archived_cells a = number a.number ∷ Text a.name ∷ number (error_mask_code a.error_mask) ∷ number_or_null a.canonical ∷ Blob a.output ∷ number a.done_at ∷ []
 
 abbrev pub stored_archived : ℕ × Archived → Row
 stored_archived p = number p.0 ∷ Null ∷ archived_cells p.1
 
--- a host's name, its credit and the number of its grants
+-- The row of a host: its name, its credit and the number of its grants.
 abbrev pub host_cells : List ℕ → ℕ → ℕ → Row
 host_cells name total grants = Text name ∷ number total ∷ number grants ∷ []
 
--- one digit a verdict
+-- Verdicts as text, one digit each.
 abbrev pub verdict_digits : List ℕ → List ℕ
 verdict_digits verdicts = map (λ verdict. 48 + verdict) verdicts
 
--- what is kept of an import's content and answer
+-- The columns of what is kept of an import's content and answer.
 abbrev pub kept_cells : Import → Row
 kept_cells import = Blob import.template ∷ Blob import.content ∷ number import.first_number ∷ Text (verdict_digits import.verdicts) ∷ []
 
 abbrev pub import_cells : Import → Row
 import_cells import = number (import_kind_code import.kind) ∷ Text import.name ∷ kept_cells import
 
--- whether something is so: 1 where it is, else 0
+-- A column that is 1 if this is true, else 0.
 abbrev pub flag : Bool → Value
 flag is = number (if is then 1 else 0)
 
--- the columns of a row of the queue after its workunit's number
+-- The columns of a workunit's marks, after its number.
 abbrev pub marks_cells : Marks → Row
 marks_cells m = number_or_null m.wake ∷ flag m.to_validate ∷ flag m.to_assimilate ∷ flag m.to_delete ∷ number_or_null m.purge_from ∷ []
 
--- as the table keeps it, by the workunit's number
+-- The row of the queue as the table keeps it, by the workunit's number.
 abbrev pub stored_marks : ℕ × Marks → Row
 stored_marks p = number p.0 ∷ Null ∷ marks_cells p.1
 
--- a host and its class
+-- The row of a host and its class.
 abbrev pub class_cells : HostClass → Row
 class_cells it = Text it.host ∷ number it.class ∷ []
 
--- a workunit's number and its class, as the table keeps them
+-- The row of a workunit's number and class, as the table keeps it.
 abbrev pub class_row : ℕ × ℕ → Row
 class_row p = number p.0 ∷ Null ∷ number p.1 ∷ []
 
 abbrev pub stored_class : Workunit → Row
 stored_class w = class_row (w.number, w.class)
 
--- the one row of the project, as the table keeps it
+-- The one row of the project, as the table keeps it.
 abbrev pub stored_project : World → Row
 stored_project world = number 1 ∷ Null ∷ number world.version ∷ number world.next_number ∷ []

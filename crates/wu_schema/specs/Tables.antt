@@ -1,4 +1,4 @@
--- The tables of schema versions 1 to 3, wherever the store puts them, and a schema that has those of a version, but for
+-- The tables of schema versions 1 to 3, wherever the store puts them, and schemas that have those of a version, except
 -- the queue.
 use Rattle.std.specs.Prelude.{◌≡◌, ◌≤◌, ◌^◌, ◌==◌, find, nat_le, false, [], ◌∷◌, Some, None, codes, List, ℕ, true, pos, slice_get}
 use Rattle.sqlite.specs.Collation.TheVariants.{Binary}
@@ -19,15 +19,15 @@ use Rattle.sqlite_schema.specs.Rules.{guards}
 use Rattle.sqlite_value.specs.Keys.{first_key}
 use Rattle.sqlite_rules.specs.Lists.{Has}
 
--- a column that has to have a value
+-- A column that needs a value.
 abbrev pub needs : List ℕ → Kind → Column
 needs name kind = record { name = name; kind = kind; is_strict = true; not_null = true; default = Null; collation = Binary }
 
--- a column that may be empty
+-- A column that may be empty.
 abbrev pub may : List ℕ → Kind → Column
 may name kind = record { name = name; kind = kind; is_strict = true; not_null = false; default = Null; collation = Binary }
 
--- a table of these columns, with no key and no rules
+-- A table of these columns, without a key and without rules.
 abbrev pub blank : List ℕ → ℕ → List Column → Table
 blank name tree columns = record {
   name = name;
@@ -44,7 +44,7 @@ blank name tree columns = record {
   is_counted = false;
 }
 
--- the one row of the project
+-- The table of the project: one row.
 abbrev pub project_at : ℕ → Table
 project_at tree = record (blank (codes "project") tree (may (codes "one") Integer ∷ needs (codes "version") Integer ∷ needs (codes "next_number") Integer ∷ [])) {
   key = Some 0;
@@ -52,7 +52,7 @@ project_at tree = record (blank (codes "project") tree (may (codes "one") Intege
   checks = op2 (by.Compare compare.Eq Binary) (col 1 0) (lit (Int (pos 1))) ∷ [];
 }
 
--- workunits by number, their names unique
+-- The table of workunits, by number, with unique names.
 abbrev pub workunit_at : ℕ → Table
 workunit_at tree = record (blank (codes "workunit") tree (may (codes "number") Integer
     ∷ needs (codes "name") Text
@@ -76,11 +76,11 @@ workunit_at tree = record (blank (codes "workunit") tree (may (codes "number") I
       orders = record { digits = 0 } ∷ [];
     }
 
--- an instance goes with its workunit
+-- An instance refers to its workunit, and is deleted with it.
 abbrev pub result_refers : Reference
 result_refers = record { columns = 1 ∷ []; parent = codes "workunit"; parent_columns = codes "number" ∷ []; on_delete = action.Cascade; on_update = action.NoAction; is_deferred = false }
 
--- instances by workunit and number
+-- The table of instances, by workunit and number.
 abbrev pub result_at : ℕ → Table
 result_at tree = record (blank (codes "result") tree (needs (codes "workunit") Integer
     ∷ needs (codes "n") Integer
@@ -100,7 +100,7 @@ result_at tree = record (blank (codes "result") tree (needs (codes "workunit") I
       references = result_refers ∷ [];
     }
 
--- grants in order of their making, one for an instance
+-- The table of grants, in order of their making, one for an instance.
 abbrev pub grant_at : ℕ → Table
 grant_at tree = record (blank (codes "credit_grant") tree (may (codes "seq") Integer ∷ needs (codes "workunit") Integer ∷ needs (codes "n") Integer ∷ needs (codes "host") Text ∷ needs (codes "credit") Integer ∷ [])) {
   key = Some 0;
@@ -109,7 +109,7 @@ grant_at tree = record (blank (codes "credit_grant") tree (may (codes "seq") Int
   orders = record { digits = 0 } ∷ [];
 }
 
--- what each host was granted
+-- The table of hosts, with what each was granted.
 abbrev pub host_at : ℕ → Table
 host_at tree = record (blank (codes "host") tree (needs (codes "name") Text ∷ needs (codes "total") Integer ∷ needs (codes "grants") Integer ∷ [])) {
   primary = 1 ∷ [];
@@ -117,7 +117,7 @@ host_at tree = record (blank (codes "host") tree (needs (codes "name") Text ∷ 
   orders = record { digits = 0 } ∷ [];
 }
 
--- archived workunits in order of their archiving, number and name unique
+-- The table of archived workunits, in order of archiving, with unique numbers and names.
 abbrev pub archived_at : ℕ → Table
 archived_at tree = record (blank (codes "archived") tree (may (codes "seq") Integer ∷ needs (codes "number") Integer ∷ needs (codes "name") Text ∷ needs (codes "error_mask") Integer ∷ may (codes "canonical") Integer ∷ needs (codes "output") Blob ∷ needs (codes "done_at") Integer ∷ [])) {
   key = Some 0;
@@ -126,7 +126,7 @@ archived_at tree = record (blank (codes "archived") tree (may (codes "seq") Inte
   orders = record { digits = 0 } ∷ record { digits = 0 } ∷ [];
 }
 
--- imports by kind and name
+-- The table of imports, by kind and name.
 abbrev pub import_at : ℕ → Table
 import_at tree = record (blank (codes "import") tree (needs (codes "kind") Integer ∷ needs (codes "name") Text ∷ needs (codes "template") Blob ∷ needs (codes "content") Blob ∷ needs (codes "first_number") Integer ∷ needs (codes "verdicts") Text ∷ [])) {
   primary = 1 ∷ 2 ∷ [];
@@ -134,11 +134,11 @@ import_at tree = record (blank (codes "import") tree (needs (codes "kind") Integ
   orders = record { digits = 0 } ∷ [];
 }
 
--- a row whose key is the number of a workunit goes with it
+-- A row whose key is the number of a workunit refers to that, and is deleted with it.
 abbrev pub number_refers : Reference
 number_refers = record result_refers { columns = 0 ∷ [] }
 
--- what the passes select by, for each workunit
+-- The queue: what the passes select by, for each workunit.
 abbrev pub queue_at : ℕ → Table
 queue_at tree = record (blank (codes "queue") tree (may (codes "workunit") Integer ∷ may (codes "wake") Integer ∷ needs (codes "to_validate") Integer ∷ needs (codes "to_assimilate") Integer ∷ needs (codes "to_delete") Integer ∷ may (codes "purge_from") Integer ∷ [])) {
   key = Some 0;
@@ -146,7 +146,7 @@ queue_at tree = record (blank (codes "queue") tree (may (codes "workunit") Integ
   references = number_refers ∷ [];
 }
 
--- the class of each host that has one
+-- The table of the class of each host that has one.
 abbrev pub host_class_at : ℕ → Table
 host_class_at tree = record (blank (codes "host_class") tree (needs (codes "host") Text ∷ needs (codes "class") Integer ∷ [])) {
   primary = 1 ∷ [];
@@ -154,7 +154,7 @@ host_class_at tree = record (blank (codes "host_class") tree (needs (codes "host
   orders = record { digits = 0 } ∷ [];
 }
 
--- the class of each workunit
+-- The table of the class of each workunit.
 abbrev pub workunit_class_at : ℕ → Table
 workunit_class_at tree = record (blank (codes "workunit_class") tree (may (codes "workunit") Integer ∷ needs (codes "class") Integer ∷ [])) {
   key = Some 0;
@@ -162,27 +162,27 @@ workunit_class_at tree = record (blank (codes "workunit_class") tree (may (codes
   references = number_refers ∷ [];
 }
 
--- the name finds this table
+-- The name finds this table.
 pub record HasTable (schema : Schema) (name : List ℕ) (at : ℕ) (table : Table) : Type 0 where
   pub named : table_named schema name ≡ Some at
   pub there : slice_get schema.tables at ≡ Some table
-  -- its tree is a stored one, and finds it
+  -- The tree of the table is a stored one, and finds the table.
   pub low : nat_le (2 ^ 31) table.tree ≡ false
   pub stands : find (λ t. t.tree == table.tree) schema.tables ≡ Some table
 
--- no other table, ours or somebody else's, has its tree
+-- No other table, whoever made it, has this table's tree.
 abbrev pub OwnsTree : Schema → Table → Type 0
 OwnsTree schema table = (other : Table) → Has schema.tables other → other.tree ≡ table.tree → other ≡ table
 
--- the name finds this table, wherever it stands in the list, and its tree is its own
+-- The name finds this table, wherever it is in the list, and its tree is its own.
 abbrev pub HasNamed : Schema → List ℕ → Table → Type 0
 HasNamed schema name table = (at : ℕ) × HasTable schema name at table × OwnsTree schema table
 
--- a version of the schema that has classes of hosts and of workunits
+-- The version of the schema has classes of hosts and of workunits.
 abbrev pub IsClassedVersion : ℕ → Type 0
 IsClassedVersion version = 3 ≤ version
 
--- where the store put each table
+-- The tree in which the store put each table.
 pub record ProjectTrees : Type 0 where
   pub project : ℕ
   pub workunit : ℕ
@@ -194,7 +194,7 @@ pub record ProjectTrees : Type 0 where
   pub host_class : ℕ
   pub workunit_class : ℕ
 
--- all tables of a version but the queue are there, beside whatever else
+-- All tables of a version except the queue are there, whatever else is there.
 pub record HasTables (version : ℕ) (schema : Schema) (trees : ProjectTrees) : Type 0 where
   pub project : HasNamed schema (codes "project") (project_at trees.project)
   pub workunit : HasNamed schema (codes "workunit") (workunit_at trees.workunit)
@@ -205,5 +205,5 @@ pub record HasTables (version : ℕ) (schema : Schema) (trees : ProjectTrees) : 
   pub import : HasNamed schema (codes "import") (import_at trees.import)
   pub host_class : IsClassedVersion version → HasNamed schema (codes "host_class") (host_class_at trees.host_class)
   pub workunit_class : IsClassedVersion version → HasNamed schema (codes "workunit_class") (workunit_class_at trees.workunit_class)
-  -- each unique index on the names of hosts alone compares their bytes
+  -- Each unique index on only the names of hosts compares their bytes.
   pub by_bytes : (i : Index) → Has schema.indexes i → guards i (host_at trees.host) ≡ true → i.columns ≡ 1 ∷ [] → (first_key i.order).collation ≡ Binary

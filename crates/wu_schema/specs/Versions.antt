@@ -1,4 +1,4 @@
--- The version of a project, as it is asked for and as it is answered.
+-- The version of a project: the question for it, and the answer.
 use Rattle.std.specs.Prelude.{◌≡◌, ◌⊎◌, ◌≤◌, ℕ, List, [], ◌∷◌, map, codes, slice_get, Vec, Option, None, Some, Result, Ok, Err}
 use Rattle.std.specs.List.Sorted.{IsPermutation}
 use Rattle.sqlite.specs.Order.{Row, column}
@@ -22,47 +22,47 @@ use Rattle.wu_schema.specs.Refines.{Refines}
 use Rattle.wu_schema.specs.Stored.{number}
 use Rattle.wu_schema.specs.Tables.{HasTable}
 
--- the question
+-- The question for the version.
 abbrev pub version_text : List ℕ
 version_text = codes "SELECT one, version, next_number FROM project"
 
--- the one row of a project: its key, its version and its next number
+-- The one row of a project, as it is shown: its key, its version and its next number.
 abbrev pub project_row : Value → ℕ → Row
 project_row next version = number 1 ∷ number version ∷ next ∷ []
 
--- the answer is the one row of a project of this version, whatever its next number
+-- The answer is the one row of a project of this version, whatever its next number.
 abbrev pub AreOfVersion : List Row → ℕ → Type 0
 AreOfVersion rows version = (next : Value) × (rows ≡ project_row next version ∷ [])
 
--- so it is found in these rows
+-- The version is found in these rows, which are the one row of a project.
 abbrev pub IsVersionIn : List Row → Option ℕ → Type 0
 IsVersionIn rows found = (version : ℕ) × (found ≡ Some version) × (1 ≤ version) × AreOfVersion rows version
 
--- and read in them, want of memory aside
+-- If these rows are the one row of a project of this version, the version is read, or the call is out of memory.
 abbrev pub ReadsVersion : List Row → ℕ → Result (Option ℕ) Fault → Type 0
 ReadsVersion rows version result = 1 ≤ version → AreOfVersion rows version → IsOrWantsMemory result (Ok (Some version))
 
--- a table or a column is not there
+-- The error is that a table or a column is missing.
 abbrev pub IsMissing : CompileError → Type 0
 IsMissing fault = (fault ≡ NoSuchTable) ⊎ (fault ≡ NoSuchColumn)
 
--- the error says so
+-- The error reports a missing table or column.
 abbrev pub TellsMissing : Error → Type 0
 TellsMissing error = (fault : CompileError) × (error ≡ SqlInputError fault) × IsMissing fault
 
--- an error that says no such thing, as a fault
+-- The fault is that of another error.
 abbrev pub IsOtherFault : Error → Fault → Type 0
 IsOtherFault error fault = (fault ≡ fault_of error) × (¬ TellsMissing error)
 
--- over this schema the question is refused, for a table or a column that is not there
+-- The schema lacks a project: the question is refused for a missing table or column.
 abbrev pub LacksProject : Schema → Type 0
 LacksProject schema = (fault : CompileError) × (understood schema version_text ≡ Err fault) × IsMissing fault
 
--- the name finds a column of the table
+-- The name finds a column of the table.
 abbrev pub HasColumn : Table → List ℕ → Type 0
 HasColumn table name = (at : ℕ) × (column : Column) × (column_named table name ≡ Some at) × (slice_get table.columns at ≡ Some column)
 
--- a table of the name has the three columns, whatever else it has
+-- A table of the name `project` has the three columns, whatever else it has.
 pub record HasProject (schema : Schema) : Type 0 where
   pub at : ℕ
   pub table : Table
@@ -71,67 +71,67 @@ pub record HasProject (schema : Schema) : Type 0 where
   pub version : HasColumn table (codes "version")
   pub next_number : HasColumn table (codes "next_number")
 
--- what the question answers of a row of such a table: the three columns, wherever they stand in it
+-- What the question shows of a row of such a table: the three columns, wherever they are.
 abbrev pub project_cells : Table → (one version next_number : ℕ) → Row → Row
 project_cells table one version next_number row =
     column row (place_of table one) ∷ column row (place_of table version) ∷ column row (place_of table next_number) ∷ []
 
--- of all its rows
+-- What the question shows of all rows of such a table.
 abbrev pub rows_of_project : (db : Database) → HasProject db.schema → List Row
 rows_of_project db has = map (project_cells has.table has.one.0 has.version.0 has.next_number.0) (db.trees has.table.tree)
 
--- its one row is that of a project of this version
+-- The table's one row is that of a project of this version.
 abbrev pub HasVersion : (db : Database) → HasProject db.schema → ℕ → Type 0
 HasVersion db has version = (1 ≤ version) × AreOfVersion (rows_of_project db has) version
 
--- the rows are those of the project, in some order
+-- The rows are those of the project, in some order.
 abbrev pub ShowsProject : {A : Type 0} → Database → Vec Row A → Type 0
 ShowsProject db rows = (has : HasProject db.schema) → IsPermutation (rows_of_project db has) rows.items
 
--- the question is answered with these rows, by a table `project` or by what else has the name
+-- The question is answered with these rows, by a table `project` or by something else of its name.
 abbrev pub IsAnswered : Database → List Row → Type 0
 IsAnswered db rows =
     (c : Compiled) × (understood db.schema version_text ≡ Ok c)
     × (source : Database) × IsSourceOf (reads_listing db.schema version_text) db source
     × (given : Row) × Reads c.command source given rows
 
--- with the one row of a project of this version
+-- The question is answered with the one row of a project of this version.
 abbrev pub ShowsVersion : Database → ℕ → Type 0
 ShowsVersion db version = (rows : List Row) × IsAnswered db rows × AreOfVersion rows version
 
--- over a project only a failure refuses the question, where steps have no limit
+-- Over a project and without a limit on steps, only `Memory` or `Broken` refuses the question.
 abbrev pub FailsToAsk : Option ℕ → Database → Error → Type 0
 FailsToAsk limit db e = HasProject db.schema → limit ≡ None → IsFailure (fault_of e)
 
--- where no project is, the question is refused for that, or by a failure
+-- Without a project, the question is refused for that, or with `Memory` or `Broken`.
 abbrev pub TellsAbsence : Database → Error → Type 0
 TellsAbsence db e = LacksProject db.schema → TellsMissing e ⊎ IsFailure (fault_of e)
 
--- what tells of a missing table or column tells the truth
+-- An error that reports a missing table or column is right: the schema lacks a project.
 abbrev pub IsMissingOnly : Database → Error → Type 0
 IsMissingOnly db e = TellsMissing e → LacksProject db.schema
 
--- What an answer says: over which tables it is a version, and over which it is none.
+-- What an answer to the question means: when it is a version, and when it is `None`.
 pub record AnswersVersion (db : Database) (found : Option ℕ) : Type 0 where
-  -- over a project it is the version of its one row,
+  -- Over a project it is the version of its one row.
   pub of_row : (has : HasProject db.schema)
       → (version : ℕ) × (found ≡ Some version) × HasVersion db has version
-  -- and over tables that stand for a world that world's version
+  -- Over tables that represent a world it is the world's version.
   pub of_world : (world : World) → Refines db world → found ≡ Some world.version
-  -- where no project is, it is none,
+  -- Without a project it is `None`.
   pub absent : LacksProject db.schema → found ≡ None
-  -- a version is that of the one row that the question is answered with
+  -- A version is that of the one row that the question is answered with.
   pub told : (version : ℕ) → found ≡ Some version → ShowsVersion db version
-  -- and it is none nowhere else
+  -- It is `None` only without a project.
   pub none : found ≡ None → LacksProject db.schema
 
--- What a fault says, where steps have this limit: over which tables it tells of a failure.
+-- What a fault of the question means, with this limit on steps.
 pub record RefusesVersion (limit : Option ℕ) (db : Database) (fault : Fault) : Type 0 where
-  -- over the one row of a project only a failure refuses, where steps have no limit,
+  -- Over the one row of a project, without a limit on steps, the fault is `Memory` or `Broken`.
   pub of_row : (has : HasProject db.schema) (version : ℕ)
       → HasVersion db has version → limit ≡ None → IsFailure fault
-  -- and so over tables that stand for a world of a version from 1
+  -- Likewise over tables that represent a world of a version from 1 on.
   pub of_world : (world : World)
       → Refines db world → 1 ≤ world.version → limit ≡ None → IsFailure fault
-  -- where no project is, only a failure refuses, whatever the limit
+  -- Without a project, whatever the limit, the fault is `Memory` or `Broken`.
   pub absent : LacksProject db.schema → IsFailure fault

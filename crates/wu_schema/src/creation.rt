@@ -13,7 +13,7 @@ use crate::texts::{
     CREATE_ARCHIVED, CREATE_CREDIT_GRANT, CREATE_HOST, CREATE_IMPORT, CREATE_PROJECT,
     CREATE_RESULT, CREATE_WORKUNIT, INSERT_PROJECT,
 };
-use crate::transaction::{Work, execute, transact};
+use crate::transaction::{TransactionWork, execute, transact};
 use crate::version::PRESENT_VERSION;
 use sqlite::{Alter, Connection, Error, Transaction, params};
 use wu_core::Fault;
@@ -106,7 +106,7 @@ fn create_all<S: Alter>(tx: &mut Transaction<'_, S>) -> Result<(), Error>
 #[derive(Clone, Copy)]
 struct Creation;
 
-impl Work for Creation {
+impl TransactionWork for Creation {
     ghost makes = { λ _. MakesProject };
 
     ghost breaks_over = { λ _. IsDatabase };

@@ -23,5 +23,5 @@ pub use columns::{number_at, read_column};
 pub use creation::create;
 pub use fault::fault_of;
 pub use queue::make_queue;
-pub use transaction::{Work, execute, transact};
+pub use transaction::{TransactionWork, execute, transact};
 pub use version::{PRESENT_VERSION, check_version, version_of};

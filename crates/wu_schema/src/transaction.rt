@@ -31,7 +31,7 @@ pub fn execute<S: Alter>(
 }
 
 /// What is done in one transaction.
-pub trait Work {
+pub trait TransactionWork {
     /// What it makes of a database.
     ghost makes: { Self → Database → Database → Type 0 };
 
@@ -59,7 +59,10 @@ enum Stopped {
 }
 
 /// Does the work in one transaction and commits it. Rolls it back if a statement fails.
-fn run_and_commit<S: Alter, W: Work>(conn: &mut Connection<S>, work: &W) -> Result<(), Stopped>
+fn run_and_commit<S: Alter, W: TransactionWork>(
+    conn: &mut Connection<S>,
+    work: &W,
+) -> Result<(), Stopped>
     requires { conn.old.in_transaction ≡ false }
     ensures mode { conn.new.in_transaction ≡ false }
     ensures done { Commits S.Store conn.old conn.new result (W.makes work.now) }
@@ -82,7 +85,10 @@ fn run_and_commit<S: Alter, W: Work>(conn: &mut Connection<S>, work: &W) -> Resu
 /// After `NotAProject`, with which a statement is refused, all is as before. After `Memory` or `Broken` the tables are
 /// as before while the connection is open; a later open may find what it could have found before, or what the work
 /// makes.
-pub fn transact<S: Alter, W: Work>(conn: &mut Connection<S>, work: &W) -> Result<(), Fault>
+pub fn transact<S: Alter, W: TransactionWork>(
+    conn: &mut Connection<S>,
+    work: &W,
+) -> Result<(), Fault>
     // The connection is in no transaction.
     requires { conn.old.in_transaction ≡ false }
     // The connection is in no transaction afterwards.

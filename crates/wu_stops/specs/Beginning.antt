@@ -1,4 +1,4 @@
--- Where a life starts: two files are opened, and the project in them adopted.
+-- Where a history of sessions begins: two files are opened, and the project in them is adopted.
 use Rattle.std.specs.Prelude.{◌≡◌, ◌≤◌, []}
 use Rattle.sqlite_disk.specs.declared.Disk.{Ghosts}
 use Rattle.sqlite_disk.specs.declared.Files.{Files}
@@ -18,45 +18,45 @@ use Rattle.wu_passes.specs.Standing.{FaultsOnlyGrow, GoesOn}
 use Rattle.wu_stops.specs.Stopping.{IsCommitted}
 
 module _ {D : Type 0} (g : Ghosts D) (files : Files D) where
-  -- the file of the database has no byte; whatever its log holds is then dropped
+  -- The file of the database has no byte; whatever its log holds is then dropped.
   abbrev pub IsBlank : Type 0
   IsBlank = g.seen files.db ≡ []
 
-  -- the two files hold tables that stand for this world
+  -- The two files hold tables that represent this world.
   pub record HoldWorld (world : World) : Type 0 where
     pub trees : Trees
     pub holds : HoldsDatabase (image_of g files) trees
     pub found : FoundAs trees world
     pub first : 1 ≤ world.version
 
-  -- over blank files a session begins from the empty world, and further commands go on from there
+  -- Over blank files a session begins from the empty world, and further commands may run over it.
   abbrev pub BeginsEmpty : Project (FileStore D g) over_files → Type 0
   BeginsEmpty new = IsBlank → HasCleanDisk (state_of new) → GoesOn (state_of new) empty_world × IsPresentProject empty_world
 
-  -- over the tables of a world it goes on from that world, which is of a version that this program knows
+  -- Over the tables of a world a session goes on from that world, whose version this program knows.
   abbrev pub GoesFromTables : Project (FileStore D g) over_files → Type 0
   GoesFromTables new =
       (world : World) → ∥ HoldWorld world ∥₁ → HasCleanDisk (state_of new)
       → ∥ GoesOn (state_of new) world × (world.version ≤ present_version) ∥₁
 
--- A database is given back after an adoption, whether that was refused or not: a stop leaves what it left before, or a
--- fresh project, and the session of a world goes on.
+-- A database is given back after an adoption, whether that succeeded or not. A crash leaves what it could leave before,
+-- or a fresh project, and the session of a world goes on.
 pub record LeavesAdopted (old new : State) : Type 0 where
   pub clean : FaultsOnlyGrow old new
   pub left : HasCleanDisk new → LeavesFresh old new
   pub goes : HasCleanDisk new → (world : World) → 1 ≤ world.version → GoesOn old world → GoesOn new world
 
--- no project is there, all is committed, and a stop leaves nothing else
+-- There is no project, all is committed, and a crash leaves nothing else.
 pub record AwaitsProject (s : State) : Type 0 where
   pub committed : IsCommitted s
   pub vacant : IsVacant s
 
 module _ {D : Type 0} {g : Ghosts D} (old : Held (FileStore D g)) (new : Project (FileStore D g) over_files) where
-  -- a stop within the adoption of a free database leaves it free, or a fresh project
+  -- After a crash within the adoption of a database without a project, a session begins from the empty world.
   abbrev pub BeginsAgain : Type 0
   BeginsAgain = AwaitsProject (file_state old) → HasCleanDisk (state_of new) → ∥ GoesOn (state_of new) empty_world ∥₁ × IsPresentProject empty_world
 
-  -- and within that of a project it leaves the world as it was
+  -- After a crash within the adoption of a project, a session goes on from its world.
   abbrev pub GoesAgain : Type 0
   GoesAgain =
       (world : World) → 1 ≤ world.version → GoesOn (file_state old) world → HasCleanDisk (state_of new)

@@ -1,4 +1,4 @@
--- What an opening that failed left of its two files, and what is found where they are opened again after a stop.
+-- What a failed opening left of its two files, and what opening them again after a crash finds.
 use Rattle.std.specs.Prelude.{◌≡◌, ◌≤◌, ℕ, [], false, IsTrue, ⊤}
 use Rattle.sqlite_disk.specs.declared.Disk.{Ghosts}
 use Rattle.sqlite_disk.specs.declared.Files.{Files}
@@ -22,7 +22,7 @@ use Rattle.wu_plans.specs.Planning.{IsPresentProject}
 use Rattle.wu_passes.specs.Projects.{state_of}
 use Rattle.wu_passes.specs.Standing.{GoesOn}
 
--- the two files hold the tables of this world, in pages without the sums of cksumvfs, as an opening makes them
+-- The two files hold the tables of this world, in pages without the sums of cksumvfs, as an opening makes them.
 pub record HoldsPlainly (image : Image) (world : World) : Type 0 where
   pub size : ℕ
   pub valid : IsPageSize (stored_size size)
@@ -32,38 +32,38 @@ pub record HoldsPlainly (image : Image) (world : World) : Type 0 where
   pub found : FoundAs trees world
 
 module _ {D : Type 0} (g : Ghosts D) (files : Files D) where
-  -- whatever a stop leaves of the two files, that of the database has no byte
+  -- Whatever a crash leaves of the two files, the file of the database has no byte.
   abbrev pub StayBlank : Type 0
   StayBlank = (image : Image) → outcomes g files.log files.db image → image.db ≡ []
 
-  -- whatever a stop leaves of them, they hold the tables of this world
+  -- Whatever a crash leaves of the two files, they hold the tables of this world.
   abbrev pub StayWorld : World → Type 0
   StayWorld world = (image : Image) → outcomes g files.log files.db image → ∥ HoldsPlainly image world ∥₁
 
-  -- an opening of the two files that failed left this, as the contract of `open_files` has it
+  -- A failed opening of these two files left this, as the contract of `open_files` says.
   abbrev pub IsLeftOf : Leftover D g → Type 0
   IsLeftOf left = IsCleanLeft left → LeavesFiles files left
 
 module _ {D : Type 0} {g : Ghosts D} where
-  -- Where a store is what is left, each of its trees has the number that the catalog says. The contract of `open_files`
-  -- says so of a connection's store, and not of one that is left.
+  -- If a store is left, each of its trees has the number that the catalog says. The contract of `open_files` says so of
+  -- a connection's store, and not of one that is left.
   abbrev pub IsNumberedLeft : Leftover D g → Type 0
   IsNumberedLeft (left.Files files) = ⊤
   IsNumberedLeft (left.Unopened files) = ⊤
   IsNumberedLeft (left.Store store) = IsTrue (view store).is_numbered
 
-  -- over files that stay blank a session begins from the empty world
+  -- Over files that stay blank a session begins from the empty world.
   abbrev pub BeginsFromBlank : Files D → Project (FileStore D g) over_files → Type 0
   BeginsFromBlank files new = StayBlank g files → HasCleanDisk (state_of new) → ∥ GoesOn (state_of new) empty_world ∥₁ × IsPresentProject empty_world
 
-  -- over files that hold a world whatever a stop leaves, it goes on from that world, which is of a version that this
-  -- program knows
+  -- Over files that hold a world, whatever a crash leaves of them, a session goes on from it. The program knows the
+  -- world's version.
   abbrev pub GoesFromWorld : Files D → Project (FileStore D g) over_files → Type 0
   GoesFromWorld files new =
       (world : World) → 1 ≤ world.version → StayWorld g files world → HasCleanDisk (state_of new)
       → ∥ GoesOn (state_of new) world × (world.version ≤ present_version) ∥₁
 
-  -- of whatever files it is the leftover, so it does again
+  -- Whichever files a failed opening left so, a session begins or goes on so from what is left.
   abbrev pub BeginsAfter : Leftover D g → Project (FileStore D g) over_files → Type 0
   BeginsAfter left new = (files : Files D) → IsLeftOf g files left → IsNumberedLeft left → BeginsFromBlank files new
 

@@ -13,82 +13,82 @@ use Rattle.wu_core.specs.declared.import.ImportKind.{ImportKind}
 use Rattle.wu_core.specs.World.{World, is_import}
 use Rattle.wu_schema.specs.Stored.{number, kept_cells, instance_row, workunit_row}
 
--- a workunit of this name is present
+-- Whether a workunit of this name is present.
 abbrev pub has_name : List ℕ → World → Bool
 has_name name world = list_any (λ (w : Workunit). bytes_eq w.name name) world.workunits
 
--- a workunit of this name was archived
+-- Whether a workunit of this name was archived.
 abbrev pub was_archived : List ℕ → World → Bool
 was_archived name world = list_any (λ (a : Archived). bytes_eq a.name name) world.archived
 
--- what is kept of the import of this kind and name, or nothing
+-- The row of what is kept of the import of this kind and name; no row without one.
 abbrev pub kept_of : ImportKind → List ℕ → World → List Row
 kept_of kind name world = map kept_cells (filter (is_import kind name) world.imports)
 
--- the row of the project's next number
+-- The row of the project's next number.
 abbrev pub next_row : World → Row
 next_row world = number world.next_number ∷ []
 
--- the workunit of this number, if it is present, and its row
+-- The workunit of this number, if it is present, and its row.
 abbrev pub numbered : ℕ → World → Option Workunit
 numbered number world = find (λ (w : Workunit). w.number == number) world.workunits
 
 abbrev pub row_numbered : ℕ → World → Option Row
 row_numbered number world = option_map workunit_row (numbered number world)
 
--- the workunit of this name, if one is present, and its row
+-- The workunit of this name, if it is present, and its row.
 abbrev pub named : List ℕ → World → Option Workunit
 named name world = find (λ (w : Workunit). bytes_eq w.name name) world.workunits
 
 abbrev pub row_named : List ℕ → World → Option Row
 row_named name world = option_map workunit_row (named name world)
 
--- the first workunit above this number
+-- The first workunit above this number; `None` without one.
 abbrev pub first_above : ℕ → World → Option Workunit
 first_above number world = find (λ (w : Workunit). nat_lt number w.number) world.workunits
 
--- all workunits above this number, in order of theirs
+-- All workunits above this number, in order of number.
 abbrev pub all_above : ℕ → World → List Workunit
 all_above number world = filter (λ (w : Workunit). nat_lt number w.number) world.workunits
 
--- the row of the first workunit above this number, if there is one
+-- The row of the first workunit above this number; `None` without one.
 abbrev pub row_above : ℕ → World → Option Row
 row_above number world = option_map workunit_row (first_above number world)
 
--- the rows of the instances of the workunit of this number, in order of theirs; none where it is not there
+-- The rows of the instances of the workunit of this number, in order; no row without it.
 abbrev pub instance_rows_of : ℕ → World → List Row
 instance_rows_of number world = option_map_or (λ (w : Workunit). map instance_row w.instances) (numbered number world) []
 
--- the row of the last of so many places, which are counted from 1; none where there are none
+-- The row of the last of so many places, which are counted from 1; `None` if there is no place.
 abbrev pub last_of : ℕ → Option Row
 last_of zero = None
 last_of (suc n) = Some (number (suc n) ∷ [])
 
--- the row of the last place before this one, or none where this one is the first
+-- The row of the last place before this one; `None` if this is the first.
 abbrev pub row_before : ℕ → Option Row
 row_before place = last_of (place - 1)
 
--- that of a list's places
+-- The row of the last place of a list; `None` if it is empty.
 abbrev pub last_place : {X : Type 0} → List X → Option Row
 last_place xs = last_of (length xs)
 
--- the row of the place of the last grant, if there is one
+-- The row of the place of the last grant; `None` without a grant.
 abbrev pub last_grant : World → Option Row
 last_grant world = last_place world.grants
 
--- and that of the last archived row
+-- The row of the place of the last archived row; `None` without one.
 abbrev pub last_archived : World → Option Row
 last_archived world = last_place world.archived
 
 -- ---- the last row of an answer
 
--- what is taken from the end of these rows: the last one, where there is one
+-- What is taken from the end of these rows: the last one, or `None` if there is no row.
 pub record IsLastOf (rows : List Row) (taken : Option Row) : Type 0 where
   pub rest : List Row
   pub parts : rows ≡ rest ++ option_to_list taken
   pub some : 0 < length rows → IsSome taken
 
--- with Ok, it is the last row of the answer
+-- On a clean disk, an answer is the last row of the question's rows.
 abbrev pub ShowsLast : {S : Type 0} → Ghosts S → Held S → Held S → Result (Option Row) Fault → List ℕ → Row → Type 0
 ShowsLast g old new result sql params =
     HasCleanDisk (state g new) → IfOk result (λ taken. (rows : List Row) × Shown sql params (state g old) (state g new) rows × IsLastOf rows taken)

@@ -1,4 +1,4 @@
--- What the changes of a command make of a world, and of the tables that stand for it.
+-- What the changes of a command make of a world, and of the tables that represent it.
 use Rattle.std.specs.Prelude.{◌≡◌, ℕ, List, [], ◌∷◌, map, Some, Vec, ⊤}
 use Rattle.std.specs.List.{enumerate_from}
 use Rattle.std.specs.declared.alloc.Global.{Global}
@@ -17,7 +17,7 @@ use Rattle.wu_store.specs.Sums.{AreSums}
 use Rattle.wu_store.specs.declared.changes.HostSum.{HostSum}
 use Rattle.wu_store.specs.declared.changes.Import.{Import as Kept}
 
--- an import as it is kept
+-- The import as it is kept.
 abbrev pub import_of_change : Kept → Import
 import_of_change kept = record {
   kind = kept.kind;
@@ -28,7 +28,7 @@ import_of_change kept = record {
   verdicts = kept.verdicts;
 }
 
--- the world with one change
+-- The world after one change.
 abbrev pub made : Change → World → World
 made (Add w) world = with_workunit w world
 made (Replace was w) world = with_replaced w world
@@ -40,15 +40,15 @@ made (Keep kept) world = with_import (import_of_change kept) world
 made (Class host class) world = with_host_class host class world
 made (Upgrade from rows) world = with_version 3 world
 
--- the world with one change after another
+-- The world after these changes, one after another.
 abbrev pub made_all : List Change → World → World
 made_all [] world = world
 made_all (change ∷ more) world = made_all more (made change world)
 
--- a workunit that is added has a number above all, one that takes a place has that of the present one that it is said to
--- take it from, each in a world with classes, and so a class is set; grants and an archived row have the next place of
--- their list, and grants their sums; an import may be kept; an upgrade is of a world of that version without classes,
--- and has the marks of all workunits
+-- The change may be made of this world. An added workunit has a number above all, and a replaced one is present as
+-- said; these and a set class need a world with classes. Grants and archived rows have the next place, and grants their
+-- sums. An import may be kept. An upgrade is of a world of its version without classes, with the marks of all
+-- workunits.
 abbrev pub IsRight : Change → World → Type 0
 IsRight (Add w) world = KnowsClasses world × IsAbove w.number world.workunits
 IsRight (Replace was w) world = KnowsClasses world × (numbered w.number world ≡ Some was)
@@ -64,7 +64,7 @@ abbrev pub AreRight : List Change → World → Type 0
 AreRight [] world = ⊤
 AreRight (change ∷ more) world = IsRight change world × AreRight more (made change world)
 
--- one change, which keeps these grants at places in a row from this one on, with their sums
+-- The one change that keeps these grants at consecutive places from this one on, with their sums.
 pub record KeepsFrom (place : ℕ) (grants : List Grant) (changes : List Change) : Type 0 where
   pub kept : Vec Grant Global
   pub sums : Vec HostSum Global
@@ -72,15 +72,15 @@ pub record KeepsFrom (place : ℕ) (grants : List Grant) (changes : List Change)
   pub summed : AreSums sums.items grants
   pub one : changes ≡ Grants place kept sums ∷ []
 
--- no change where there are no grants, else that one, from the place behind these on
+-- Without grants there is no change; otherwise this is the one that keeps them at the places after these.
 abbrev pub KeepsGrants : List Grant → List Grant → List Change → Type 0
 KeepsGrants before [] changes = changes ≡ []
 KeepsGrants before (g ∷ grants) changes = (place : ℕ) × IsNextPlace place before × KeepsFrom place (g ∷ grants) changes
 
--- these archived rows at places in a row
+-- The changes that keep these archived rows at consecutive places.
 abbrev pub archived_from : ℕ → List Archived → List Change
 archived_from place rows = map (λ (p : ℕ × Archived). Archive p.0 p.1) (enumerate_from place rows)
 
--- whatever world the tables stood for, they stand for it with the changes
+-- Whatever world the tables represented, they represent what the changes make of it.
 abbrev pub MakesWorlds : List Change → Database → Database → Type 0
 MakesWorlds changes old new = (world : World) → StandsFor old world → AreRight changes world → StandsFor new (made_all changes world)

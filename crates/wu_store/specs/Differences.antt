@@ -1,34 +1,34 @@
--- What two workunits or two instances have in common.
+-- What two workunits, or two instances, have in common.
 use Rattle.std.specs.Prelude.{◌≡◌}
 use Rattle.wu_core.specs.declared.workunit.Instance.{Instance}
 use Rattle.wu_core.specs.declared.workunit.Workunit.{Workunit}
 
--- the job, which no pass changes but for its target and its input
+-- The two have the same job, which no pass changes except for its target and its input.
 pub record HasSameJob (a b : Workunit) : Type 0 where
   pub number : a.number ≡ b.number
   pub name : a.name ≡ b.name
   pub params : a.params ≡ b.params
   pub input : a.input ≡ b.input
 
--- what was decided on it
+-- The same was decided on the two.
 pub record HasSameDecision (a b : Workunit) : Type 0 where
   pub error_mask : a.error_mask ≡ b.error_mask
   pub canonical : a.canonical ≡ b.canonical
   pub assimilate : a.assimilate ≡ b.assimilate
 
--- how far it is otherwise
+-- The two are otherwise equally far.
 pub record HasSameProgress (a b : Workunit) : Type 0 where
   pub file_delete : a.file_delete ≡ b.file_delete
   pub done_at : a.done_at ≡ b.done_at
 
--- the states of an instance
+-- The two instances have the same states.
 pub record HasSameStates (a b : Instance) : Type 0 where
   pub server_state : a.server_state ≡ b.server_state
   pub outcome : a.outcome ≡ b.outcome
   pub validate_state : a.validate_state ≡ b.validate_state
   pub file_delete : a.file_delete ≡ b.file_delete
 
--- what is known of it
+-- The same is known of the two instances.
 pub record HasSameReport (a b : Instance) : Type 0 where
   pub host : a.host ≡ b.host
   pub sent_at : a.sent_at ≡ b.sent_at

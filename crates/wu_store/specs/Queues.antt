@@ -1,4 +1,4 @@
--- What each statement makes of the queue, and what is asked of it.
+-- What each statement makes of the queue, and what is asked about it.
 use Rattle.std.specs.Prelude.{codes, ◌≡◌, ◌≢◌, ℕ, ◌==◌, nat_le, Bool, false, not, List, [], ◌∷◌, filter, map, take, None, Result, Vec, IfErr, if◌then◌else◌}
 use Rattle.std.specs.Option.{option_map_or}
 use Rattle.std.specs.Ordering.{nat_cmp, match_ordering}
@@ -18,48 +18,48 @@ use Rattle.wu_schema.specs.Queue.{HasQueue}
 use Rattle.wu_schema.specs.Refines.{Refines}
 use Rattle.wu_schema.specs.Stored.{number}
 
--- something at its place in order of a number, and in place of what has its number
+-- The list with this at its place in order of number; it replaces what has its number.
 abbrev pub at_place : {X : Type 0} → (X → ℕ) → X → List X → List X
 at_place key x [] = x ∷ []
 at_place key x (y ∷ ys) = match_ordering (nat_cmp (key y) (key x)) (y ∷ at_place key x ys) (x ∷ ys) (x ∷ y ∷ ys)
 
--- with the marks of the workunit of this number, at its place
+-- The queue with the marks of the workunit of this number, at their place.
 abbrev pub with_marks : ℕ → Marks → List (ℕ × Marks) → List (ℕ × Marks)
 with_marks number marks marked = at_place (λ (p : ℕ × Marks). p.0) (number, marks) marked
 
--- without those of the workunit of this number
+-- The queue without the marks of the workunit of this number.
 abbrev pub without_marks : ℕ → List (ℕ × Marks) → List (ℕ × Marks)
 without_marks number marked = filter (λ (p : ℕ × Marks). not (p.0 == number)) marked
 
--- with these marks in place of those of the workunit of this number
+-- The queue with these marks in place of those of the workunit of this number.
 abbrev pub with_set_marks : ℕ → Marks → List (ℕ × Marks) → List (ℕ × Marks)
 with_set_marks number marks marked = map (λ (p : ℕ × Marks). if p.0 == number then (number, marks) else p) marked
 
--- a queue beside a world has these rows then
+-- A queue beside a world then has the rows that this makes of its rows.
 abbrev pub ChangesQueue : (List (ℕ × Marks) → List (ℕ × Marks)) → Database → Database → Type 0
 ChangesQueue change old new = (world : World) (marked : List (ℕ × Marks)) → Refines old world → HasQueue old marked → HasQueue new (change marked)
 
--- it has the same rows then
+-- A queue beside a world keeps its rows.
 abbrev pub KeepsQueue : Database → Database → Type 0
 KeepsQueue old new = ChangesQueue (λ marked. marked) old new
 
--- a world beside a queue is the same then
+-- A world beside a queue stays the same.
 abbrev pub KeepsWorld : Database → Database → Type 0
 KeepsWorld old new = (world : World) (marked : List (ℕ × Marks)) → Refines old world → HasQueue old marked → Refines new world
 
--- the rows of the numbers of the workunits whose marks pass, in order, as far as the limit goes
+-- The rows of the numbers of the workunits whose marks pass, in order, up to the limit.
 abbrev pub first_marked : ℕ → (Marks → Bool) → List (ℕ × Marks) → List Row
 first_marked limit passes marked = take limit (map (λ (p : ℕ × Marks). number p.0 ∷ []) (filter (λ (p : ℕ × Marks). passes p.1) marked))
 
--- the transitioner has something to do at this moment
+-- Whether the transitioner has something to do at this moment.
 abbrev pub wakes_by : ℕ → Marks → Bool
 wakes_by now marks = option_map_or (λ moment. nat_le moment now) marks.wake false
 
--- it waits for its purge since this moment, or longer
+-- Whether a workunit waits for its purge since this moment, or longer.
 abbrev pub waits_since : ℕ → Marks → Bool
 waits_since moment marks = option_map_or (λ since. nat_le since moment) marks.purge_from false
 
--- the mark of a workunit for this pass is set, or has come by this moment
+-- Whether a workunit is marked for this pass, by this moment if the mark is one.
 abbrev pub is_marked : Pass → ℕ → Marks → Bool
 is_marked Transition by marks = wakes_by by marks
 is_marked Validate by marks = marks.to_validate
@@ -67,7 +67,7 @@ is_marked Assimilate by marks = marks.to_assimilate
 is_marked Delete by marks = marks.to_delete
 is_marked Purge by marks = waits_since by marks
 
--- the question for such workunits
+-- The question for the workunits that are marked for this pass.
 abbrev pub marked_text : Pass → List ℕ
 marked_text Transition = codes "SELECT workunit FROM queue WHERE wake >= ?1 AND wake <= ?2 ORDER BY workunit LIMIT ?3"
 marked_text Validate = codes "SELECT workunit FROM queue WHERE to_validate = ?1 ORDER BY workunit LIMIT ?2"
@@ -75,10 +75,10 @@ marked_text Assimilate = codes "SELECT workunit FROM queue WHERE to_assimilate =
 marked_text Delete = codes "SELECT workunit FROM queue WHERE to_delete = ?1 ORDER BY workunit LIMIT ?2"
 marked_text Purge = codes "SELECT workunit FROM queue WHERE purge_from >= ?1 AND purge_from <= ?2 ORDER BY workunit LIMIT ?3"
 
--- the answer is what a queue that is there has
+-- The answer is what a queue that is there has.
 abbrev pub AnswersQueue : {S A : Type 0} → Ghosts S → Held S → Held S → Result (Vec Row A) Fault → (List (ℕ × Marks) → List Row) → Type 0
 AnswersQueue g old new result answer = OnAnswer g old new result (λ db rows. (marked : List (ℕ × Marks)) → HasQueue db marked → rows.items ≡ answer marked)
 
--- where the queue is there and steps have no limit, the question is not refused
+-- If the queue is there and steps have no limit, the question is not refused.
 abbrev pub NotRefusedQueue : {S T : Type 0} → Ghosts S → Held S → Held S → Result T Fault → Type 0
 NotRefusedQueue g old new result = HasCleanDisk (state g new) → (marked : List (ℕ × Marks)) → HasQueue (state g old).now marked → old.step_limit ≡ None → IfErr result (λ fault. fault ≢ NotAProject)

@@ -1,23 +1,23 @@
--- What grants come to for each host.
+-- What grants add up to for each host.
 use Rattle.std.specs.Prelude.{◌≡◌, ◌<◌, ℕ, Bool, List, filter, sum_by, bytes_eq}
 use Rattle.wu_core.specs.declared.workunit.Grant.{Grant}
 use Rattle.std.specs.List.{AllByRecursion}
 use Rattle.wu_core.specs.Hosts.{credit_of, grants_of}
 use Rattle.wu_store.specs.declared.changes.HostSum.{HostSum}
 
--- whether a sum is added to this host
+-- Whether the sum is for this host.
 abbrev pub is_for : List ℕ → HostSum → Bool
 is_for host sum = bytes_eq sum.name host
 
--- the credit that these sums bring a host
+-- The credit that these sums add to a host.
 abbrev pub total_of : List HostSum → List ℕ → ℕ
 total_of sums host = sum_by (λ (sum : HostSum). sum.total) (filter (is_for host) sums)
 
--- and how many grants
+-- The number of grants that these sums add to a host.
 abbrev pub count_of : List HostSum → List ℕ → ℕ
 count_of sums host = sum_by (λ (sum : HostSum). sum.grants) (filter (is_for host) sums)
 
--- to each host they bring what the grants bring, in one sum or in several, each of one grant at least
+-- The sums add to each host what the grants do, in one sum or more, each of at least one grant.
 pub record AreSums (sums : List HostSum) (grants : List Grant) : Type 0 where
   pub total : (host : List ℕ) → total_of sums host ≡ credit_of grants host
   pub count : (host : List ℕ) → count_of sums host ≡ grants_of grants host

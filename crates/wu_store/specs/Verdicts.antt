@@ -1,4 +1,4 @@
--- The verdicts that digits stand for.
+-- The verdicts that digits mean.
 use Rattle.std.specs.Prelude.{ℕ, ◌-◌, List, map}
 
 abbrev pub verdicts_of : List ℕ → List ℕ

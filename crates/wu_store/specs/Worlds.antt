@@ -1,9 +1,9 @@
--- When two worlds are one.
+-- When two worlds are the same.
 use Rattle.std.specs.Prelude.{◌≡◌}
 use Rattle.std.specs.List.Sorted.{IsPermutation}
 use Rattle.wu_core.specs.World.{World}
 
--- the worlds are one, but for the order of their imports
+-- The two worlds are the same, except for the order of their imports.
 pub record SameWorld (a b : World) : Type 0 where
   pub workunits : a.workunits ≡ b.workunits
   pub grants : a.grants ≡ b.grants

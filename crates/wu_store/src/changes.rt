@@ -29,7 +29,7 @@ pub struct Import<'a> {
     pub name: &'a Name,
     pub template: &'a [u8],
     pub content: &'a [u8],
-    /// The first number of a batch; 0 where no workunit was made.
+    /// The first number of a batch; 0 if no workunit was made.
     pub first_number: u64,
     pub verdicts: Verdicts,
 }
@@ -44,16 +44,16 @@ pub struct HostSum {
     pub grants: u64,
 }
 
-/// One change of a project's tables. It is right for a world if its premises hold there: a new number is above all; a
-/// replaced workunit is the present one; places are the next ones; sums are those of the grants; an import may be kept;
-/// an upgrade has the version and the marks of a world without classes. `Add`, `Replace` and `Class` need a world with
-/// classes.
+/// One change of a project's tables. It is right for a world if its premises hold there. A new number is above all, and
+/// a replaced workunit is the present one. Places are the next ones, and sums are those of the grants. An import may be
+/// kept. An upgrade has the version and the marks of a world without classes. `Add`, `Replace` and `Class` need a world
+/// with classes.
 pub enum Change<'a> {
     /// A workunit of a new number is added, with its instances.
     Add(Workunit),
     /// The second workunit, with its instances, takes the place of the first, which is the present one of its number.
     Replace(Workunit, Workunit),
-    /// The workunit of this number goes, with its instances.
+    /// The workunit of this number is removed, with its instances.
     Remove(u64),
     /// Grants are kept at consecutive places from this one on, and these sums, which are theirs, are added to their
     /// hosts'.
@@ -66,8 +66,9 @@ pub enum Change<'a> {
     Keep(Import<'a>),
     /// The class of a host is set.
     Class(Name, u32),
-    /// A project of this older version gets what the present one has more: the queue with these marks, each of the
-    /// workunit of this number, if it has none; and the tables of classes, with class 0 for each of these workunits.
+    /// A project of this older version is upgraded to the present one. If it has no queue, it gets one with these
+    /// marks, each of the workunit of this number. It gets the tables of classes, with class 0 for each of these
+    /// workunits.
     Upgrade(u64, Vec<(u64, Marks)>),
 }
 
@@ -93,7 +94,7 @@ impl Drop for Change<'_> {
 /// Adds the rows of a workunit's instances, numbered from 0. The workunit's own row is there without them.
 fn insert_instances<S: Alter>(tx: &mut Transaction<'_, S>, workunit: &Workunit) -> Result<(), Error>
     ensures works { TransactionFrame S.Store tx.old tx.new result }
-    // After `Ok`, where the tables represented the world with the workunit without instances, they
+    // After `Ok`, if the tables represented the world with the workunit without instances, they
     // represent it with the whole workunit.
     ensures adds { Does S.Store tx.old tx.new result (AddsInstances workunit.now) }
     // After `Ok`, a queue beside such a world stays.
@@ -132,17 +133,17 @@ fn replace_whole<S: Alter>(tx: &mut Transaction<'_, S>, workunit: &Workunit) -> 
     add(tx, workunit)
 }
 
-/// Sets the row of a workunit, unless it is as it was.
+/// Sets the row of a workunit, unless it is unchanged.
 fn put_row<S: Alter>(
     tx: &mut Transaction<'_, S>,
     was: &Workunit,
     workunit: &Workunit,
 ) -> Result<(), Error>
     ensures works { TransactionFrame S.Store tx.old tx.new result }
-    // After `Ok`, where the first workunit is the present one of its number, its row is the
-    // second's; instances, class and queue stay.
+    // After `Ok`, if `was` is the present workunit of its number, its row is that of `workunit`.
+    // Its instances, its class and a queue stay.
     ensures puts { Does S.Store tx.old tx.new result (PutsRow was.now workunit.now) }
-    // Where the row is as it was, nothing is written and the call succeeds.
+    // If the row is unchanged, nothing is written and the call succeeds.
     ensures idle { bare was.now ≡ bare workunit.now → DoesNothing tx.old tx.new result }
 {
     if is_same_row(was, workunit) {
@@ -151,17 +152,17 @@ fn put_row<S: Alter>(
     set_workunit(tx, workunit)
 }
 
-/// Sets the class of a workunit, unless it is as it was.
+/// Sets the class of a workunit, unless it is unchanged.
 fn put_class<S: Alter>(
     tx: &mut Transaction<'_, S>,
     was: &Workunit,
     workunit: &Workunit,
 ) -> Result<(), Error>
     ensures works { TransactionFrame S.Store tx.old tx.new result }
-    // After `Ok`, where the row is already the second workunit's, its class is too, in a world with
-    // classes; a queue stays.
+    // After `Ok`, in a world with classes where the row is already that of `workunit`, the class is
+    // too. A queue stays.
     ensures puts { Does S.Store tx.old tx.new result (PutsClassOf was.now workunit.now) }
-    // Where the class is as it was, nothing is written and the call succeeds.
+    // If the class is unchanged, nothing is written and the call succeeds.
     ensures idle { was.now.class ≡ workunit.now.class → DoesNothing tx.old tx.new result }
 {
     if was.class == workunit.class {
@@ -170,7 +171,7 @@ fn put_class<S: Alter>(
     set_class(tx, workunit.number, workunit.class)
 }
 
-/// Sets the instance of this number, unless it is as it was. Adds it if there was none.
+/// Sets the instance of this number, unless it is unchanged. Adds it if there was none.
 fn put_instance<S: Alter>(
     tx: &mut Transaction<'_, S>,
     workunit: u64,
@@ -179,11 +180,11 @@ fn put_instance<S: Alter>(
     instance: &Instance,
 ) -> Result<(), Error>
     ensures works { TransactionFrame S.Store tx.old tx.new result }
-    // After `Ok`, where this instance, or none and it is the next, was at the place, the new one
-    // is; a queue stays.
+    // After `Ok`, if the instance at the place was `was`, or the place is the next and had none, it
+    // is the new one. A queue stays.
     ensures puts { Does S.Store tx.old tx.new result
         (PutsInstance workunit n (option_map (λ i. i.now) was.entry) instance.now) }
-    // Where the instance is as it was, nothing is written and the call succeeds.
+    // If the instance is unchanged, nothing is written and the call succeeds.
     ensures idle { option_map (λ i. i.now) was.entry ≡ Some instance.now
         → DoesNothing tx.old tx.new result }
 {
@@ -206,10 +207,10 @@ fn put_instances<S: Alter>(
     workunit: &Workunit,
 ) -> Result<(), Error>
     ensures works { TransactionFrame S.Store tx.old tx.new result }
-    // After `Ok`, where the workunit had the first instances, and no more than its own, it has its
-    // own; a queue stays.
+    // After `Ok`, if the workunit had the instances `was`, which are no more than those of
+    // `workunit`, it has those of `workunit`. A queue stays.
     ensures puts { Does S.Store tx.old tx.new result (PutsInstances workunit.now was.now) }
-    // Where the instances are as they were, nothing is written and the call succeeds.
+    // If the instances are unchanged, nothing is written and the call succeeds.
     ensures idle { was.now ≡ workunit.now.instances → DoesNothing tx.old tx.new result }
 {
     let instances = workunit.instances.as_slice();
@@ -221,17 +222,17 @@ fn put_instances<S: Alter>(
     Ok(())
 }
 
-/// Sets the marks of a workunit, unless they are as they were.
+/// Sets the marks of a workunit, unless they are unchanged.
 fn put_marks<S: Alter>(
     tx: &mut Transaction<'_, S>,
     was: &Workunit,
     workunit: &Workunit,
 ) -> Result<(), Error>
     ensures works { TransactionFrame S.Store tx.old tx.new result }
-    // After `Ok`, where the queue had the first workunit's marks, it has the second's; the world
-    // stays.
+    // After `Ok`, if the queue had the marks of `was`, it has those of `workunit` in their place.
+    // The world stays.
     ensures puts { Does S.Store tx.old tx.new result (PutsMarks was.now workunit.now) }
-    // Where the marks are as they were, nothing is written and the call succeeds.
+    // If the marks are unchanged, nothing is written and the call succeeds.
     ensures idle { marks was.now ≡ marks workunit.now → DoesNothing tx.old tx.new result }
 {
     let marks = marks_of(workunit);
@@ -249,10 +250,10 @@ fn replace<S: Alter>(
     workunit: &Workunit,
 ) -> Result<(), Error>
     ensures works { TransactionFrame S.Store tx.old tx.new result }
-    // After `Ok`, a represented world with classes and the first workunit has the second in its
+    // After `Ok`, a represented world with classes and the workunit `was` has `workunit` in its
     // place, with class, instances and marks.
     ensures replaces { Does S.Store tx.old tx.new result (Replaces was.now workunit.now) }
-    // Where the workunit is as it was, nothing is written and the call succeeds.
+    // If the workunit is unchanged, nothing is written and the call succeeds.
     ensures idle { was.now ≡ workunit.now → DoesNothing tx.old tx.new result }
 {
     if workunit.instances.len() < was.instances.len() {
@@ -319,8 +320,8 @@ fn insert_grants<S: Alter>(
     grants: &[Grant],
 ) -> Result<(), Error>
     ensures works { TransactionFrame S.Store tx.old tx.new result }
-    // After `Ok`, where the place is the next one, the table of grants has these after the others;
-    // every other table stays.
+    // After `Ok`, if the place is the next one, the table of grants has these after the others.
+    // Every other table stays.
     ensures puts { Does S.Store tx.old tx.new result (PutsGrants place grants.now) }
 {
     let mut seq = place;
@@ -334,8 +335,8 @@ fn insert_grants<S: Alter>(
 /// Adds each of these sums to those of its host.
 fn add_sums<S: Alter>(tx: &mut Transaction<'_, S>, sums: &[HostSum]) -> Result<(), Error>
     ensures works { TransactionFrame S.Store tx.old tx.new result }
-    // After `Ok`, rows of hosts that represented grants represent them with any more of these sums;
-    // tables that no action leads to stay.
+    // After `Ok`, if the rows of hosts had the sums of some grants, they have those of these grants
+    // and any more with these sums. Tables that no foreign key ties to hosts stay.
     ensures credits { Does S.Store tx.old tx.new result (Credits sums.now) }
 {
     for sum in sums {
@@ -353,8 +354,8 @@ fn add_grants<S: Alter>(
     sums: &[HostSum],
 ) -> Result<(), Error>
     ensures works { TransactionFrame S.Store tx.old tx.new result }
-    // After `Ok`, where the place is the next one and the sums are theirs, each represented world
-    // has these grants, and hosts their sums.
+    // After `Ok`, if the place is the next one and the sums are theirs, each represented world has
+    // these grants, and hosts their sums.
     ensures adds { Does S.Store tx.old tx.new result (AddsGrants place grants.now sums.now) }
     // After `Ok` a queue beside a represented world has the same rows.
     ensures queue { Does S.Store tx.old tx.new result KeepsQueue }

@@ -1,4 +1,4 @@
-//! The statements of classes, and the questions for them, each text in one function.
+//! The statements of classes, and the queries for them, each text in one function.
 
 ghost use Rattle.std.specs.Prelude.{◌≡◌, ◌<◌, ◌^◌, IfErr};
 ghost use Rattle.wu_schema.specs.Calls.{Does, StatementFrame, TransactionFrame};
@@ -79,8 +79,8 @@ pub fn set_class<S: Alter>(
     // Commits nothing, so a crash leaves what it left before; after `Ok` the transaction is still
     // open.
     ensures writes { StatementFrame S.Store tx.old tx.new result }
-    // After `Ok`, in a represented world with classes the workunit of this number has this class;
-    // all else and a queue stay.
+    // After `Ok`, in a represented world with classes the workunit of this number has this class.
+    // All else and a queue stay.
     ensures sets { Does S.Store tx.old tx.new result
         (ChangesClasses (with_set_class workunit class)) }
 {
@@ -120,7 +120,7 @@ pub fn put_host_class<S: Alter>(
 
 /// Returns the class of the workunit of this number, or `None` if it is not there.
 ///
-/// Returns `NotAProject` if its row is no class, or if the number is not below 2^63.
+/// Returns `NotAProject` if its row is invalid, or if the number is not below 2^63.
 pub fn class_of_workunit<S: Alter>(
     conn: &mut Connection<S>,
     number: u64,
@@ -153,7 +153,7 @@ pub fn class_of_workunit<S: Alter>(
     }
 }
 
-/// Returns the class of the host of this name: 0 if no file named it. Returns `NotAProject` if its row is no class.
+/// Returns the class of the host of this name: 0 if no file named it. Returns `NotAProject` if its row is invalid.
 pub fn class_of<S: Alter>(conn: &mut Connection<S>, host: &Name) -> Result<u32, Fault>
     // Begins no transaction and commits nothing; except after `Memory` and `Broken` all is as
     // before; `Broken` means a failed disk or a closed connection.
@@ -162,8 +162,8 @@ pub fn class_of<S: Alter>(conn: &mut Connection<S>, host: &Name) -> Result<u32, 
     ensures opens { ServesUnlessFailed S.Store conn.new result }
     // A fault is `Memory`, `Broken` or `NotAProject`.
     ensures fault { IfErr result IsStoreFault }
-    // It is the class that the host has in each represented world with classes, 0 where no file
-    // named it.
+    // It is the class that the host has in each represented world with classes, 0 if no file named
+    // it.
     ensures found { AnswersClass S.Store conn.old conn.new result (class_named host.now) }
     // Over a represented world with classes, that class in range, with no limit on steps,
     // `NotAProject` is not returned.

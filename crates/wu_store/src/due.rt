@@ -49,13 +49,14 @@ pub(crate) fn first<S: Alter>(
 /// Returns the workunit of the least number above this one, with its instances, or `None` if there is none, in a
 /// project without classes.
 ///
-/// Returns `NotAProject` if a row is no value, or if its number is not above this one.
+/// Returns `NotAProject` if a row is invalid, or if its number is not above this one.
 pub(crate) fn next_after<S: Alter>(
     conn: &mut Connection<S>,
     alloc: Global,
     number: u64,
 ) -> Result<Option<Workunit>, Fault>
-    // Fewer 64-bit numbers are left from that of the answer on than from this one on.
+    // There are fewer 64-bit numbers from that of the answer on than from this one on, so a loop
+    // over answers ends.
     ensures shrinks { IfOk result (λ next. numbers_left next < 2 ^ 64 - number) }
     // Begins no transaction and commits nothing; except after `Memory` and `Broken` all is as
     // before; `Broken` means a failed disk or a closed connection.
@@ -254,7 +255,7 @@ fn load_all<S: Alter>(
 
 /// Returns the workunits that the pass changes, in order of number: the first ones, up to the limit.
 ///
-/// Finds their numbers in the queue, and loads those workunits alone. Returns `NotAProject` if a row is no value, a
+/// Finds their numbers in the queue, and loads those workunits alone. Returns `NotAProject` if a row is invalid, a
 /// workunit is not well formed, or the limit is not below 2^63.
 pub fn load_due<S: Alter>(
     conn: &mut Connection<S>,

@@ -46,15 +46,15 @@ pub fn deleting_and_adding_is_replacing()
 
 /// Taking the first workunit above the last one, again and again, goes through all above a number, in order.
 pub fn the_first_above_the_last_is_the_next()
-    // Where a first workunit is above a number, all above the number are this one and then all
+    // If a workunit is the first above a number, all above the number are this one and then all
     // above its number.
     ensures more { (db : Database) (world : World) (number : ℕ) (w : Workunit) → Refines db world
         → first_above number world ≡ Some w
         → all_above number world ≡ w ∷ all_above w.number world }
-    // Where no first workunit is above a number, none is.
+    // If no workunit is the first above a number, none is above it.
     ensures none { (db : Database) (world : World) (number : ℕ) → Refines db world
         → first_above number world ≡ None → all_above number world ≡ [] }
-    // Where each workunit of a world is above a number, all above the number are all workunits.
+    // If each workunit of a world is above a number, all above the number are all workunits.
     ensures all { (world : World) (number : ℕ)
         → All (λ (w : Workunit). number < w.number) world.workunits
         → all_above number world ≡ world.workunits }

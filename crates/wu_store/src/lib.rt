@@ -1,6 +1,6 @@
-//! A project's tables as a world: questions and statements, what they find, and lists of changes.
+//! A project's tables as a world: queries and statements, what they find, and lists of changes.
 //!
-//! A world is *represented* by tables that are in their forms and hold exactly its values. A workunit is *readable* if
+//! A world is *represented* by tables of the schema that hold exactly its values. A workunit is *readable* if
 //! its number is below 2^63, its values are in their ranges, and it is well formed with its instances. The comments
 //! over clauses on a database leave out a premise that all of these clauses have: the disk is clean. It returns what
 //! was written, and nobody else writes the file.

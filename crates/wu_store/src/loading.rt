@@ -1,5 +1,5 @@
-//! What is loaded of a project, each by a question of its own: a workunit with its instances, an import, the next
-//! number, and the next places.
+//! What is loaded of a project, each by a query of its own: a workunit with its instances, an import, the next number,
+//! and the next places.
 
 ghost use Rattle.std.specs.Prelude.{◌<◌, ◌≤◌, ◌^◌, ◌↔◌, ⊤, map, IfErr, IfOk, IsTrue};
 ghost use Rattle.wu_store.specs.Loading.{Asks, FindsAbove, FindsClassless, FindsEarlier, FindsEarly, FindsIfThere, FindsInstances, FindsNamed, FindsNumbered, LoadsInstances, LoadsImport, IsLoadableIfThere, IsPlaceToGive, IsStoreFault, IsWholeIfThere, KnowsArchivedPlace, KnowsGrantPlace, KnowsNext, LoadsAbove, LoadsEarly, LoadsFormed, LoadsNamed, LoadsNumbered, NotRefusedIn, ForEachWorld, ServesUnlessFailed};
@@ -136,7 +136,7 @@ fn numbered_row<S: Alter>(conn: &mut Connection<S>, number: u64) -> Result<Optio
 
 /// Returns the workunit of this number, with its class and its instances, or `None` if there is none.
 ///
-/// Returns `NotAProject` if a row is no value, the workunit is not well formed, or the number is not below 2^63.
+/// Returns `NotAProject` if a row is invalid, the workunit is not well formed, or the number is not below 2^63.
 pub fn load<S: Alter>(
     conn: &mut Connection<S>,
     alloc: Global,
@@ -165,7 +165,7 @@ pub fn load<S: Alter>(
 
 /// Returns the workunit of this number, with its instances, or `None` if there is none, in a project without classes.
 ///
-/// Returns `NotAProject` if a row is no value, the workunit is not well formed, or the number is not below 2^63.
+/// Returns `NotAProject` if a row is invalid, the workunit is not well formed, or the number is not below 2^63.
 pub fn load_early<S: Alter>(
     conn: &mut Connection<S>,
     alloc: Global,
@@ -195,7 +195,7 @@ pub fn load_early<S: Alter>(
 /// Returns the workunit of the least number above this one, with its instances, or `None` if there is none, in a
 /// project without classes.
 ///
-/// Returns `NotAProject` if a row is no value, the workunit is not well formed, or the number is not below 2^63.
+/// Returns `NotAProject` if a row is invalid, the workunit is not well formed, or the number is not below 2^63.
 pub fn load_above<S: Alter>(
     conn: &mut Connection<S>,
     alloc: Global,
@@ -228,7 +228,7 @@ pub fn load_above<S: Alter>(
 }
 
 /// Returns the workunit of this name, with its class and its instances, or `None` if there is none. Returns
-/// `NotAProject` if a row is no value, or if the workunit is not well formed.
+/// `NotAProject` if a row is invalid, or if the workunit is not well formed.
 pub fn load_named<S: Alter>(
     conn: &mut Connection<S>,
     alloc: Global,
@@ -258,7 +258,7 @@ pub fn load_named<S: Alter>(
     whole(conn, alloc, row)
 }
 
-/// Returns the import of this kind and name, or `None` if there was none. Returns `NotAProject` if its row is no value.
+/// Returns the import of this kind and name, or `None` if there was none. Returns `NotAProject` if its row is invalid.
 pub fn import_of<S: Alter>(
     conn: &mut Connection<S>,
     alloc: Global,

@@ -13,10 +13,10 @@ pub fn set_workunit<S: Alter>(tx: &mut Transaction<'_, S>, workunit: &Workunit) 
     // Commits nothing, so a crash leaves what it left before; after `Ok` the transaction is still
     // open.
     ensures writes { StatementFrame S.Store tx.old tx.new result }
-    // After `Ok`, where a workunit of a represented world has this number, its row is this one; its
+    // After `Ok`, if a workunit of a represented world has this number, its row is this one; its
     // instances and class stay.
     ensures sets { Does S.Store tx.old tx.new result (SetsRow workunit.now) }
-    // After `Ok`, where a workunit of a represented world has this number, a queue beside it stays.
+    // After `Ok`, if a workunit of a represented world has this number, a queue beside it stays.
     ensures queue { Does S.Store tx.old tx.new result (LeavesMarks workunit.now.number) }
 {
     run_workunit(
@@ -36,10 +36,10 @@ pub fn set_instance<S: Alter>(
     // Commits nothing, so a crash leaves what it left before; after `Ok` the transaction is still
     // open.
     ensures writes { StatementFrame S.Store tx.old tx.new result }
-    // After `Ok`, where a workunit of a represented world has this instance's number, the instance
-    // is in its place, and all else stays.
+    // After `Ok`, if a workunit of a represented world has this instance's number, the instance is
+    // in its place, and all else stays.
     ensures sets { Does S.Store tx.old tx.new result (SetsInstance workunit n instance.now) }
-    // After `Ok`, where a workunit of a represented world has an instance of this number, a queue
+    // After `Ok`, if a workunit of a represented world has an instance of this number, a queue
     // beside it stays.
     ensures queue { Does S.Store tx.old tx.new result (InstanceLeavesMarks workunit n) }
 {

@@ -1,4 +1,4 @@
-//! The statements that change a project, and the questions of the passes, each text in one function.
+//! The statements that change a project, and the queries of the passes, each text in one function.
 
 ghost use Rattle.std.specs.Prelude.{ℕ, ◌≡◌, ◌<◌, ◌≤◌, ◌^◌, ⊤, [], ◌∷◌, None, Some, pos, option_map, IfOk, IfErr, OnOk};
 ghost use Rattle.sqlite.specs.Values.{bound};
@@ -95,7 +95,7 @@ fn host_of(host: &Option<Name>) -> Option<&str>
     }
 }
 
-/// Returns the last row of the answer to a question, or `None` if it has no row.
+/// Returns the last row of the answer to a query, or `None` if it has no row.
 pub fn ask_row<S: Alter>(
     conn: &mut Connection<S>,
     sql: &str,
@@ -106,10 +106,10 @@ pub fn ask_row<S: Alter>(
     ensures asks { IsSelect sql.now → Asks S.Store conn.old conn.new result }
     // After a SELECT the connection is open, except after `Memory` and `Broken`.
     ensures opens { IsSelect sql.now → ServesUnlessFailed S.Store conn.new result }
-    // After `Ok` it is the last row of the store's answer to the question, or `None` if there is no
+    // After `Ok` it is the last row of the store's answer to the query, or `None` if there is no
     // row.
     ensures shows { ShowsLast S.Store conn.old conn.new result sql.now (bound params.now) }
-    // A fault is that of an error with which the store refuses the question.
+    // A fault is that of an error with which the store refuses the query.
     ensures fails { FailsAll S.Store conn.old conn.new result sql.now (bound params.now) }
     // A fault is `Memory`, `Broken` or `NotAProject`.
     ensures told { IfErr result IsStoreFault }
@@ -164,8 +164,8 @@ pub fn has_archived<S: Alter>(conn: &mut Connection<S>, name: &Name) -> Result<b
     Ok(!rows.is_empty())
 }
 
-/// Returns the question by which a pass finds the numbers of workunits in the queue: those whose mark for it is set or
-/// has come, in order, up to a limit.
+/// Returns the query for the numbers of the workunits that a pass selects in the queue: those whose mark is set or has
+/// come, in order, up to a limit.
 fn marked_text(pass: Pass) -> &'static str
     ensures { result.now ≡ marked_text pass }
 {
@@ -335,7 +335,7 @@ pub fn insert_instance<S: Alter>(
     // Commits nothing, so a crash leaves what it left before; after `Ok` the transaction is still
     // open.
     ensures writes { StatementFrame S.Store tx.old tx.new result }
-    // After `Ok`, where the number is the next one of its workunit, each represented world has the
+    // After `Ok`, if the number is the next one of its workunit, each represented world has the
     // instance after the others.
     ensures puts { Does S.Store tx.old tx.new result (AddsInstance workunit n instance.now) }
     // After `Ok` a queue beside a represented world has the same rows.
@@ -382,8 +382,8 @@ pub fn insert_grant<S: Alter>(
     ensures writes { StatementFrame S.Store tx.old tx.new result }
     // `Ok` means that the place is below 2^63.
     ensures within { OnOk result (seq < 2 ^ 63) }
-    // After `Ok`, where the place is the next one, the table of grants has this one after the
-    // others, and every other table stays.
+    // After `Ok`, if the place is the next one, the table of grants has this one after the others,
+    // and every other table stays.
     ensures puts { Does S.Store tx.old tx.new result (PutsGrants seq (grant.now ∷ [])) }
 {
     let seq = signed(seq)?;
@@ -401,8 +401,8 @@ pub fn add_sum<S: Alter>(tx: &mut Transaction<'_, S>, sum: &HostSum) -> Result<(
     // Commits nothing, so a crash leaves what it left before; after `Ok` the transaction is still
     // open.
     ensures writes { StatementFrame S.Store tx.old tx.new result }
-    // After `Ok`, rows of hosts that represented grants represent them with any more of this sum;
-    // tables that no action leads to stay.
+    // After `Ok`, if the rows of hosts had the sums of some grants, they have those of these grants
+    // and any more with this sum. Tables that no foreign key ties to hosts stay.
     ensures credits { Does S.Store tx.old tx.new result (Credits (sum.now ∷ [])) }
 {
     let total = signed(sum.total)?;
@@ -423,8 +423,8 @@ pub fn insert_archived<S: Alter>(
     // Commits nothing, so a crash leaves what it left before; after `Ok` the transaction is still
     // open.
     ensures writes { StatementFrame S.Store tx.old tx.new result }
-    // After `Ok`, where the place is the next one, each represented world has the row after its
-    // other archived rows.
+    // After `Ok`, if the place is the next one, each represented world has the row after its other
+    // archived rows.
     ensures puts { Does S.Store tx.old tx.new result (AddsArchived seq archived.now) }
     // After `Ok` a queue beside a represented world has the same rows.
     ensures queue { Does S.Store tx.old tx.new result KeepsQueue }

@@ -8,7 +8,7 @@ use std::alloc::Global;
 use std::marker::Model;
 use wu_core::Fault;
 
-/// The verdicts of a file's rows, in order: 0 where a row was applied, else the number of its skip, at most 9.
+/// The verdicts of a file's rows, in order: 0 if a row was applied, otherwise the number of its skip, at most 9.
 pub struct Verdicts {
     digits: String,
 }

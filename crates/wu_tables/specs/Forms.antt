@@ -22,46 +22,46 @@ use Rattle.wu_tables.specs.declared.forms.ColumnForm.TheVariants.{May, Needs}
 use Rattle.wu_tables.specs.declared.forms.ReferenceForm.{ReferenceForm}
 use Rattle.wu_tables.specs.declared.forms.TableForm.{TableForm}
 
--- a column of this form
+-- The column of this form.
 abbrev pub column_of : ColumnForm → Column
 column_of (May name kind) = may name.now kind
 column_of (Needs name kind) = needs name.now kind
 
--- a reference of this form: a row goes with the one that it refers to, and waits for no commit
+-- The reference of this form: a row is deleted with the one that it refers to, and is checked at once.
 abbrev pub reference_of : ReferenceForm → Reference
 reference_of form = record { columns = form.places.now; parent = form.parent.now; parent_columns = map (λ name. name.now) form.parent_columns.now; on_delete = action.Cascade; on_update = action.NoAction; is_deferred = false }
 
--- the expression at a place, NULL where there is none
+-- The expression at a place; NULL without one.
 abbrev pub op_at : List Op → ℕ → Op
 op_at ops at = slice_index_or ops at (op.Literal Null)
 
--- the rowid is 1
+-- The rule that the rowid is 1.
 abbrev pub is_one : Term
 is_one = op2 (by.Compare compare.Eq Binary) (col 1 0) (lit (Int (pos 1)))
 
--- a binary expression of this operator and these parts says so
+-- The expression of this operator and these parts says that the rowid is 1.
 pub record SaysOne (ops : List Op) (by_op : BinaryOp) (left right : ℕ) : Type 0 where
   pub op_is : by_op ≡ by.Compare compare.Eq Binary
   pub left_is : op_at ops left ≡ op.Column 1 0
   pub right_is : op_at ops right ≡ op.Literal (Int (pos 1))
 
--- the one rule of a single row, or none
+-- The rule of a table of one row, or no rule.
 abbrev pub checks_of : Bool → List Term
 checks_of is_single = if is_single then is_one ∷ [] else []
 
--- the places of each key
+-- The columns of each key, by their places.
 abbrev pub places_of : List (Bor (List ℕ)) → List (List ℕ)
 places_of keys = map (λ places. places.now) keys
 
--- each key ascends by its bytes
+-- Each key ascends, compared by its bytes.
 abbrev pub orders_of : List (Bor (List ℕ)) → List Order
 orders_of keys = map (λ _. plain) keys
 
--- no default reads the time
+-- No default value reads the time.
 abbrev pub no_stamps : Stamps
 no_stamps = record { places = []; terms = []; formats = [] }
 
--- the table of this form in a tree
+-- The table of this form, in this tree.
 abbrev pub table_of : TableForm → ℕ → Table
 table_of form tree = record (blank form.name.now tree (map column_of form.columns.now)) {
   key = form.key;
@@ -72,14 +72,14 @@ table_of form tree = record (blank form.name.now tree (map column_of form.column
   references = map reference_of form.references.now;
 }
 
--- the table has the keys of the form
+-- The table has the keys of the form.
 pub record HasKeys (table : Table) (form : TableForm) : Type 0 where
   pub key : table.key ≡ form.key
   pub primary : table.primary ≡ form.primary.now
   pub uniques : table.uniques ≡ places_of form.uniques.now
   pub orders : table.orders ≡ orders_of form.uniques.now
 
--- it has the rules of the form, and no others
+-- The table has the rules of the form, and no others.
 pub record HasRules (table : Table) (form : TableForm) : Type 0 where
   pub checks : table.checks ≡ checks_of form.is_single
   pub references : table.references ≡ map reference_of form.references.now

@@ -1,4 +1,4 @@
--- What is found in a schema, or stands against it.
+-- What is found in a schema, or is wrong with it.
 use Rattle.std.specs.Prelude.{◌≡◌, ◌^◌, ℕ, true, false, nat_le, List, [], ◌∷◌, codes, Option, Some, None, IsSome}
 use Rattle.std.specs.List.{AllByRecursion}
 use Rattle.sqlite.specs.Collation.TheVariants.{Binary}
@@ -18,40 +18,40 @@ use Rattle.wu_tables.specs.declared.forms.TableForm.{TableForm}
 use Rattle.wu_tables.specs.declared.project.Misfit.{Misfit}
 use Rattle.wu_tables.specs.declared.project.Misfit.TheVariants.{Missing, Altered, HostNames}
 
--- P of the number that is found, and of no number where none is
+-- The property holds of the number that is found; if none is found, it holds of no number.
 abbrev pub Finds : (ℕ → Type 0) → Option ℕ → Type 0
 Finds P None = (n : ℕ) → P n → ⊥
 Finds P (Some n) = P n
 
--- the name finds a table that is like this in its tree
+-- The name finds this table in its tree.
 abbrev pub IsIn : Schema → List ℕ → (ℕ → Table) → ℕ → Type 0
 IsIn schema name made tree = HasNamed schema name (made tree)
 
--- the table has the form, in a stored tree that no other table has
+-- The table has this form, in a stored tree that no other table has.
 pub record Stands (schema : Schema) (table : Table) (form : TableForm) : Type 0 where
   pub like : table ≡ table_of form table.tree
   pub low : nat_le (2 ^ 31) table.tree ≡ false
   pub owns : OwnsTree schema (table_of form table.tree)
 
--- where the index is a unique one on the names of the hosts in this tree, it compares their bytes
+-- If the index is a unique one on only the names of the hosts in this tree, it compares their bytes.
 abbrev pub IsByBytes : ℕ → Index → Type 0
 IsByBytes tree i = guards i (host_at tree) ≡ true → i.columns ≡ 1 ∷ [] → (first_key i.order).collation ≡ Binary
 
--- each index does so
+-- Each such index compares the bytes of the names.
 abbrev pub AreByBytes : Schema → ℕ → Type 0
 AreByBytes schema tree = (i : Index) → Has schema.indexes i → IsByBytes tree i
 
--- the queue is there with its five indexes
+-- The queue is there with its five indexes.
 pub record HasQueueIn (schema : Schema) (tree : ℕ) : Type 0 where
   pub table : HasNamed schema (codes "queue") (queue_at tree)
   pub indexes : AllByRecursion (IsIndexed schema tree) queue_indexes
 
--- the name finds this table of a project in the tree, where its version has it
+-- If the version has this table of a project, its name finds it in this tree.
 abbrev pub IsThere : ℕ → Schema → ProjectTable → ℕ → Type 0
 IsThere version schema which tree = IsTableOf version which → IsIn schema (name_of which) (table_at which) tree
 
--- no table has the name of one that the version has; or one has it, and is nowhere as the program makes it; or an index
--- does not compare the bytes of the names of hosts
+-- This is wrong with the schema: a table of the version is missing; or its name is there, but nowhere as the program
+-- makes it; or an index does not compare the bytes of the names of hosts.
 abbrev pub StandsAgainst : ℕ → Schema → Misfit → Type 0
 StandsAgainst version schema (Missing which) = IsTableOf version which × (table_named schema (name_of which) ≡ None)
 StandsAgainst version schema (Altered which) =

@@ -1,11 +1,11 @@
--- The tables of a project, the queue aside.
+-- The tables of a project, except the queue.
 use Rattle.std.specs.Prelude.{ℕ, List, codes, ⊤}
 use Rattle.sqlite.specs.Table.{Table}
 use Rattle.wu_schema.specs.Tables.{IsClassedVersion, archived_at, grant_at, host_at, host_class_at, import_at, project_at, result_at, workunit_at, workunit_class_at}
 use Rattle.wu_tables.specs.declared.known.ProjectTable.{ProjectTable}
 use Rattle.wu_tables.specs.declared.known.ProjectTable.TheVariants.{Project, Workunit, Result, Grant, Host, Archived, Import, HostClass, WorkunitClass}
 
--- its name
+-- The name of the table.
 abbrev pub name_of : ProjectTable → List ℕ
 name_of Project = codes "project"
 name_of Workunit = codes "workunit"
@@ -17,7 +17,7 @@ name_of Import = codes "import"
 name_of HostClass = codes "host_class"
 name_of WorkunitClass = codes "workunit_class"
 
--- it in any tree
+-- The table in any tree.
 abbrev pub table_at : ProjectTable → ℕ → Table
 table_at Project = project_at
 table_at Workunit = workunit_at
@@ -29,7 +29,7 @@ table_at Import = import_at
 table_at HostClass = host_class_at
 table_at WorkunitClass = workunit_class_at
 
--- a project of this version has it
+-- A project of this version has the table.
 abbrev pub IsTableOf : ℕ → ProjectTable → Type 0
 IsTableOf version HostClass = IsClassedVersion version
 IsTableOf version WorkunitClass = IsClassedVersion version

@@ -15,11 +15,11 @@ use Rattle.wu_core.specs.declared.states.ServerState.{ServerState}
 use Rattle.wu_core.specs.World.{World}
 use Rattle.wu_schema.specs.Asking.{TellsQuery}
 
--- the instances of all workunits
+-- The instances of all workunits.
 abbrev pub all_instances : World → List Instance
 all_instances world = flat_map (λ (w : Workunit). w.instances) world.workunits
 
--- their states
+-- The states of the instances of all workunits.
 abbrev pub all_states : World → List ServerState
 all_states world = map (λ (i : Instance). i.server_state) (all_instances world)
 
@@ -34,21 +34,21 @@ class_count world = length world.classes
 
 -- ---- a count
 
--- one row, which counts so many
+-- The answer is one row, which counts so many.
 abbrev pub IsCount : List Row → ℕ → Type 0
 IsCount rows n = rows ≡ (count n ∷ []) ∷ []
 
--- A cell is read as the number that it counts. One that counts 2^63 - 1 or more wants memory.
+-- A cell is read as the number that it counts. A count of 2^63 - 1 or more may be out of memory.
 pub record ReadsCount (cell : Value) (result : Result ℕ Fault) : Type 0 where
   pub value : IfOk result (λ found. (n : ℕ) → cell ≡ count n → found ≡ n)
   pub refused : IfErr result (λ fault. (fault ≡ Memory) ⊎ ((fault ≡ NotAProject) × ((n : ℕ) → cell ≢ count n)))
 
--- with Ok, it is the number that the answer counts
+-- On a clean disk, the result is the number that the answer counts.
 abbrev pub ShowsCount : {S : Type 0} → Ghosts S → Held S → Held S → Result ℕ Fault → List ℕ → Row → Type 0
 ShowsCount g old new result sql params =
     HasCleanDisk (state g new) → IfOk result (λ found. (rows : List Row) × Shown sql params (state g old) (state g new) rows × ((n : ℕ) → IsCount rows n → found ≡ n))
 
--- a fault is want of memory, or tells of an error of the question, or of an answer that is no count
+-- On a clean disk, a fault is out of memory, an error of the question, or an answer that is no count.
 abbrev pub FailsCount : {S : Type 0} → Ghosts S → Held S → Held S → Result ℕ Fault → List ℕ → Row → Type 0
 FailsCount g old new result sql params =
     HasCleanDisk (state g new)

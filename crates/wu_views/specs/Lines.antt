@@ -25,7 +25,7 @@ use Rattle.wu_views.specs.declared.lines.WorkunitLine.{WorkunitLine}
 
 -- ---- workunits
 
--- the values of a workunit's line
+-- The values of a workunit's line.
 abbrev pub line_of : Workunit → WorkunitLine
 line_of w =
     record {
@@ -41,13 +41,13 @@ line_of w =
       class = w.class;
     }
 
--- the lines of a world's workunits, in order of number
+-- The lines of a world's workunits, in order of number.
 abbrev pub workunit_lines : World → List WorkunitLine
 workunit_lines world = map line_of world.workunits
 
 -- ---- results
 
--- the values of the line of an instance, by its number among those of the workunit of this name
+-- The values of the line of an instance, by its number in the workunit of this name.
 abbrev pub result_line_of : List ℕ → ℕ × Instance → ResultLine
 result_line_of workunit p =
     record {
@@ -64,39 +64,39 @@ result_line_of workunit p =
       output = length p.1.output;
     }
 
--- the lines of a workunit's instances, in order of their numbers
+-- The lines of a workunit's instances, in order of their numbers.
 abbrev pub result_lines_of : Workunit → List ResultLine
 result_lines_of w = map (result_line_of w.name) (enumerate_from 0 w.instances)
 
--- those of all workunits, in order of number
+-- The lines of the instances of all workunits, in order of number.
 abbrev pub result_lines : World → List ResultLine
 result_lines world = flat_map result_lines_of world.workunits
 
 -- ---- hosts
 
--- the values of a host's line
+-- The values of a host's line.
 abbrev pub host_line_of : List Grant → List ℕ → HostLine
 host_line_of grants host = record { name = host; total = credit_of grants host; grants = grants_of grants host }
 
--- the lines of the hosts that have grants, by their names' bytes
+-- The lines of the hosts that have grants, in the order of their names' bytes.
 abbrev pub host_lines : World → List HostLine
 host_lines world = map (host_line_of world.grants) (hosts_of world.grants)
 
 -- ---- the archive
 
--- the archived rows, in order of their archiving
+-- The archived rows, in order of their archiving.
 abbrev pub archived_lines : World → List Archived
 archived_lines world = world.archived
 
 -- ---- classes of hosts
 
--- the hosts that a file named, each with its class, by their names' bytes
+-- The hosts that a file named, each with its class, in the order of their names' bytes.
 abbrev pub class_lines : World → List HostClass
 class_lines world = world.classes
 
 -- ---- the summary
 
--- how many of each there are, and the credit of all grants
+-- How many of each there are, and the credit of all grants.
 abbrev pub summary_of : World → Summary
 summary_of world =
     record {
@@ -116,18 +116,18 @@ summary_of world =
 
 -- ---- what is read
 
--- a row of the view of workunits: the columns of a workunit with the length of its input, and its class
+-- A row of the view of workunits: the columns of a workunit with the length of its input, and the class.
 abbrev pub line_row : WorkunitLine → Row
 line_row w =
     number w.number ∷ Text w.name ∷ parameter_cells w.params
     ++ (number w.input ∷ number (error_mask_code w.error_mask) ∷ number_or_null w.canonical ∷ number (assimilate_code w.assimilate)
     ∷ number (file_delete_code w.file_delete) ∷ number_or_null w.done_at ∷ number w.class ∷ [])
 
--- as many bytes as an input may have
+-- The number of bytes is at most that of an input.
 abbrev pub IsInputLength : ℕ → Type 0
 IsInputLength bytes = bytes ≤ longest_input
 
--- a workunit of such values can be read
+-- A workunit of these values can be read.
 pub record IsStoredLine (w : WorkunitLine) : Type 0 where
   pub name : IsName w.name
   pub parameters : IsParameters w.params
@@ -136,15 +136,15 @@ pub record IsStoredLine (w : WorkunitLine) : Type 0 where
   pub stamped : IsStamped w.assimilate w.done_at
   pub class : IsClass w.class
 
--- a row of the view of results: the columns of an instance, its number, the name of its workunit, and the length of its
--- output
+-- A row of the view of results: the columns of an instance, its number, the name of its workunit, and the length of its
+-- output.
 abbrev pub result_line_row : ResultLine → Row
 result_line_row r =
     number (server_state_code r.server_state) ∷ number (outcome_code r.outcome) ∷ number (validate_state_code r.validate_state)
     ∷ number (file_delete_code r.file_delete) ∷ text_or_null r.host ∷ number_or_null r.sent_at ∷ number_or_null r.deadline
     ∷ number_or_null r.received_at ∷ number r.n ∷ Text r.workunit ∷ number r.output ∷ []
 
--- the instance of a line, without its output
+-- The instance of a line, without its output.
 abbrev pub bare_instance_of : ResultLine → Instance
 bare_instance_of r =
     record {
@@ -159,31 +159,31 @@ bare_instance_of r =
       output = [];
     }
 
--- as many bytes as an output may have
+-- The number of bytes is at most that of an output.
 abbrev pub IsOutputLength : ℕ → Type 0
 IsOutputLength bytes = bytes ≤ longest_output
 
--- an instance of such values, of a workunit of such a name, can be read
+-- An instance of these values can be read, and its workunit has a valid name.
 pub record IsStoredResult (r : ResultLine) : Type 0 where
   pub workunit : IsName r.workunit
   pub n : r.n < 2 ^ 32
   pub instance : IsStoredInstance (bare_instance_of r)
   pub output : IsOutputLength r.output
 
--- a row of the table of hosts
+-- A row of the table of hosts.
 abbrev pub host_row : HostLine → Row
 host_row host = host_cells host.name host.total host.grants
 
 abbrev pub IsStoredHost : HostLine → Type 0
 IsStoredHost host = IsName host.name
 
--- a host's name, and a class that there may be
+-- The host has a valid name, and its class is in range.
 pub record IsOfClass (it : HostClass) : Type 0 where
   pub host : IsName it.host
   pub class : IsClass it.class
 
 -- ---- what can be read
 
--- the hosts of grants have names
+-- The hosts of grants have valid names.
 abbrev pub AreHostsNamed : World → Type 0
 AreHostsNamed world = All IsName (hosts_of world.grants)

@@ -23,50 +23,50 @@ use Rattle.wu_views.specs.declared.lines.HostLine.{HostLine}
 use Rattle.wu_views.specs.declared.lines.ResultLine.{ResultLine}
 use Rattle.wu_views.specs.declared.lines.WorkunitLine.{WorkunitLine}
 
--- a row and a line are those of one of these
+-- The row and the line are those of one of these.
 pub record IsRowOf {X T : Type 0} (row_of : X → Row) (line_of : X → T) (all : List X) (row : Row) (line : T) : Type 0 where
   pub shown : X
   pub there : Contains all shown
   pub row_is : row ≡ row_of shown
   pub line_is : line ≡ line_of shown
 
--- What a question with no parameters lists, of each world with classes that the tables stand for.
+-- What a question without parameters lists, of each world with classes that the tables represent.
 pub record Lists {S T : Type 0} (g : Ghosts S) (text : List ℕ) (IsRow : World → Row → T → Type 0) (lines_of : World → List T) : Type 0 where
   pub select : IsSelect text
-  -- its answer has a row for each of the lines, in their order
+  -- Its answer has a row for each line, in their order.
   pub answer : (old new : Held S) (rows : List Row) → Shown text [] (state g old) (state g new) rows → (world : World) → KnowsClasses world → Refines (state g old).now world → AllZip (IsRow world) rows (lines_of world)
-  -- rows that are handed out begin it
+  -- Rows that are handed on are a prefix of the answer.
   pub front : (old now : Held S) (given : List Row) → IsUnchanged (state g old) (state g now) → HasGiven g text [] now given → (world : World) → KnowsClasses world → Refines (state g old).now world
       → (more : List Row) × AllZip (IsRow world) (given ++ more) (lines_of world)
-  -- and where steps have no limit, only memory, the disk or size fails it
+  -- Without a limit on steps, its only faults are `Memory` and `Broken`.
   pub told : (old new : Held S) (error : Error) → FailsToQuery text [] (state g old) (state g new) error → (world : World) → KnowsClasses world → Refines (state g old).now world
       → old.step_limit ≡ None → IsFailure (fault_of error)
 
 -- ---- workunits
 
--- a workunit as its view shows it: with the length of its input, and its class
+-- The row of a workunit in its view, with the length of its input, and its class.
 abbrev pub workunit_shown : Workunit → Row
 workunit_shown w = line_row (line_of w)
 
--- a row and a line are those of a workunit of the world
+-- The row and the line are those of a workunit of the world.
 abbrev pub IsRowOfWorkunit : World → Row → WorkunitLine → Type 0
 IsRowOfWorkunit world = IsRowOf workunit_shown line_of world.workunits
 
 -- ---- results
 
--- an instance as its view shows it, by its number: with the name of its workunit, and the length of its output
+-- The row of an instance in its view, by its number, with the name of its workunit and the length of its output.
 abbrev pub result_shown : List ℕ → ℕ × Instance → Row
 result_shown workunit p = result_line_row (result_line_of workunit p)
 
--- the instances of a workunit, in order of their numbers
+-- The rows of a workunit's instances, in order of their numbers.
 abbrev pub results_shown : Workunit → List Row
 results_shown w = map (result_shown w.name) (enumerate_from 0 w.instances)
 
--- those of all workunits, in order of number
+-- The rows of the instances of all workunits, in order of number.
 abbrev pub all_results_shown : World → List Row
 all_results_shown world = flat_map results_shown world.workunits
 
--- a row and a line are those of an instance of a workunit of the world
+-- The row and the line are those of an instance of a workunit of the world.
 pub record IsRowOfResult (world : World) (row : Row) (line : ResultLine) : Type 0 where
   pub workunit : Workunit
   pub present : Contains world.workunits workunit
@@ -74,26 +74,26 @@ pub record IsRowOfResult (world : World) (row : Row) (line : ResultLine) : Type 
 
 -- ---- hosts
 
--- a row and a line are those of a host of the world
+-- The row and the line are those of a host of the world.
 abbrev pub IsRowOfHost : World → Row → HostLine → Type 0
 IsRowOfHost world = IsRowOf (host_of world.grants) (host_line_of world.grants) (hosts_of world.grants)
 
 -- ---- the archive
 
--- an archived workunit with its place, as its view shows it
+-- The row of an archived workunit in its view, with its place.
 abbrev pub placed_archived_row : ℕ × Archived → Row
 placed_archived_row p = number p.0 ∷ archived_cells p.1
 
--- the archived workunits with their places, which are counted from 1
+-- The archived workunits with their places, which are counted from 1.
 abbrev pub archive_of : World → List (ℕ × Archived)
 archive_of world = enumerate_from 1 world.archived
 
--- a row is that of this archived workunit of the world
+-- The row is that of this archived workunit of the world.
 abbrev pub IsRowOfArchived : World → Row → Archived → Type 0
 IsRowOfArchived world = IsRowOf placed_archived_row (λ (p : ℕ × Archived). p.1) (archive_of world)
 
 -- ---- classes of hosts
 
--- a row is that of this host with a class
+-- The row is that of this host with a class.
 abbrev pub IsRowOfClass : World → Row → HostClass → Type 0
 IsRowOfClass world = IsRowOf class_cells (λ (it : HostClass). it) world.classes

@@ -25,13 +25,13 @@ pub trait Listing {
     ghost use Rattle.wu_schema.specs.Reading.{IsReadFault};
 
     /// What the view shows on a line of its own.
-    type Line: Drop;
+    type Item: Drop;
 
     /// The lines of a world, in order.
-    ghost lines: { World → List Self.Line };
+    ghost lines: { World → List Self.Item };
 
     /// A row of the answer is that of this line of a world.
-    ghost is_row_of: { World → Cells → Self.Line → Type 0 };
+    ghost is_row_of: { World → Cells → Self.Item → Type 0 };
 
     /// The lines of such a world can be read.
     ghost is_readable: { World → Type 0 };
@@ -43,12 +43,12 @@ pub trait Listing {
         ensures { Lists S.Store result.now is_row_of lines };
 
     /// Reads the line of a row of the answer. Returns `NotAProject` if the row is that of no line.
-    fn read(alloc: Global, row: &Row) -> Result<Self::Line, Fault>
+    fn read(alloc: Global, row: &Row) -> Result<Self::Item, Fault>
         // The row of a line of a world is read as that line, where reading succeeds.
-        ensures line { (world : World) (line : Self.Line) → is_row_of world row.now line
+        ensures line { (world : World) (line : Self.Item) → is_row_of world row.now line
             → IfOk result (λ read. read ≡ line) }
         // The row of a line of a readable world is never refused as `NotAProject`.
-        ensures unrefused { (world : World) (line : Self.Line) → is_row_of world row.now line
+        ensures unrefused { (world : World) (line : Self.Item) → is_row_of world row.now line
             → is_readable world → IfErr result (λ fault. fault ≢ NotAProject) }
         // A fault is `Memory` or `NotAProject`.
         ensures fault { IfErr result IsReadFault };

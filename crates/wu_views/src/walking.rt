@@ -32,7 +32,7 @@ pub trait Takes<T> {
 /// Hands each line of a view to what takes them, as the database hands out its row. It holds no list of rows.
 ///
 /// Returns `NotAProject` if a row is no line, and `Output` if no more lines are taken.
-pub fn walk<S: Alter, L: Listing, K: Takes<L::Line>>(
+pub fn walk<S: Alter, L: Listing, K: Takes<L::Item>>(
     conn: &mut Connection<S>,
     alloc: Global,
     taker: &mut K,

@@ -26,7 +26,7 @@ use wu_plans::{
 use wu_schema::{PRESENT_VERSION, check_version, create, version_of};
 use wu_store::Change;
 
-/// Finds the project of the database, or makes a fresh one where none of its tables is there. Returns the version of
+/// Finds the project of the database, or makes a fresh one if it has none of a project's tables. Returns the version of
 /// its schema. A limit on steps is taken off.
 ///
 /// A connection inside a transaction stays as it was.
@@ -52,7 +52,7 @@ fn find_or_create<S: Alter>(conn: &mut Connection<S>) -> Result<u64, Fault>
     Ok(version)
 }
 
-/// Returns the version where it is older than the present one, and else `None`.
+/// Returns the version if it is older than the present one, and otherwise `None`.
 fn older_than_present(version: u64) -> Option<u64>
     ensures { result ≡ older_than_present version }
 {
@@ -169,22 +169,24 @@ impl<S: Alter> Project<S> {
         ensures busy { conn.in_transaction ≡ true → result ≡ Err (conn, Fault.NotAProject) }
         // A session that begins has not ended.
         ensures begins { IfOk result IsSessionOpen }
-        // A project that was there is found, of a known version, and is not touched. Where none
-        // was, its tables are made beside all else that is there, and represent the empty world. A
-        // session over a world goes on over it. The connection was open and is, without a limit on
-        // steps. A crash leaves what it could have left before, or the fresh project.
+        // A project that was there is found, of a known version, and is not touched. If there was
+        // none, its tables are made beside all else that is there, and represent the empty world.
+        // If a crash could leave only the tables of one world, the session goes on over that world.
+        // The connection was open and still is, without a limit on steps. A crash leaves what it
+        // could have left before, or the fresh project.
         ensures adopted { IfOk result (λ project. Adopts (state S.Store conn) (state_of project)) }
-        // The fault is one of the store, or a later version that is stored. `Broken` means that the
-        // disk failed in this call, or that the connection was not open. Where no project was, it
-        // is `NotAProject`, `Memory` or such a `Broken`; over the one row of a project,
-        // `NewSchema`, `Memory` or `Broken`. `NotAProject` leaves all as it was, and a project that
-        // was there is not touched. An open connection shows what it showed, or the last commit. A
-        // crash leaves what it could have left before, or the fresh project. The connection is
-        // open, except after `Memory` and `Broken`, or where it was inside a transaction.
+        // The fault is one of the store, or `NewSchema` of a later version that is stored. `Broken`
+        // means that the disk failed in this call, or that the connection was not open. If there
+        // was no project, the fault is `NotAProject`, `Memory` or such a `Broken`. If the table
+        // `project` has just one row, with a version, it is `NewSchema`, `Memory` or `Broken`.
+        // `NotAProject` leaves all as it was, and a project that was there is not touched. An open
+        // connection shows what it showed, or the last commit. A crash leaves what it could have
+        // left before, or the fresh project. The connection is open, except after `Memory` and
+        // `Broken`, or if it was inside a transaction.
         ensures refused { IfErr result (λ refusal.
             RefusesAdoption (state S.Store conn) (state S.Store refusal.0) refusal.1) }
-        // Where the project found has an older version the session is over that one, and else over
-        // no older one.
+        // If the project found has an older version, the session is over that version; otherwise it
+        // is over no older one.
         ensures version { IfOk result (λ project.
             StartsOver (state S.Store conn) (state_of project) (older_version project)) }
         // Whatever world the tables represent, the session knows the version of it.
@@ -225,31 +227,31 @@ impl<S: Alter> Project<S> {
 
     /// Ends the session, and begins another over its connection.
     ///
-    /// Where a fault ended it and left the connection open, the new one goes on over the world from before. Then only
-    /// `Memory` and `Broken` refuse it.
+    /// If a fault ended it and left the connection open, the new one goes on over the world from before the cut
+    /// command. Then only `Memory` and `Broken` refuse it.
     pub fn begin_again(self) -> Result<Self, (Connection<S>, Fault)>
         // A session that begins has not ended.
         ensures begins { IfOk result IsSessionOpen }
-        // A project that was there is found, of a known version, and is not touched. Where none
-        // was, its tables are made beside all else that is there, and represent the empty world.
-        // The connection was open and is, without a limit on steps.
+        // A project that was there is found, of a known version, and is not touched. If there was
+        // none, its tables are made beside all else that is there, and represent the empty world.
+        // The connection was open and still is, without a limit on steps.
         ensures adopted { IfOk result (λ project. Adopts (state_of self) (state_of project)) }
         // The fault is one of the store, or a later version that is stored. `NotAProject` leaves
         // all as it was, and a project that was there is not touched. An open connection shows what
         // it showed, or the last commit.
         ensures refused { IfErr result (λ refusal.
             RefusesAdoption (state_of self) (state S.Store refusal.0) refusal.1) }
-        // Where the project found has an older version the session is over that one, and else over
-        // no older one.
+        // If the project found has an older version, the session is over that version; otherwise it
+        // is over no older one.
         ensures version { IfOk result (λ project.
             StartsOver (state_of self) (state_of project) (older_version project)) }
         // Whatever world the tables represent, the session knows the version of it.
         ensures knows { IfOk result KnowsTables }
-        // Where a fault ended the old session and left its connection open, the new session goes on
-        // over the world from before.
+        // If a fault ended the old session and left its connection open, the new session goes on
+        // over the world from before the cut command.
         ensures goes { IfOk result (GoesOnAgain self) }
-        // Where a fault ended the old session and left its connection open, only `Memory` and
-        // `Broken` refuse, and the world stays.
+        // If a fault ended the old session and left its connection open, only `Memory` and `Broken`
+        // refuse the new one, and the world stays.
         ensures fails { IfErr result (FailsAgain self) }
     {
         Self::adopt(self.release())
@@ -271,9 +273,9 @@ impl<S: Alter> Project<S> {
         // After the end of a session it answers `Ended`, and touches nothing.
         ensures ended { IsSessionEnded self.old → AnswersEnded self.old self.new result }
         // The session ends only with `Memory` or `Broken`, and always with `Broken`; until then it
-        // never answers `Ended`. Only a disk that fails in this call shuts an open connection, and
-        // nothing opens one that is shut. After an answer the session is over no older version; a
-        // fault leaves it over the same one. The limit on steps stays, and no fault of the disk is
+        // never answers `Ended`. Only a disk that fails in this call closes an open connection, and
+        // nothing opens a closed one. After an answer the session is over no older version; a fault
+        // leaves it over the same one. The limit on steps stays, and no fault of the disk is
         // forgotten.
         ensures session { KeepsSession self.old self.new result }
         // The connection is open afterwards, except after `Memory` and `Broken`, and after a
@@ -284,22 +286,22 @@ impl<S: Alter> Project<S> {
         ensures refused { IsSessionOpen self.old
             → RefusesEarly self.old self.new command.now result }
         // An answer is the machine's reply, and the tables then represent the machine's step. A
-        // crash leaves that alone, or all is as it was where nothing is made. A fault is the
-        // machine's refusal, or one of the store: the tables represent the same world while the
-        // connection is open. A crash then leaves no more than it could before and, where the
-        // session ended, the step. A connection that the end of its session left open shows the
-        // world from before, all committed, and a crash leaves it alone.
+        // crash then leaves only that; or nothing is made, and all is as it was. A fault is the
+        // machine's refusal, or one of the store, and the tables represent the same world while the
+        // connection is open. A crash then leaves what it could have left before or, if the session
+        // ended, the step. If a crash could leave only that world before, then after a fault too,
+        // while the connection is open.
         ensures runs { IsSessionOpen self.old → RunsOver self.old self.new command.now result }
-        // A fault that ends the session is `Broken` of a failed disk or a connection that was not
-        // open. Or it is `Memory` or `Broken` where the machine makes something of the world. Any
-        // other fault is the machine's refusal, `Memory`, or `NotAProject` of a statement that
-        // writes.
+        // Without a limit on steps, a fault that ends the session is `Broken` of a failed disk or
+        // of a connection that was not open. Or it is `Memory` or `Broken` of a command of which
+        // the machine makes something. Any other fault is the machine's refusal, `Memory`, or
+        // `NotAProject` of a statement that writes.
         ensures why { IsSessionOpen self.old → TellsWhy self.old self.new command.now result }
-        // A command that fails, but not with `Memory` or `Broken`, changes no table, nor what a
+        // A command that fails, except with `Memory` or `Broken`, changes no table, nor what a
         // crash may leave.
         ensures untouched { LeavesUntouched self.old self.new result }
-        // Where the machine makes nothing of the world, a command that is answered changes no
-        // table, nor what a crash may leave.
+        // If the machine makes nothing of the world, as of a repeated import, a command that is
+        // answered changes no table, nor what a crash may leave.
         ensures idle { IsSessionOpen self.old → LeavesIdle self.old self.new command.now result }
     {
         if self.has_ended {
@@ -363,7 +365,7 @@ impl<S: Alter> Project<S> {
     fn carry_out(&mut self, answer: Answer, changes: &[Change<'_>]) -> Result<Answer, Fault>
         requires { IsSessionOpen self.old }
         // The session ends only with `Memory` or `Broken`, and always with `Broken`. Only a disk
-        // that fails in this call shuts an open connection.
+        // that fails in this call closes an open connection.
         ensures session { KeepsSession self.old self.new result }
         ensures opens { IsTrue (state_of self.old).is_open → ServesOn self.new result }
         // A fault that ends the session is `Memory` or `Broken`; one that does not is

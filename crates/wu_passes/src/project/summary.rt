@@ -13,11 +13,11 @@ impl<S: Alter> Project<S> {
 
     /// Returns how much the project holds. It changes no table; `Broken` ends the session.
     ///
-    /// `NotAProject` means that a row is no value, or that the credit of all grants is not below 2^64. Over an older
+    /// `NotAProject` means that a row is invalid, or that the credit of all grants is not below 2^64. Over an older
     /// version the answer is `OldSchema`, and nothing is read.
     pub fn summary(&mut self) -> Result<Summary, Fault>
-        // After the end of a session the answer is `Ended`, and over an older version `OldSchema`;
-        // nothing is touched.
+        // After the end of a session the answer is `Ended`, and over an older version `OldSchema`.
+        // Nothing is touched then.
         ensures early { AnswersFirst self.old self.new result }
         // Only `Broken` ends the session, and it always does; the session stays over its version.
         ensures session { KeepsAsking self.old self.new result }
@@ -31,11 +31,10 @@ impl<S: Alter> Project<S> {
         // Over the present version a fault is `Memory`, `Broken` or `NotAProject`.
         ensures fault { IsSessionOpen self.old → IsPresentSession self.old
             → IfErr result IsStoreFault }
-        // Without a limit on steps, the summary of a world whose numbers can be read is never
-        // `NotAProject`.
+        // Without a limit on steps, over a world with classes whose numbers can be read,
+        // `NotAProject` is not returned.
         ensures unrefused { IsSessionOpen self.old → SummarizesUnrefused self.old self.new result }
-        // With Ok the numbers are those of the world that the tables represent, where it has
-        // classes.
+        // With Ok the numbers are those of each world with classes that the tables represent.
         ensures summary { Summarizes self.old self.new result }
         // Whatever the tables hold, the summary counts every row of instances and of grants.
         ensures counted { CountsRows self.old self.new result }

@@ -18,20 +18,20 @@ impl<S: Alter> Project<S> {
 
     /// Hands each line of a view to a taker, before the next row is asked for: no list of rows is held.
     ///
-    /// `NotAProject` means that a row is no value, and `Output` that the taker takes no more lines. Over an older
+    /// `NotAProject` means that a row is invalid, and `Output` that the taker takes no more lines. Over an older
     /// version the answer is `OldSchema`. It ends no session: after `Broken` its caller calls `end_session`.
-    pub fn walk<L: Listing, K: Takes<L::Line>>(
+    pub fn walk<L: Listing, K: Takes<L::Item>>(
         &mut self,
         alloc: Global,
         taker: &mut K,
     ) -> Result<(), Fault>
         // The taker gets the lines of the world in order, each once: all, or the first ones up to a
         // fault. After the end of a session the answer is `Ended`, and over an older version
-        // `OldSchema`; then nothing is touched. `Output` means that the taker takes no more. Any
-        // other fault is one of the store, and without a limit on steps none is `NotAProject` where
-        // the values can be read. `Broken` means that the disk failed in this call, or that the
-        // connection was not open; over a shut one no line is handed on. The project is only read,
-        // and the session ends or goes on as before.
+        // `OldSchema`. Nothing is touched then. `Output` means that the taker takes no more. Any
+        // other fault is one of the store. Without a limit on steps, none is `NotAProject` if the
+        // values can be read. `Broken` means that the disk failed in this call, or that the
+        // connection was not open. Over a closed connection no line is handed on. The project is
+        // only read, and no fault ends the session.
         ensures { WalksOver L.Listing.lines L.Listing.is_readable K.Takes.takes K.Takes.refuses
             self.old self.new taker.old taker.new result }
     {

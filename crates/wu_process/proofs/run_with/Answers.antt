@@ -15,4 +15,4 @@ returns-in-Ok-2 g c =
     rw c.in-Ok.is (inr (long, ran))
 
 pub returns-in-Err : goal.returns-in-Err
-returns-in-Err g c = rw c.in-Err.is (c.unheard.result, c.unheard.ensures, c.ended-in-Err.ensures.tells, refl)
+returns-in-Err g c = rw c.in-Err.is (rw c.unheard.ensures at c.ended-in-Err.ensures.tells, refl)

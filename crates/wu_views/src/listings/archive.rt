@@ -14,7 +14,7 @@ impl Listing for ArchiveListing {
     ghost use Rattle.wu_views.specs.Lines.{archived_lines};
     ghost use Rattle.wu_views.specs.Listings.{IsRowOfArchived};
 
-    type Line = Archived;
+    type Item = Archived;
 
     ghost lines = { archived_lines };
 

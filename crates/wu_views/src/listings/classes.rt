@@ -14,7 +14,7 @@ impl Listing for ClassListing {
     ghost use Rattle.wu_views.specs.Lines.{class_lines};
     ghost use Rattle.wu_views.specs.Listings.{IsRowOfClass};
 
-    type Line = HostClass;
+    type Item = HostClass;
 
     ghost lines = { class_lines };
 

@@ -13,7 +13,7 @@ impl Listing for HostListing {
     ghost use Rattle.wu_views.specs.Lines.{AreHostsNamed, host_lines};
     ghost use Rattle.wu_views.specs.Listings.{IsRowOfHost};
 
-    type Line = HostLine;
+    type Item = HostLine;
 
     ghost lines = { host_lines };
 

@@ -14,7 +14,7 @@ impl Listing for ResultListing {
     ghost use Rattle.wu_views.specs.Lines.{result_lines};
     ghost use Rattle.wu_views.specs.Listings.{IsRowOfResult};
 
-    type Line = ResultLine;
+    type Item = ResultLine;
 
     ghost lines = { result_lines };
 

@@ -14,7 +14,7 @@ impl Listing for WorkunitListing {
     ghost use Rattle.wu_views.specs.Lines.{workunit_lines};
     ghost use Rattle.wu_views.specs.Listings.{IsRowOfWorkunit};
 
-    type Line = WorkunitLine;
+    type Item = WorkunitLine;
 
     ghost lines = { workunit_lines };
 

@@ -5,9 +5,9 @@ use Rattle.wu_loader.specs.Dealing.{placed_of, AreDealt}
 use Rattle.wu_loader.specs.Whole.{IsIn}
 use Rattle.wu_loader.specs.Worlds.{IsOrdered}
 use Rattle.wu_loader.specs.Wrongs.{IsUndealtAt}
-use Rattle.wu_loader.specs.declared.finding.Table.TheVariants as table
+use Rattle.wu_loader.specs.declared.finding.LoadedTable.TheVariants as table
 use Rattle.wu_loader.specs.declared.finding.NoWorld.TheVariants.{Memory}
-use Rattle.wu_loader.specs.declared.finding.Wrong.{Wrong}
+use Rattle.wu_loader.specs.declared.finding.WrongRow.{WrongRow}
 use Rattle.wu_loader.proofs.WholeLemmas.{handed}
 use Rattle.wu_loader.proofs.DealLemmas.{no_items, deals_all, deals_left, deals_more, deals_none, first_undealt, IsDealing}
 use Rattle.wu_loader.proofs.dealing.deal.Goals as goal
@@ -25,12 +25,12 @@ loop-workunit-preserved c =
 
 pub returns-in_err-instances-clause-none : goal.returns-in_err-instances-clause-none
 returns-in_err-instances-clause-none c =
-    let none = λ (wrong : Wrong). (ws : List Workunit) → IsOrdered ws → ¬ AreDealt c.args.workunits.items c.args.placed.items ws in
+    let none = λ (wrong : WrongRow). (ws : List Workunit) → IsOrdered ws → ¬ AreDealt c.args.workunits.items c.args.placed.items ws in
     handed c.from_residual.result Memory none none (λ wrong is. is) c.from_residual.ensures.1 tt
 
 pub returns-in_err-push-clause-none : goal.returns-in_err-push-clause-none
 returns-in_err-push-clause-none c =
-    let none = λ (wrong : Wrong). (ws : List Workunit) → IsOrdered ws → ¬ AreDealt c.args.workunits.items c.args.placed.items ws in
+    let none = λ (wrong : WrongRow). (ws : List Workunit) → IsOrdered ws → ¬ AreDealt c.args.workunits.items c.args.placed.items ws in
     handed c.from_residual-in_err-push.result Memory none none (λ wrong is. is) c.from_residual-in_err-push.ensures.1 tt
 
 pub returns-then-is_empty-clause-dealt : goal.returns-then-is_empty-clause-dealt

@@ -3,7 +3,7 @@ use Rattle.wu_loader.specs.Rows.{classed_row, IsStoredClass}
 use Rattle.wu_loader.specs.Whole.{IsNoRow}
 use Rattle.wu_loader.specs.Worlds.{AreAnyClassRowsOf, HasClassesOf}
 use Rattle.wu_loader.specs.Wrongs.{IsWrongClass, IsWrongClassAt, IsWrongHostClass}
-use Rattle.wu_loader.specs.declared.finding.Table.TheVariants as table
+use Rattle.wu_loader.specs.declared.finding.LoadedTable.TheVariants as table
 use Rattle.wu_loader.specs.declared.tables.ClassRows.{ClassRows}
 use Rattle.wu_loader.proofs.ClassLemmas.{differs_keys, found_classes, found_none, never_classed, never_others}
 use Rattle.wu_loader.proofs.WholeLemmas.{at_table, handed, rows_plain}

@@ -6,7 +6,7 @@ use Rattle.wu_loader.specs.Rows.{archived_row, grant_row, IsStoredGrant, IsStore
 use Rattle.wu_loader.specs.Whole.{IsNoRow}
 use Rattle.wu_loader.specs.Worlds.{project_of}
 use Rattle.wu_loader.specs.Wrongs.{IsWrongHostRow, IsWrongPlainAt, IsWrongProject, IsWrongResult}
-use Rattle.wu_loader.specs.declared.finding.Table.TheVariants as table
+use Rattle.wu_loader.specs.declared.finding.LoadedTable.TheVariants as table
 use Rattle.wu_loader.proofs.RowLemmas.{one_grant}
 use Rattle.wu_loader.proofs.WholeLemmas.{at_table, handed, no_rows, none_permuted, one_rows, rows_plain}
 use Rattle.wu_loader.proofs.world.plain_from.Goals as goal

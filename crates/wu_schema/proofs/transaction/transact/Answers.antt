@@ -13,7 +13,7 @@ pub returns-in-Err-Statement : goal.returns-in-Err-Statement
 returns-in-Err-Statement g c =
     let laws = g.met.S.Store in
     let s = g.S.Store in
-    let makes = g.W.Work.makes c.args.work.now in
+    let makes = g.W.TransactionWork.makes c.args.work.now in
     let old = c.args.conn.now in
     let mid = c.run_and_commit.new.conn in
     let new = c.fault_after.new.conn in

@@ -1,0 +1,37 @@
+use Rattle.std.proofs.Common.{Err, ap, refl}
+use Rattle.wu_process.proofs.RunLemmas.{does_opened}
+use Rattle.wu_process.proofs.database.open_and_do.Goals as goal
+
+pub returns-in-Ok : goal.returns-in-Ok
+returns-in-Ok g c =
+    does_opened g.O.Write.contents c.args.database.now c.args.work c.args.out.now c.perform_over-conn.new.out c.perform_over-conn.result.1 c.close.result
+    (record {
+      conn = c.in-Ok.conn;
+      opened = record {
+        of_file = c.in-Ok.ensures.memory;
+        opens = c.in-Ok.ensures.opened;
+        finds = c.in-Ok.ensures.found;
+        plain = c.in-Ok.ensures.sums;
+        fresh = c.in-Ok.ensures.fresh;
+        guarded = c.in-Ok.ensures.guarded;
+      };
+      does = record {
+        again = c.perform_over-conn.result.0;
+        does = c.perform_over-conn.ensures.does;
+        drives = c.perform_over-conn.ensures.drives;
+        prints = c.perform_over-conn.ensures.prints;
+        closed = c.close.ensures;
+      };
+    })
+
+pub returns : goal.returns
+returns g c = record {
+  unopened = record {
+    named = c.in-Err.ensures.named;
+    in_memory = c.in-Err.ensures.memory;
+    early = c.in-Err.ensures.unopened;
+    late = c.in-Err.ensures.cause;
+  };
+  told = ap Err c.unopened-trouble.ensures;
+  unwritten = refl;
+}
