@@ -210,6 +210,14 @@ impl<S: Alter> Project<S> {
         self.has_ended
     }
 
+    /// Returns the schema version of the project's tables if it is an older one, and `None` at the present version.
+    pub fn older_version(&self) -> Option<u64>
+        // The answer is the older version that the session knows, or `None`.
+        ensures { result ≡ older_version self.now }
+    {
+        self.older
+    }
+
     /// Ends the session, and gives its connection back, in no transaction.
     pub fn release(self) -> Connection<S>
         // The connection is the session's, unchanged.

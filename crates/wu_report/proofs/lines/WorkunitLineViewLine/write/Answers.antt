@@ -1,6 +1,6 @@
 use Rattle.std.proofs.Common.{◌∙◌, refl}
 use Rattle.wu_report.proofs.LineLemmas.{workunit_pieces-are}
-use Rattle.wu_report.proofs.lines.WorkunitLineLine.write.Goals as goal
+use Rattle.wu_report.proofs.lines.WorkunitLineViewLine.write.Goals as goal
 
 pub returns : goal.returns
 returns g c =

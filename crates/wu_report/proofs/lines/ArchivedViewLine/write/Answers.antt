@@ -1,6 +1,6 @@
 use Rattle.std.proofs.Common.{◌∙◌}
 use Rattle.wu_report.proofs.LineLemmas.{archived_pieces-are}
-use Rattle.wu_report.proofs.lines.ArchivedLine.write.Goals as goal
+use Rattle.wu_report.proofs.lines.ArchivedViewLine.write.Goals as goal
 
 pub returns : goal.returns
 returns g c =

@@ -1,5 +1,5 @@
 use Rattle.wu_report.proofs.LineLemmas.{result_pieces-are}
-use Rattle.wu_report.proofs.lines.ResultLineLine.write.Goals as goal
+use Rattle.wu_report.proofs.lines.ResultLineViewLine.write.Goals as goal
 
 pub returns : goal.returns
 returns g c =
