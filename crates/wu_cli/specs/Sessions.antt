@@ -1,14 +1,18 @@
 -- A session: lines that come one after another, what is done for each, and what goes out.
-use Rattle.std.specs.Prelude.{◌≡◌, ◌⊎◌, ℕ, Bool, true, false, List, [], ◌∷◌, ◌++◌, codes, if◌then◌else◌, is_some, slice_get, ◌==◌, Option, Some, None, Result, Ok, Err, Vec}
+use Rattle.std.specs.Prelude.{◌≡◌, ◌⊎◌, ℕ, Bool, true, false, List, [], ◌∷◌, ◌++◌, codes, if◌then◌else◌, is_some, slice_get, unwrap_or, ◌==◌, Option, Some, None, Result, Ok, Err, Vec}
 use Rattle.std.specs.Fmt.{decimal}
 use Rattle.std.specs.List.{before_first}
+use Rattle.sqlite.specs.Held.{Held, state}
+use Rattle.sqlite.specs.Store.{Ghosts as StoreGhosts}
 use Rattle.sqlite_trees.specs.declared.store.Store.{Ghosts}
 use Rattle.wu_core.specs.declared.fault.Fault.{Fault}
 use Rattle.wu_core.specs.declared.fault.Fault.TheVariants.{Memory, Output}
 use Rattle.wu_feed.specs.Scripts.{script_of}
 use Rattle.wu_feed.specs.declared.script.ScriptLine.{ScriptLine}
+use Rattle.wu_machine.specs.Machine.{present_version}
 use Rattle.wu_passes.specs.declared.project.Project.{Project}
-use Rattle.wu_passes.specs.Projects.{has_ended}
+use Rattle.wu_passes.specs.Adopting.{Adopts, RefusesAdoption}
+use Rattle.wu_passes.specs.Projects.{connection_of, has_ended, IsSessionOpen, KnowsTables, older_version, state_of}
 use Rattle.wu_report.specs.Texts.{line_end}
 use Rattle.wu_report.specs.Writing.{WritesTo}
 use Rattle.wu_arguments.specs.Statuses.{fault_status, refusal_status}
@@ -23,6 +27,8 @@ use Rattle.wu_cli.specs.Endings.{refusal_text}
 use Rattle.wu_cli.specs.Printing.{PrintsSteps}
 use Rattle.wu_cli.specs.Scripting.{PerformsScript}
 use Rattle.wu_cli.specs.Telling.{DrivesSteps, LengthensBySteps}
+use Rattle.wu_cli.specs.declared.trouble.Trouble.{Trouble}
+use Rattle.wu_cli.specs.declared.trouble.Trouble.TheVariants as trouble
 
 -- ---- the texts
 
@@ -136,3 +142,46 @@ module _ {S W : Type 0} {store : Ghosts S} (contents : W → Option (List ℕ)) 
     pub out_mid : W
     pub each : AnswersEach old mid out_old out_mid heard
     pub end : ((status ≡ 0) × (new ≡ mid) × (out_new ≡ out_mid)) ⊎ EndsSession mid new out_mid out_new status
+
+-- ---- over an open database
+
+-- The line with which a session begins: it tells the schema version of the project's tables.
+abbrev pub ready_line : Option ℕ → List ℕ
+ready_line older = codes "= ready version=" ++ decimal (unwrap_or older present_version) ++ line_end
+
+module _ {S W : Type 0} {store : Ghosts S} (contents : W → Option (List ℕ)) (gives : List ℕ → ℕ → Option (List ℕ) → Type 0) (db : List ℕ) where
+  -- If the first line went out, the lines of the input are answered; else the session ends at once.
+  abbrev pub ServesIf : Result (Unit {0}) Fault → Project S store → Project S store → W → W → ℕ → Type 0
+  ServesIf (Ok told) old new out_old out_new status = RunsSession contents gives db old new out_old out_new status
+  ServesIf (Err fault) old new out_old out_new status = (status ≡ fault_status Output) × (new ≡ old) × (out_new ≡ out_old)
+
+  -- The first line goes out, or a prefix of it, and then the lines of the input are answered.
+  pub record ServesProject (old new : Project S store) (out_old out_new : W) (status : ℕ) : Type 0 where
+    pub told : Result (Unit {0}) Fault
+    pub out_ready : W
+    pub wrote : WritesTo contents out_old out_ready (ready_line (older_version old)) told
+    pub serves : ServesIf told old new out_ready out_new status
+
+module _ {S W : Type 0} (g : StoreGhosts S) (contents : W → Option (List ℕ)) (gives : List ℕ → ℕ → Option (List ℕ) → Type 0) (db : List ℕ) (conn again : Held S) (out_old out_new : W) where
+  -- The project is adopted, the lines of the input are answered over it, and the session is released.
+  pub record ServesAdopted (status : ℕ) : Type 0 where
+    pub old : Project S g
+    pub new : Project S g
+    pub idle : conn.in_transaction ≡ false
+    pub begins : IsSessionOpen old
+    pub adopts : Adopts (state g conn) (state_of old)
+    pub knows : KnowsTables old
+    pub serves : ServesProject contents gives db old new out_old out_new status
+    pub released : again ≡ connection_of new
+
+  -- No project is adopted: that fault is reported, and nothing is done or written.
+  pub record ServesNothing (told : Trouble) : Type 0 where
+    pub fault : Fault
+    pub refused : RefusesAdoption (state g conn) (state g again) fault
+    pub told_is : told ≡ trouble.Fault fault
+    pub unwritten : out_new ≡ out_old
+
+  -- How a session over an open database ended: with a status, or with why there was none.
+  abbrev pub ServesOver : Result ℕ Trouble → Type 0
+  ServesOver (Ok status) = ServesAdopted status
+  ServesOver (Err told) = ServesNothing told

@@ -54,7 +54,7 @@ fn worded<'a, W: Write>(out: &mut W, text: &'a str, word: &'a str) -> Result<(),
 }
 
 /// Writes a line that ends in a number.
-fn numbered<W: Write>(out: &mut W, text: &str, number: u64) -> Result<(), Fault>
+pub(crate) fn numbered<W: Write>(out: &mut W, text: &str, number: u64) -> Result<(), Fault>
     ensures { WritesTo W.contents out.old out.new (text.now ++ decimal number ++ line_end) result }
 {
     write_flushed(

@@ -17,6 +17,7 @@ may_hold path most content = ⊤
 abbrev pub database_in : Order → List ℕ
 database_in (order.Line line) = line.db
 database_in (order.Script script) = script.db
+database_in (order.Session path) = path
 database_in (order.Check path) = path
 database_in (order.Explain topic) = []
 

@@ -6,3 +6,4 @@ pub mod Opening
 pub mod Running
 pub mod Processes
 pub mod Signs
+pub mod Serving

@@ -12,6 +12,7 @@ use Rattle.sqlite_std_file.specs.declared.host.Host.{Host}
 use Rattle.wu_drive.specs.Demonstration.{IsDemonstrated}
 use Rattle.wu_cli.specs.Troubles.{unheard}
 use Rattle.wu_process.specs.Running.{Obeys, TellsTrouble}
+use Rattle.wu_process.specs.Serving.{HoldsSession}
 use Rattle.wu_process.specs.declared.End.{End}
 
 -- With status 0, all that the demonstration prints went out.
@@ -24,7 +25,9 @@ module _ {S W E : Type 0} {c : calls.Ghosts Host} {s : start.Ghosts S} {g : Ghos
   abbrev pub RunsGiven : Vec (String Global) Global → Type 0
   RunsGiven words =
       ((vec_len words ≤ 1) × Demonstrates (contents old) (contents new) end.status × (err_new ≡ err_old))
-      ⊎ ((1 < vec_len words) × Obeys contents told_of (map string_bytes words.items) old new err_old err_new end)
+      ⊎ ((1 < vec_len words)
+      × (Obeys contents told_of (map string_bytes words.items) old new err_old err_new end
+      ⊎ HoldsSession contents told_of (map string_bytes words.items) old new err_new end))
 
   -- Words that the process cannot get are reported so, and nothing goes out.
   abbrev pub RunsProcess : Result (Vec (String Global) Global) Error → Type 0

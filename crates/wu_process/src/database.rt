@@ -2,12 +2,14 @@
 
 ghost use Rattle.wu_process.specs.Closing.{IsLeftByClose};
 ghost use Rattle.wu_process.specs.Running.{OpensAndDoes, RunsWork};
+ghost use Rattle.wu_process.specs.Serving.{OpensAndServes, ServesAt};
 
 use crate::beside::bar;
+use crate::files::HostFiles;
 use sqlite::{Connection, Error, FileFrom, FileStore, Files, Leftover, Start};
 use sqlite_disk::Disk;
-use std::io::Write;
-use wu_cli::{Trouble, Work, unopened};
+use std::io::{BufRead, Write};
+use wu_cli::{Trouble, Work, serve_over, unopened};
 
 /// What is left of the database that words name.
 pub enum LeftDatabase<D: Disk> {
@@ -90,5 +92,55 @@ pub fn open_and_perform<S: Start, O: Write>(
             Err(barred) => (Err(barred), None),
         },
         Err(trouble) => (Err(trouble), None),
+    }
+}
+
+/// Opens a database, answers the lines of the input over it, and closes it. Where the database cannot be opened, that is
+/// returned, and nothing is written.
+fn open_and_serve<S: Start, R: BufRead, O: Write, E: Write>(
+    rt: &HostRuntime,
+    database: &str,
+    input: &mut R,
+    start: S,
+    out: &mut O,
+    err: &mut E,
+) -> (Result<u8, Trouble>, LeftDatabase<FileFrom<S>>)
+    // The lines are answered over the opened database, which is then closed; or nothing is opened, and
+    // that is reported.
+    ensures { OpensAndServes O.contents database.now out.old out.new result.0 result.1 }
+{
+    let files = HostFiles::new(rt);
+    match Connection::open_from(rt, database, false, start) {
+        Ok(conn) => {
+            let (conn, done) = serve_over(rt.alloc(), conn, database, input, &files, out, err);
+            (done, close(conn))
+        }
+        Err((error, left)) => {
+            let trouble = unopened(&error);
+            (Err(trouble), LeftDatabase::Unopened(error, left))
+        }
+    }
+}
+
+/// Holds a session over the database at the path: opens it, answers the lines of the input, and closes it. Where the
+/// database must not or cannot be opened, that is returned, and nothing is written.
+pub fn hold_session<S: Start, R: BufRead, O: Write, E: Write>(
+    rt: &HostRuntime,
+    database: &str,
+    input: &mut R,
+    start: S,
+    out: &mut O,
+    err: &mut E,
+) -> (Result<u8, Trouble>, Option<LeftDatabase<FileFrom<S>>>)
+    // The database of this path is opened, the lines are answered over it, and it is closed. Or it is
+    // not opened, which is reported, and nothing goes out.
+    ensures { ServesAt O.contents database.now out.old out.new result.0 result.1 }
+{
+    match bar(rt, database) {
+        Ok(()) => {
+            let (done, left) = open_and_serve(rt, database, input, start, out, err);
+            (done, Some(left))
+        }
+        Err(barred) => (Err(barred), None),
     }
 }

@@ -7,7 +7,8 @@
 
 ghost use Rattle.std.specs.Prelude.{◌≡◌, ◌⊎◌, map, string_bytes};
 ghost use Rattle.wu_arguments.specs.Statuses.{fault_status};
-ghost use Rattle.wu_process.specs.Running.{EndsSo, RunsWords, TellsTrouble};
+ghost use Rattle.wu_process.specs.Running.{EndsSo, TellsTrouble};
+ghost use Rattle.wu_process.specs.Serving.{EndsRan, EndsServed, RanFor};
 ghost use Rattle.wu_process.specs.Processes.{Demonstrates, EndsAsRun, RunsProcess};
 
 mod beside;
@@ -19,14 +20,14 @@ mod signs;
 
 use check::check_path;
 pub use database::LeftDatabase;
-use database::open_and_perform;
+use database::{hold_session, open_and_perform};
 use files::HostFiles;
 use signs::{Cleared, Signs, Watched};
 use sqlite::FileFrom;
 use sqlite_disk::{Disk, Wary};
 use std::alloc::Global;
 use std::env;
-use std::io::{self, BufWriter, IsTerminal, Stderr, Stdout, Write};
+use std::io::{self, BufRead, BufWriter, Input, IsTerminal, Stderr, Stdout, Write};
 use wu_arguments::{Order, read_words};
 use wu_cli::{Trouble, Work, explain, unheard};
 use wu_core::Fault;
@@ -43,33 +44,50 @@ pub struct End<D: Disk> {
     pub left: Option<LeftDatabase<D>>,
 }
 
-/// Does what the words ask for, up to the first trouble. All files are read before the database is opened.
-fn run_words<S: sqlite::Start, O: Write>(
+/// What was done for the words of a process, and what is left of the database that they name.
+#[derive(Drop)]
+enum Ran<D: Disk> {
+    /// A line, a script, a check or an explanation, up to the first trouble.
+    Done(Result<(), Trouble>, Option<LeftDatabase<D>>),
+    /// A session: the status that it gave, or the trouble that kept it from its first line.
+    Served(Result<u8, Trouble>, Option<LeftDatabase<D>>),
+}
+
+/// Does what the words ask for, up to the first trouble, or holds a session. All files of a line or a script are read
+/// before the database is opened.
+fn run_words<S: sqlite::Start, R: BufRead, O: Write, E: Write>(
     rt: &HostRuntime,
     words: &[String],
+    input: &mut R,
     start: S,
     out: &mut O,
-) -> (Result<(), Trouble>, Option<LeftDatabase<FileFrom<S>>>)
+    err: &mut E,
+) -> Ran<FileFrom<S>>
     // Refused words, and a line or a script that cannot be run, are reported, and nothing goes out.
     // Otherwise the work is done over the database that the words name, or the check, or the
-    // explanation.
-    ensures { RunsWords O.contents (map string_bytes words.now)
-        out.old out.new result.0 result.1 }
+    // explanation, or a session is held.
+    ensures { RanFor O.contents (map string_bytes words.now) out.old out.new result }
 {
     let alloc = rt.alloc();
     let files = HostFiles::new(rt);
     match read_words(alloc, words) {
         Ok(Order::Line(line)) => {
             let asked = Work::of_line(alloc, &line, &files);
-            open_and_perform(rt, line.db.as_str(), asked, start, out)
+            let (done, left) = open_and_perform(rt, line.db.as_str(), asked, start, out);
+            Ran::Done(done, left)
         }
         Ok(Order::Script(script)) => {
             let asked = Work::of_script(alloc, &script, &files);
-            open_and_perform(rt, script.db.as_str(), asked, start, out)
+            let (done, left) = open_and_perform(rt, script.db.as_str(), asked, start, out);
+            Ran::Done(done, left)
         }
-        Ok(Order::Check(path)) => (check_path(rt, path.as_str(), out), None),
-        Ok(Order::Explain(topic)) => (explain(&topic, out), None),
-        Err(usage) => (Err(Trouble::Usage(usage)), None),
+        Ok(Order::Session(path)) => {
+            let (done, left) = hold_session(rt, path.as_str(), input, start, out, err);
+            Ran::Served(done, left)
+        }
+        Ok(Order::Check(path)) => Ran::Done(check_path(rt, path.as_str(), out), None),
+        Ok(Order::Explain(topic)) => Ran::Done(explain(&topic, out), None),
+        Err(usage) => Ran::Done(Err(Trouble::Usage(usage)), None),
     }
 }
 
@@ -105,6 +123,34 @@ fn ended<D: Disk, E: Write>(
     }
 }
 
+/// Returns how a session ended, and reports the trouble that kept it from its first line, if one did.
+fn served<D: Disk, E: Write>(
+    done: Result<u8, Trouble>,
+    left: Option<LeftDatabase<D>>,
+    err: &mut E,
+) -> End<D>
+    ensures { EndsServed E.contents err.old err.new done left result }
+{
+    match done {
+        Ok(status) => End {
+            status,
+            is_told: true,
+            left,
+        },
+        Err(trouble) => ended((Err(trouble), left), err),
+    }
+}
+
+/// Returns how what was done ended, and reports its trouble, if there is one.
+fn ended_ran<D: Disk, E: Write>(ran: Ran<D>, err: &mut E) -> End<D>
+    ensures { EndsRan E.contents err.old err.new ran result }
+{
+    match ran {
+        Ran::Done(done, left) => ended((done, left), err),
+        Ran::Served(done, left) => served(done, left, err),
+    }
+}
+
 /// Runs the demonstration, and returns the status to end with: 0, or 1 on a fault, which is not reported.
 fn demonstrate<O: Write>(alloc: Global, out: &mut O) -> u8
     ensures { Demonstrates (O.contents out.old) (O.contents out.new) result }
@@ -117,10 +163,11 @@ fn demonstrate<O: Write>(alloc: Global, out: &mut O) -> u8
 
 /// Does what the words of a process ask for, of which the first is the program's name, whatever the files of the
 /// database held at first. With no other word it runs the demonstration. What is printed goes to `out`, and the text of
-/// a trouble to `err`. Words that could not be read are reported as such.
-pub fn run_with<S: sqlite::Start, O: Write, E: Write>(
+/// a trouble to `err`. The lines of a session come from `input`. Words that could not be read are reported as such.
+pub fn run_with<S: sqlite::Start, R: BufRead, O: Write, E: Write>(
     rt: &HostRuntime,
     words: io::Result<Vec<String>>,
+    input: &mut R,
     start: S,
     out: &mut O,
     err: &mut E,
@@ -137,7 +184,7 @@ pub fn run_with<S: sqlite::Start, O: Write, E: Write>(
             is_told: true,
             left: None,
         },
-        Ok(words) => ended(run_words(rt, words.as_slice(), start, out), err),
+        Ok(words) => ended_ran(run_words(rt, words.as_slice(), input, start, out, err), err),
         Err(error) => ended((Err(unheard(&error)), None), err),
     }
 }
@@ -147,7 +194,15 @@ fn words(rt: &HostRuntime) -> io::Result<Vec<String>> {
     Ok(env::args(rt)?.collect(rt.alloc())?)
 }
 
-/// Does what the words of the command line ask for, as `run_with`, with the outputs of the process. Nothing is assumed
+/// Returns whether the words ask for a session, in which nothing is shown on a terminal but its answers.
+fn asks_for_session(words: &io::Result<Vec<String>>) -> bool {
+    match words {
+        Ok(words) => words.get(1).is_some_and(|word| word.as_str() == "session"),
+        Err(_) => false,
+    }
+}
+
+/// Does what the words of the command line ask for, as `run_with`, with the input and the outputs of the process. Nothing is assumed
 /// of the database file. If standard error is a terminal, it shows in the meantime how many answers have gone out, and
 /// the last one. Returns the status to end with.
 pub fn run(rt: &HostRuntime) -> u8
@@ -158,14 +213,16 @@ pub fn run(rt: &HostRuntime) -> u8
         ⟦<Cleared<Stderr> as Write>⟧.contents result
         ⊎ (result ≡ fault_status Fault.Memory) }
 {
-    let is_terminal = rt.stderr().is_terminal();
+    let words = words(rt);
+    let is_terminal = rt.stderr().is_terminal() && !asks_for_session(&words);
     let mut err = Cleared::new(rt.stderr(), is_terminal);
     match BufWriter::new(rt.alloc(), rt.stdout()) {
         Ok(out) => {
             let signs = Signs::new(is_terminal.then_some(rt.stderr()));
             let mut out = Watched::new(out, signs);
             out.begin();
-            let status = run_with(rt, words(rt), Wary, &mut out, &mut err).status;
+            let mut input = rt.reader();
+            let status = run_with(rt, words, &mut input, Wary, &mut out, &mut err).status;
             out.end();
             status
         }

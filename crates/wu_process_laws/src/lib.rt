@@ -6,7 +6,7 @@ ghost use Rattle.wu_process_laws.specs.Checked.{EachCheckIsTrue};
 ghost use Rattle.wu_process_laws.specs.Runs.{BeginsWhereOneEnded, BeginsWhereOneStopped, LeavesItsWork, LeavesItsWorkUnclosed};
 
 use sqlite::{FileFrom, Start};
-use std::io::{self, Write};
+use std::io::{self, BufRead, Write};
 use wu_process::{End, run_with};
 
 /// Shows that a run that closed its database leaves the world after a prefix of its commands, and that no crash changes
@@ -49,9 +49,10 @@ pub fn a_run_begins_where_one_stopped<S: Start, T: Start, O: Write, E: Write>(
 
 /// Does what the words of a process ask for, as `run_with`. Where it closed its database, that holds the world after a
 /// prefix of the commands.
-pub fn run_and_leave<S: Start, O: Write, E: Write>(
+pub fn run_and_leave<S: Start, R: BufRead, O: Write, E: Write>(
     rt: &HostRuntime,
     words: io::Result<Vec<String>>,
+    input: &mut R,
     start: S,
     out: &mut O,
     err: &mut E,
@@ -62,7 +63,7 @@ pub fn run_and_leave<S: Start, O: Write, E: Write>(
     // status 0 all are done. Or nothing was adopted, and the files still hold their world.
     ensures left { LeavesItsWork O.contents E.contents result }
 {
-    let end = run_with(rt, words, start, out, err);
+    let end = run_with(rt, words, input, start, out, err);
     a_run_leaves_a_beginning::<S, O, E>(&end);
     end
 }

@@ -1,0 +1,71 @@
+//! A session over an open database: its project is adopted, and the lines of an input are answered over it.
+
+ghost use Rattle.wu_report.specs.Writing.{WritesTo};
+ghost use Rattle.wu_passes.specs.Projects.{older_version};
+ghost use Rattle.wu_cli.specs.Sessions.{ready_line, ServesOver, ServesProject};
+
+use crate::session::serve;
+use crate::texts::numbered;
+use crate::trouble::Trouble;
+use sqlite::{Alter, Connection};
+use std::alloc::Global;
+use std::io::{BufRead, Write};
+use wu_arguments::{ReadFile, fault_status};
+use wu_core::Fault;
+use wu_drive::Project;
+use wu_schema::PRESENT_VERSION;
+
+/// Writes the line with which a session begins, and flushes.
+fn write_ready<W: Write>(out: &mut W, older: Option<u64>) -> Result<(), Fault>
+    ensures { WritesTo W.contents out.old out.new (ready_line older) result }
+{
+    let version = match older {
+        Some(version) => version,
+        None => PRESENT_VERSION,
+    };
+    numbered(out, "= ready version=", version)
+}
+
+/// Reports that the project is ready, and answers the lines of the input over it. Returns the status to end with.
+fn serve_project<S: Alter, R: BufRead, F: ReadFile, W: Write, E: Write>(
+    alloc: Global,
+    project: &mut Project<S>,
+    db: &str,
+    input: &mut R,
+    files: &F,
+    out: &mut W,
+    err: &mut E,
+) -> u8
+    ensures { ServesProject W.contents (F.ReadFile.gives files.now) db.now
+        project.old project.new out.old out.new result }
+{
+    match write_ready(out, project.older_version()) {
+        Ok(()) => serve(alloc, project, db, input, files, out, err),
+        Err(_) => fault_status(Fault::Output),
+    }
+}
+
+/// Adopts the project in an open database, answers the lines of the input over it, and gives the database back, with the
+/// status to end with. Where nothing is adopted, no line is read and nothing is written, and the trouble is why.
+pub fn serve_over<S: Alter, R: BufRead, F: ReadFile, W: Write, E: Write>(
+    alloc: Global,
+    conn: Connection<S>,
+    db: &str,
+    input: &mut R,
+    files: &F,
+    out: &mut W,
+    err: &mut E,
+) -> (Connection<S>, Result<u8, Trouble>)
+    // The project is adopted, and the lines are answered over it; or none is adopted, and nothing goes
+    // out.
+    ensures { ServesOver S.Store W.contents (F.ReadFile.gives files.now) db.now
+        conn result.0 out.old out.new result.1 }
+{
+    match Project::adopt(conn) {
+        Ok(mut project) => {
+            let status = serve_project(alloc, &mut project, db, input, files, out, err);
+            (project.release(), Ok(status))
+        }
+        Err((conn, fault)) => (conn, Err(Trouble::Fault(fault))),
+    }
+}

@@ -1,0 +1,79 @@
+-- A session of the program, from its words to what it leaves of the database.
+use Rattle.std.specs.Prelude.{◌≡◌, ℕ, true, List, Option, Some, None, Result, Ok, Err}
+use Rattle.sqlite_disk.specs.declared.Disk.{Ghosts}
+use Rattle.sqlite_disk.specs.declared.calls.Calls as calls
+use Rattle.sqlite_disk.specs.declared.modelled.Modelled.{Modelled}
+use Rattle.sqlite_disk.specs.declared.start.Start as start
+use Rattle.sqlite_std_file.specs.declared.host.Host.{Host}
+use Rattle.sqlite_store.specs.declared.store.FileStore.{FileStore}
+use Rattle.sqlite_wal.specs.Files.{image_at}
+use Rattle.sqlite.specs.Files.{over_files}
+use Rattle.sqlite.specs.Held.{Held}
+use Rattle.sqlite.specs.declared.error.Error.{Error}
+use Rattle.sqlite.specs.declared.file.Leftover.{Leftover}
+use Rattle.wu_schema.specs.Faults.{fault_of}
+use Rattle.wu_arguments.specs.Refusals.{IsOrderOf}
+use Rattle.wu_arguments.specs.declared.order.Order.TheVariants as order
+use Rattle.wu_cli.specs.Sessions.{ServesOver}
+use Rattle.wu_cli.specs.Troubles.{trouble_of_opening}
+use Rattle.wu_cli.specs.declared.trouble.Trouble.{Trouble}
+use Rattle.wu_process.specs.Asking.{may_hold}
+use Rattle.wu_process.specs.Closing.{IsLeftByClose}
+use Rattle.wu_process.specs.Opening.{IsBar, IsOpenedAt, IsUnopened}
+use Rattle.wu_process.specs.Running.{EndsSo, RunsWords}
+use Rattle.wu_process.specs.declared.database.LeftDatabase.{LeftDatabase}
+use Rattle.wu_process.specs.declared.database.LeftDatabase.TheVariants as left
+use Rattle.wu_process.specs.declared.End.{End}
+use Rattle.wu_process.specs.declared.Ran.{Ran}
+use Rattle.wu_process.specs.declared.Ran.TheVariants as ran
+
+module _ {S W : Type 0} {c : calls.Ghosts Host} {s : start.Ghosts S} {g : Ghosts (Modelled Host S c s)} (contents : W → Option (List ℕ)) where
+  -- The database of this path is opened, over two files that held what the start says. The lines of the input are
+  -- answered over it, and it is closed.
+  pub record ServesOpened (path : List ℕ) (old new : W) (done : Result ℕ Trouble) (left : LeftDatabase (Modelled Host S c s) g) : Type 0 where
+    pub conn : Held (FileStore (Modelled Host S c s) g)
+    pub opened : IsOpenedAt path (image_at s) conn
+    pub again : Held (FileStore (Modelled Host S c s) g)
+    pub serves : ServesOver over_files contents may_hold path conn again old new done
+    pub closed : IsLeftByClose again left
+
+  -- It cannot be opened: the trouble of that is returned, and nothing goes out.
+  pub record ServesUnopened (path : List ℕ) (old new : W) (done : Result ℕ Trouble) (error : Error) (rest : Option (Leftover (Modelled Host S c s) g)) : Type 0 where
+    pub unopened : IsUnopened path error rest
+    pub told : done ≡ Err (trouble_of_opening (fault_of error))
+    pub unwritten : new ≡ old
+
+  abbrev pub OpensAndServes : List ℕ → W → W → Result ℕ Trouble → LeftDatabase (Modelled Host S c s) g → Type 0
+  OpensAndServes path old new done (left.Unopened error rest) = ServesUnopened path old new done error rest
+  OpensAndServes path old new done other = ServesOpened path old new done other
+
+  -- A session is held over the database of this path; or that is not opened, because of what lies there.
+  abbrev pub ServesAt : List ℕ → W → W → Result ℕ Trouble → Option (LeftDatabase (Modelled Host S c s) g) → Type 0
+  ServesAt path old new done (Some left) = OpensAndServes path old new done left
+  ServesAt path old new done None = (told : Trouble) × IsBar told × (done ≡ Err told) × (new ≡ old)
+
+  -- What was done for the words of a process.
+  abbrev pub RanFor : List (List ℕ) → W → W → Ran (Modelled Host S c s) g → Type 0
+  RanFor words old new (ran.Done done left) = RunsWords contents words old new done left
+  RanFor words old new (ran.Served done left) = (path : List ℕ) × IsOrderOf words (order.Session path) × ServesAt path old new done left
+
+module _ {D E : Type 0} {g : Ghosts D} (told_of : E → Option (List ℕ)) where
+  -- The session of a process ends with the status that it gave, or with the trouble that kept it from its first line.
+  abbrev pub EndsServed : E → E → Result ℕ Trouble → Option (LeftDatabase D g) → End D g → Type 0
+  EndsServed err_old err_new (Ok status) left end = (end.status ≡ status) × (err_new ≡ err_old) × (end.is_told ≡ true) × (end.left ≡ left)
+  EndsServed err_old err_new (Err trouble) left end = EndsSo told_of err_old err_new (Err trouble) left end
+
+  -- What was done ends so, with its trouble reported.
+  abbrev pub EndsRan : E → E → Ran D g → End D g → Type 0
+  EndsRan err_old err_new (ran.Done done left) end = EndsSo told_of err_old err_new done left end
+  EndsRan err_old err_new (ran.Served done left) end = EndsServed err_old err_new done left end
+
+module _ {S W : Type 0} {c : calls.Ghosts Host} {s : start.Ghosts S} {g : Ghosts (Modelled Host S c s)} (contents : W → Option (List ℕ)) where
+  -- The words ask for a session, and it is held. What clap prints of refused lines goes to the second output before.
+  pub record HoldsSession {E : Type 0} (told_of : E → Option (List ℕ)) (words : List (List ℕ)) (old new : W) (err_new : E) (end : End (Modelled Host S c s) g) : Type 0 where
+    pub path : List ℕ
+    pub ordered : IsOrderOf words (order.Session path)
+    pub done : Result ℕ Trouble
+    pub runs : ServesAt path old new done end.left
+    pub err_mid : E
+    pub ends : EndsServed told_of err_mid err_new done end.left end
