@@ -6,44 +6,84 @@ ghost use Rattle.std.specs.Prelude.{◌≤◌, IfSome, length};
 
 mod faults;
 mod files;
+mod lowered;
+mod near;
 mod statuses;
 mod subjects;
 mod views;
+mod words;
 
-use faults::fault_text;
+use faults::named_fault_text;
 use files::file_text;
+use lowered::{MOST_BYTES, lowered};
+pub use near::nearest;
 use statuses::status_text;
 use subjects::subject_text;
 use views::view_text;
+use words::{cause_text, key_text, skip_text, subcommand_text};
 
-/// Returns the explanation of a topic of one word; `None` if there is no such topic.
+/// Returns the explanation of a topic of one word, in lower case; `None` if there is no such topic.
 fn text_of_word<'a>(word: &str) -> Option<&'a str>
+    // A text that is returned is not empty.
     ensures { IfSome result (λ text. 1 ≤ length text.now) }
 {
-    match fault_text(word) {
-        Some(text) => Some(text),
-        None => match status_text(word) {
-            Some(text) => Some(text),
-            None => subject_text(word),
-        },
+    if let Some(text) = named_fault_text(word) {
+        return Some(text);
+    }
+    if let Some(text) = status_text(word) {
+        return Some(text);
+    }
+    if let Some(text) = view_text(word) {
+        return Some(text);
+    }
+    if let Some(text) = subject_text(word) {
+        return Some(text);
+    }
+    if let Some(text) = skip_text(word) {
+        return Some(text);
+    }
+    if let Some(text) = cause_text(word) {
+        return Some(text);
+    }
+    if let Some(text) = key_text(word) {
+        return Some(text);
+    }
+    subcommand_text(word)
+}
+
+/// Returns the explanation of a topic, by its words in lower case; `None` if there is no such topic.
+fn text_of_words<'a>(first: &str, second: &str) -> Option<&'a str>
+    // A text that is returned is not empty.
+    ensures { IfSome result (λ text. 1 ≤ length text.now) }
+{
+    if second.is_empty() {
+        return text_of_word(first);
+    }
+    match first {
+        "view" => view_text(second),
+        "file" => file_text(second),
+        "status" => status_text(second),
+        _ => None,
     }
 }
 
-/// Returns the explanation of a topic: its first word, and the second one, empty where there is none. Without a word it
-/// is the list of all topics. Returns `None` if there is no such topic.
+/// Returns the explanation of a topic: its first word, and the second one, empty where there is none, both in any case.
+/// Without a word it is the list of all topics. Returns `None` if there is no such topic.
 pub fn explanation<'a>(first: &str, second: &str) -> Option<&'a str>
     // A text that is returned is not empty.
     ensures { IfSome result (λ text. 1 ≤ length text.now) }
 {
-    match first {
-        "view" => view_text(second),
-        "file" => file_text(second),
-        word => {
-            if second.is_empty() {
-                text_of_word(word)
-            } else {
-                None
-            }
-        }
+    // as F17 prints it; in other cases it is a cause of F3
+    if first == "Output" && second.is_empty() {
+        return named_fault_text("f17");
+    }
+    let mut first_room = [0; MOST_BYTES];
+    let mut second_room = [0; MOST_BYTES];
+    match (
+        lowered(first, &mut first_room),
+        lowered(second, &mut second_room),
+    ) {
+        (Some(first), Some(second)) => text_of_words(first, second),
+        _ => None,
     }
 }

@@ -26,6 +26,7 @@ pub fn subject_text<'a>(name: &str) -> Option<&'a str>
   mask          why a workunit is given up
   scripts       many commands in one opening
   checks        whether a database holds a sound project
+Faults, causes and words of skipped rows are taken as they are printed.
 ",
         ),
         "causes" => Some(
