@@ -99,7 +99,7 @@ pub fn open_and_perform<S: Start, O: Write>(
 /// returned, and nothing is written.
 fn open_and_serve<S: Start, R: BufRead, O: Write, E: Write>(
     rt: &HostRuntime,
-    database: &str,
+    path: &str,
     input: &mut R,
     start: S,
     out: &mut O,
@@ -107,17 +107,17 @@ fn open_and_serve<S: Start, R: BufRead, O: Write, E: Write>(
 ) -> (Result<u8, Trouble>, LeftDatabase<FileFrom<S>>)
     // The lines are answered over the opened database, which is then closed; or nothing is opened, and
     // that is reported.
-    ensures { OpensAndServes O.contents database.now out.old out.new result.0 result.1 }
+    ensures { OpensAndServes O.contents path.now out.old out.new result.0 result.1 }
 {
     let files = HostFiles::new(rt);
-    match Connection::open_from(rt, database, false, start) {
+    match Connection::open_from(rt, path, false, start) {
         Ok(conn) => {
-            let (conn, done) = serve_over(rt.alloc(), conn, database, input, &files, out, err);
-            (done, close(conn))
+            let (conn, served) = serve_over(rt.alloc(), conn, path, input, &files, out, err);
+            (served, close(conn))
         }
         Err((error, left)) => {
-            let trouble = unopened(&error);
-            (Err(trouble), LeftDatabase::Unopened(error, left))
+            let why = unopened(&error);
+            (Err(why), LeftDatabase::Unopened(error, left))
         }
     }
 }
@@ -126,7 +126,7 @@ fn open_and_serve<S: Start, R: BufRead, O: Write, E: Write>(
 /// database must not or cannot be opened, that is returned, and nothing is written.
 pub fn hold_session<S: Start, R: BufRead, O: Write, E: Write>(
     rt: &HostRuntime,
-    database: &str,
+    path: &str,
     input: &mut R,
     start: S,
     out: &mut O,
@@ -134,11 +134,11 @@ pub fn hold_session<S: Start, R: BufRead, O: Write, E: Write>(
 ) -> (Result<u8, Trouble>, Option<LeftDatabase<FileFrom<S>>>)
     // The database of this path is opened, the lines are answered over it, and it is closed. Or it is
     // not opened, which is reported, and nothing goes out.
-    ensures { ServesAt O.contents database.now out.old out.new result.0 result.1 }
+    ensures { ServesAt O.contents path.now out.old out.new result.0 result.1 }
 {
-    match bar(rt, database) {
+    match bar(rt, path) {
         Ok(()) => {
-            let (done, left) = open_and_serve(rt, database, input, start, out, err);
+            let (done, left) = open_and_serve(rt, path, input, start, out, err);
             (done, Some(left))
         }
         Err(barred) => (Err(barred), None),
