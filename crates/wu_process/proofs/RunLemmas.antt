@@ -1,5 +1,6 @@
 -- How a run ends.
-use Rattle.std.proofs.Common.{ℕ, List, Option, Some, None, Result, Ok, Err, inl, inr, subst, sym}
+use Rattle.std.proofs.Common.{◌≡◌, ℕ, List, Option, Some, None, Result, Ok, Err, inl, inr, refl, subst, sym}
+use Rattle.std.specs.Prelude.{◌⊎◌}
 use Rattle.sqlite_disk.specs.declared.Disk.{Ghosts}
 use Rattle.sqlite_disk.specs.declared.calls.Calls as calls
 use Rattle.sqlite_disk.specs.declared.modelled.Modelled.{Modelled}
@@ -11,7 +12,10 @@ use Rattle.wu_cli.specs.declared.trouble.Trouble.{Trouble}
 use Rattle.wu_cli.specs.declared.work.Work.{Work}
 use Rattle.wu_process.specs.Asking.{AsksOfOrder, database_in}
 use Rattle.wu_process.specs.Running.{DoesOpened, EndsSo, Obeys, OpensAndDoes, RunsWords, RunsWork}
+use Rattle.wu_process.specs.Serving.{EndsRan, EndsServed, HoldsSession, OpensAndServes, RanFor, ServesAt, ServesOpened}
 use Rattle.wu_process.specs.declared.End.{End}
+use Rattle.wu_process.specs.declared.Ran.{Ran}
+use Rattle.wu_process.specs.declared.Ran.TheVariants as ran
 use Rattle.wu_process.specs.declared.database.LeftDatabase.{LeftDatabase}
 use Rattle.wu_process.specs.declared.database.LeftDatabase.TheVariants as left
 
@@ -55,3 +59,25 @@ obeyed contents told_of words old new err_old err_new done left end runs ends = 
   runs = subst (RunsWords contents words old new done) (sym ends.same) runs;
   tells = ends.tells;
 }
+
+-- A database that was opened for a session is left closed, or unclosed.
+pub serves_opened : {S W : Type 0} {c : calls.Ghosts Host} {s : start.Ghosts S} {g : Ghosts (Modelled Host S c s)} (contents : W → Option (List ℕ)) (path : List ℕ) (old new : W)
+    (done : Result ℕ Trouble) (left : LeftDatabase (Modelled Host S c s) g) → ServesOpened contents path old new done left → OpensAndServes contents path old new done left
+serves_opened contents path old new done (left.Unopened error rest) serves = absurd serves.closed
+serves_opened contents path old new done (left.Closed files) serves = serves
+serves_opened contents path old new done (left.Unclosed error store) serves = serves
+
+-- How what was done ends.
+module _ {S W E : Type 0} {c : calls.Ghosts Host} {s : start.Ghosts S} {g : Ghosts (Modelled Host S c s)} (contents : W → Option (List ℕ)) (told_of : E → Option (List ℕ)) (words : List (List ℕ)) (old new : W) (err_old err_mid err_new : E)
+    (end : End (Modelled Host S c s) g) where
+  served_so : (done : Result ℕ Trouble) (left : Option (LeftDatabase (Modelled Host S c s) g)) → EndsServed told_of err_mid err_new done left end → (end.left ≡ left) × EndsServed told_of err_mid err_new done end.left end
+  served_so (Ok status) left (is, unwritten, told, same) = (same, (is, unwritten, told, refl))
+  served_so (Err trouble) left ends = (ends.same, record { tells = ends.tells; same = refl })
+
+  pub ran_ends : (ran : Ran (Modelled Host S c s) g) → RanFor contents words old new err_old err_mid ran → EndsRan told_of err_mid err_new ran end
+      → Obeys contents told_of words old new err_old err_new end ⊎ HoldsSession contents told_of words old new err_new end
+  ran_ends (ran.Done done left) (runs, kept) ends =
+      inl (obeyed contents told_of words old new err_old err_new done left end runs (subst (λ err. EndsSo told_of err err_new done left end) kept ends))
+  ran_ends (ran.Served done left) (path, ordered, runs) ends =
+      let it = served_so done left ends in
+      inr (record { path = path; ordered = ordered; done = done; runs = subst (ServesAt contents path old new done) (sym it.0) runs; err_mid = err_mid; ends = it.1 })

@@ -52,10 +52,10 @@ module _ {S W : Type 0} {c : calls.Ghosts Host} {s : start.Ghosts S} {g : Ghosts
   ServesAt path old new done (Some left) = OpensAndServes path old new done left
   ServesAt path old new done None = (told : Trouble) × IsBar told × (done ≡ Err told) × (new ≡ old)
 
-  -- What was done for the words of a process.
-  abbrev pub RanFor : List (List ℕ) → W → W → Ran (Modelled Host S c s) g → Type 0
-  RanFor words old new (ran.Done done left) = RunsWords contents words old new done left
-  RanFor words old new (ran.Served done left) = (path : List ℕ) × IsOrderOf words (order.Session path) × ServesAt path old new done left
+  -- What was done for the words of a process. Only a session writes to the second output meanwhile.
+  abbrev pub RanFor : {E : Type 0} → List (List ℕ) → W → W → E → E → Ran (Modelled Host S c s) g → Type 0
+  RanFor words old new err_old err_new (ran.Done done left) = RunsWords contents words old new done left × (err_new ≡ err_old)
+  RanFor words old new err_old err_new (ran.Served done left) = (path : List ℕ) × IsOrderOf words (order.Session path) × ServesAt path old new done left
 
 module _ {D E : Type 0} {g : Ghosts D} (told_of : E → Option (List ℕ)) where
   -- The session of a process ends with the status that it gave, or with the trouble that kept it from its first line.
@@ -74,6 +74,6 @@ module _ {S W : Type 0} {c : calls.Ghosts Host} {s : start.Ghosts S} {g : Ghosts
     pub path : List ℕ
     pub ordered : IsOrderOf words (order.Session path)
     pub done : Result ℕ Trouble
-    pub runs : ServesAt path old new done end.left
+    pub runs : ServesAt contents path old new done end.left
     pub err_mid : E
     pub ends : EndsServed told_of err_mid err_new done end.left end

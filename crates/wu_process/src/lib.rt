@@ -66,7 +66,8 @@ fn run_words<S: sqlite::Start, R: BufRead, O: Write, E: Write>(
     // Refused words, and a line or a script that cannot be run, are reported, and nothing goes out.
     // Otherwise the work is done over the database that the words name, or the check, or the
     // explanation, or a session is held.
-    ensures { RanFor O.contents (map string_bytes words.now) out.old out.new result }
+    ensures { RanFor O.contents (map string_bytes words.now)
+        out.old out.new err.old err.new result }
 {
     let alloc = rt.alloc();
     let files = HostFiles::new(rt);

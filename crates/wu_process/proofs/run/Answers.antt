@@ -3,7 +3,7 @@ use Rattle.wu_process.proofs.run.Goals as goal
 
 pub returns-in-Ok : goal.returns-in-Ok
 returns-in-Ok c = inl (record {
-  words = c.words.result;
+  words = c.words-words.result;
   old = c.begin.new.self;
   new = c.run_with-status.new.out;
   err_old = c.new-err.result;

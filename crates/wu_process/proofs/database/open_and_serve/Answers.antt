@@ -1,0 +1,20 @@
+use Rattle.wu_process.proofs.RunLemmas.{serves_opened}
+use Rattle.wu_process.proofs.database.open_and_serve.Goals as goal
+
+pub returns-in-Ok : goal.returns-in-Ok
+returns-in-Ok g c =
+    serves_opened g.O.Write.contents c.args.path.now c.args.out.now c.serve_over-conn.new.out c.serve_over-conn.result.1 c.close.result
+    (record {
+      conn = c.in-Ok.conn;
+      opened = record {
+        of_file = c.in-Ok.ensures.memory;
+        opens = c.in-Ok.ensures.opened;
+        finds = c.in-Ok.ensures.found;
+        plain = c.in-Ok.ensures.sums;
+        fresh = c.in-Ok.ensures.fresh;
+        guarded = c.in-Ok.ensures.guarded;
+      };
+      again = c.serve_over-conn.result.0;
+      serves = c.serve_over-conn.ensures;
+      closed = c.close.ensures;
+    })
