@@ -20,19 +20,23 @@ fn is_of_another(path: &str) -> bool {
     path.ends_with("-wal") || path.ends_with("-journal")
 }
 
-/// Returns whether a file with content lies at the path.
-fn has_bytes(rt: &HostRuntime, path: &str) -> bool {
+/// How many bytes a log has at least that holds a page: a header of 32, and a frame of 24 with a page of 512. What a close
+/// leaves of a log is shorter.
+const SHORTEST_LOG: u64 = 568;
+
+/// Returns how many bytes the file at the path has; 0 if there is none, or if that cannot be found out.
+fn len_at(rt: &HostRuntime, path: &str) -> u64 {
     match fs::metadata(rt, path) {
-        Ok(found) => found.len() > 0,
-        Err(_) => false,
+        Ok(found) => found.len(),
+        Err(_) => 0,
     }
 }
 
-/// Returns whether a log or a journal with content lies beside the path.
+/// Returns whether a log that holds a page, or a journal with content, lies beside the path.
 pub fn has_log(rt: &HostRuntime, path: &str) -> Result<bool, AllocError> {
     let log = format!(in rt.alloc(); "{path}-wal")?;
     let journal = format!(in rt.alloc(); "{path}-journal")?;
-    Ok(has_bytes(rt, log.as_str()) || has_bytes(rt, journal.as_str()))
+    Ok(len_at(rt, log.as_str()) >= SHORTEST_LOG || len_at(rt, journal.as_str()) > 0)
 }
 
 /// Returns whether the file at the path begins as no database does. An empty file can become one, and of a file that
