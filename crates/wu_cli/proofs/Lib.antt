@@ -5,3 +5,4 @@ pub mod PrintLemmas
 pub mod TellingLemmas
 pub mod WorkLemmas
 pub mod SessionLemmas
+pub mod AcceptLemmas

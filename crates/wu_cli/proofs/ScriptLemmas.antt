@@ -88,7 +88,7 @@ fold_both world (x ∷ xs) ys = fold_both (step world x) xs ys
 pub world_both : (world : World) (xs ys : List Command) → world_of world (xs ++ ys) ≡ world_of (world_of world xs) ys
 world_both world xs ys = ap (λ rs. fold_steps world rs) (map-append request_of xs ys) ∙ fold_both world (map request_of xs) (map request_of ys)
 
-answer_both : (world : World) (xs ys : List Command) (first more : List Answer) → AnswerAll world xs first → AnswerAll (world_of world xs) ys more → AnswerAll world (xs ++ ys) (first ++ more)
+pub answer_both : (world : World) (xs ys : List Command) (first more : List Answer) → AnswerAll world xs first → AnswerAll (world_of world xs) ys more → AnswerAll world (xs ++ ys) (first ++ more)
 answer_both world [] ys [] more one two = two
 answer_both world [] ys (a ∷ first) more one two = absurd one
 answer_both world (x ∷ xs) ys [] more one two = absurd one

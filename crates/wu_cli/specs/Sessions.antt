@@ -1,18 +1,24 @@
 -- A session: lines that come one after another, what is done for each, and what goes out.
-use Rattle.std.specs.Prelude.{◌≡◌, ◌⊎◌, ℕ, Bool, true, false, List, [], ◌∷◌, ◌++◌, codes, if◌then◌else◌, is_some, slice_get, unwrap_or, ◌==◌, Option, Some, None, Result, Ok, Err, Vec}
+use Rattle.std.specs.Prelude.{◌≡◌, ◌⊎◌, ℕ, Bool, true, false, List, [], ◌∷◌, ◌++◌, codes, if◌then◌else◌, is_some, map, slice_get, unwrap_or, ◌==◌, Option, Some, None, Result, Ok, Err, Vec}
 use Rattle.std.specs.Fmt.{decimal}
 use Rattle.std.specs.List.{before_first}
 use Rattle.sqlite.specs.Held.{Held, state}
+use Rattle.sqlite.specs.State.{HasCleanDisk}
 use Rattle.sqlite.specs.Store.{Ghosts as StoreGhosts}
 use Rattle.sqlite_trees.specs.declared.store.Store.{Ghosts}
+use Rattle.wu_core.specs.World.{World}
 use Rattle.wu_core.specs.declared.fault.Fault.{Fault}
 use Rattle.wu_core.specs.declared.fault.Fault.TheVariants.{Memory, Output}
 use Rattle.wu_feed.specs.Scripts.{script_of}
 use Rattle.wu_feed.specs.declared.script.ScriptLine.{ScriptLine}
-use Rattle.wu_machine.specs.Machine.{present_version}
+use Rattle.wu_drive.specs.Driving.{AnswerAll}
+use Rattle.wu_machine.specs.Commands.{request_of}
+use Rattle.wu_machine.specs.Machine.{fold_steps, present_version}
+use Rattle.wu_machine.specs.declared.command.Answer.{Answer}
+use Rattle.wu_machine.specs.declared.command.Command.{Command}
 use Rattle.wu_passes.specs.declared.project.Project.{Project}
 use Rattle.wu_passes.specs.Adopting.{Adopts, RefusesAdoption}
-use Rattle.wu_passes.specs.Projects.{connection_of, has_ended, IsSessionOpen, KnowsTables, older_version, state_of}
+use Rattle.wu_passes.specs.Projects.{connection_of, has_ended, IsOver, IsSessionOpen, KnowsTables, older_version, state_of}
 use Rattle.wu_report.specs.Texts.{line_end}
 use Rattle.wu_report.specs.Writing.{WritesTo}
 use Rattle.wu_arguments.specs.Statuses.{fault_status, refusal_status}
@@ -111,6 +117,18 @@ abbrev pub ends_with : Result (Unit {0}) Fault → Bool → Result Bool Refusal 
 ends_with (Err fault) ended done = Some (fault_status Output)
 ends_with (Ok told) ended done = if is_cut done then Some (fault_status Output) else if ended then Some (status_of_done done) else None
 
+-- Commands were accepted, each with the machine's reply, and the session goes on over the world after them: a crash
+-- leaves nothing else.
+pub record Accepts {S : Type 0} {store : Ghosts S} (world : World) (new : Project S store) : Type 0 where
+  pub commands : List Command
+  pub answers : List Answer
+  pub answered : AnswerAll world commands answers
+  pub over : IsOver new (fold_steps world (map request_of commands))
+
+-- On a clean disk a session accepts commands over each world over which it goes on.
+abbrev pub AcceptsOver : {S : Type 0} {store : Ghosts S} → Project S store → Project S store → Type 0
+AcceptsOver old new = IsSessionOpen old → HasCleanDisk (state_of new) → (world : World) → IsOver old world → Accepts world new
+
 module _ {S W : Type 0} {store : Ghosts S} (contents : W → Option (List ℕ)) (gives : List ℕ → ℕ → Option (List ℕ) → Type 0) (db : List ℕ) where
   -- What was heard is done or refused, and then the line that ends its answer goes out, or a prefix of it if the output
   -- fails. The session goes on, or ends with a status.
@@ -141,6 +159,8 @@ module _ {S W : Type 0} {store : Ghosts S} (contents : W → Option (List ℕ)) 
     pub mid : Project S store
     pub out_mid : W
     pub each : AnswersEach old mid out_old out_mid heard
+    -- What they accepted is kept, whatever a crash does then.
+    pub accepts : AcceptsOver old mid
     pub end : ((status ≡ 0) × (new ≡ mid) × (out_new ≡ out_mid)) ⊎ EndsSession mid new out_mid out_new status
 
 -- ---- over an open database
