@@ -2,10 +2,12 @@
 
     python3 plain.py FILE           makes a project in FILE; prints a line 'name<TAB>milliseconds' for each command
     python3 plain.py FILE --views   the same for each view of a FILE that exists, and writes their texts to FILE.NAME
+    python3 plain.py FILE --session answers each line of standard input over a FILE that exists, as a session of the
+                                    program does; it refuses nothing
 
 It keeps the same tables with the same queue, reads the same files and follows the same rules, without the proofs. A
 pass reads the rows of its first workunits by the queue with two queries and judges them in Python. It writes them, and
-the queue's rows, with executemany. `tools/bench` runs it. It exits with 0.
+the queue's rows, with executemany. `tools/bench` and `tools/sessions.py` run it. It exits with 0.
 """
 
 import csv
@@ -67,7 +69,16 @@ def keep(db, kind, name, content, first, verdicts):
     db.execute("INSERT INTO import VALUES (?, ?, ?, ?, ?, ?)", (kind, name, b"", content, first, verdicts))
 
 
+def kept(db, kind, name, content):
+    """Returns the first number and the verdicts of an import that came before, or nothing."""
+    found = db.execute("SELECT first_number, verdicts, content FROM import WHERE kind = ? AND name = ?", (kind, name)).fetchone()
+    assert found is None or found[2] == content
+    return found and found[:2]
+
+
 def batch(db, name, content):
+    if before := kept(db, 1, name, content):
+        return before
     db.execute("BEGIN")
     (number,) = db.execute("SELECT next_number FROM project").fetchone()
     first, added = number, []
@@ -82,6 +93,7 @@ def batch(db, name, content):
     db.execute("UPDATE project SET next_number = ?", (number,))
     keep(db, 1, name, content, first, "0" * len(added))
     db.execute("COMMIT")
+    return first, "0" * len(added)
 
 
 def instance(db, text):
@@ -97,6 +109,8 @@ ACTIVE = "(server_state = 4 OR server_state = 5 AND outcome = 1 AND validate_sta
 
 
 def sent(db, name, content):
+    if before := kept(db, 2, name, content):
+        return before
     db.execute("BEGIN")
     verdicts, changed = [], set()
     for text, host, moment in rows(content):
@@ -118,6 +132,7 @@ def sent(db, name, content):
     mark_all(db, changed)
     keep(db, 2, name, content, 0, "".join(verdicts))
     db.execute("COMMIT")
+    return 0, "".join(verdicts)
 
 
 def class_of(db, host):
@@ -127,6 +142,8 @@ def class_of(db, host):
 
 
 def reported(db, name, content):
+    if before := kept(db, 3, name, content):
+        return before
     db.execute("BEGIN")
     outcomes = {"success": SUCCESS, "client_error": CLIENT_ERROR, "detached": 7}
     verdicts, changed = [], set()
@@ -153,6 +170,7 @@ def reported(db, name, content):
     mark_all(db, changed)
     keep(db, 3, name, content, 0, "".join(verdicts))
     db.execute("COMMIT")
+    return 0, "".join(verdicts)
 
 
 def load(db, selects, values):
@@ -462,13 +480,13 @@ def view(db, lines):
 
 def views(db):
     for lines in VIEWS:
-        timed(f"view {lines.__name__}", lambda: view(db, lines).tell())
+        timed(f"view {lines.__name__}", lambda: view(db, lines))
 
 
 def timed(name, work):
     start = time.perf_counter()
-    answer = work()
-    print(f"{name}\t{(time.perf_counter() - start) * 1000:.1f}\t{answer}")
+    work()
+    print(f"{name}\t{(time.perf_counter() - start) * 1000:.1f}")
 
 
 def a_thousand(header, first, rest):
@@ -535,7 +553,46 @@ def shown(path):
             file.write(view(db, lines).getvalue())
 
 
+IMPORTS = {"batch": (batch, "--jobs"), "sent": (sent, "--file"), "reported": (reported, "--file")}
+PASSES = {
+    "transition": lambda db, said: transitions(db, seconds(said["--now"]), int(said["--limit"])),
+    "validate": lambda db, said: validation(db, int(said["--limit"])),
+    "assimilate": lambda db, said: assimilation(db, seconds(said["--now"]), int(said["--limit"])),
+    "delete": lambda db, said: deletion(db, int(said["--limit"])),
+    "purge": lambda db, said: purge(db, seconds(said["--now"]), int(said["--limit"]), int(said["--min-age"])),
+}
+CYCLE = "transition validate transition assimilate transition delete purge".split()
+
+
+def answer(db, word, said):
+    """Does what a line asks for, and returns the lines of its answer."""
+    if word == "show":
+        return {lines.__name__: lines for lines in VIEWS}[said["--view"]](db)
+    if word not in IMPORTS:
+        return [f"{each}: {PASSES[each](db, said)}" for each in (CYCLE if word == "cycle" else [word])]
+    imports, option = IMPORTS[word]
+    with open(said[option], "rb") as file:
+        first, verdicts = imports(db, said["--name"], file.read())
+    applied = verdicts.count("0")
+    if word == "batch":
+        return [f"batch {said['--name']}: {applied} added, first {first}"]
+    return [f"{word} {said['--name']}: {applied} applied, {len(verdicts) - applied} skipped"]
+
+
+def serve(path):
+    """Answers lines over one connection; each answer ends as that of a session."""
+    db = open_file(path)
+    print("= ready version=3", flush=True)
+    for line in sys.stdin:
+        word, *options = line.split()
+        for text in answer(db, word, dict(zip(options[::2], options[1::2]))):
+            print(text)
+        print("= 0", flush=True)
+
+
 if sys.argv[2:] == ["--views"]:
     shown(sys.argv[1])
+elif sys.argv[2:] == ["--session"]:
+    serve(sys.argv[1])
 else:
     main(sys.argv[1])

@@ -32,7 +32,7 @@ pub trait ReadFile {
 }
 
 /// Returns what a template holds. One that is left out has no bytes.
-fn read_template<F: ReadFile>(
+fn template_content<F: ReadFile>(
     alloc: Global,
     files: &F,
     template: &Option<Word>,
@@ -75,7 +75,7 @@ impl Asking {
         let content = files.read(file.as_str(), LONGEST_FILE)?;
         let contents = match kind {
             ImportKind::Batch => {
-                Vec::from_array(alloc, [content, read_template(alloc, files, template)?])?
+                Vec::from_array(alloc, [content, template_content(alloc, files, template)?])?
             }
             _ => Vec::from_array(alloc, [content])?,
         };

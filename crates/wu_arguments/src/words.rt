@@ -41,7 +41,7 @@ fn template(alloc: Global, kind: ImportKind, found: &ArgMatches<'_>) -> Result<O
 }
 
 /// Reads the values of an import.
-fn import(alloc: Global, kind: ImportKind, found: &ArgMatches<'_>) -> Result<Asking, Usage>
+fn read_import(alloc: Global, kind: ImportKind, found: &ArgMatches<'_>) -> Result<Asking, Usage>
     ensures asking { IfOk result
         (HasValues (rows_of (found_of found.now)) (Subcommand.Import kind)) }
     ensures refused { IfErr result
@@ -91,7 +91,7 @@ fn min_age(pass: Pass, found: &ArgMatches<'_>) -> Result<Option<u64>, Usage>
 }
 
 /// Reads the values of a pass.
-fn pass(alloc: Global, pass: Pass, found: &ArgMatches<'_>) -> Result<Asking, Usage>
+fn read_pass(alloc: Global, pass: Pass, found: &ArgMatches<'_>) -> Result<Asking, Usage>
     ensures asking { IfOk result
         (HasValues (rows_of (found_of found.now)) (Subcommand.Pass pass)) }
     ensures refused { IfErr result
@@ -106,7 +106,7 @@ fn pass(alloc: Global, pass: Pass, found: &ArgMatches<'_>) -> Result<Asking, Usa
 }
 
 /// Reads the values of a cycle.
-fn cycle(alloc: Global, found: &ArgMatches<'_>) -> Result<Asking, Usage>
+fn read_cycle(alloc: Global, found: &ArgMatches<'_>) -> Result<Asking, Usage>
     ensures asking { IfOk result (HasValues (rows_of (found_of found.now)) Subcommand.Cycle) }
     ensures refused { IfErr result (IsLacking (rows_of (found_of found.now)) Subcommand.Cycle) }
 {
@@ -118,7 +118,7 @@ fn cycle(alloc: Global, found: &ArgMatches<'_>) -> Result<Asking, Usage>
 }
 
 /// Reads the values of a cancel.
-fn cancel(alloc: Global, found: &ArgMatches<'_>) -> Result<Asking, Usage>
+fn read_cancel(alloc: Global, found: &ArgMatches<'_>) -> Result<Asking, Usage>
     ensures asking { IfOk result (HasValues (rows_of (found_of found.now)) Subcommand.Cancel) }
     ensures refused { IfErr result (IsLacking (rows_of (found_of found.now)) Subcommand.Cancel) }
 {
@@ -153,7 +153,7 @@ fn script(alloc: Global, found: &ArgMatches<'_>) -> Result<Order, Usage>
 }
 
 /// Reads the topic of an explanation.
-fn explain(alloc: Global, found: &ArgMatches<'_>) -> Result<Order, Usage>
+fn read_topic(alloc: Global, found: &ArgMatches<'_>) -> Result<Order, Usage>
     ensures order { IfOk result (IsOrder (rows_of (found_of found.now)) Subcommand.Explain) }
     ensures refused { IfErr result (λ usage. usage ≡ Usage.Memory) }
 {
@@ -173,16 +173,16 @@ fn order_of(alloc: Global, subcommand: Subcommand, found: &ArgMatches<'_>) -> Re
         (subcommand ≡ Subcommand.Show → IsSeen (rows_of (found_of found.now))) }
 {
     match subcommand {
-        Subcommand::Import(kind) => line(alloc, import(alloc, kind, found)?, found),
-        Subcommand::Pass(its) => line(alloc, pass(alloc, its, found)?, found),
-        Subcommand::Cancel => line(alloc, cancel(alloc, found)?, found),
-        Subcommand::Cycle => line(alloc, cycle(alloc, found)?, found),
+        Subcommand::Import(kind) => line(alloc, read_import(alloc, kind, found)?, found),
+        Subcommand::Pass(its) => line(alloc, read_pass(alloc, its, found)?, found),
+        Subcommand::Cancel => line(alloc, read_cancel(alloc, found)?, found),
+        Subcommand::Cycle => line(alloc, read_cycle(alloc, found)?, found),
         Subcommand::Show => line(alloc, Asking::Show(view(found)?), found),
         Subcommand::Upgrade => line(alloc, Asking::Upgrade, found),
         Subcommand::Script => script(alloc, found),
         Subcommand::Session => Ok(Order::Session(text(alloc, found, LineOption::Database)?)),
         Subcommand::Check => Ok(Order::Check(text(alloc, found, LineOption::Checked)?)),
-        Subcommand::Explain => explain(alloc, found),
+        Subcommand::Explain => read_topic(alloc, found),
     }
 }
 

@@ -7,9 +7,9 @@ ghost use Rattle.wu_schema.specs.Asking.{Asks, ServesUnlessFailed};
 ghost use Rattle.wu_schema.specs.Calls.{OnAnswer};
 ghost use Rattle.wu_schema.specs.Faults.{IsStoreFault};
 
-use crate::counts::count_results;
+use crate::counts::instances_in;
 use crate::finding::{Finding, Verdict};
-use crate::judging::{is_known, judge};
+use crate::judging::{is_known, judge_world};
 use crate::version::{FIRST_VERSION, version_told};
 use sqlite::{Alter, Connection};
 use std::alloc::Global;
@@ -102,13 +102,13 @@ fn examine<S: Alter>(conn: &mut Connection<S>, alloc: Global) -> Result<Verdict,
         Basis::World(loaded) => loaded,
         Basis::Unsound(finding) => return Ok(Verdict::Unsound(finding)),
     };
-    if let Some(finding) = judge(conn, alloc, &loaded)? {
+    if let Some(finding) = judge_world(conn, alloc, &loaded)? {
         return Ok(Verdict::Unsound(finding));
     }
     Ok(Verdict::Sound {
         version: loaded.version(),
         workunits: loaded.workunits().len() as u64,
-        results: count_results(loaded.workunits()),
+        results: instances_in(loaded.workunits()),
     })
 }
 

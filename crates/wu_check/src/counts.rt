@@ -5,7 +5,7 @@ ghost use Rattle.std.specs.Prelude.{◌≡◌, ◌<◌, ◌^◌, length, sum_by}
 use wu_core::Workunit;
 
 /// Returns the number of all instances of these workunits.
-pub fn count_results(workunits: &[Workunit]) -> u64
+pub fn instances_in(workunits: &[Workunit]) -> u64
     // They have less than 2^64 instances.
     requires { sum_by (λ (w : Workunit). length w.instances) workunits.now < 2 ^ 64 }
     // It is the number of all instances of the workunits.

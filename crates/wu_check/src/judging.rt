@@ -11,7 +11,7 @@ ghost use Rattle.wu_store.specs.Loading.{StaysUnlessFailed};
 ghost use Rattle.wu_store.specs.StandsFor.{IsQueued};
 
 use crate::finding::Finding;
-use crate::keys::key_of;
+use crate::keys::key_of_wrong;
 use crate::marks::wrong_marks;
 use sqlite::{Alter, Connection};
 use sqlite_schema::schema::Schema;
@@ -52,7 +52,7 @@ fn wrong_world(schema: &Schema, alloc: Global, loaded: &Loaded) -> Result<Option
         return Ok(Some(Finding::Version(loaded.version())));
     }
     if let Some(wrong) = audit(alloc, loaded)? {
-        let key = key_of(loaded, wrong)?;
+        let key = key_of_wrong(loaded, wrong)?;
         return Ok(Some(Finding::World(wrong, key)));
     }
     if is_queued(loaded) && queue_tree(schema).is_none() {
@@ -62,7 +62,7 @@ fn wrong_world(schema: &Schema, alloc: Global, loaded: &Loaded) -> Result<Option
 }
 
 /// Returns what is wrong with the world that the tables represent, or with its queue, or `None` if nothing is.
-pub fn judge<S: Alter>(
+pub fn judge_world<S: Alter>(
     conn: &mut Connection<S>,
     alloc: Global,
     loaded: &Loaded,

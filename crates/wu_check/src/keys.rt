@@ -10,7 +10,7 @@ use wu_audit::{AuditTable, Loaded, Wrong};
 use wu_core::Fault;
 
 /// Returns the place, counted from 1, of one of so many rows.
-fn counted(place: usize, rows: usize) -> u64
+fn place_from_one(place: usize, rows: usize) -> u64
     requires { place < rows }
     ensures { result ≡ place + 1 }
 {
@@ -42,7 +42,7 @@ fn class_key(loaded: &Loaded, place: usize) -> Result<Key, Fault>
 }
 
 /// Returns the key of the row that is wrong. Returns `Memory` if out of memory.
-pub fn key_of(loaded: &Loaded, wrong: Wrong) -> Result<Key, Fault>
+pub fn key_of_wrong(loaded: &Loaded, wrong: Wrong) -> Result<Key, Fault>
     // The violation is the first of this world in the written order.
     requires { StandsAgainst loaded.now wrong }
     // The key is that of the reported row; grants and archived rows are counted from 1.
@@ -56,8 +56,8 @@ pub fn key_of(loaded: &Loaded, wrong: Wrong) -> Result<Key, Fault>
     match wrong.table() {
         AuditTable::Project => Ok(Key::Project),
         AuditTable::Workunit => Ok(Key::Workunit(loaded.workunits()[place].number)),
-        AuditTable::CreditGrant => Ok(Key::Grant(counted(place, loaded.grants().len()))),
-        AuditTable::Archived => Ok(Key::Archived(counted(place, loaded.archived().len()))),
+        AuditTable::CreditGrant => Ok(Key::Grant(place_from_one(place, loaded.grants().len()))),
+        AuditTable::Archived => Ok(Key::Archived(place_from_one(place, loaded.archived().len()))),
         AuditTable::Import => import_key(loaded, place),
         AuditTable::HostClass => class_key(loaded, place),
     }

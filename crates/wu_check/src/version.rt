@@ -15,7 +15,7 @@ use wu_schema::query;
 pub const FIRST_VERSION: u64 = 1;
 
 /// Returns the rows of the table of the project.
-fn project_rows<S: Alter>(conn: &mut Connection<S>) -> Result<Vec<Row>, Fault>
+fn rows_of_project<S: Alter>(conn: &mut Connection<S>) -> Result<Vec<Row>, Fault>
     ensures { Looks FIRST_VERSION S.Store conn.old conn.new result
         (λ db trees rows. rows.items ≡ map (keyed 3) (db.trees trees.project)) }
 {
@@ -38,7 +38,7 @@ fn version_in_row(row: &Row) -> u64
 }
 
 /// Returns the version in the one row of a project, and 1 for any other rows.
-fn version_in(rows: &[Row]) -> u64
+fn version_of_rows(rows: &[Row]) -> u64
     // The version is that of the one row, or 1 where there is not one row with a number after the
     // key.
     ensures { TellVersion rows.now result }
@@ -57,6 +57,6 @@ pub fn version_told<S: Alter>(conn: &mut Connection<S>) -> Result<u64, Fault>
     ensures { Looks FIRST_VERSION S.Store conn.old conn.new result
         (λ db trees version. IsReadVersion db version) }
 {
-    let rows = project_rows(conn)?;
-    Ok(version_in(&rows))
+    let rows = rows_of_project(conn)?;
+    Ok(version_of_rows(&rows))
 }

@@ -1,5 +1,5 @@
 -- The commands that a session accepts.
-use Rattle.std.proofs.Common.{◌≡◌, ◌∙◌, inl, inr, ℕ, Bool, true, false, List, [], ◌∷◌, ◌++◌, map, take, Option, Some, None, Result, Ok, Err, refl, sym, subst, arith}
+use Rattle.std.proofs.Common.{◌≡◌, ◌⊎◌, ◌∙◌, inl, inr, ℕ, Bool, true, false, List, [], ◌∷◌, ◌++◌, map, take, Option, Some, None, Result, Ok, Err, refl, sym, subst, arith}
 use Rattle.std.proofs.lemmas.Bool.{cases_Bool}
 use Rattle.sqlite.specs.State.{HasCleanDisk}
 use Rattle.sqlite_trees.specs.declared.store.Store.{Ghosts}
@@ -19,7 +19,8 @@ use Rattle.wu_arguments.specs.declared.step.Step.{Step}
 use Rattle.wu_cli.specs.Performing.{Performs}
 use Rattle.wu_cli.specs.Repeating.{commands_of_steps, unrolled}
 use Rattle.wu_cli.specs.Scripting.{PerformsEach, PerformsSteps}
-use Rattle.wu_cli.specs.Sessions.{Accepts, AnswersEach, AnswersHeard, DoesHeard, DoesText, ends_with, is_cut}
+use Rattle.wu_cli.specs.Hearing.{Hears}
+use Rattle.wu_cli.specs.Sessions.{Accepts, AnswersEach, AnswersHeard, DoesHeard, DoesText, ends_with, EndsInput, EndsSession, is_cut, RunsSession}
 use Rattle.wu_cli.proofs.ScriptLemmas.{answer_both, each_done, each_goes, each_over, one_clean, script_clean, world_both}
 
 -- A session that goes on has not ended.
@@ -124,3 +125,19 @@ module _ {S W : Type 0} {store : Ghosts S} (contents : W → Option (List ℕ)) 
         let opened = still_open old each.0 out_old each.1 one each.2 in
         let first = heard_accepts old each.0 out_old each.2.out_done one each.2.done each.2.does going opened before world over in
         accepts_both each.0 new world first (session_accepts each.0 new each.1 out_new more each.3 opened clean (fold_steps world (map request_of first.commands)) first.over)
+
+    -- So a session has run whose lines were heard and answered up to its end.
+    pub runs_session : (old mid new : Project S store) (out_old out_mid out_new : W) (in_old in_mid in_new : Option (List ℕ)) (heard : List (Result (List ℕ) Refusal)) (status : ℕ)
+        → AnswersEach contents gives db old mid out_old out_mid heard → Hears in_old in_mid heard
+        → EndsInput contents gives db mid new out_mid out_new in_mid in_new status ⊎ EndsSession contents gives db mid new out_mid out_new in_mid in_new status
+        → RunsSession contents gives db old new out_old out_new in_old in_new status
+    runs_session old mid new out_old out_mid out_new in_old in_mid in_new heard status each hears end = record {
+      heard = heard;
+      mid = mid;
+      out_mid = out_mid;
+      in_mid = in_mid;
+      each = each;
+      hears = hears;
+      accepts = session_accepts old mid out_old out_mid heard each;
+      end = end;
+    }

@@ -4,5 +4,6 @@ mod RepeatLemmas
 pub mod PrintLemmas
 pub mod TellingLemmas
 pub mod WorkLemmas
+pub mod HearingLemmas
 pub mod SessionLemmas
 pub mod AcceptLemmas

@@ -9,4 +9,5 @@ pub mod Troubles
 pub mod Working
 pub mod Printing
 pub mod Telling
+pub mod Hearing
 pub mod Sessions

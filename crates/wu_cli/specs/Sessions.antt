@@ -1,6 +1,7 @@
 -- A session: lines that come one after another, what is done for each, and what goes out.
-use Rattle.std.specs.Prelude.{◌≡◌, ◌⊎◌, ℕ, Bool, true, false, List, [], ◌∷◌, ◌++◌, codes, if◌then◌else◌, is_some, map, slice_get, unwrap_or, ◌==◌, Option, Some, None, Result, Ok, Err, Vec}
+use Rattle.std.specs.Prelude.{◌≡◌, ◌⊎◌, ℕ, Bool, true, false, List, [], ◌∷◌, ◌++◌, codes, if◌then◌else◌, is_some, map, slice_get, unwrap_or, ◌==◌, Option, Some, None, Result, Ok, Err}
 use Rattle.std.specs.Fmt.{decimal}
+use Rattle.std.specs.Io.KnownBytes.{IsAtEnd}
 use Rattle.std.specs.List.{before_first}
 use Rattle.sqlite.specs.Held.{Held, state}
 use Rattle.sqlite.specs.State.{HasCleanDisk}
@@ -17,8 +18,8 @@ use Rattle.wu_machine.specs.Machine.{fold_steps, present_version}
 use Rattle.wu_machine.specs.declared.command.Answer.{Answer}
 use Rattle.wu_machine.specs.declared.command.Command.{Command}
 use Rattle.wu_passes.specs.declared.project.Project.{Project}
-use Rattle.wu_passes.specs.Adopting.{Adopts, RefusesAdoption}
-use Rattle.wu_passes.specs.Projects.{connection_of, has_ended, IsOver, IsSessionOpen, KnowsTables, older_version, state_of}
+use Rattle.wu_passes.specs.Adopting.{Adopts, RefusesAdoption, TellsNew}
+use Rattle.wu_passes.specs.Projects.{connection_of, has_ended, is_new, IsOver, IsSessionOpen, KnowsTables, older_version, state_of}
 use Rattle.wu_report.specs.Texts.{line_end}
 use Rattle.wu_report.specs.Writing.{WritesTo}
 use Rattle.wu_arguments.specs.Statuses.{fault_status, refusal_status}
@@ -30,6 +31,7 @@ use Rattle.wu_arguments.specs.declared.step.LineFault.{LineFault}
 use Rattle.wu_arguments.specs.declared.step.Step.{Step}
 use Rattle.wu_arguments.specs.declared.usage.Usage.TheVariants as usage
 use Rattle.wu_cli.specs.Endings.{refusal_text}
+use Rattle.wu_cli.specs.Hearing.{Hears, IsUnread}
 use Rattle.wu_cli.specs.Printing.{PrintsSteps}
 use Rattle.wu_cli.specs.Scripting.{PerformsScript}
 use Rattle.wu_cli.specs.Telling.{DrivesSteps, LengthensBySteps}
@@ -55,16 +57,20 @@ status_front status = codes "= " ++ decimal status ++ codes " "
 abbrev pub refused_line : Refusal → List ℕ
 refused_line why = status_front (refusal_status why) ++ cause_line why
 
--- The line that ends the answer to a line; nothing if it has no command.
-abbrev pub end_text : Result Bool Refusal → List ℕ
-end_text (Ok false) = []
-end_text (Ok true) = codes "= 0" ++ line_end
-end_text (Err why) = refused_line why
+-- Whether the text of a line was cut.
+abbrev pub is_cut : Result Bool Refusal → Bool
+is_cut (Err (refusal.Fault Output)) = true
+is_cut _ = false
 
--- What was heard: the text of a line, or why none could be had.
-abbrev pub heard_text : {A : Type 0} → Result (Vec ℕ A) Refusal → Result (List ℕ) Refusal
-heard_text (Ok text) = Ok text.items
-heard_text (Err why) = Err why
+-- The line that ends the answer to a line; nothing if it has no command.
+abbrev pub end_line : Result Bool Refusal → List ℕ
+end_line (Ok false) = []
+end_line (Ok true) = codes "= 0" ++ line_end
+end_line (Err why) = refused_line why
+
+-- What goes out after the text of a line: nothing if that was cut, and else the line that ends the answer.
+abbrev pub end_text : Result Bool Refusal → List ℕ
+end_text done = if is_cut done then [] else end_line done
 
 -- ---- one line
 
@@ -106,11 +112,6 @@ abbrev pub status_of_done : Result Bool Refusal → ℕ
 status_of_done (Ok has) = 0
 status_of_done (Err why) = refusal_status why
 
--- Whether the text of a line was cut.
-abbrev pub is_cut : Result Bool Refusal → Bool
-is_cut (Err (refusal.Fault Output)) = true
-is_cut _ = false
-
 -- The status with which a session ends after a line, or `None` if it goes on: where an output fails, or the project's
 -- session has ended.
 abbrev pub ends_with : Result (Unit {0}) Fault → Bool → Result Bool Refusal → Option ℕ
@@ -146,43 +147,67 @@ module _ {S W : Type 0} {store : Ghosts S} (contents : W → Option (List ℕ)) 
   AnswersEach old new out_old out_new (heard ∷ more) =
       (mid : Project S store) × (out_mid : W) × AnswersHeard old mid out_old out_mid heard None × AnswersEach mid new out_mid out_new more
 
-  -- The last that was heard is answered, and the session ends with this status; or what could not be read ends it.
-  pub record EndsSession (old new : Project S store) (out_old out_new : W) (status : ℕ) : Type 0 where
+  -- The last that is heard is answered, and ends the session with this status: the next line; or why the input could not
+  -- be read further.
+  pub record EndsSession (old new : Project S store) (out_old out_new : W) (in_old in_new : Option (List ℕ)) (status : ℕ) : Type 0 where
     pub last : Result (List ℕ) Refusal
     pub ends : Option ℕ
     pub answered : AnswersHeard old new out_old out_new last ends
-    pub status_is : (ends ≡ Some status) ⊎ ((why : Refusal) × (ends ≡ None) × (last ≡ Err why) × (status ≡ refusal_status why))
+    pub heard : (Hears in_old in_new (last ∷ []) × (ends ≡ Some status))
+        ⊎ ((why : Refusal) × IsUnread why × (last ≡ Err why) × (status ≡ unwrap_or ends (refusal_status why)))
 
-  -- Lines are answered one after another, up to the end of the input or to one that ends the session.
-  pub record RunsSession (old new : Project S store) (out_old out_new : W) (status : ℕ) : Type 0 where
+  -- The input is at its end, and so the session ends with status 0.
+  pub record EndsInput (old new : Project S store) (out_old out_new : W) (in_old in_new : Option (List ℕ)) (status : ℕ) : Type 0 where
+    pub status_is : status ≡ 0
+    pub same : new ≡ old
+    pub unwritten : out_new ≡ out_old
+    pub at_end : IsAtEnd in_old
+    pub nothing : Hears in_old in_new []
+
+  -- The lines of the input are answered one after another, up to its end or to one that ends the session.
+  pub record RunsSession (old new : Project S store) (out_old out_new : W) (in_old in_new : Option (List ℕ)) (status : ℕ) : Type 0 where
     pub heard : List (Result (List ℕ) Refusal)
     pub mid : Project S store
     pub out_mid : W
+    pub in_mid : Option (List ℕ)
     pub each : AnswersEach old mid out_old out_mid heard
+    -- None is left out, and none comes twice.
+    pub hears : Hears in_old in_mid heard
     -- What they accepted is kept, whatever a crash does then.
     pub accepts : AcceptsOver old mid
-    pub end : ((status ≡ 0) × (new ≡ mid) × (out_new ≡ out_mid)) ⊎ EndsSession mid new out_mid out_new status
+    pub end : EndsInput mid new out_mid out_new in_mid in_new status ⊎ EndsSession mid new out_mid out_new in_mid in_new status
 
 -- ---- over an open database
 
--- The line with which a session begins: it tells the schema version of the project's tables.
-abbrev pub ready_line : Option ℕ → List ℕ
-ready_line older = codes "= ready version=" ++ decimal (unwrap_or older present_version) ++ line_end
+-- What the first line of a session adds for a project that its adoption made.
+abbrev pub new_word : Bool → List ℕ
+new_word is_new = if is_new then codes " new" else []
+
+-- The line with which a session begins: it tells the schema version of the project's tables, and whether it is new.
+abbrev pub ready_line : Option ℕ → Bool → List ℕ
+ready_line older is_new = codes "= ready version=" ++ decimal (unwrap_or older present_version) ++ new_word is_new ++ line_end
 
 module _ {S W : Type 0} {store : Ghosts S} (contents : W → Option (List ℕ)) (gives : List ℕ → ℕ → Option (List ℕ) → Type 0) (db : List ℕ) where
+  -- The session ends at once, and no line is read.
+  pub record EndsUnread (old new : Project S store) (out_old out_new : W) (in_old in_new : Option (List ℕ)) (status : ℕ) : Type 0 where
+    pub status_is : status ≡ fault_status Output
+    pub same : new ≡ old
+    pub unwritten : out_new ≡ out_old
+    pub unread : in_new ≡ in_old
+
   -- If the first line went out, the lines of the input are answered; else the session ends at once.
-  abbrev pub ServesIf : Result (Unit {0}) Fault → Project S store → Project S store → W → W → ℕ → Type 0
-  ServesIf (Ok told) old new out_old out_new status = RunsSession contents gives db old new out_old out_new status
-  ServesIf (Err fault) old new out_old out_new status = (status ≡ fault_status Output) × (new ≡ old) × (out_new ≡ out_old)
+  abbrev pub ServesIf : Result (Unit {0}) Fault → Project S store → Project S store → W → W → Option (List ℕ) → Option (List ℕ) → ℕ → Type 0
+  ServesIf (Ok told) old new out_old out_new in_old in_new status = RunsSession contents gives db old new out_old out_new in_old in_new status
+  ServesIf (Err fault) old new out_old out_new in_old in_new status = EndsUnread old new out_old out_new in_old in_new status
 
   -- The first line goes out, or a prefix of it, and then the lines of the input are answered.
-  pub record ServesProject (old new : Project S store) (out_old out_new : W) (status : ℕ) : Type 0 where
+  pub record ServesProject (old new : Project S store) (out_old out_new : W) (in_old in_new : Option (List ℕ)) (status : ℕ) : Type 0 where
     pub told : Result (Unit {0}) Fault
     pub out_ready : W
-    pub wrote : WritesTo contents out_old out_ready (ready_line (older_version old)) told
-    pub serves : ServesIf told old new out_ready out_new status
+    pub wrote : WritesTo contents out_old out_ready (ready_line (older_version old) (is_new old)) told
+    pub serves : ServesIf told old new out_ready out_new in_old in_new status
 
-module _ {S W : Type 0} (g : StoreGhosts S) (contents : W → Option (List ℕ)) (gives : List ℕ → ℕ → Option (List ℕ) → Type 0) (db : List ℕ) (conn again : Held S) (out_old out_new : W) where
+module _ {S W : Type 0} (g : StoreGhosts S) (contents : W → Option (List ℕ)) (gives : List ℕ → ℕ → Option (List ℕ) → Type 0) (db : List ℕ) (conn again : Held S) (out_old out_new : W) (in_old in_new : Option (List ℕ)) where
   -- The project is adopted, the lines of the input are answered over it, and the session is released.
   pub record ServesAdopted (status : ℕ) : Type 0 where
     pub old : Project S g
@@ -191,15 +216,17 @@ module _ {S W : Type 0} (g : StoreGhosts S) (contents : W → Option (List ℕ))
     pub begins : IsSessionOpen old
     pub adopts : Adopts (state g conn) (state_of old)
     pub knows : KnowsTables old
-    pub serves : ServesProject contents gives db old new out_old out_new status
+    pub new_is : TellsNew (state g conn) (state_of old) (is_new old)
+    pub serves : ServesProject contents gives db old new out_old out_new in_old in_new status
     pub released : again ≡ connection_of new
 
-  -- No project is adopted: that fault is reported, and nothing is done or written.
+  -- No project is adopted: that fault is reported, and nothing is done, read or written.
   pub record ServesNothing (told : Trouble) : Type 0 where
     pub fault : Fault
     pub refused : RefusesAdoption (state g conn) (state g again) fault
     pub told_is : told ≡ trouble.Fault fault
     pub unwritten : out_new ≡ out_old
+    pub unread : in_new ≡ in_old
 
   -- How a session over an open database ended: with a status, or with why there was none.
   abbrev pub ServesOver : Result ℕ Trouble → Type 0

@@ -7,7 +7,7 @@ ghost use Rattle.wu_report.specs.Texts.{line_end};
 ghost use Rattle.wu_report.specs.Writing.{WritesTo};
 ghost use Rattle.wu_cli.specs.Checks.{finding_line, key_text, kind_word, misfit_line, row_front, sound_line};
 
-use crate::texts::{placed, plain, write_flushed};
+use crate::texts::{placed, write_flushed, write_line};
 use std::io::Write;
 use wu_check::{Finding, Key};
 use wu_core::{Fault, ImportKind};
@@ -45,7 +45,7 @@ fn row_front(table: LoadedTable) -> &'static str
 }
 
 /// Writes a word and a number.
-fn counted<W: Write>(out: &mut W, word: &str, number: u64) -> Result<(), Fault>
+fn write_counted<W: Write>(out: &mut W, word: &str, number: u64) -> Result<(), Fault>
     ensures { WritesTo W.contents out.old out.new (word.now ++ decimal number) result }
 {
     write_pieces(out, &[Piece::Text(word), Piece::Number(number)])
@@ -57,9 +57,9 @@ fn write_key<W: Write>(out: &mut W, key: &Key) -> Result<(), Fault>
 {
     match key {
         Key::Project => write_pieces(out, &[Piece::Text("project")]),
-        Key::Workunit(number) => counted(out, "workunit ", *number),
-        Key::Grant(place) => counted(out, "credit_grant ", *place),
-        Key::Archived(place) => counted(out, "archived ", *place),
+        Key::Workunit(number) => write_counted(out, "workunit ", *number),
+        Key::Grant(place) => write_counted(out, "credit_grant ", *place),
+        Key::Archived(place) => write_counted(out, "archived ", *place),
         Key::Import(kind, name) => write_pieces(
             out,
             &[
@@ -99,7 +99,7 @@ fn line_of_misfit<W: Write>(out: &mut W, misfit: Misfit) -> Result<(), Fault>
     match misfit {
         Misfit::Missing(table) => of_table(out, table.form().name, " is missing"),
         Misfit::Altered(table) => of_table(out, table.form().name, " is not that of a project"),
-        Misfit::HostNames => plain(
+        Misfit::HostNames => write_line(
             out,
             "table host has an index that does not compare names by their bytes",
         ),
@@ -133,7 +133,7 @@ pub(crate) fn line_of_finding<W: Write>(out: &mut W, finding: &Finding) -> Resul
         ),
         Finding::Version(version) => placed(out, "version ", *version, "is not known"),
         Finding::World(wrong, key) => line_of_row(out, key, wrong.word()),
-        Finding::Queue => plain(
+        Finding::Queue => write_line(
             out,
             "table queue or one of its indexes is missing, or is not that of a project",
         ),

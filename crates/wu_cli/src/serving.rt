@@ -5,7 +5,7 @@ ghost use Rattle.wu_passes.specs.Projects.{older_version};
 ghost use Rattle.wu_cli.specs.Sessions.{ready_line, ServesOver, ServesProject};
 
 use crate::session::serve;
-use crate::texts::numbered;
+use crate::texts::write_flushed;
 use crate::trouble::Trouble;
 use sqlite::{Alter, Connection};
 use std::alloc::Global;
@@ -13,17 +13,27 @@ use std::io::{BufRead, Write};
 use wu_arguments::{ReadFile, fault_status};
 use wu_core::Fault;
 use wu_drive::Project;
+use wu_report::Piece;
 use wu_schema::PRESENT_VERSION;
 
 /// Writes the line with which a session begins, and flushes.
-fn write_ready<W: Write>(out: &mut W, older: Option<u64>) -> Result<(), Fault>
-    ensures { WritesTo W.contents out.old out.new (ready_line older) result }
+fn write_ready<W: Write>(out: &mut W, older: Option<u64>, is_new: bool) -> Result<(), Fault>
+    ensures { WritesTo W.contents out.old out.new (ready_line older is_new) result }
 {
     let version = match older {
         Some(version) => version,
         None => PRESENT_VERSION,
     };
-    numbered(out, "= ready version=", version)
+    let end = if is_new { " new" } else { "" };
+    write_flushed(
+        out,
+        &[
+            Piece::Text("= ready version="),
+            Piece::Number(version),
+            Piece::Text(end),
+            Piece::Text("\n"),
+        ],
+    )
 }
 
 /// Reports that the project is ready, and answers the lines of the input over it. Returns the status to end with.
@@ -37,9 +47,10 @@ fn serve_project<S: Alter, R: BufRead, F: ReadFile, W: Write, E: Write>(
     err: &mut E,
 ) -> u8
     ensures { ServesProject W.contents (F.ReadFile.gives files.now) db.now
-        project.old project.new out.old out.new result }
+        project.old project.new out.old out.new
+        (R.remaining input.old) (R.remaining input.new) result }
 {
-    match write_ready(out, project.older_version()) {
+    match write_ready(out, project.older_version(), project.is_new()) {
         Ok(()) => serve(alloc, project, db, input, files, out, err),
         Err(_) => fault_status(Fault::Output),
     }
@@ -56,10 +67,11 @@ pub fn serve_over<S: Alter, R: BufRead, F: ReadFile, W: Write, E: Write>(
     out: &mut W,
     err: &mut E,
 ) -> (Connection<S>, Result<u8, Trouble>)
-    // The project is adopted, and the lines are answered over it; or none is adopted, and nothing goes
-    // out.
+    // The project is adopted, and the lines are answered over it; or none is adopted, no line is
+    // read, and nothing goes out.
     ensures { ServesOver S.Store W.contents (F.ReadFile.gives files.now) db.now
-        conn result.0 out.old out.new result.1 }
+        conn result.0 out.old out.new
+        (R.remaining input.old) (R.remaining input.new) result.1 }
 {
     match Project::adopt(conn) {
         Ok(mut project) => {

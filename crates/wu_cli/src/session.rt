@@ -1,17 +1,18 @@
 //! A session: lines that come one after another. Each is done and answered before the next one is read.
 
-ghost use Rattle.std.specs.Prelude.{◌≡◌};
+ghost use Rattle.std.specs.Prelude.{◌≡◌, ℕ, List, Option};
 ghost use Rattle.wu_report.specs.Writing.{WritesTo};
-ghost use Rattle.wu_cli.specs.Sessions.{AnswersHeard, cause_line, DoesHeard, DoesText, end_text, ends_with, first_line, heard_text, is_cut, refused_line, RunsSession, status_front, status_of_done, StepsOfText};
+ghost use Rattle.wu_cli.specs.Hearing.{heard_text, IsUnread};
+ghost use Rattle.wu_cli.specs.Sessions.{AnswersHeard, cause_line, DoesHeard, DoesText, end_text, ends_with, EndsSession, first_line, is_cut, refused_line, RunsSession, status_front, status_of_done, StepsOfText};
 
-use crate::hearing::{Heard, hear};
+use crate::hearing::{Heard, hear, unreadable};
 use crate::performing::perform_script;
-use crate::texts::{plain, text_of_refusal};
+use crate::texts::{text_of_refusal, write_line};
 use sqlite::Alter;
 use std::alloc::Global;
-use std::io::{self, BufRead, ErrorKind, Write};
+use std::io::{BufRead, Write};
 use wu_arguments::{ReadFile, Refusal, Step, Usage, fault_status, steps_of};
-use wu_core::{Fault, FileCause};
+use wu_core::Fault;
 use wu_drive::Project;
 use wu_feed::{Rows, read_script};
 use wu_report::{Piece, write_pieces};
@@ -31,7 +32,7 @@ fn write_cause<W: Write>(out: &mut W, why: &Refusal) -> Result<(), Fault>
     ensures { WritesTo W.contents out.old out.new (cause_line why.now) result }
 {
     match why {
-        Refusal::Words(Usage::Refused(text)) => plain(out, first_line(text.as_str())),
+        Refusal::Words(Usage::Refused(text)) => write_line(out, first_line(text.as_str())),
         _ => text_of_refusal(out, why),
     }
 }
@@ -58,13 +59,27 @@ fn write_refused<W: Write>(out: &mut W, why: &Refusal) -> Result<(), Fault>
     write_cause(out, why)
 }
 
-/// Writes the line that ends the answer to a line, and flushes; nothing after a line without a command.
+/// Returns whether the text of a line was cut.
+fn is_cut(done: &Result<bool, Refusal>) -> bool
+    ensures { result ≡ is_cut done.now }
+{
+    match done {
+        Err(Refusal::Fault(Fault::Output)) => true,
+        _ => false,
+    }
+}
+
+/// Writes the line that ends the answer to a line, and flushes; nothing after a line without a command, or after a text
+/// that was cut.
 fn write_end<W: Write>(out: &mut W, done: &Result<bool, Refusal>) -> Result<(), Fault>
     ensures { WritesTo W.contents out.old out.new (end_text done.now) result }
 {
+    if is_cut(done) {
+        return Ok(());
+    }
     match done {
         Ok(false) => Ok(()),
-        Ok(true) => plain(out, "= 0"),
+        Ok(true) => write_line(out, "= 0"),
         Err(why) => write_refused(out, why),
     }
 }
@@ -111,7 +126,7 @@ fn do_heard<S: Alter, F: ReadFile, W: Write>(
     alloc: Global,
     project: &mut Project<S>,
     db: &str,
-    heard: Result<Vec<u8>, Refusal>,
+    heard: Heard,
     files: &F,
     out: &mut W,
 ) -> Result<bool, Refusal>
@@ -121,16 +136,6 @@ fn do_heard<S: Alter, F: ReadFile, W: Write>(
     match heard {
         Ok(text) => do_text(alloc, project, db, text.as_slice(), files, out),
         Err(why) => Err(why),
-    }
-}
-
-/// Returns whether the text of a line was cut.
-fn is_cut(done: &Result<bool, Refusal>) -> bool
-    ensures { result ≡ is_cut done.now }
-{
-    match done {
-        Err(Refusal::Fault(Fault::Output)) => true,
-        _ => false,
     }
 }
 
@@ -169,7 +174,7 @@ pub fn answer<S: Alter, F: ReadFile, W: Write, E: Write>(
     alloc: Global,
     project: &mut Project<S>,
     db: &str,
-    heard: Result<Vec<u8>, Refusal>,
+    heard: Heard,
     files: &F,
     out: &mut W,
     err: &mut E,
@@ -184,24 +189,23 @@ pub fn answer<S: Alter, F: ReadFile, W: Write, E: Write>(
     ends_with(told, project.ended(), &done)
 }
 
-/// Returns what was read, or why no text could be had.
-fn heard_or_refused(heard: Heard) -> Option<Result<Vec<u8>, Refusal>> {
-    match heard {
-        Heard::Line(text) => Some(Ok(text)),
-        Heard::LongLine => Some(Err(Refusal::Words(Usage::LongLine))),
-        Heard::End => None,
-    }
-}
-
-/// Returns why the input could not be read: `Memory`, or else `BadFile` with row 0 and `Unreadable`.
-fn lost(error: &io::Error) -> Refusal {
-    match error.kind() {
-        ErrorKind::OutOfMemory => Refusal::Fault(Fault::Memory),
-        _ => Refusal::Fault(Fault::BadFile {
-            row: 0,
-            cause: FileCause::Unreadable,
-        }),
-    }
+/// Answers that the input cannot be read further. Returns the status to end with.
+fn end_unread<S: Alter, F: ReadFile, W: Write, E: Write>(
+    alloc: Global,
+    project: &mut Project<S>,
+    db: &str,
+    why: Refusal,
+    files: &F,
+    out: &mut W,
+    err: &mut E,
+) -> u8
+    requires { IsUnread why }
+    ensures { (in_old in_new : Option (List ℕ))
+        → EndsSession W.contents (F.ReadFile.gives files.now) db.now
+        project.old project.new out.old out.new in_old in_new result }
+{
+    let status = why.status();
+    answer(alloc, project, db, Err(why), files, out, err).unwrap_or(status)
 }
 
 /// Reads lines one after another, does each and answers it before the next one is read. It ends at the end of the input,
@@ -216,28 +220,22 @@ pub fn serve<S: Alter, R: BufRead, F: ReadFile, W: Write, E: Write>(
     out: &mut W,
     err: &mut E,
 ) -> u8
-    // Each line that was read is done and answered, in order, over what the one before it left.
+    // The lines of the input are done and answered, in order, each over what the one before it
+    // left; none is left out, and none is done twice.
     ensures { RunsSession W.contents (F.ReadFile.gives files.now) db.now
-        project.old project.new out.old out.new result }
+        project.old project.new out.old out.new
+        (R.remaining input.old) (R.remaining input.new) result }
 {
     for _ in 0..u64::MAX {
-        let heard = match hear(alloc, input) {
-            Ok(heard) => heard_or_refused(heard),
-            Err(error) => {
-                let why = lost(&error);
-                let status = why.status();
-                return match answer(alloc, project, db, Err(why), files, out, err) {
-                    Some(status) => status,
-                    None => status,
-                };
+        match hear(alloc, input) {
+            Ok(Some(heard)) => {
+                if let Some(status) = answer(alloc, project, db, heard, files, out, err) {
+                    return status;
+                }
             }
-        };
-        let Some(heard) = heard else {
-            return 0;
-        };
-        if let Some(status) = answer(alloc, project, db, heard, files, out, err) {
-            return status;
+            Ok(None) => return 0,
+            Err(why) => return end_unread(alloc, project, db, why, files, out, err),
         }
     }
-    0
+    end_unread(alloc, project, db, unreadable(), files, out, err)
 }

@@ -36,7 +36,7 @@ pub(crate) fn write_text<W: Write>(out: &mut W, text: &str) -> Result<(), Fault>
 }
 
 /// Writes a line.
-pub(crate) fn plain<W: Write>(out: &mut W, text: &str) -> Result<(), Fault>
+pub(crate) fn write_line<W: Write>(out: &mut W, text: &str) -> Result<(), Fault>
     // With Ok exactly the line is written, and else a prefix of it.
     ensures { WritesTo W.contents out.old out.new (text.now ++ line_end) result }
 {
@@ -54,7 +54,7 @@ fn worded<'a, W: Write>(out: &mut W, text: &'a str, word: &'a str) -> Result<(),
 }
 
 /// Writes a line that ends in a number.
-pub(crate) fn numbered<W: Write>(out: &mut W, text: &str, number: u64) -> Result<(), Fault>
+fn numbered<W: Write>(out: &mut W, text: &str, number: u64) -> Result<(), Fault>
     ensures { WritesTo W.contents out.old out.new (text.now ++ decimal number ++ line_end) result }
 {
     write_flushed(
@@ -93,25 +93,25 @@ pub(crate) fn line_of_fault<W: Write>(out: &mut W, fault: Fault) -> Result<(), F
     ensures { WritesTo W.contents out.old out.new (fault_line fault) result }
 {
     match fault {
-        Fault::BadName => plain(out, "F1 BadName"),
+        Fault::BadName => write_line(out, "F1 BadName"),
         Fault::BadTemplate(key) => worded(out, "F2 BadTemplate ", key.word()),
         Fault::BadFile { row, cause } => {
             placed(out, "F3 BadFile ", u64::from(row), cause.word())
         }
-        Fault::NameUsed => plain(out, "F4 NameUsed"),
+        Fault::NameUsed => write_line(out, "F4 NameUsed"),
         Fault::WorkunitUsed(row) => numbered(out, "F5 WorkunitUsed ", u64::from(row)),
-        Fault::TooMany => plain(out, "F6 TooMany"),
-        Fault::BadMoment => plain(out, "F7 BadMoment"),
-        Fault::BadLimit => plain(out, "F8 BadLimit"),
-        Fault::UnknownWorkunit => plain(out, "F9 UnknownWorkunit"),
-        Fault::NotOpenToCancel => plain(out, "F10 NotOpenToCancel"),
+        Fault::TooMany => write_line(out, "F6 TooMany"),
+        Fault::BadMoment => write_line(out, "F7 BadMoment"),
+        Fault::BadLimit => write_line(out, "F8 BadLimit"),
+        Fault::UnknownWorkunit => write_line(out, "F9 UnknownWorkunit"),
+        Fault::NotOpenToCancel => write_line(out, "F10 NotOpenToCancel"),
         Fault::OldSchema(version) => numbered(out, "F11 OldSchema ", version),
         Fault::NewSchema(version) => numbered(out, "F12 NewSchema ", version),
-        Fault::NotAProject => plain(out, "F13 NotAProject"),
-        Fault::Memory => plain(out, "F14 Memory"),
-        Fault::Broken => plain(out, "F15 Broken"),
-        Fault::Ended => plain(out, "F16 Ended"),
-        Fault::Output => plain(out, "F17 Output"),
+        Fault::NotAProject => write_line(out, "F13 NotAProject"),
+        Fault::Memory => write_line(out, "F14 Memory"),
+        Fault::Broken => write_line(out, "F15 Broken"),
+        Fault::Ended => write_line(out, "F16 Ended"),
+        Fault::Output => write_line(out, "F17 Output"),
     }
 }
 
@@ -122,11 +122,11 @@ pub(crate) fn text_of_usage<W: Write>(out: &mut W, usage: &Usage) -> Result<(), 
 {
     match usage {
         Usage::Refused(text) => write_flushed(out, &[Piece::Text(text.as_str())]),
-        Usage::UnknownView => plain(out, "unknown view"),
-        Usage::UnknownTopic => plain(out, "unknown topic: lintelthyme explain lists them"),
-        Usage::LongLine => plain(out, "line too long"),
+        Usage::UnknownView => write_line(out, "unknown view"),
+        Usage::UnknownTopic => write_line(out, "unknown topic: lintelthyme explain lists them"),
+        Usage::LongLine => write_line(out, "line too long"),
         Usage::NotText => text_of_cause(out, LineCause::NotText),
-        Usage::Incomplete => plain(out, "a value is missing"),
+        Usage::Incomplete => write_line(out, "a value is missing"),
         Usage::Memory => line_of_fault(out, Fault::Memory),
     }
 }
@@ -161,9 +161,9 @@ fn text_of_cause<W: Write>(out: &mut W, cause: LineCause) -> Result<(), Fault>
     ensures { WritesTo W.contents out.old out.new (cause_text cause) result }
 {
     match cause {
-        LineCause::OpenQuote => plain(out, "a quote is not closed"),
-        LineCause::NotText => plain(out, "the words are no UTF-8 text"),
-        LineCause::TooManyLines => plain(out, "a script has at most 1000 lines"),
+        LineCause::OpenQuote => write_line(out, "a quote is not closed"),
+        LineCause::NotText => write_line(out, "the words are no UTF-8 text"),
+        LineCause::TooManyLines => write_line(out, "a script has at most 1000 lines"),
     }
 }
 
@@ -187,7 +187,7 @@ pub(crate) fn text_of_refusal<W: Write>(out: &mut W, why: &Refusal) -> Result<()
         Refusal::Text(cause) => text_of_cause(out, *cause),
         Refusal::Words(usage) => text_of_usage(out, usage),
         Refusal::Outsider(outsider) => write_text(out, outsider_line(*outsider)),
-        Refusal::Repeat => plain(out, "only a pass can be repeated"),
+        Refusal::Repeat => write_line(out, "only a pass can be repeated"),
         Refusal::Fault(fault) => line_of_fault(out, *fault),
     }
 }

@@ -12,7 +12,7 @@ ghost use Rattle.wu_schema.specs.Faults.{fault_of};
 use crate::findings::line_of_finding;
 use crate::reason::Reason;
 use crate::texts::{
-    line_of_bad_line, line_of_fault, line_of_line_fault, plain, text_of_usage, write_text,
+    line_of_bad_line, line_of_fault, line_of_line_fault, text_of_usage, write_line, write_text,
 };
 use sqlite::Error;
 use std::alloc::{AllocError, AllocFailed};
@@ -130,7 +130,7 @@ fn write_trouble<E: Write>(trouble: &Trouble, err: &mut E) -> Result<(), Fault>
     match trouble {
         Trouble::Usage(usage) => text_of_usage(err, usage),
         Trouble::BadLine(bad) => line_of_bad_line(err, bad),
-        Trouble::Unopened => plain(err, "cannot open the database"),
+        Trouble::Unopened => write_line(err, "cannot open the database"),
         Trouble::Fault(fault) => line_of_fault(err, *fault),
         Trouble::LineFault(end) => line_of_line_fault(err, *end),
         Trouble::Unchecked(reason) => write_text(err, reason.line()),

@@ -1,6 +1,8 @@
 mod AnswerLemmas
 pub mod LifeLemmas
 mod LineLemmas
+pub mod MarkedAnswers
+pub mod NamedAnswers
 mod VerdictLemmas
 pub mod DrivingLemmas
 mod CountingLemmas

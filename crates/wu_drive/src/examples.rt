@@ -16,7 +16,7 @@ pub fn prints_batches()
 {}
 
 /// Shows the answer to a file of classes.
-pub fn prints_classes()
+pub fn prints_class_import()
     // The answer to a file of classes with three rows is `classes c1: 3 applied`.
     ensures { import_text Classes (codes "c1") 0 (0 ∷ 0 ∷ 0 ∷ [])
         ≡ codes "classes c1: 3 applied\n" }

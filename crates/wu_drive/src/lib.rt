@@ -5,6 +5,7 @@
 #![tactic(auto)]
 
 pub mod examples;
+pub mod laws;
 mod replies;
 mod runs;
 

@@ -271,7 +271,7 @@ fn write_cancelled<W: Write>(out: &mut W, workunit: &Name) -> Result<(), Fault>
 }
 
 /// Writes the text of an answer. One that went out whole is never reported as failed.
-fn write_text<W: Write>(out: &mut W, answer: &Answer) -> Result<(), Fault>
+fn write_answer_text<W: Write>(out: &mut W, answer: &Answer) -> Result<(), Fault>
     // With Ok exactly the text of the answer is written, and else a prefix of it.
     ensures bytes { WritesTo W.contents out.old out.new (answer_text answer.now) result }
     // After a fault some of the text is missing: a text that went out whole is never reported as
@@ -302,6 +302,6 @@ pub fn write_answer<W: Write>(out: &mut W, answer: &Answer) -> Result<(), Fault>
     // The only fault is `Output`.
     ensures fault { IsOkUnless result Output }
 {
-    write_text(out, answer)?;
+    write_answer_text(out, answer)?;
     flush(out)
 }

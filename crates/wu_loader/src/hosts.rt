@@ -33,18 +33,18 @@ fn is_below(one: &Host, other: &Host) -> bool
 }
 
 /// Returns references to the grants, in their order.
-fn references_to<'a>(alloc: Global, grants: &'a [Grant]) -> Result<Vec<&'a Grant>, AllocError>
+fn grant_references<'a>(alloc: Global, grants: &'a [Grant]) -> Result<Vec<&'a Grant>, AllocError>
     ensures { IfOk result (λ all. referred all.items ≡ grants.now) }
 {
     grants.iter().collect(alloc)
 }
 
 /// Returns the grants in order of their hosts' names.
-fn by_hosts<'a>(alloc: Global, grants: &'a [Grant]) -> Result<Vec<&'a Grant>, AllocError>
+fn grants_by_host<'a>(alloc: Global, grants: &'a [Grant]) -> Result<Vec<&'a Grant>, AllocError>
     ensures same { IfOk result (λ sorted. IsPermutation grants.now (referred sorted.items)) }
     ensures sorted { IfOk result (λ sorted. IsSorted by_host sorted.items) }
 {
-    let mut sorted = references_to(alloc, grants)?;
+    let mut sorted = grant_references(alloc, grants)?;
     sorted.sort_by(|one, other| one.host.as_str().cmp(other.host.as_str()))?;
     Ok(sorted)
 }
@@ -146,7 +146,7 @@ fn are_listed(hosts: &[Host], grants: &[&Grant]) -> bool
 
 /// Returns the first of these hosts that keeps them from being those of the grants, or the place after them if one is
 /// missing. Returns `None` if they are.
-fn first_wrong(hosts: &[Host], grants: &[&Grant]) -> Option<usize>
+fn first_wrong_host(hosts: &[Host], grants: &[&Grant]) -> Option<usize>
     requires { IsSorted by_host grants.now }
     // `None` means that these are the hosts of the grants, each once and in order, with their
     // totals and counts.
@@ -189,8 +189,8 @@ pub(crate) fn know_hosts(alloc: Global, rows: &[Row], grants: &[Grant]) -> Resul
 {
     let mut hosts = all_from::<Host>(alloc, LoadedTable::Host, rows)?;
     sort(&mut hosts)?;
-    let sorted = by_hosts(alloc, grants)?;
-    match first_wrong(&hosts, &sorted) {
+    let sorted = grants_by_host(alloc, grants)?;
+    match first_wrong_host(&hosts, &sorted) {
         Some(wrong) => {
             let place = wrong as u64 + 1;
             Err(NoWorld::Wrong(WrongRow {

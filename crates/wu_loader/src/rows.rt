@@ -1,8 +1,8 @@
 //! Rows of the tables as values.
 
 ghost use Rattle.std.specs.Prelude.{◌≡◌, ◌≤◌, ⊤, ℕ, length};
-ghost use Rattle.sqlite.specs.Order.{Row, column};
-ghost use Rattle.wu_core.specs.Storable.{IsClass, IsStoredArchived, IsStoredWorkunit, MayBeInstance};
+ghost use Rattle.sqlite.specs.Order.{Row};
+ghost use Rattle.wu_core.specs.Storable.{IsStoredArchived, IsStoredWorkunit, MayBeInstance};
 ghost use Rattle.wu_schema.specs.Restoring.{Restores};
 ghost use Rattle.wu_schema.specs.Stored.{class_cells, import_cells, instance_row, number, workunit_row};
 ghost use Rattle.wu_schema.specs.Reading.{columns};
@@ -14,15 +14,15 @@ use sqlite::Row;
 use std::alloc::Global;
 use wu_audit::Imported;
 use wu_core::{
-    Archived, Deadline, Fault, FileDelete, Grant, HIGHEST_CLASS, HostClass, Instance,
-    MOST_WORKUNITS, Moment, Name, Outcome, ServerState, ValidateState, Workunit,
+    Archived, Deadline, Fault, FileDelete, Grant, HostClass, Instance, MOST_WORKUNITS, Moment,
+    Name, Outcome, ServerState, ValidateState, Workunit,
 };
+use wu_schema::number_at;
 use wu_schema::rows::{
-    bytes_at, deadline_at, file_delete_at, host_at, instance_number_at, is_formed, mask_at,
-    moment_at, name_at, outcome_at, output_at, place_at, server_state_at, stamp_at,
+    bytes_at, class_at, deadline_at, file_delete_at, host_at, instance_number_at, is_formed,
+    mask_at, moment_at, name_at, outcome_at, output_at, place_at, server_state_at, stamp_at,
     validate_state_at, verdicts_at, workunit_from,
 };
-use wu_schema::{number_at, read_column};
 
 /// What a row of a table represents.
 pub trait FromRow: Sized {
@@ -191,17 +191,6 @@ impl FromRow for Workunit {
 pub struct Classed {
     pub workunit: u64,
     pub class: u32,
-}
-
-/// Reads a class in a column.
-fn class_at(row: &Row, at: usize) -> Result<u32, Fault>
-    ensures { Restores number IsClass (column row.now at) result }
-{
-    let class: u32 = read_column(row, at)?;
-    if class > HIGHEST_CLASS {
-        return Err(Fault::NotAProject);
-    }
-    Ok(class)
 }
 
 impl FromRow for Classed {

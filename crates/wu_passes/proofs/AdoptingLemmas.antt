@@ -1,5 +1,5 @@
 -- What an adoption gives, from what its question for the version and its creation give.
-use Rattle.std.proofs.Common.{refl, ◌≡◌, ◌⊎◌, true, false, ◌==◌, ◌<◌, ◌≤◌, ℕ, Option, None, Some, Result, Ok, Err, IfErr, IfOk, IsTrue, sym, ap, subst, ◌∙◌, inl, inr, arith}
+use Rattle.std.proofs.Common.{refl, ◌≡◌, ◌⊎◌, true, false, ◌==◌, ◌<◌, ◌≤◌, ℕ, Bool, true≢false, Option, None, Some, Result, Ok, Err, IfErr, IfOk, IsTrue, sym, ap, subst, ◌∙◌, inl, inr, arith}
 use Rattle.std.proofs.lemmas.Bool.{cases_Bool}
 use Rattle.std.proofs.lemmas.Bool.Decides.{nat_tests}
 use Rattle.sqlite.specs.Effect.{Database}
@@ -23,7 +23,7 @@ use Rattle.wu_store.specs.Loading.{IsStoreFault}
 use Rattle.wu_store.specs.StandsFor.{StandsFor}
 use Rattle.wu_store.proofs.SameWorld.{one_world}
 use Rattle.wu_passes.specs.Standing.{GoesOn, HasEnded, ShowsWorld, TellsLater}
-use Rattle.wu_passes.specs.Adopting.{Adopts, BreaksBetween, FindsProject, IsAdoptionFault, IsRefusalOf, IsVacant, KeepsAll, KnowsVersion, LeavesFresh, LeavesNoMore, older_than_present, RefusesAdoption}
+use Rattle.wu_passes.specs.Adopting.{Adopts, BreaksBetween, FindsProject, IsAdoptionFault, IsRefusalOf, IsVacant, KeepsAll, KnowsVersion, LeavesFresh, LeavesNoMore, older_than_present, RefusesAdoption, TellsNew}
 use Rattle.wu_passes.specs.declared.project.Project.{Project}
 use Rattle.wu_passes.specs.Projects.{connection_of, FailsAgain, GoesOnAgain, state_of}
 use Rattle.wu_passes.proofs.StandingLemmas.{goes_read}
@@ -54,6 +54,9 @@ limit_adopts old new a = record {
 limit_knows : (old new : State) (version : ℕ) → KnowsVersion (no_limit old) new version → KnowsVersion old new version
 limit_knows old new version k = record { known = k.known; found = k.found; fresh = k.fresh; over = k.over }
 
+limit_new : (old new : State) (is_new : Bool) → TellsNew (no_limit old) new is_new → TellsNew old new is_new
+limit_new old new is_new tells = record { made = tells.made; found = tells.found }
+
 limit_refuses : (old new : State) (fault : Fault) → RefusesAdoption (no_limit old) new fault → RefusesAdoption old new fault
 limit_refuses old new fault r = record {
   told = r.told;
@@ -80,6 +83,9 @@ module _ {S : Type 0} (g : Ghosts S) (old bare : Held S) (is : bare ≡ record o
 
   pub bare_knows : (version : ℕ) → KnowsVersion (state g bare) new version → KnowsVersion (state g old) new version
   bare_knows version knows = limit_knows (state g old) new version (subst (λ h. KnowsVersion (state g h) new version) is knows)
+
+  pub bare_new : (is_new : Bool) → TellsNew (state g bare) new is_new → TellsNew (state g old) new is_new
+  bare_new is_new tells = limit_new (state g old) new is_new (subst (λ h. TellsNew (state g h) new is_new) is tells)
 
   pub bare_refused : (fault : Fault) → RefusesAdoption (state g bare) new fault → RefusesAdoption (state g old) new fault
   bare_refused fault refuses = limit_refuses (state g old) new fault (subst (λ h. RefusesAdoption (state g h) new fault) is refuses)
@@ -190,6 +196,9 @@ module _ (old asked : State) (crash : Survives old asked (λ _. ⊥)) (unlimited
       over = λ clean world first shows. of_world clean world (shows (same clean).0.was_open).0.refines;
     }
 
+    pub found_tells : TellsNew old asked false
+    found_tells = record { made = λ clean no. absurd (true≢false (sym no)); found = λ clean _. there clean }
+
     pub later_refuses : (fault : Fault) → TellsLater version fault → RefusesAdoption old asked fault
     later_refuses fault later = record {
       told = inr (version, later);
@@ -281,6 +290,9 @@ module _ (old asked : State) (crash : Survives old asked (λ _. ⊥)) (unlimited
       fresh = λ clean _. refl;
       over = λ clean world first shows. absurd (never_vacant old world (shows (same (before clean)).0.was_open).0.refines (vacant (before clean)));
     }
+
+    pub fresh_tells : TellsNew old made true
+    fresh_tells = record { made = λ clean _. vacant (before clean); found = λ clean no. absurd (true≢false no) }
 
     module _ (settled : IsTrue old.is_open → old.now ≡ old.committed) (only : IsTrue asked.is_open → LeavesOnly asked asked.committed.trees) where
       keeps_refused : HasCleanDisk made → IsRefused asked made → KeepsAll old made

@@ -1,5 +1,5 @@
 -- The adoption of a connection: what a session that begins has found or made, and what a refusal reports and leaves.
-use Rattle.std.specs.Prelude.{◌≡◌, ◌⊎◌, ◌<◌, ◌≤◌, ℕ, nat_lt, false, if◌then◌else◌, IsTrue, None, Option, Some}
+use Rattle.std.specs.Prelude.{◌≡◌, ◌⊎◌, ◌<◌, ◌≤◌, ℕ, nat_lt, Bool, true, false, if◌then◌else◌, IsTrue, None, Option, Some}
 use Rattle.sqlite_disk.specs.Disk.{MoreFaults}
 use Rattle.sqlite.specs.Effect.{Database}
 use Rattle.sqlite.specs.State.{State, HasCleanDisk}
@@ -89,6 +89,11 @@ pub record StartsOver (old new : State) (older : Option ℕ) : Type 0 where
   pub version : ℕ
   pub knows : KnowsVersion old new version
   pub is : older ≡ older_than_present version
+
+-- Whether the project is new: none was there, and this adoption made it. What is said of tables holds on a clean disk.
+pub record TellsNew (old new : State) (is_new : Bool) : Type 0 where
+  pub made : HasCleanDisk new → is_new ≡ true → IsVacant old
+  pub found : HasCleanDisk new → is_new ≡ false → ¬ IsVacant old
 
 -- ---- with a fault
 

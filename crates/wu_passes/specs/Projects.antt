@@ -51,6 +51,10 @@ IsSessionOpen project = has_ended project ≡ false
 abbrev pub older_version : {S : Type 0} {g : Ghosts S} → Project S g → Option ℕ
 older_version project = project.older
 
+-- Whether the adoption of the session made the project.
+abbrev pub is_new : {S : Type 0} {g : Ghosts S} → Project S g → Bool
+is_new project = project.is_new
+
 -- The older version that a request is refused for; an upgrade is refused for none.
 abbrev pub refused_for : Request → Option ℕ → Option ℕ
 refused_for request older = if is_upgrade request then None else older

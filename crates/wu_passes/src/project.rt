@@ -22,5 +22,7 @@ pub struct Project<S: Alter> {
     has_ended: bool,
     /// The version that its tables have, if that is older than the present one.
     older: Option<u64>,
+    /// Whether its adoption made it.
+    is_new: bool,
     ghost idle: { conn.in_transaction ≡ false },
 }

@@ -10,6 +10,8 @@ mod outputs;
 mod runs;
 mod scripts;
 mod seen;
+mod session_outputs;
+mod session_stops;
 mod sessions;
 mod shown;
 mod stops;

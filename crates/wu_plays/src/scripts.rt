@@ -1,10 +1,11 @@
-//! The steps of a script, with the contents of the files that its lines name.
+//! The steps of a script, with the contents of the files that its lines name; and its lines as those of a session.
 
 use anyhow::{Result, bail};
+use sqlite::{Alter, Connection};
 use std::fs;
 use std::io::{self, Write};
 use wu_arguments::{Action, BadLine, ReadFile, Refusal, Step, steps_of};
-use wu_cli::{Trouble, write_refusal};
+use wu_cli::{Trouble, serve_over, write_refusal};
 use wu_core::Fault;
 use wu_feed::{Rows, ScriptLine, read_script};
 
@@ -62,6 +63,26 @@ pub fn steps(rt: &HostRuntime, text: &str) -> Result<Rows<Step>> {
         Ok(steps) => Ok(steps),
         Err(bad) => bail!("line {} can't be run", bad.number),
     }
+}
+
+/// Answers the lines of a script as those of one session over the project in a database. Returns the database, and the
+/// status of the session, or the trouble that prevented one.
+pub fn serve<S: Alter, W: Write>(
+    rt: &HostRuntime,
+    conn: Connection<S>,
+    text: &str,
+    out: &mut W,
+) -> (Connection<S>, Result<u8, Trouble>) {
+    let mut lines = text.as_bytes();
+    serve_over(
+        rt.alloc(),
+        conn,
+        DATABASE,
+        &mut lines,
+        &PlayFiles { rt },
+        out,
+        &mut Vec::new(rt.alloc()),
+    )
 }
 
 /// Writes why a line can't be run, and returns its status. Refused words and faults are written as for a command line,

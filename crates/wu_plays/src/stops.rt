@@ -1,9 +1,10 @@
 //! Scenarios of crashes: one of two files fails after 0, 1, 2, .. calls. What is left is opened again and compared in
-//! every view and table. Then the rest of the script runs over it.
+//! every view and table. Then the rest of the script runs over it. What runs is one act, or a session of all of them.
 
 use crate::course::{Act, Between, Found, course};
 use crate::runs::{Left, Reach, run_over, told_over};
 use crate::seen::{look, see};
+use crate::session_stops::{Session, whole_session};
 use crate::sessions::{adopt, do_action};
 use crate::tally::{Find, Finds, Tally};
 use anyhow::{Context, Result, bail, ensure};
@@ -13,7 +14,7 @@ use std::fs;
 use std::io::Write;
 use wu_core::Fault;
 use wu_drive::Project;
-use wu_play_files::{MOST_CALLS, Pages, Saved, Side, Visit};
+use wu_play_files::{MOST_CALLS, Pages, PlayFiles, Saved, Side, Visit};
 
 /// Runs an act over files that do not fail. Fails if it is not answered, unless it was done before and is refused now.
 fn do_act<S: Alter>(
@@ -34,8 +35,24 @@ fn do_act<S: Alter>(
 struct Case<'a> {
     act: &'a Act,
     rest: &'a [Act],
+    /// The session that runs all of these acts, instead of the first one by itself.
+    session: Option<Session<'a>>,
     side: Side,
     pages: Pages,
+}
+
+impl<'a> Case<'a> {
+    /// Returns the case of the act that follows so many acts; of the last act if there are no more.
+    fn after(self, count: usize) -> Case<'a> {
+        let mut case = self;
+        for _ in 0..count {
+            let [act, rest @ ..] = case.rest else {
+                break;
+            };
+            case = Case { act, rest, ..case };
+        }
+        case
+    }
 }
 
 /// Runs the act of a case again, whether or not it was done, and then the acts after it.
@@ -97,13 +114,15 @@ fn play_on(
     reach: Reach,
     finds: &Finds,
 ) -> Result<Find> {
-    let found = match finds.known(&files, reach) {
+    let rest = case.rest.len();
+    let found = match finds.known(&files, reach, rest) {
         Some(found) => found,
         None => told_over(alloc, &files, GoingOn { case, reach })?,
     };
     Ok(Find {
         files,
         reach,
+        rest,
         found,
     })
 }
@@ -125,13 +144,28 @@ fn is_right(case: Case<'_>, left: &Left, is_stopped: bool) -> Result<()> {
     Ok(())
 }
 
-/// Runs an act whose file fails after `calls` calls. Returns what the run left, and whether the file has failed.
-fn run_stopped(alloc: Global, case: Case<'_>, calls: u64) -> Result<(Left, bool)> {
+/// Runs the act of a case, or its session. Returns what the run left, and the case of the act that was cut.
+fn run(alloc: Global, case: Case<'_>, files: PlayFiles) -> Result<(Left, Case<'_>)> {
+    match case.session {
+        Some(session) => {
+            let (left, answered) = session.run(files, case.pages)?;
+            Ok((left, case.after(answered)))
+        }
+        None => {
+            let left = run_over(alloc, files, case.act.action.as_ref(), case.pages)?;
+            Ok((left, case))
+        }
+    }
+}
+
+/// Runs a case whose file fails after `calls` calls. Returns what the run left, the case of the act that was cut, and
+/// whether the file has failed.
+fn run_stopped(alloc: Global, case: Case<'_>, calls: u64) -> Result<(Left, Case<'_>, bool)> {
     let files = case.act.before.files.stopping(alloc, case.side, calls)?;
-    let mut left = run_over(alloc, files, case.act.action.as_ref(), case.pages)?;
+    let (mut left, cut) = run(alloc, case, files)?;
     let is_stopped = left.files.are_stopped();
-    is_right(case, &left, is_stopped)?;
-    Ok((left, is_stopped))
+    is_right(cut, &left, is_stopped)?;
+    Ok((left, cut, is_stopped))
 }
 
 /// Checks the files with all that was written, and counts what was found if the file has failed.
@@ -169,16 +203,16 @@ fn lose(
     Ok(())
 }
 
-/// Runs an act whose file fails after `calls` calls, and checks what a crash leaves that keeps or loses unsynced
+/// Runs a case whose file fails after `calls` calls, and checks what a crash leaves that keeps or loses unsynced
 /// writes. Returns whether the file has failed.
 fn stop(alloc: Global, case: Case<'_>, calls: u64, tally: &mut Tally) -> Result<bool> {
-    let (left, is_stopped) = run_stopped(alloc, case, calls)?;
-    keep(alloc, case, &left, is_stopped, tally)?;
-    lose(alloc, case, left, is_stopped, tally)?;
+    let (left, cut, is_stopped) = run_stopped(alloc, case, calls)?;
+    keep(alloc, cut, &left, is_stopped, tally)?;
+    lose(alloc, cut, left, is_stopped, tally)?;
     Ok(is_stopped)
 }
 
-/// Lets a file fail after each number of calls, up to one that the act does not reach. Returns the counts.
+/// Lets a file fail after each number of calls, up to one that the case does not reach. Returns the counts.
 fn stop_each(alloc: Global, case: Case<'_>) -> Result<Tally> {
     let mut tally = Tally::new();
     for calls in 0..MOST_CALLS {
@@ -202,12 +236,36 @@ fn start(rt: &HostRuntime, path: Option<&str>) -> Result<Option<Saved>> {
     Ok(Some(Saved::database(rt.alloc(), bytes)))
 }
 
-/// Lets one file fail after each number of calls of an act, and writes the counts.
-fn play_case(alloc: Global, case: Case<'_>, transcript: &mut Vec<u8>) -> Result<()> {
+/// Lets one file fail after each number of calls of a case, and writes the counts.
+fn play_side(alloc: Global, case: Case<'_>, transcript: &mut Vec<u8>) -> Result<()> {
     let tally = stop_each(alloc, case)?;
     ensure!(tally.lost.before > 0 && tally.kept.before > 0, "no stop");
     tally.write(case.act, case.side, transcript)?;
     Ok(())
+}
+
+/// Runs the crashes of an act, or of a session of it and the rest, by either file.
+fn play_case(
+    alloc: Global,
+    act: &Act,
+    rest: &[Act],
+    session: Option<Session<'_>>,
+    pages: Pages,
+    transcript: &mut Vec<u8>,
+) -> Result<()> {
+    let log = Case {
+        act,
+        rest,
+        session,
+        side: Side::Log,
+        pages,
+    };
+    play_side(alloc, log, transcript)?;
+    let database = Case {
+        side: Side::Database,
+        ..log
+    };
+    play_side(alloc, database, transcript)
 }
 
 /// Writes what an act changes, and runs its crashes by either file.
@@ -220,18 +278,7 @@ fn play_act(
 ) -> Result<()> {
     writeln!(transcript, "> {}", act.title)?;
     act.before.seen.write_changes(&act.after, transcript)?;
-    let log = Case {
-        act,
-        rest,
-        side: Side::Log,
-        pages,
-    };
-    play_case(alloc, log, transcript)?;
-    let database = Case {
-        side: Side::Database,
-        ..log
-    };
-    play_case(alloc, database, transcript)
+    play_case(alloc, act, rest, None, pages, transcript)
 }
 
 /// Runs the crashes of each act.
@@ -256,4 +303,26 @@ pub fn play(
 ) -> Result<()> {
     let acts = course(rt, text, between, start(rt, path)?)?;
     play_acts(rt.alloc(), acts.as_slice(), pages, transcript)
+}
+
+/// Runs a scenario of one session over empty files. Writes what it prints, and runs its crashes by either file.
+pub fn play_session(
+    rt: &HostRuntime,
+    text: &str,
+    pages: Pages,
+    transcript: &mut Vec<u8>,
+) -> Result<()> {
+    let acts = course(rt, text, Between::Closed, None)?;
+    let [act, rest @ ..] = acts.as_slice() else {
+        bail!("no act");
+    };
+    let whole = whole_session(rt, text)?;
+    let session = Session {
+        rt,
+        text,
+        whole: whole.as_str(),
+    };
+    ensure!(session.answers_all(acts.len()), "a line is not done");
+    transcript.write_all(whole.as_str().as_bytes())?;
+    play_case(rt.alloc(), act, rest, Some(session), pages, transcript)
 }

@@ -10,6 +10,8 @@ use wu_play_files::{Saved, Side};
 pub struct Find {
     pub files: Saved,
     pub reach: Reach,
+    /// How many acts follow the one that was cut.
+    pub rest: usize,
     pub found: Found,
 }
 
@@ -32,10 +34,16 @@ impl Finds {
         }
     }
 
-    /// Returns what the latest find found, if it was of the same files after an act that came as far.
-    pub fn known(&self, files: &Saved, reach: Reach) -> Option<Found> {
+    /// Returns what the latest find found, if it was of the same files after the same act that came as far.
+    pub fn known(&self, files: &Saved, reach: Reach, rest: usize) -> Option<Found> {
         match &self.latest {
-            Some(find) if find.reach == reach && find.files.is_same(files) => Some(find.found),
+            Some(find) if find.reach == reach && find.rest == rest => {
+                if find.files.is_same(files) {
+                    Some(find.found)
+                } else {
+                    None
+                }
+            }
             _ => None,
         }
     }

@@ -1,7 +1,7 @@
 //! The drivers of scenarios.
 
 use crate::course::Between;
-use crate::{driven, lives, memory, outputs, shown, stops, tables};
+use crate::{driven, lives, memory, outputs, session_outputs, shown, stops, tables};
 use anyhow::{Result, bail};
 use std::alloc::Global;
 use wu_play_files::Pages;
@@ -16,10 +16,14 @@ pub enum Way {
     /// Over two files that fail after each number of calls: how an act leaves them, how many pages stay in memory, and
     /// the database file that the script begins with.
     Stops(Between, Pages, Option<String>),
+    /// Over two files that fail after each number of calls, all lines in one session: how many pages stay in memory.
+    SessionStops(Pages),
     /// Over two files, with a crash at the commands of these numbers, counted from 1.
     Lives(Vec<usize>),
     /// Into writers that fail after each number of bytes, and at each flush.
     Outputs,
+    /// All lines in one session, into writers that fail after each number of bytes.
+    SessionOutputs,
     /// The view of the last line, into writers that take a few bytes a call and fail after each number of bytes.
     Shown,
     /// The lines from this number on as one list, into a writer with room for this number of bytes.
@@ -61,8 +65,11 @@ impl Way {
             "stops" => Way::Stops(Between::Closed, Pages::All, file(alloc, rest)?),
             "few_pages" => Way::Stops(Between::Closed, Pages::Few, None),
             "unclosed" => Way::Stops(Between::Unclosed, Pages::All, None),
+            "session_stops" => Way::SessionStops(Pages::All),
+            "session_few_pages" => Way::SessionStops(Pages::Few),
             "lives" => Way::Lives(numbers(alloc, rest)?),
             "outputs" => Way::Outputs,
+            "session_outputs" => Way::SessionOutputs,
             "shown" => Way::Shown,
             "driven" => driven(rest)?,
             _ => bail!("no way to play"),
@@ -83,8 +90,10 @@ impl Way {
                 *pages,
                 transcript,
             ),
+            Way::SessionStops(pages) => stops::play_session(rt, text, *pages, transcript),
             Way::Lives(numbers) => lives::play(rt, text, numbers.as_slice(), transcript),
             Way::Outputs => outputs::play(rt, text, transcript),
+            Way::SessionOutputs => session_outputs::play(rt, text, transcript),
             Way::Shown => shown::play(rt, text, transcript),
             Way::Driven(first, room) => driven::play(rt, text, *first, *room, transcript),
         }

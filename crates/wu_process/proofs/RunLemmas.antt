@@ -62,22 +62,22 @@ obeyed contents told_of words old new err_old err_new done left end runs ends = 
 
 -- A database that was opened for a session is left closed, or unclosed.
 pub serves_opened : {S W : Type 0} {c : calls.Ghosts Host} {s : start.Ghosts S} {g : Ghosts (Modelled Host S c s)} (contents : W → Option (List ℕ)) (path : List ℕ) (old new : W)
-    (done : Result ℕ Trouble) (left : LeftDatabase (Modelled Host S c s) g) → ServesOpened contents path old new done left → OpensAndServes contents path old new done left
-serves_opened contents path old new done (left.Unopened error rest) serves = absurd serves.closed
-serves_opened contents path old new done (left.Closed files) serves = serves
-serves_opened contents path old new done (left.Unclosed error store) serves = serves
+    (in_old in_new : Option (List ℕ)) (done : Result ℕ Trouble) (left : LeftDatabase (Modelled Host S c s) g) → ServesOpened contents path old new in_old in_new done left → OpensAndServes contents path old new in_old in_new done left
+serves_opened contents path old new in_old in_new done (left.Unopened error rest) serves = absurd serves.closed
+serves_opened contents path old new in_old in_new done (left.Closed files) serves = serves
+serves_opened contents path old new in_old in_new done (left.Unclosed error store) serves = serves
 
 -- How what was done ends.
 module _ {S W E : Type 0} {c : calls.Ghosts Host} {s : start.Ghosts S} {g : Ghosts (Modelled Host S c s)} (contents : W → Option (List ℕ)) (told_of : E → Option (List ℕ)) (words : List (List ℕ)) (old new : W) (err_old err_mid err_new : E)
-    (end : End (Modelled Host S c s) g) where
+    (in_old in_new : Option (List ℕ)) (end : End (Modelled Host S c s) g) where
   served_so : (done : Result ℕ Trouble) (left : Option (LeftDatabase (Modelled Host S c s) g)) → EndsServed told_of err_mid err_new done left end → (end.left ≡ left) × EndsServed told_of err_mid err_new done end.left end
   served_so (Ok status) left (is, unwritten, told, same) = (same, (is, unwritten, told, refl))
   served_so (Err trouble) left ends = (ends.same, record { tells = ends.tells; same = refl })
 
-  pub ran_ends : (ran : Ran (Modelled Host S c s) g) → RanFor contents words old new err_old err_mid ran → EndsRan told_of err_mid err_new ran end
-      → Obeys contents told_of words old new err_old err_new end ⊎ HoldsSession contents told_of words old new err_new end
-  ran_ends (ran.Done done left) (runs, kept) ends =
-      inl (obeyed contents told_of words old new err_old err_new done left end runs (subst (λ err. EndsSo told_of err err_new done left end) kept ends))
+  pub ran_ends : (ran : Ran (Modelled Host S c s) g) → RanFor contents words old new err_old err_mid in_old in_new ran → EndsRan told_of err_mid err_new ran end
+      → (Obeys contents told_of words old new err_old err_new end × (in_new ≡ in_old)) ⊎ HoldsSession contents told_of words old new err_new in_old in_new end
+  ran_ends (ran.Done done left) (runs, kept, unread) ends =
+      inl (obeyed contents told_of words old new err_old err_new done left end runs (subst (λ err. EndsSo told_of err err_new done left end) kept ends), unread)
   ran_ends (ran.Served done left) (path, ordered, runs) ends =
       let it = served_so done left ends in
-      inr (record { path = path; ordered = ordered; done = done; runs = subst (ServesAt contents path old new done) (sym it.0) runs; err_mid = err_mid; ends = it.1 })
+      inr (record { path = path; ordered = ordered; done = done; runs = subst (ServesAt contents path old new in_old in_new done) (sym it.0) runs; err_mid = err_mid; ends = it.1 })

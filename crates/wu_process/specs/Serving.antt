@@ -30,32 +30,33 @@ use Rattle.wu_process.specs.declared.Ran.TheVariants as ran
 module _ {S W : Type 0} {c : calls.Ghosts Host} {s : start.Ghosts S} {g : Ghosts (Modelled Host S c s)} (contents : W → Option (List ℕ)) where
   -- The database of this path is opened, over two files that held what the start says. The lines of the input are
   -- answered over it, and it is closed.
-  pub record ServesOpened (path : List ℕ) (old new : W) (done : Result ℕ Trouble) (left : LeftDatabase (Modelled Host S c s) g) : Type 0 where
+  pub record ServesOpened (path : List ℕ) (old new : W) (in_old in_new : Option (List ℕ)) (done : Result ℕ Trouble) (left : LeftDatabase (Modelled Host S c s) g) : Type 0 where
     pub conn : Held (FileStore (Modelled Host S c s) g)
     pub opened : IsOpenedAt path (image_at s) conn
     pub again : Held (FileStore (Modelled Host S c s) g)
-    pub serves : ServesOver over_files contents may_hold path conn again old new done
+    pub serves : ServesOver over_files contents may_hold path conn again old new in_old in_new done
     pub closed : IsLeftByClose again left
 
-  -- It cannot be opened: the trouble of that is returned, and nothing goes out.
-  pub record ServesUnopened (path : List ℕ) (old new : W) (done : Result ℕ Trouble) (error : Error) (rest : Option (Leftover (Modelled Host S c s) g)) : Type 0 where
+  -- It cannot be opened: the trouble of that is returned, no line is read, and nothing goes out.
+  pub record ServesUnopened (path : List ℕ) (old new : W) (in_old in_new : Option (List ℕ)) (done : Result ℕ Trouble) (error : Error) (rest : Option (Leftover (Modelled Host S c s) g)) : Type 0 where
     pub unopened : IsUnopened path error rest
     pub told : done ≡ Err (trouble_of_opening (fault_of error))
     pub unwritten : new ≡ old
+    pub unread : in_new ≡ in_old
 
-  abbrev pub OpensAndServes : List ℕ → W → W → Result ℕ Trouble → LeftDatabase (Modelled Host S c s) g → Type 0
-  OpensAndServes path old new done (left.Unopened error rest) = ServesUnopened path old new done error rest
-  OpensAndServes path old new done other = ServesOpened path old new done other
+  abbrev pub OpensAndServes : List ℕ → W → W → Option (List ℕ) → Option (List ℕ) → Result ℕ Trouble → LeftDatabase (Modelled Host S c s) g → Type 0
+  OpensAndServes path old new in_old in_new done (left.Unopened error rest) = ServesUnopened path old new in_old in_new done error rest
+  OpensAndServes path old new in_old in_new done other = ServesOpened path old new in_old in_new done other
 
   -- A session is held over the database of this path; or that is not opened, because of what lies there.
-  abbrev pub ServesAt : List ℕ → W → W → Result ℕ Trouble → Option (LeftDatabase (Modelled Host S c s) g) → Type 0
-  ServesAt path old new done (Some left) = OpensAndServes path old new done left
-  ServesAt path old new done None = (told : Trouble) × IsBar told × (done ≡ Err told) × (new ≡ old)
+  abbrev pub ServesAt : List ℕ → W → W → Option (List ℕ) → Option (List ℕ) → Result ℕ Trouble → Option (LeftDatabase (Modelled Host S c s) g) → Type 0
+  ServesAt path old new in_old in_new done (Some left) = OpensAndServes path old new in_old in_new done left
+  ServesAt path old new in_old in_new done None = (told : Trouble) × IsBar told × (done ≡ Err told) × (new ≡ old) × (in_new ≡ in_old)
 
-  -- What was done for the words of a process. Only a session writes to the second output meanwhile.
-  abbrev pub RanFor : {E : Type 0} → List (List ℕ) → W → W → E → E → Ran (Modelled Host S c s) g → Type 0
-  RanFor words old new err_old err_new (ran.Done done left) = RunsWords contents words old new done left × (err_new ≡ err_old)
-  RanFor words old new err_old err_new (ran.Served done left) = (path : List ℕ) × IsOrderOf words (order.Session path) × ServesAt path old new done left
+  -- What was done for the words of a process. Only a session reads the input, and writes to the second output meanwhile.
+  abbrev pub RanFor : {E : Type 0} → List (List ℕ) → W → W → E → E → Option (List ℕ) → Option (List ℕ) → Ran (Modelled Host S c s) g → Type 0
+  RanFor words old new err_old err_new in_old in_new (ran.Done done left) = RunsWords contents words old new done left × (err_new ≡ err_old) × (in_new ≡ in_old)
+  RanFor words old new err_old err_new in_old in_new (ran.Served done left) = (path : List ℕ) × IsOrderOf words (order.Session path) × ServesAt path old new in_old in_new done left
 
 module _ {D E : Type 0} {g : Ghosts D} (told_of : E → Option (List ℕ)) where
   -- The session of a process ends with the status that it gave, or with the trouble that kept it from its first line.
@@ -70,10 +71,10 @@ module _ {D E : Type 0} {g : Ghosts D} (told_of : E → Option (List ℕ)) where
 
 module _ {S W : Type 0} {c : calls.Ghosts Host} {s : start.Ghosts S} {g : Ghosts (Modelled Host S c s)} (contents : W → Option (List ℕ)) where
   -- The words ask for a session, and it is held. What clap prints of refused lines goes to the second output before.
-  pub record HoldsSession {E : Type 0} (told_of : E → Option (List ℕ)) (words : List (List ℕ)) (old new : W) (err_new : E) (end : End (Modelled Host S c s) g) : Type 0 where
+  pub record HoldsSession {E : Type 0} (told_of : E → Option (List ℕ)) (words : List (List ℕ)) (old new : W) (err_new : E) (in_old in_new : Option (List ℕ)) (end : End (Modelled Host S c s) g) : Type 0 where
     pub path : List ℕ
     pub ordered : IsOrderOf words (order.Session path)
     pub done : Result ℕ Trouble
-    pub runs : ServesAt contents path old new done end.left
+    pub runs : ServesAt contents path old new in_old in_new done end.left
     pub err_mid : E
     pub ends : EndsServed told_of err_mid err_new done end.left end

@@ -4,7 +4,7 @@ ghost use Rattle.std.specs.Prelude.{IsTrue};
 ghost use Rattle.wu_cli.specs.Checking.{ChecksOver};
 ghost use Rattle.wu_process.specs.Checks.{ChecksFiles, ChecksPath, DropsChecked};
 
-use crate::copy::{copies_of, read_database};
+use crate::copy::{files_in_memory, read_database};
 use sqlite::{Alter, Connection, Files, Options};
 use sqlite_disk::Disk;
 use std::alloc::Global;
@@ -63,7 +63,7 @@ pub fn check_path<O: Write>(rt: &HostRuntime, path: &str, out: &mut O) -> Result
         Ok(bytes) => bytes,
         Err(reason) => return Err(Trouble::Unchecked(reason)),
     };
-    match copies_of(rt.alloc(), &bytes) {
+    match files_in_memory(rt.alloc(), &bytes) {
         Ok(files) => check_files(rt.alloc(), files, options(rt), out),
         Err(reason) => Err(Trouble::Unchecked(reason)),
     }

@@ -141,7 +141,7 @@ fn read_at_once<'a>(
 }
 
 /// Returns why a path leads to no file: where its log is there, the database has gone without it.
-fn lost(rt: &HostRuntime, path: &str, error: &io::Error) -> Reason {
+fn why_no_file(rt: &HostRuntime, path: &str, error: &io::Error) -> Reason {
     let Ok(has_log) = has_log(rt, path) else {
         return Reason::Memory;
     };
@@ -167,7 +167,7 @@ pub fn read_database<'a>(rt: &HostRuntime, path: &'a str) -> Result<FileBytes<'a
     // The bytes carry the path that was asked for. What the bytes are is not stated.
     ensures { IfOk result (λ bytes. bytes.path.now ≡ path.now) }
 {
-    let real = fs::canonicalize(rt, path).map_err(|error| lost(rt, path, &error))?;
+    let real = fs::canonicalize(rt, path).map_err(|error| why_no_file(rt, path, &error))?;
     let log = format!(in rt.alloc(); "{}-wal", real.as_str()).map_err(|_| Reason::Memory)?;
     refuse_foreign(rt, real.as_str())?;
     let bytes = read_at_once(rt, path, real.as_str(), log.as_str())?;
@@ -176,7 +176,7 @@ pub fn read_database<'a>(rt: &HostRuntime, path: &'a str) -> Result<FileBytes<'a
 }
 
 /// Makes a file in memory with these bytes.
-fn copy_of(alloc: Global, bytes: &[u8]) -> Result<Memory, Reason>
+fn file_in_memory(alloc: Global, bytes: &[u8]) -> Result<Memory, Reason>
     ensures copy { IfOk result (IsCopyOf bytes.now) }
     ensures refused { IfErr result (λ reason. reason ≡ WantsMemory) }
 {
@@ -191,13 +191,13 @@ fn copy_of(alloc: Global, bytes: &[u8]) -> Result<Memory, Reason>
 }
 
 /// Makes the two files in memory, with these bytes.
-pub fn copies_of(alloc: Global, bytes: &FileBytes<'_>) -> Result<Files<Memory>, Reason>
+pub fn files_in_memory(alloc: Global, bytes: &FileBytes<'_>) -> Result<Files<Memory>, Reason>
     // Both files in memory have just the bytes that were read, and can be used.
     ensures copies { IfOk result (AreCopiesOf bytes.now) }
     // The only refusal is out of memory.
     ensures refused { IfErr result (λ reason. reason ≡ WantsMemory) }
 {
-    let log = copy_of(alloc, &bytes.log)?;
-    let db = copy_of(alloc, &bytes.db)?;
+    let log = file_in_memory(alloc, &bytes.log)?;
+    let db = file_in_memory(alloc, &bytes.db)?;
     Ok(Files { log, db })
 }

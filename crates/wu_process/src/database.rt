@@ -33,7 +33,7 @@ impl<D: Disk + Drop> Drop for LeftDatabase<D> {
 }
 
 /// Closes a database, as far as its files let it.
-fn close<D: Disk + Drop>(conn: Connection<FileStore<D>>) -> LeftDatabase<D>
+fn close_database<D: Disk + Drop>(conn: Connection<FileStore<D>>) -> LeftDatabase<D>
     // The files come back closed, with the last commit in the database file if the disk is clean.
     // Or the store comes back, with the error.
     ensures { IsLeftByClose conn result }
@@ -59,7 +59,7 @@ fn open_and_do<S: Start, O: Write>(
     match Connection::open_from(rt, database, false, start) {
         Ok(conn) => {
             let (conn, done) = work.perform_over(rt.alloc(), conn, out);
-            (done, close(conn))
+            (done, close_database(conn))
         }
         Err((error, left)) => {
             let trouble = unopened(&error);
@@ -107,13 +107,14 @@ fn open_and_serve<S: Start, R: BufRead, O: Write, E: Write>(
 ) -> (Result<u8, Trouble>, LeftDatabase<FileFrom<S>>)
     // The lines are answered over the opened database, which is then closed; or nothing is opened, and
     // that is reported.
-    ensures { OpensAndServes O.contents path.now out.old out.new result.0 result.1 }
+    ensures { OpensAndServes O.contents path.now out.old out.new
+        (R.remaining input.old) (R.remaining input.new) result.0 result.1 }
 {
     let files = HostFiles::new(rt);
     match Connection::open_from(rt, path, false, start) {
         Ok(conn) => {
             let (conn, served) = serve_over(rt.alloc(), conn, path, input, &files, out, err);
-            (served, close(conn))
+            (served, close_database(conn))
         }
         Err((error, left)) => {
             let why = unopened(&error);
@@ -133,8 +134,9 @@ pub fn hold_session<S: Start, R: BufRead, O: Write, E: Write>(
     err: &mut E,
 ) -> (Result<u8, Trouble>, Option<LeftDatabase<FileFrom<S>>>)
     // The database of this path is opened, the lines are answered over it, and it is closed. Or it is
-    // not opened, which is reported, and nothing goes out.
-    ensures { ServesAt O.contents path.now out.old out.new result.0 result.1 }
+    // not opened, which is reported, no line is read, and nothing goes out.
+    ensures { ServesAt O.contents path.now out.old out.new
+        (R.remaining input.old) (R.remaining input.new) result.0 result.1 }
 {
     match bar(rt, path) {
         Ok(()) => {

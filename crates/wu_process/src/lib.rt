@@ -16,12 +16,14 @@ mod check;
 mod copy;
 mod database;
 mod files;
+mod made;
 mod signs;
 
 use check::check_path;
 pub use database::LeftDatabase;
 use database::{hold_session, open_and_perform};
 use files::HostFiles;
+use made::{order_without_file, tell_made};
 use signs::{Cleared, Signs, Watched};
 use sqlite::FileFrom;
 use sqlite_disk::{Disk, Wary};
@@ -66,8 +68,8 @@ fn run_words<S: sqlite::Start, R: BufRead, O: Write, E: Write>(
     // Refused words, and a line or a script that cannot be run, are reported, and nothing goes out.
     // Otherwise the work is done over the database that the words name, or the check, or the
     // explanation, or a session is held.
-    ensures { RanFor O.contents (map string_bytes words.now)
-        out.old out.new err.old err.new result }
+    ensures { RanFor O.contents (map string_bytes words.now) out.old out.new err.old err.new
+        (R.remaining input.old) (R.remaining input.new) result }
 {
     let alloc = rt.alloc();
     let files = HostFiles::new(rt);
@@ -177,7 +179,8 @@ pub fn run_with<S: sqlite::Start, R: BufRead, O: Write, E: Write>(
     // out, and nothing goes to `err`. Otherwise what the words ask for is done up to the first
     // trouble, which is reported with its status. Words that cannot be read are reported as no
     // UTF-8 text, or as out of memory, and nothing goes out.
-    ensures { RunsProcess O.contents E.contents out.old out.new err.old err.new result words }
+    ensures { RunsProcess O.contents E.contents out.old out.new err.old err.new
+        (R.remaining input.old) (R.remaining input.new) result words }
 {
     match words {
         Ok(words) if words.len() <= 1 => End {
@@ -203,9 +206,9 @@ fn asks_for_session(words: &io::Result<Vec<String>>) -> bool {
     }
 }
 
-/// Does what the words of the command line ask for, as `run_with`, with the input and the outputs of the process. Nothing is assumed
-/// of the database file. If standard error is a terminal, it shows in the meantime how many answers have gone out, and
-/// the last one. Returns the status to end with.
+/// Does what the words of the command line ask for, as `run_with`, with the input and the outputs of the process. Nothing
+/// is assumed of the database file. If standard error is a terminal, it shows in the meantime how many answers have gone
+/// out, and the last one, and at the end that a database was made, if one was. Returns the status to end with.
 pub fn run(rt: &HostRuntime) -> u8
     // The status is that of some call of `run_with`, over some words, some outputs and a database
     // file with any contents; or it is 4.
@@ -217,6 +220,11 @@ pub fn run(rt: &HostRuntime) -> u8
     let words = words(rt);
     let is_terminal = rt.stderr().is_terminal() && !asks_for_session(&words);
     let mut err = Cleared::new(rt.stderr(), is_terminal);
+    let without_file = if is_terminal {
+        order_without_file(rt, &words)
+    } else {
+        None
+    };
     match BufWriter::new(rt.alloc(), rt.stdout()) {
         Ok(out) => {
             let signs = Signs::new(is_terminal.then_some(rt.stderr()));
@@ -225,6 +233,7 @@ pub fn run(rt: &HostRuntime) -> u8
             let mut input = rt.reader();
             let status = run_with(rt, words, &mut input, Wary, &mut out, &mut err).status;
             out.end();
+            tell_made(rt, &without_file, &mut err);
             status
         }
         Err(_) => tell(Err(Trouble::Fault(Fault::Memory)), &mut err).0,

@@ -58,7 +58,8 @@ pub fn run_and_leave<S: Start, R: BufRead, O: Write, E: Write>(
     err: &mut E,
 ) -> End<FileFrom<S>>
     // What the words ask for is done, up to the first trouble, which is reported with its status.
-    ensures runs { RunsProcess O.contents E.contents out.old out.new err.old err.new result words }
+    ensures runs { RunsProcess O.contents E.contents out.old out.new err.old err.new
+        (R.remaining input.old) (R.remaining input.new) result words }
     // Each crash image holds the world after the commands done, each with the machine's reply; with
     // status 0 all are done. Or nothing was adopted, and the files still hold their world.
     ensures left { LeavesItsWork O.contents E.contents result }

@@ -1,6 +1,8 @@
 mod DayLemmas
 mod HexLemmas
 mod LineLemmas
+pub mod MarkLemmas
+pub mod MarkedLines
 mod MomentLemmas
 mod ViewLemmas
 pub mod WritingLemmas

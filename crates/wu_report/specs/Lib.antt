@@ -3,5 +3,6 @@ pub mod Writing
 pub mod Writers
 pub mod Projects
 pub mod Views
+pub mod Marks
 pub mod Examples
 pub mod Seeing

@@ -2,6 +2,7 @@
 #![tactic(auto)]
 
 pub mod examples;
+pub mod laws;
 mod lines;
 mod output;
 mod views;

@@ -13,7 +13,11 @@ use Rattle.wu_machine.specs.Requests.{Request}
 use Rattle.wu_machine.specs.Sessions.{Lived, accepted, world_lived, world_of_life}
 use Rattle.wu_machine.specs.Sound.{IsSound}
 use Rattle.wu_machine_laws.proofs.SoundSteps.{sound_steps}
+use Rattle.wu_report.specs.Marks.{HasValidNames, NoLineBeginsWith, equals_sign}
+use Rattle.wu_report.specs.Texts.{view_text}
 use Rattle.wu_report.specs.Views.{CanBeShown}
+use Rattle.wu_report.proofs.MarkLemmas.{unmarked_whole}
+use Rattle.wu_report.proofs.MarkedLines.{names_valid, view_whole}
 use Rattle.wu_machine.specs.declared.view.View.{View}
 use Rattle.wu_machine.specs.declared.view.View.TheVariants as view
 use Rattle.wu_drive.specs.Driving.{session_of, world_after}
@@ -41,6 +45,18 @@ shown world sound present view.Summary = record {
   numbers = record { version = omega (arith, present); next = sound.next_number };
   credit = (let few = bounded_credit world.grants (placed world sound) sound.granted_once in omega (arith, few));
 }
+
+-- no version is asked for: a summary has no names
+names_sound : (world : World) → IsSound world → (v : View) → HasValidNames world v
+names_sound world sound view.Workunits = names_valid world view.Workunits sound.storable
+names_sound world sound view.Results = names_valid world view.Results sound.storable
+names_sound world sound view.Hosts = names_valid world view.Hosts (hosts_have IsName world.grants sound.granted_to)
+names_sound world sound view.Archive = names_valid world view.Archive sound.archivable
+names_sound world sound view.Classes = names_valid world view.Classes sound.classed
+names_sound world sound view.Summary = tt
+
+pub unmarked : (world : World) → IsSound world → (v : View) → NoLineBeginsWith equals_sign (view_text world v)
+unmarked world sound v = unmarked_whole (view_text world v) (view_whole world v (names_sound world sound v))
 
 -- ---- lists of commands
 

@@ -9,6 +9,8 @@ use Rattle.wu_machine.specs.Machine.{HasValues, present_version}
 use Rattle.wu_machine.specs.Commands.{request_of}
 use Rattle.wu_machine.specs.Sessions.{Lived, accepted, world_of_life}
 use Rattle.wu_machine.specs.Sound.{IsSound}
+use Rattle.wu_report.specs.Marks.{NoLineBeginsWith, equals_sign}
+use Rattle.wu_report.specs.Texts.{view_text}
 use Rattle.wu_report.specs.Views.{CanBeShown}
 use Rattle.wu_drive.specs.Driving.{session_of, world_after}
 use Rattle.wu_drive.specs.declared.runs.Run.{Run}
@@ -30,6 +32,10 @@ BoundsTotals = (world : World) → IsSound world → HasTotals world
 -- Each view of a sound world of the present version can be read, so that none is refused for its rows.
 abbrev pub CanAllBeShown : Type 0
 CanAllBeShown = (world : World) (view : View) → IsSound world → world.version ≡ present_version → CanBeShown world view
+
+-- No line of a view of a sound world begins with '='.
+abbrev pub NoSoundViewIsMarked : Type 0
+NoSoundViewIsMarked = (world : World) (view : View) → IsSound world → NoLineBeginsWith equals_sign (view_text world view)
 
 -- The values of these commands are in their ranges.
 abbrev pub HaveValues : List Command → Type 0

@@ -1,6 +1,6 @@
 //! Laws of sound worlds: totals, views, lists of commands and histories of sessions.
 
-ghost use Rattle.wu_sound_laws.specs.Laws.{BeginningsStaySound, BoundsTotals, CanAllBeShown, HaveValues, LivesStaySound, SessionsHaveValues};
+ghost use Rattle.wu_sound_laws.specs.Laws.{BeginningsStaySound, BoundsTotals, CanAllBeShown, HaveValues, LivesStaySound, NoSoundViewIsMarked, SessionsHaveValues};
 
 use wu_drive::Command;
 use wu_machine::laws::has_values;
@@ -16,6 +16,12 @@ pub fn bounds_totals()
 pub fn can_all_be_shown()
     // Each view of a sound world of the present version is of readable values.
     ensures { CanAllBeShown }
+{}
+
+/// Shows that no line of a view of a sound world begins with `=`.
+pub fn no_view_of_a_sound_world_is_marked()
+    // No line of a view of a sound world begins with `=`.
+    ensures { NoSoundViewIsMarked }
 {}
 
 /// Shows that the values of each command are in their ranges.

@@ -8,8 +8,8 @@ ghost use Rattle.wu_machine.specs.Commands.{request_of};
 ghost use Rattle.wu_machine.specs.Sound.{IsProject};
 ghost use Rattle.wu_store.specs.Loading.{Asks, ServesUnlessFailed, StaysUnlessFailed};
 ghost use Rattle.wu_passes.specs.Standing.{IsCutBy};
-ghost use Rattle.wu_passes.specs.Adopting.{Adopts, KnowsVersion, older_than_present, RefusesAdoption, StartsOver};
-ghost use Rattle.wu_passes.specs.Projects.{AnswersEnded, AsksOn, CarriesOut, CarriesOutFrom, connection_of, FailsAgain, GoesOnAgain, IsSessionOpen, has_ended, IsSessionEnded, KeepsAsking, KeepsSession, KeepsVersion, KnowsTables, LeavesIdle, LeavesUntouched, PlansOn, ReadsUnrefused, RefusesEarly, RunsOver, refused_for, ServesOn, ServesRight, older_version, state_of, TellsWhy};
+ghost use Rattle.wu_passes.specs.Adopting.{Adopts, KnowsVersion, older_than_present, RefusesAdoption, StartsOver, TellsNew};
+ghost use Rattle.wu_passes.specs.Projects.{AnswersEnded, AsksOn, CarriesOut, CarriesOutFrom, connection_of, FailsAgain, GoesOnAgain, IsSessionOpen, has_ended, is_new, IsSessionEnded, KeepsAsking, KeepsSession, KeepsVersion, KnowsTables, LeavesIdle, LeavesUntouched, PlansOn, ReadsUnrefused, RefusesEarly, RunsOver, refused_for, ServesOn, ServesRight, older_version, state_of, TellsWhy};
 
 use crate::commit::change_all;
 use crate::project::Project;
@@ -27,18 +27,20 @@ use wu_schema::{PRESENT_VERSION, check_version, create, version_of};
 use wu_store::Change;
 
 /// Finds the project of the database, or makes a fresh one if it has none of a project's tables. Returns the version of
-/// its schema. A limit on steps is taken off.
+/// its schema, and whether it is new. A limit on steps is taken off.
 ///
 /// A connection inside a transaction stays as it was.
-fn find_or_create<S: Alter>(conn: &mut Connection<S>) -> Result<u64, Fault>
+fn find_or_create<S: Alter>(conn: &mut Connection<S>) -> Result<(u64, bool), Fault>
     ensures busy { conn.old.in_transaction ≡ true
         → (result ≡ Err Fault.NotAProject) × (conn.new ≡ conn.old) }
     ensures mode { OnOk result (conn.new.in_transaction ≡ false) }
     ensures adopted { OnOk result (Adopts (state S.Store conn.old) (state S.Store conn.new)) }
     ensures refused { IfErr result
         (RefusesAdoption (state S.Store conn.old) (state S.Store conn.new)) }
-    ensures version { IfOk result
-        (KnowsVersion (state S.Store conn.old) (state S.Store conn.new)) }
+    ensures version { IfOk result (λ found.
+        KnowsVersion (state S.Store conn.old) (state S.Store conn.new) found.0) }
+    ensures new { IfOk result (λ found.
+        TellsNew (state S.Store conn.old) (state S.Store conn.new) found.1) }
 {
     if !conn.is_autocommit() {
         return Err(Fault::NotAProject);
@@ -46,10 +48,10 @@ fn find_or_create<S: Alter>(conn: &mut Connection<S>) -> Result<u64, Fault>
     conn.set_step_limit(None);
     let Some(version) = version_of(conn)? else {
         create(conn)?;
-        return Ok(PRESENT_VERSION);
+        return Ok((PRESENT_VERSION, true));
     };
     check_version(version)?;
-    Ok(version)
+    Ok((version, false))
 }
 
 /// Returns the version if it is older than the present one, and otherwise `None`.
@@ -191,12 +193,16 @@ impl<S: Alter> Project<S> {
             StartsOver (state S.Store conn) (state_of project) (older_version project)) }
         // Whatever world the tables represent, the session knows the version of it.
         ensures knows { IfOk result KnowsTables }
+        // The project is new if there was none before.
+        ensures new { IfOk result (λ project.
+            TellsNew (state S.Store conn) (state_of project) (is_new project)) }
     {
         match find_or_create(&mut conn) {
-            Ok(version) => Ok(Project {
+            Ok((version, is_new)) => Ok(Project {
                 conn,
                 has_ended: false,
                 older: older_than_present(version),
+                is_new,
             }),
             Err(fault) => Err((conn, fault)),
         }
@@ -218,6 +224,14 @@ impl<S: Alter> Project<S> {
         self.older
     }
 
+    /// Returns whether the adoption of this session made the project.
+    pub fn is_new(&self) -> bool
+        // The answer is whether the project was made.
+        ensures { result ≡ is_new self.now }
+    {
+        self.is_new
+    }
+
     /// Ends the session, and gives its connection back, in no transaction.
     pub fn release(self) -> Connection<S>
         // The connection is the session's, unchanged.
@@ -229,6 +243,7 @@ impl<S: Alter> Project<S> {
             conn,
             has_ended: _,
             older: _,
+            is_new: _,
         } = self;
         conn
     }

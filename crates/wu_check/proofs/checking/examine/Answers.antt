@@ -23,14 +23,14 @@ returns-in-Unsound-clause-opens g c = c.in_ok-loaded.ensures.opens
 
 pub returns-in-Some-clause-opens : goal.returns-in-Some-clause-opens
 returns-in-Some-clause-opens g c =
-    serves_then g.S.Store c.find_world.new.conn c.judge.new.conn c.in_ok-loaded.field-0 (Ok c.in_ok-finding.field-0) (λ clean. omega (arith, clean, c.in_ok-finding.ensures.examines.asks.crash.clean)) c.in_ok-loaded.ensures.opens c.in_ok-finding.ensures.stays
+    serves_then g.S.Store c.find_world.new.conn c.judge_world.new.conn c.in_ok-loaded.field-0 (Ok c.in_ok-finding.field-0) (λ clean. omega (arith, clean, c.in_ok-finding.ensures.examines.asks.crash.clean)) c.in_ok-loaded.ensures.opens c.in_ok-finding.ensures.stays
 
 pub returns-in_err-finding-clause-examines : goal.returns-in_err-finding-clause-examines
 returns-in_err-finding-clause-examines g c =
     let Is : Database → Option Finding → Type 0 = λ db found. Refines db c.in-World.loaded × Judges db c.in-World.loaded found in
     let now = (state g.S.Store c.args.conn.now).now in
-    examines_fault g.S.Store c.args.conn.now c.judge.new.conn Is c.in_err-finding.field-0.0 Says
-    (examines_then g.S.Store c.args.conn.now c.find_world.new.conn c.judge.new.conn c.in_ok-loaded.field-0 IsBasis c.in_ok-loaded.ensures.examines _ _ c.in_err-finding.ensures.examines Is
+    examines_fault g.S.Store c.args.conn.now c.judge_world.new.conn Is c.in_err-finding.field-0.0 Says
+    (examines_then g.S.Store c.args.conn.now c.find_world.new.conn c.judge_world.new.conn c.in_ok-loaded.field-0 IsBasis c.in_ok-loaded.ensures.examines _ _ c.in_err-finding.ensures.examines Is
     (λ y basis then. let stands = subst (IsBasis now) c.in-World.is basis in (stands, then stands)))
     c.from_residual-in_err-finding.result c.from_residual-in_err-finding.ensures.1
 
@@ -38,29 +38,29 @@ pub returns-in-Some-clause-examines : goal.returns-in-Some-clause-examines
 returns-in-Some-clause-examines g c =
     let Is : Database → Option Finding → Type 0 = λ db found. Refines db c.in-World.loaded × Judges db c.in-World.loaded found in
     let now = (state g.S.Store c.args.conn.now).now in
-    examines_made g.S.Store c.args.conn.now c.judge.new.conn Is c.in_ok-finding.field-0 (verdict.Unsound c.in-Some.finding) Says
+    examines_made g.S.Store c.args.conn.now c.judge_world.new.conn Is c.in_ok-finding.field-0 (verdict.Unsound c.in-Some.finding) Says
     (λ h. subst (Judges now c.in-World.loaded) c.in-Some.is h.1)
-    (examines_then g.S.Store c.args.conn.now c.find_world.new.conn c.judge.new.conn c.in_ok-loaded.field-0 IsBasis c.in_ok-loaded.ensures.examines _ _ c.in_ok-finding.ensures.examines Is
+    (examines_then g.S.Store c.args.conn.now c.find_world.new.conn c.judge_world.new.conn c.in_ok-loaded.field-0 IsBasis c.in_ok-loaded.ensures.examines _ _ c.in_ok-finding.ensures.examines Is
     (λ y basis then. let stands = subst (IsBasis now) c.in-World.is basis in (stands, then stands)))
 
-pub count_results-requires : goal.count_results-requires
-count_results-requires g c =
+pub instances_in-requires : goal.instances_in-requires
+instances_in-requires g c =
     let none : IsNone c.in_ok-finding.field-0 = search rules in
     let few = counts_fit c.in-World.loaded (c.in_ok-finding.ensures.sound none) in
     subst (λ (ws : List Workunit). sum_by (λ (w : Workunit). length w.instances) ws < 2 ^ 64) (sym c.workunits-2.ensures) few
 
 pub returns-clause-opens : goal.returns-clause-opens
 returns-clause-opens g c =
-    serves_then g.S.Store c.find_world.new.conn c.judge.new.conn c.in_ok-loaded.field-0 (Ok c.in_ok-finding.field-0) (λ clean. omega (arith, clean, c.in_ok-finding.ensures.examines.asks.crash.clean)) c.in_ok-loaded.ensures.opens c.in_ok-finding.ensures.stays
+    serves_then g.S.Store c.find_world.new.conn c.judge_world.new.conn c.in_ok-loaded.field-0 (Ok c.in_ok-finding.field-0) (λ clean. omega (arith, clean, c.in_ok-finding.ensures.examines.asks.crash.clean)) c.in_ok-loaded.ensures.opens c.in_ok-finding.ensures.stays
 
 pub returns-clause-examines : goal.returns-clause-examines
 returns-clause-examines g c =
     let Is : Database → Option Finding → Type 0 = λ db found. Refines db c.in-World.loaded × Judges db c.in-World.loaded found in
     let now = (state g.S.Store c.args.conn.now).now in
-    examines_made g.S.Store c.args.conn.now c.judge.new.conn Is c.in_ok-finding.field-0 (verdict.Sound c.version.result (length c.workunits.result.now) c.count_results.result) Says
-    (λ h. judged_sound now c.in-World.loaded h.0 (subst (Judges now c.in-World.loaded) c.in_default.is h.1) c.version.result (length c.workunits.result.now) c.count_results.result
-    (c.version.ensures, ap (λ (ws : List Workunit). length ws) c.workunits.ensures, c.count_results.ensures ∙ ap (λ (ws : List Workunit). sum_by (λ (w : Workunit). length w.instances) ws) c.workunits-2.ensures))
-    (examines_then g.S.Store c.args.conn.now c.find_world.new.conn c.judge.new.conn c.in_ok-loaded.field-0 IsBasis c.in_ok-loaded.ensures.examines _ _ c.in_ok-finding.ensures.examines Is
+    examines_made g.S.Store c.args.conn.now c.judge_world.new.conn Is c.in_ok-finding.field-0 (verdict.Sound c.version.result (length c.workunits.result.now) c.instances_in.result) Says
+    (λ h. judged_sound now c.in-World.loaded h.0 (subst (Judges now c.in-World.loaded) c.in_default.is h.1) c.version.result (length c.workunits.result.now) c.instances_in.result
+    (c.version.ensures, ap (λ (ws : List Workunit). length ws) c.workunits.ensures, c.instances_in.ensures ∙ ap (λ (ws : List Workunit). sum_by (λ (w : Workunit). length w.instances) ws) c.workunits-2.ensures))
+    (examines_then g.S.Store c.args.conn.now c.find_world.new.conn c.judge_world.new.conn c.in_ok-loaded.field-0 IsBasis c.in_ok-loaded.ensures.examines _ _ c.in_ok-finding.ensures.examines Is
     (λ y basis then. let stands = subst (IsBasis now) c.in-World.is basis in (stands, then stands)))
 
 pub returns-in-Unsound-clause-later : goal.returns-in-Unsound-clause-later

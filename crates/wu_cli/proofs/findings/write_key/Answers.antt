@@ -5,7 +5,7 @@ use Rattle.wu_cli.proofs.TextLemmas.{key_told_as}
 use Rattle.wu_cli.proofs.findings.write_key.Goals as goal
 
 pub returns-in-Grant : goal.returns-in-Grant
-returns-in-Grant g c = key_told_as _ _ c.counted-in-Grant.result _ _ c.in-Grant.is c.counted-in-Grant.ensures
+returns-in-Grant g c = key_told_as _ _ c.write_counted-in-Grant.result _ _ c.in-Grant.is c.write_counted-in-Grant.ensures
 
 pub returns-in-HostClass : goal.returns-in-HostClass
 returns-in-HostClass g c =

@@ -10,6 +10,7 @@ returns-in-Ok g c = record {
   begins = c.in-Ok.ensures.begins;
   adopts = c.in-Ok.ensures.adopted;
   knows = c.in-Ok.ensures.knows;
+  new_is = c.in-Ok.ensures.new;
   serves = c.serve_project-status.ensures;
   released = c.release.ensures.same;
 }

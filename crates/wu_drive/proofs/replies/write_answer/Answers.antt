@@ -5,4 +5,4 @@ use Rattle.wu_drive.proofs.replies.write_answer.Goals as goal
 
 pub returns-clause-bytes : goal.returns-clause-bytes
 returns-clause-bytes g c =
-    Writes-kept _ _ _ (reply_text (reply_of_answer c.args.answer.now)) c.flush.result c.in_ok-write_text.ensures.bytes c.flush.ensures.bytes
+    Writes-kept _ _ _ (reply_text (reply_of_answer c.args.answer.now)) c.flush.result c.in_ok-write_answer_text.ensures.bytes c.flush.ensures.bytes

@@ -4,7 +4,7 @@ use Rattle.wu_process.proofs.database.open_and_do.Goals as goal
 
 pub returns-in-Ok : goal.returns-in-Ok
 returns-in-Ok g c =
-    does_opened g.O.Write.contents c.args.database.now c.args.work c.args.out.now c.perform_over-conn.new.out c.perform_over-conn.result.1 c.close.result
+    does_opened g.O.Write.contents c.args.database.now c.args.work c.args.out.now c.perform_over-conn.new.out c.perform_over-conn.result.1 c.close_database.result
     (record {
       conn = c.in-Ok.conn;
       opened = record {
@@ -20,7 +20,7 @@ returns-in-Ok g c =
         does = c.perform_over-conn.ensures.does;
         drives = c.perform_over-conn.ensures.drives;
         prints = c.perform_over-conn.ensures.prints;
-        closed = c.close.ensures;
+        closed = c.close_database.ensures;
       };
     })
 

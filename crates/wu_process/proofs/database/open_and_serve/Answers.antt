@@ -3,7 +3,7 @@ use Rattle.wu_process.proofs.database.open_and_serve.Goals as goal
 
 pub returns-in-Ok : goal.returns-in-Ok
 returns-in-Ok g c =
-    serves_opened g.O.Write.contents c.args.path.now c.args.out.now c.serve_over-conn.new.out c.serve_over-conn.result.1 c.close.result
+    serves_opened g.O.Write.contents c.args.path.now c.args.out.now c.serve_over-conn.new.out (g.R.Read.remaining c.args.input.now) (g.R.Read.remaining c.serve_over-conn.new.input) c.serve_over-conn.result.1 c.close_database.result
     (record {
       conn = c.in-Ok.conn;
       opened = record {
@@ -16,5 +16,5 @@ returns-in-Ok g c =
       };
       again = c.serve_over-conn.result.0;
       serves = c.serve_over-conn.ensures;
-      closed = c.close.ensures;
+      closed = c.close_database.ensures;
     })

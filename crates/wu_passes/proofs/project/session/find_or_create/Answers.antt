@@ -3,7 +3,7 @@ use Rattle.std.proofs.Common.{Err, ap, refl}
 use Rattle.wu_schema.proofs.AskingLemmas.{asks_refused, asks_unchanged}
 use Rattle.wu_schema.proofs.CallLemmas.{leaves_only}
 use Rattle.wu_plans.proofs.AskLemmas.{handed_is}
-use Rattle.wu_passes.proofs.AdoptingLemmas.{bare_adopts, bare_knows, bare_limit, bare_refused, bare_settled, found_knows, fresh_adopts, fresh_knows, known_adopts, later_refuses, unasked_refuses, unmade_refuses}
+use Rattle.wu_passes.proofs.AdoptingLemmas.{bare_adopts, bare_knows, bare_limit, bare_new, bare_refused, bare_settled, found_knows, found_tells, fresh_adopts, fresh_knows, fresh_tells, known_adopts, later_refuses, unasked_refuses, unmade_refuses}
 use Rattle.wu_passes.proofs.project.session.find_or_create.Goals as goal
 
 pub returns-clause-adopted : goal.returns-clause-adopted
@@ -21,6 +21,14 @@ returns-clause-version g c =
     let same = asks_unchanged g.S.Store c.set_step_limit.new.self c.version_of.new.conn c.in_ok-version.field-0 c.in_ok-version.ensures.asks c.in_ok-version.ensures.opens in
     bare_knows g.S.Store c.args.conn.now c.set_step_limit.new.self c.set_step_limit.ensures asked c.in-Some.version
     (found_knows (state g.S.Store c.set_step_limit.new.self) asked c.version_of.ensures.asks.crash unlimited c.in_ok-version.field-0 c.in-Some.version c.in-Some.is same c.in_ok-version.ensures.answers c.in_ok-check_version.ensures.known)
+
+pub returns-clause-new : goal.returns-clause-new
+returns-clause-new g c =
+    let asked = state g.S.Store c.version_of.new.conn in
+    let unlimited = bare_limit g.S.Store c.args.conn.now c.set_step_limit.new.self c.set_step_limit.ensures asked in
+    let same = asks_unchanged g.S.Store c.set_step_limit.new.self c.version_of.new.conn c.in_ok-version.field-0 c.in_ok-version.ensures.asks c.in_ok-version.ensures.opens in
+    bare_new g.S.Store c.args.conn.now c.set_step_limit.new.self c.set_step_limit.ensures asked _
+    (found_tells (state g.S.Store c.set_step_limit.new.self) asked c.version_of.ensures.asks.crash unlimited c.in_ok-version.field-0 c.in-Some.version c.in-Some.is same c.in_ok-version.ensures.answers)
 
 pub returns-in_err-check_version-clause-refused : goal.returns-in_err-check_version-clause-refused
 returns-in_err-check_version-clause-refused g c =
@@ -46,6 +54,14 @@ returns-in_default-clause-version g c =
     let same = asks_unchanged g.S.Store c.set_step_limit.new.self c.version_of.new.conn c.in_ok-version.field-0 c.in_ok-version.ensures.asks c.in_ok-version.ensures.opens in
     bare_knows g.S.Store c.args.conn.now c.set_step_limit.new.self c.set_step_limit.ensures (state g.S.Store c.create.new.conn) _
     (fresh_knows (state g.S.Store c.set_step_limit.new.self) asked c.version_of.ensures.asks.crash unlimited (state g.S.Store c.create.new.conn) c.create.ensures.crash same (λ clean. (c.in_ok-version.ensures.answers clean).none c.in_default.is))
+
+pub returns-in_default-clause-new : goal.returns-in_default-clause-new
+returns-in_default-clause-new g c =
+    let asked = state g.S.Store c.version_of.new.conn in
+    let unlimited = bare_limit g.S.Store c.args.conn.now c.set_step_limit.new.self c.set_step_limit.ensures asked in
+    let same = asks_unchanged g.S.Store c.set_step_limit.new.self c.version_of.new.conn c.in_ok-version.field-0 c.in_ok-version.ensures.asks c.in_ok-version.ensures.opens in
+    bare_new g.S.Store c.args.conn.now c.set_step_limit.new.self c.set_step_limit.ensures (state g.S.Store c.create.new.conn) _
+    (fresh_tells (state g.S.Store c.set_step_limit.new.self) asked c.version_of.ensures.asks.crash unlimited (state g.S.Store c.create.new.conn) c.create.ensures.crash same (λ clean. (c.in_ok-version.ensures.answers clean).none c.in_default.is))
 
 pub returns-in_err-create-clause-refused : goal.returns-in_err-create-clause-refused
 returns-in_err-create-clause-refused g c =

@@ -2,7 +2,7 @@ use Rattle.wu_schema.proofs.Words.{map, refl, state, ◌≡◌}
 use Rattle.wu_schema.proofs.Parts.{Project}
 use Rattle.wu_loader.specs.Shown.{keyed}
 use Rattle.wu_loader.proofs.SelectLemmas.{looks_whole, project_asked, project_fits, shows_in_order}
-use Rattle.wu_check.proofs.version.project_rows.Goals as goal
+use Rattle.wu_check.proofs.version.rows_of_project.Goals as goal
 
 pub returns : goal.returns
 returns g c =

@@ -7,16 +7,16 @@ use Rattle.wu_core.specs.declared.workunit.Grant.{Grant}
 use Rattle.wu_core.specs.declared.workunit.Workunit.{Workunit}
 use Rattle.wu_check.specs.declared.finding.Key.TheVariants as key
 use Rattle.wu_check.proofs.KeyLemmas.{key_at, key_of_none, row_within}
-use Rattle.wu_check.proofs.keys.key_of.Goals as goal
+use Rattle.wu_check.proofs.keys.key_of_wrong.Goals as goal
 
 pub bounds-workunits-place : goal.bounds-workunits-place
 bounds-workunits-place c = subst (λ (ws : List Workunit). c.in-Some.place < length ws) (sym c.workunits.ensures) (row_within c.args.loaded.now c.args.wrong table.Workunit c.in-Some.place c.requires (sym c.table.ensures ∙ c.in-Workunit.is) (sym c.place.ensures ∙ c.in-Some.is))
 
-pub counted-requires : goal.counted-requires
-counted-requires c = subst (λ (gs : List Grant). c.in-Some.place < length gs) (sym c.grants.ensures) (row_within c.args.loaded.now c.args.wrong table.CreditGrant c.in-Some.place c.requires (sym c.table.ensures ∙ c.in-CreditGrant.is) (sym c.place.ensures ∙ c.in-Some.is))
+pub place_from_one-requires : goal.place_from_one-requires
+place_from_one-requires c = subst (λ (gs : List Grant). c.in-Some.place < length gs) (sym c.grants.ensures) (row_within c.args.loaded.now c.args.wrong table.CreditGrant c.in-Some.place c.requires (sym c.table.ensures ∙ c.in-CreditGrant.is) (sym c.place.ensures ∙ c.in-Some.is))
 
-pub counted-requires-in-Archived : goal.counted-requires-in-Archived
-counted-requires-in-Archived c = subst (λ (rows : List Archived). c.in-Some.place < length rows) (sym c.archived.ensures) (row_within c.args.loaded.now c.args.wrong table.Archived c.in-Some.place c.requires (sym c.table.ensures ∙ c.in-Archived.is) (sym c.place.ensures ∙ c.in-Some.is))
+pub place_from_one-requires-in-Archived : goal.place_from_one-requires-in-Archived
+place_from_one-requires-in-Archived c = subst (λ (rows : List Archived). c.in-Some.place < length rows) (sym c.archived.ensures) (row_within c.args.loaded.now c.args.wrong table.Archived c.in-Some.place c.requires (sym c.table.ensures ∙ c.in-Archived.is) (sym c.place.ensures ∙ c.in-Some.is))
 
 pub import_key-requires : goal.import_key-requires
 import_key-requires c = row_within c.args.loaded.now c.args.wrong table.Import c.in-Some.place c.requires (sym c.table.ensures ∙ c.in-Import.is) (sym c.place.ensures ∙ c.in-Some.is)
@@ -40,13 +40,13 @@ returns-in-Workunit c =
 
 pub returns-in-CreditGrant : goal.returns-in-CreditGrant
 returns-in-CreditGrant c = record {
-  key = key_at c.args.loaded.now c.args.wrong table.CreditGrant c.in-Some.place (key.Grant c.counted.result) (sym c.table.ensures ∙ c.in-CreditGrant.is) (sym c.place.ensures ∙ c.in-Some.is) (c.in-Some.place, refl, ap key.Grant c.counted.ensures);
+  key = key_at c.args.loaded.now c.args.wrong table.CreditGrant c.in-Some.place (key.Grant c.place_from_one.result) (sym c.table.ensures ∙ c.in-CreditGrant.is) (sym c.place.ensures ∙ c.in-Some.is) (c.in-Some.place, refl, ap key.Grant c.place_from_one.ensures);
   memory = tt;
 }
 
 pub returns-in-Archived : goal.returns-in-Archived
 returns-in-Archived c = record {
-  key = key_at c.args.loaded.now c.args.wrong table.Archived c.in-Some.place (key.Archived c.counted-in-Archived.result) (sym c.table.ensures ∙ c.in-Archived.is) (sym c.place.ensures ∙ c.in-Some.is) (c.in-Some.place, refl, ap key.Archived c.counted-in-Archived.ensures);
+  key = key_at c.args.loaded.now c.args.wrong table.Archived c.in-Some.place (key.Archived c.place_from_one-in-Archived.result) (sym c.table.ensures ∙ c.in-Archived.is) (sym c.place.ensures ∙ c.in-Some.is) (c.in-Some.place, refl, ap key.Archived c.place_from_one-in-Archived.ensures);
   memory = tt;
 }
 

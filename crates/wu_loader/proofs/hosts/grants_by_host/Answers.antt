@@ -6,7 +6,7 @@ use Rattle.std.proofs.lemmas.List.Sorted.{IsPermutation-map}
 use Rattle.wu_core.specs.declared.workunit.Grant.{Grant}
 use Rattle.std.specs.Borrow.{Bor}
 use Rattle.wu_loader.specs.Granting.{by_host, referred}
-use Rattle.wu_loader.proofs.hosts.by_hosts.Goals as goal
+use Rattle.wu_loader.proofs.hosts.grants_by_host.Goals as goal
 
 pub returns-clause-same : goal.returns-clause-same
 returns-clause-same c =

@@ -9,7 +9,7 @@ use Rattle.wu_check.specs.declared.finding.Finding.TheVariants as finding
 use Rattle.wu_store.specs.StandsFor.{IsQueued}
 use Rattle.wu_check.proofs.ExamineLemmas.{MarksIn, examines_fault, examines_made, examines_marks, examines_memory, examines_none, stays_none}
 use Rattle.wu_check.proofs.VerdictLemmas.{judged_right, judged_wrong}
-use Rattle.wu_check.proofs.judging.judge.Goals as goal
+use Rattle.wu_check.proofs.judging.judge_world.Goals as goal
 
 pub returns-in_err-finding-clause-examines : goal.returns-in_err-finding-clause-examines
 returns-in_err-finding-clause-examines g c = examines_memory g.S.Store c.args.conn.now _ c.in_err-finding.field-0.0 c.in_err-finding.ensures.memory c.from_residual.result c.from_residual.ensures.1
