@@ -4,11 +4,11 @@
     python3 sessions.py PROGRAM [COUNT]    over a project of so many thousand workunits, 20 by default
 
 `tools/bench --session` runs it. Each line is timed by its round trip through the pipes of a session, and through those
-of `plain.py --session` over a copy of the same file; both have to answer the same. It prints the least milliseconds of
-three turns, and the ratio of the session to the script. A line that changes nothing is asked twenty times in each turn.
-Then come a hundred small commands: each in an opening of its
-own, all in one script, and in a session that is open; all three have to print the same. At last come the largest log
-over 10,000 commands of a session, and its memory after 100,000 lines.
+of `plain.py --session` over a copy of the same file; both have to answer the same. So has `plain.c` over a third copy,
+where a C compiler and the headers of SQLite are there. It prints the least milliseconds of three turns, and the ratios
+of the session to the others. A line that changes nothing is asked twenty times in each turn. Then come a hundred small
+commands: each in an opening of its own, all in one script, and in a session that is open; all three have to print the
+same. At last come the largest log over 10,000 commands of a session, and its memory after 100,000 lines.
 
 A figure beyond its bound has a star: a pass or a cycle with nothing due may take 5 ms, and of all other lines only a
 purge may be slower than the script. The exit status is 0, 2 for unknown words, and 1 for a failure, another answer or a
@@ -21,7 +21,8 @@ import sys
 import tempfile
 import time
 
-PLAIN = os.path.join(os.path.dirname(os.path.abspath(__file__)), "plain.py")
+TOOLS = os.path.dirname(os.path.abspath(__file__))
+PLAIN = os.path.join(TOOLS, "plain.py")
 NOON, LATER = "2026-03-01T12:00:00Z", "2026-03-01T15:00:00Z"
 SENDS, REPORTS = "result,host,moment", "result,host,moment,status,output"
 SENT, BACK = "2026-03-01T13:00:00Z", "2026-03-01T14:00:00Z,success,aa"
@@ -143,25 +144,38 @@ def changes_nothing(what):
     return what.startswith(("the same", "view")) or what.endswith("of none")
 
 
-def time_lines(ours, plain):
-    """Prints the least time of each line in both processes; returns whether each is within its bounds."""
+def compiled():
+    """Returns the path of plain.c, compiled; nothing where it cannot be."""
+    words = ["cc", "-O2", "-D_GNU_SOURCE", "-o", "plain", os.path.join(TOOLS, "plain.c"), "-lsqlite3"]
+    if shutil.which("cc") and subprocess.run(words, stderr=subprocess.DEVNULL).returncode == 0:
+        return os.path.abspath("plain")
+    print("sessions: plain.c cannot be compiled here")
+    return None
+
+
+def time_lines(ours, others):
+    """Prints the least time of each line in all processes; returns whether each of ours is within its bounds."""
     least = {}
     for number in range(3):
         for what, line in turn(number):
             rounds = IDLE_ROUNDS if changes_nothing(what) else 1
-            (took, answer), (other, wanted) = ours.ask_least(line, rounds), plain.ask_least(line, rounds)
-            if answer != wanted:
-                sys.exit(f"sessions: {line}: {answer[:3]}, the script says {wanted[:3]}")
-            before = least.get(what, (took, other))
-            least[what] = min(took, before[0]), min(other, before[1])
-    print(f"{'milliseconds':24} {'session':>9} {'script':>9} {'ratio':>7}")
+            took, answer = ours.ask_least(line, rounds)
+            times = [took]
+            for other in others.values():
+                took, told = other.ask_least(line, rounds)
+                times.append(took)
+                if answer != told:
+                    sys.exit(f"sessions: {line}: {answer[:3]}, {other.path} says {told[:3]}")
+            least[what] = [min(pair) for pair in zip(times, least.get(what, times))]
+    print(f"{'milliseconds':24} {'session':>9}" + "".join(f" {name:>9} {'ratio':>7}" for name in others))
     print(f"{'opening':24} {ours.opening:9.2f}")
     is_within = True
-    for what, (took, other) in least.items():
-        bound = MOST_IDLE if what.endswith("of none") else other
+    for what, (took, *times) in least.items():
+        bound = MOST_IDLE if what.endswith("of none") else times[0]
         is_beyond = took > bound and what != "purge of 1,000"
         is_within = is_within and not is_beyond
-        print(f"{what:24} {took:9.2f} {other:9.2f} {took / other:7.2f}{' *' if is_beyond else ''}")
+        beside = "".join(f" {other:9.2f} {took / other:7.2f}" for other in times)
+        print(f"{what:24} {took:9.2f}{beside}{' *' if is_beyond else ''}")
     return is_within
 
 
@@ -231,9 +245,13 @@ def main():
         os.chdir(room)
         make_project(program, count)
         print(f"over {count},000 workunits")
-        ours, plain = session(program, "ours.db"), Process("plain.db", sys.executable, PLAIN, "plain.db", "--session")
-        is_within = time_lines(ours, plain)
-        plain.close()
+        ours = session(program, "ours.db")
+        others = {"script": Process("plain.db", sys.executable, PLAIN, "plain.db", "--session")}
+        if native := compiled():
+            others["C"] = Process("native.db", native, "native.db")
+        is_within = time_lines(ours, others)
+        for other in others.values():
+            other.close()
         time_day(program)
         wear(ours)
         ours.close()

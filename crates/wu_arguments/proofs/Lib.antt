@@ -1,4 +1,5 @@
 mod ActionLemmas
+mod AloneLemmas
 mod BothLemmas
 mod NumberLemmas
 mod OrderLemmas

@@ -69,7 +69,7 @@ chosen true name one asked rest same is more =
     (bytes_eq-Decides name (subcommand_name one)).0 same ∙ ap subcommand_name its
 chosen false name one asked rest same is more = more is
 
-its_name : (name : List ℕ) (asked : Subcommand) (all : List Subcommand) → find (λ one. bytes_eq name (subcommand_name one)) all ≡ Some asked
+pub its_name : (name : List ℕ) (asked : Subcommand) (all : List Subcommand) → find (λ one. bytes_eq name (subcommand_name one)) all ≡ Some asked
     → name ≡ subcommand_name asked
 its_name name asked [] is = absurd (cc is)
 its_name name asked (one ∷ all) is = chosen (bytes_eq name (subcommand_name one)) name one asked _ refl is (its_name name asked all)

@@ -1,5 +1,5 @@
 -- The command of the program: its subcommands and their options.
-use Rattle.std.specs.Prelude.{ℕ, Bool, true, false, List, [], ◌∷◌, map, codes, Option, Some, bytes_eq, find}
+use Rattle.std.specs.Prelude.{ℕ, Bool, true, false, List, [], ◌∷◌, map, codes, Option, Some, bytes_eq, find, option_and_then, slice_get}
 use Rattle.clap.specs.Words.{App, Rule, Shape, new_app, new_rule, rule_of, shape_of}
 use Rattle.clap.specs.declared.builder.arg.Arg.{Arg}
 use Rattle.clap.specs.declared.builder.action.ArgAction.TheVariants.{Set}
@@ -120,6 +120,10 @@ all_subcommands =
 abbrev pub subcommand_named : List ℕ → Option Subcommand
 subcommand_named name = find (λ subcommand. bytes_eq name (subcommand_name subcommand)) all_subcommands
 
+-- The subcommand that the word after the program's name names.
+abbrev pub named_by : List (List ℕ) → Option Subcommand
+named_by words = option_and_then subcommand_named (slice_get words 1)
+
 -- The rule for a value of this name that stands alone, without an option before it.
 abbrev pub bare_rule : List ℕ → Bool → Rule
 bare_rule name required = record (new_rule name) { action = Some Set; value_names = 1; required = required }
@@ -174,3 +178,7 @@ program_with subcommands = record {
 
 abbrev pub program : App
 program = program_with (map subcommand_shape all_subcommands)
+
+-- The program with this subcommand alone.
+abbrev pub program_alone : Subcommand → App
+program_alone subcommand = program_with (map subcommand_shape (subcommand ∷ []))

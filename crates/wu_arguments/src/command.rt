@@ -3,7 +3,7 @@
 ghost use Rattle.std.specs.Prelude.{◌≡◌, [], false, map, IfOk};
 ghost use Rattle.clap.specs.Words.{app_of, rule_of};
 ghost use Rattle.clap.specs.declared.builder.command.Command.TheViews.{out-Command};
-ghost use Rattle.wu_arguments.specs.CommandLine.{all_subcommands, bare_rule, is_required_value, leaf_with, local_rule, local_shape, named_rule, option_rule, program, program_with, rule_and_global, shape_and_globals};
+ghost use Rattle.wu_arguments.specs.CommandLine.{bare_rule, is_required_value, leaf_with, local_rule, local_shape, named_rule, option_rule, program, program_alone, program_with, rule_and_global, shape_and_globals, subcommand_shape};
 
 use crate::option::{LineOption, OptionForm, OptionValue};
 use crate::subcommand::{SUBCOMMANDS, Subcommand, SubcommandForm};
@@ -73,14 +73,13 @@ fn subcommand<'a>(alloc: Global, subcommand: Subcommand) -> Result<Command<'a>, 
     bare_subcommand(alloc, form).args(args)
 }
 
-/// Makes all subcommands, each with its options, in the order of help.
-fn subcommands<'a>(alloc: Global) -> Result<Vec<Command<'a>>, AllocError>
-    ensures { IfOk result (λ all.
-        map shape_and_globals all.items ≡ map local_shape all_subcommands) }
+/// Makes these subcommands, each with its options.
+fn subcommands<'a>(alloc: Global, which: &[Subcommand]) -> Result<Vec<Command<'a>>, AllocError>
+    ensures { IfOk result (λ all. map shape_and_globals all.items ≡ map local_shape which.now) }
 {
-    let mut all = Vec::with_capacity(alloc, SUBCOMMANDS.len())?;
-    for one in SUBCOMMANDS {
-        all.push_reserved(subcommand(alloc, one)?);
+    let mut all = Vec::with_capacity(alloc, which.len())?;
+    for one in which {
+        all.push_reserved(subcommand(alloc, *one)?);
     }
     Ok(all)
 }
@@ -102,11 +101,27 @@ fn bare_command<'a>(alloc: Global) -> Command<'a>
         .subcommand_required(true)
 }
 
-/// Makes the command of the program: one subcommand a line, each with its options.
+/// Makes the command of the program with these subcommands alone.
+fn command_with<'a>(alloc: Global, which: &[Subcommand]) -> Result<Command<'a>, AllocError>
+    ensures { IfOk result (λ command.
+        app_of command ≡ program_with (map subcommand_shape which.now)) }
+{
+    let subcommands = subcommands(alloc, which)?;
+    bare_command(alloc).subcommands(subcommands)
+}
+
+/// Makes the command of the program: one subcommand a line, each with its options, in the order of help.
 pub fn command<'a>(alloc: Global) -> Result<Command<'a>, AllocError>
     // The command is the program's definition: each subcommand with its options and their rules.
     ensures { IfOk result (λ command. app_of command ≡ program) }
 {
-    let subcommands = subcommands(alloc)?;
-    bare_command(alloc).subcommands(subcommands)
+    command_with(alloc, &SUBCOMMANDS)
+}
+
+/// Makes the command of the program with one subcommand alone, which takes a fraction of the time.
+pub fn command_alone<'a>(alloc: Global, one: Subcommand) -> Result<Command<'a>, AllocError>
+    // The command is the program's definition without all other subcommands.
+    ensures { IfOk result (λ command. app_of command ≡ program_alone one) }
+{
+    command_with(alloc, &[one])
 }

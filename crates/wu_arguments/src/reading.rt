@@ -33,6 +33,9 @@ fn read_whole(read: io::Result<usize>, bytes: Vec<u8>) -> Result<Option<Vec<u8>>
     }
 }
 
+/// How many bytes there is room for at first: most files are read at once.
+const FIRST_ROOM: usize = 16_384;
+
 /// Returns what a reader holds, at most so many bytes and one more, by which a file that is too long is noticed.
 /// Returns `None` if it cannot be read to there. The only fault is `Memory`.
 pub fn read_up_to<R: Read + Drop>(
@@ -46,7 +49,7 @@ pub fn read_up_to<R: Read + Drop>(
     // The only fault is `Memory`.
     ensures fault { IfErr result (λ fault. fault ≡ Memory) }
 {
-    let mut bytes = Vec::new(alloc);
+    let mut bytes = Vec::with_capacity(alloc, FIRST_ROOM)?;
     let most = (most as u64).saturating_add(1);
     let read = reader.take(most).read_to_end(&mut bytes);
     read_whole(read, bytes)

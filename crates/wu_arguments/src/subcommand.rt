@@ -162,7 +162,7 @@ impl Subcommand {
                 name: "script",
                 options: &[LineOption::Database, LineOption::File],
                 about: "Run the commands of a file in one opening, up to the first fault",
-                example: "Example: lintelthyme script --db project.db --file day.txt",
+                example: "Example: lintelthyme script --db project.db --file day.txt\nEach line is a command without --db. A line that begins with # is left out. After repeat, a pass runs until it handles\nless than its limit.",
             },
             Subcommand::Session => SubcommandForm {
                 name: "session",

@@ -1,5 +1,5 @@
 -- From question to question.
-use Rattle.wu_schema.proofs.Words.{Database, Err, Fault, Ghosts, HasCleanDisk, HasTables, Held, IfErr, IfOk, IsErrAnd, Ok, Option, ProjectTrees, Refines, Result, Schema, World, arith, inl, inr, refl, state, subst, sym, ℕ, ◌∙◌, ◌≡◌, ◌≢◌}
+use Rattle.wu_schema.proofs.Words.{Database, Err, Fault, Ghosts, HasCleanDisk, HasTables, Held, IfErr, IfOk, IsErrAnd, Ok, Option, ProjectTrees, Refines, Result, Schema, World, arith, inl, inr, refl, state, subst, sym, ℕ, ◌∙◌, ◌≡◌, ◌≢◌, ◌⊎◌}
 use Rattle.sqlite.specs.State.{IsLive}
 use Rattle.std.proofs.lemmas.Result.{IfOk-weaker}
 use Rattle.wu_core.specs.declared.fault.Fault.TheVariants.{Broken, Memory}
@@ -14,13 +14,13 @@ use Rattle.wu_schema.proofs.AskingLemmas.{asks_fault, asks_made, asks_none, asks
 use Rattle.wu_store.specs.Loading.{StaysUnlessFailed}
 use Rattle.sqlite_trees.specs.View.{IsShaped}
 use Rattle.sqlite_trees.specs.declared.store.Shape.TheVariants as shape
-use Rattle.wu_tables.specs.Found.{HasQueueIn, StandsAgainst}
+use Rattle.wu_tables.specs.Found.{HasQueueIn, IsFirstAgainst}
 use Rattle.wu_tables.specs.declared.project.Misfit.{Misfit}
 use Rattle.wu_schema.specs.Tables.{IsClassedVersion}
 use Rattle.wu_check.specs.declared.finding.Finding.{Finding}
 use Rattle.wu_check.specs.Queues.{HasMarks, LooksInQueue}
 use Rattle.wu_check.specs.Examining.{Examines, IsLegible}
-use Rattle.wu_check.specs.Findings.{LacksTables, Tells}
+use Rattle.wu_check.specs.Findings.{HasFirstTables, LacksTables, Tells}
 use Rattle.wu_check.specs.Versions.{IsReadVersion}
 use Rattle.wu_check.specs.declared.finding.Finding.TheVariants as finding
 
@@ -175,11 +175,12 @@ module _ {S : Type 0} (g : Ghosts S) (a b : Held S) (world : World) (queued : Is
 
 -- ---- the tables that are not there
 
-pub lacks : (version : ℕ) (db : Database) (schema : Schema) → schema ≡ db.schema → (misfit : Misfit) → StandsAgainst version schema misfit → ((trees : ProjectTrees) → HasTables version schema trees → ⊥)
+pub lacks : (version : ℕ) (db : Database) (schema : Schema) → schema ≡ db.schema → (misfit : Misfit) → (version ≡ 1) ⊎ HasFirstTables db version → IsFirstAgainst version schema misfit → ((trees : ProjectTrees) → HasTables version schema trees → ⊥)
     → ((world : World) → Refines db world → IsClassedVersion version → IsClassedVersion world.version) → LacksTables db misfit
-lacks version db schema same misfit told none needed = record {
+lacks version db schema same misfit which told none needed = record {
   version = version;
-  told = subst (λ (s : Schema). StandsAgainst version s misfit) same told;
+  which = which;
+  told = subst (λ (s : Schema). IsFirstAgainst version s misfit) same told;
   none = subst (λ (s : Schema). (trees : ProjectTrees) → HasTables version s trees → ⊥) same none;
   needed = needed;
 }

@@ -159,4 +159,4 @@ module _ (db : Database) (world : World) (tree : ℕ) (has : HasQueueIn db.schem
   }
 
   pub judged_wrong : Refines db world → IsQueued world → (place : ℕ) → HasMarks world (db.trees tree) (Some place) → Tells db (finding.Marks place)
-  judged_wrong refines queued place differs = record { world = world; refines = refines; queued = queued; tree = tree; queue = has; differs = differs }
+  judged_wrong refines queued place differs = record { world = world; refines = refines; sound = right.sound; known = right.known; queued = queued; tree = tree; queue = has; differs = differs }

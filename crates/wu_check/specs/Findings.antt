@@ -56,16 +56,23 @@ IsKeyOf world wrong = IsKeyAt world (table_of wrong) (place_of_wrong wrong)
 
 -- ---- what is wrong
 
--- The tables of some version are not all there, for this reason. The version of each represented world has all of these
--- tables.
+-- This is the version of the project, and the tables of version 1, which each version has, are there.
+pub record HasFirstTables (db : Database) (version : ℕ) : Type 0 where
+  pub read : IsReadVersion db version
+  pub trees : ProjectTrees
+  pub there : HasTables 1 db.schema trees
+
+-- The tables of version 1 are not all there, or else those of the project's version; this is the first that is wrong.
+-- The version of each represented world has all of these tables.
 pub record LacksTables (db : Database) (misfit : Misfit) : Type 0 where
   pub version : ℕ
-  pub told : tables.StandsAgainst version db.schema misfit
+  pub which : (version ≡ 1) ⊎ HasFirstTables db version
+  pub told : tables.IsFirstAgainst version db.schema misfit
   pub none : (trees : ProjectTrees) → HasTables version db.schema trees → ⊥
   pub needed : (world : World) → Refines db world → IsClassedVersion version → IsClassedVersion world.version
 
--- One of the rows that questions show, in the tables of the project's version, is wrong, and the tables represent no
--- world.
+-- The tables of the project's version are there. Among the rows that questions show of them, this is the first that is
+-- wrong, and the tables represent no world.
 pub record HasWrongRow (db : Database) (wrong : row.WrongRow) : Type 0 where
   pub version : ℕ
   pub read : IsReadVersion db version
@@ -82,30 +89,37 @@ pub record HasOtherVersion (db : Database) (version : ℕ) : Type 0 where
   pub there : HasProject db.schema ⊎ ShowsVersion db version
   pub other : ¬ IsKnown version
 
--- The tables represent a world that is wrong in this way, at the row with this key.
+-- The tables represent a world of a known version, which is first wrong in this way, at the row with this key.
 pub record HasUnsoundWorld (db : Database) (wrong : Wrong) (row : Key) : Type 0 where
   pub world : World
   pub refines : Refines db world
+  pub known : IsKnown world.version
   pub against : audit.StandsAgainst world wrong
   pub key : IsKeyOf world wrong row
 
--- The tables represent a world of a version with a queue, and have no queue.
+-- The tables represent a sound world of a known version with a queue, and have no queue.
 pub record LacksQueue (db : Database) : Type 0 where
   pub world : World
   pub refines : Refines db world
+  pub sound : IsSound world
+  pub known : IsKnown world.version
   pub queued : IsQueued world
   pub none : (tree : ℕ) → tables.HasQueueIn db.schema tree → ⊥
 
--- The queue is there, and differs at this place from the marks of the world that the tables represent.
+-- The tables represent a sound world of a known version. The queue is there, and first differs at this place from the
+-- marks of the world.
 pub record HasOtherMarks (db : Database) (place : ℕ) : Type 0 where
   pub world : World
   pub refines : Refines db world
+  pub sound : IsSound world
+  pub known : IsKnown world.version
   pub queued : IsQueued world
   pub tree : ℕ
   pub queue : tables.HasQueueIn db.schema tree
   pub differs : DiffersAt (map stored_marks (marked world)) (db.trees tree) place
 
--- The finding is true of the database.
+-- The finding is true of the database, and the first in the written order: the tables, their rows, whether the rows
+-- agree, the queue, its rows. `PutsLaterFirst` says when an unknown version comes before them.
 abbrev pub Tells : Database → Finding → Type 0
 Tells db (finding.Tables misfit) = LacksTables db misfit
 Tells db (finding.Row wrong) = HasWrongRow db wrong
@@ -162,9 +176,10 @@ abbrev pub IsBasis : Database → Basis → Type 0
 IsBasis db (basis.World world) = Refines db world
 IsBasis db (basis.Unsound found) = Tells db found
 
--- If this is the version of the project, the tables represent this world, or this finding is true.
+-- If this is the version of the project, and the tables of version 1 are there, the tables represent this world, or
+-- this finding is true.
 abbrev pub IsBasisOf : ℕ → Database → Basis → Type 0
-IsBasisOf version db found = IsReadVersion db version → IsBasis db found
+IsBasisOf version db found = HasFirstTables db version → IsBasis db found
 
 -- Without a limit on steps, the finding on a project of a later version is that version.
 abbrev pub IsBasisLater : Option ℕ → Database → Basis → Type 0

@@ -125,9 +125,9 @@ pub fn check<S: Alter>(conn: &mut Connection<S>, alloc: Global) -> Result<Verdic
     ensures sound { OnKept S.Store conn.old conn.new result SaysSound }
     // A finding means that the tables represent no sound world of a known version.
     ensures unsound { OnAnswer S.Store conn.old conn.new result SaysUnsound }
-    // Over kept tables the finding is true. A row is missing or invalid at its place; an unknown
-    // version is that of the one row of `project`, or of what has its name; a place of the queue is
-    // the first that differs.
+    // Over kept tables the finding is true, and the first in the written order: tables, their rows,
+    // keys and agreement, queue. An unknown version is that of the one row of `project`, or of what
+    // has its name.
     ensures told { OnKept S.Store conn.old conn.new result SaysWhy }
     // Over kept tables with no limit on steps, a finding reports the version that the one row of
     // `project` has, if it is later.

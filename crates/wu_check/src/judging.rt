@@ -41,7 +41,8 @@ fn wrong_world(schema: &Schema, alloc: Global, loaded: &Loaded) -> Result<Option
     // `None` means that the world is sound, of a known version, and that the schema has the queue
     // that this version has.
     ensures right { IfOk result (λ found. IsNone found → IsRightWorld schema.now loaded.now) }
-    // A finding is true of each database with this schema that represents the world.
+    // A finding is the first that is true of each database with this schema that represents the
+    // world.
     ensures told { IfOk result (λ found. IfSome found (TellsOf schema.now loaded.now)) }
     // A version that this program does not know is what is found of a world that has it.
     ensures unknown { IfOk result (TellsUnknown loaded.now) }

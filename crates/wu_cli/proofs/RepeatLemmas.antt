@@ -44,12 +44,17 @@ unrolled_both world (x ∷ xs) ys =
 
 repeated_both : (xs ys first second : List Step) → AreRepeated xs first → AreRepeated ys second → AreRepeated (xs ++ ys) (first ++ second)
 repeated_both [] ys first second one two = subst (λ l. AreRepeated ys (l ++ second)) (sym one) two
-repeated_both (x ∷ xs) ys first second (times, more, order, once, rest) two =
-    (times, more ++ second, ap (λ l. l ++ second) order ∙ append_assoc (replicate times x) more second, once, repeated_both xs ys more second rest two)
+repeated_both (x ∷ xs) ys first second (times, more, order, some, once, rest) two =
+    (times, more ++ second, ap (λ l. l ++ second) order ∙ append_assoc (replicate times x) more second, some, once, repeated_both xs ys more second rest two)
+
+-- a step is done
+some_rounds : (repeats : Bool) → 1 ≤ most_rounds repeats
+some_rounds true = omega arith
+some_rounds false = omega arith
 
 repeated_self : (steps : List Step) → AreRepeated steps steps
 repeated_self [] = refl
-repeated_self (step ∷ steps) = (1, steps, refl, λ _. refl, repeated_self steps)
+repeated_self (step ∷ steps) = (1, steps, refl, omega arith, λ _. refl, repeated_self steps)
 
 replicate_split : (i more : ℕ) (step : Step) → replicate (i + suc more) step ≡ replicate i step ++ step ∷ replicate more step
 replicate_split zero more step =
@@ -151,6 +156,7 @@ module _ {S W : Type 0} {store : Ghosts S} (contents : W → Option (List ℕ)) 
       pub rounds_end : told ≡ false → PerformsStep contents old new out_old out_new step None
       rounds_end full = record {
         times = i + 1;
+        some = omega arith;
         once = λ single. only_one single;
         does = each_here;
         over = λ going clean world shows.
@@ -165,6 +171,7 @@ module _ {S W : Type 0} {store : Ghosts S} (contents : W → Option (List ℕ)) 
     pub rounds_cut : (fault : Fault) → Performs contents mid new out_mid out_new step.action (Some fault) → PerformsStep contents old new out_old out_new step (Some (record { number = step.number; fault = fault }))
     rounds_cut fault does = record {
       times = i + 1;
+      some = omega arith;
       once = λ single. let most = ap most_rounds single in omega (arith, within, most);
       does = cut (replicate (i + 1) step) [] (sym (replicate_more i step));
       over = λ going clean world shows.
@@ -193,6 +200,7 @@ module _ {S W : Type 0} {store : Ghosts S} (contents : W → Option (List ℕ)) 
       → PerformsStep contents old new out_old out_new step None
   rounds_all old new out_old out_new step i all within has = record {
     times = i;
+    some = let one = some_rounds step.repeats in omega (arith, all, one);
     once = λ single. let most = ap most_rounds single in omega (arith, within, all, most);
     does = has.each;
     over = λ going clean world shows.
@@ -224,7 +232,7 @@ module _ {S W : Type 0} {store : Ghosts S} (contents : W → Option (List ℕ)) 
     pub script_more : PerformsStep contents mid new out_mid out_new step None → PerformsScript contents old new out_old out_new (front ++ step ∷ []) None
     script_more next = record {
       ran = first.ran ++ replicate next.times step;
-      repeats = repeated_both front (step ∷ []) first.ran (replicate next.times step) first.repeats (next.times, [], sym (append-nil (replicate next.times step)), next.once, refl);
+      repeats = repeated_both front (step ∷ []) first.ran (replicate next.times step) first.repeats (next.times, [], sym (append-nil (replicate next.times step)), next.some, next.once, refl);
       does = each_both contents old mid new out_old out_mid out_new first.ran (replicate next.times step) first.does next.does;
       over = λ going clean world shows.
           let kept = each_clean contents mid new out_mid out_new (replicate next.times step) next.does in
@@ -240,7 +248,7 @@ module _ {S W : Type 0} {store : Ghosts S} (contents : W → Option (List ℕ)) 
     pub script_cut : (after : List Step) (end : LineFault) → PerformsStep contents mid new out_mid out_new step (Some end) → PerformsScript contents old new out_old out_new (front ++ step ∷ after) (Some end)
     script_cut after end next = record {
       ran = first.ran ++ (replicate next.times step ++ after);
-      repeats = repeated_both front (step ∷ after) first.ran (replicate next.times step ++ after) first.repeats (next.times, after, refl, next.once, repeated_self after);
+      repeats = repeated_both front (step ∷ after) first.ran (replicate next.times step ++ after) first.repeats (next.times, after, refl, next.some, next.once, repeated_self after);
       does = until_both contents old mid new out_old out_mid out_new first.ran (replicate next.times step) after end first.does next.does;
       over = λ going clean world shows.
           let (one, two) = next_over (Some end) next was_clean going clean world shows in

@@ -1,5 +1,5 @@
 -- How often the steps of a script are done: a repeated pass, until it handles less than its limit.
-use Rattle.std.specs.Prelude.{◌≡◌, ℕ, zero, suc, Bool, true, false, List, [], ◌∷◌, ◌++◌, ◌==◌, flat_map, if◌then◌else◌, map, replicate, Option, Some, None}
+use Rattle.std.specs.Prelude.{◌≡◌, ◌≤◌, ℕ, zero, suc, Bool, true, false, List, [], ◌∷◌, ◌++◌, ◌==◌, flat_map, if◌then◌else◌, map, replicate, Option, Some, None}
 use Rattle.wu_core.specs.World.{World}
 use Rattle.wu_drive.specs.Counting.{last_handled}
 use Rattle.wu_machine.specs.declared.command.Command.{Command}
@@ -72,8 +72,8 @@ unrolled world [] = []
 unrolled world (step ∷ steps) =
     replicate (rounds world step) step ++ unrolled (world_behind_steps world (replicate (rounds world step) step)) steps
 
--- The steps that ran are those of the script, in order: a repeated one any number of times, any other once.
+-- The steps that ran are those of the script, in order: a repeated one at least once, any other once.
 abbrev pub AreRepeated : List Step → List Step → Type 0
 AreRepeated [] ran = ran ≡ []
 AreRepeated (step ∷ steps) ran =
-    (times : ℕ) × (more : List Step) × (ran ≡ replicate times step ++ more) × (step.repeats ≡ false → times ≡ 1) × AreRepeated steps more
+    (times : ℕ) × (more : List Step) × (ran ≡ replicate times step ++ more) × (1 ≤ times) × (step.repeats ≡ false → times ≡ 1) × AreRepeated steps more

@@ -1,5 +1,5 @@
 -- What is done for the steps of a script over a project.
-use Rattle.std.specs.Prelude.{◌≡◌, ℕ, Bool, false, List, [], ◌∷◌, ◌++◌, replicate, Option, Some, None}
+use Rattle.std.specs.Prelude.{◌≡◌, ◌≤◌, ℕ, Bool, false, List, [], ◌∷◌, ◌++◌, replicate, Option, Some, None}
 use Rattle.sqlite.specs.State.{HasCleanDisk}
 use Rattle.sqlite_trees.specs.declared.store.Store.{Ghosts}
 use Rattle.wu_core.specs.World.{World}
@@ -42,17 +42,18 @@ module _ {S W : Type 0} {store : Ghosts S} (contents : W → Option (List ℕ)) 
 -- ---- as often as they are repeated
 
 module _ {S W : Type 0} {store : Ghosts S} (contents : W → Option (List ℕ)) where
-  -- A step is done some number of times, once if it is not repeated, or ends with a fault. Over a represented world on
-  -- a clean disk that number is the one that the machine's answers give.
+  -- A step is done at least once, and no more than once if it is not repeated, or ends with a fault. Over a represented
+  -- world on a clean disk the number is the one that the machine's answers give.
   pub record PerformsStep (old new : Project S store) (out_old out_new : W) (step : Step) (end : Option LineFault) : Type 0 where
     pub times : ℕ
+    pub some : 1 ≤ times
     pub once : step.repeats ≡ false → times ≡ 1
     pub does : PerformsSteps contents old new out_old out_new (replicate times step) end
     pub over :
         IsSessionOpen old → HasCleanDisk (state_of new) → (world : World) → ShowsProject old world
         → PerformsSteps contents old new out_old out_new (replicate (rounds world step) step) end
 
-  -- The steps of a script are done in order, each some number of times. Over a represented world on a clean disk these
+  -- The steps of a script are done in order, each at least once. Over a represented world on a clean disk these
   -- numbers are those that the machine's answers give.
   pub record PerformsScript (old new : Project S store) (out_old out_new : W) (steps : List Step) (end : Option LineFault) : Type 0 where
     pub ran : List Step

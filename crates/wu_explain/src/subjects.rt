@@ -59,7 +59,8 @@ and of reports
   before_sent   it was sent after the moment of the report
   over          it has ended; only one that ended for want of a reply may still be
                 reported
-The other rows are applied.
+The other rows are applied. A row is judged once: give one that was skipped again
+in a file of another name.
 ",
         ),
         "template" => Some(
@@ -101,7 +102,8 @@ time that exist, from 1970 to 2099: 2026-03-01T13:00:00Z
 same name and content again, and for a batch the same template, answers what it
 answered first and changes nothing of the project; other content under the name is
 F4. A name that was refused is not used up. So after a stop an import may be
-repeated under its name: it acts once.
+repeated under its name: it acts once. Its rows are judged once too: give a row
+that was skipped again under another name.
 ",
         ),
         "passes" => Some(

@@ -3,6 +3,7 @@ mod FieldLemmas
 mod InputLemmas
 mod MomentLemmas
 mod OnLiterals
+mod PlainLemmas
 mod ReadLemmas
 mod RecordLemmas
 pub mod RangeLemmas

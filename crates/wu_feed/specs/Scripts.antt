@@ -1,5 +1,5 @@
 -- Scripts: the lines of a text, each with its words, as `csv` reads them. Lines are numbered from 1.
-use Rattle.std.specs.Prelude.{◌≡◌, ◌<◌, ℕ, ◌==◌, nat_lt, Bool, if◌then◌else◌, List, [], ◌∷◌, ◌++◌, length, filter, slice_get, Option, Some, None, Result, Ok, Err}
+use Rattle.std.specs.Prelude.{◌≡◌, ◌<◌, ℕ, ◌==◌, nat_lt, ◌||◌, ◌&&◌, Bool, if◌then◌else◌, List, [], ◌∷◌, ◌++◌, length, filter, slice_get, Option, Some, None, Result, Ok, Err}
 use Rattle.std.specs.List.{enumerate_from, filter_map, list_any, slice_split}
 use Rattle.std.specs.Str.{is_utf8}
 use Rattle.std.specs.Str.Lines.{strip_carriage_return}
@@ -37,6 +37,13 @@ text_of_line line = strip_carriage_return line ++ line_feed ∷ []
 -- The fields of a line.
 abbrev pub fields_in : List ℕ → List (List ℕ)
 fields_in line = fields_if (first_read (text_of_line line))
+
+-- A blank, and a byte that `csv` joins to a field: ASCII from `$` (36) on.
+abbrev pub is_blank : ℕ → Bool
+is_blank byte = byte == 32
+
+abbrev pub is_plain_byte : ℕ → Bool
+is_plain_byte byte = is_blank byte || (nat_lt 35 byte && nat_lt byte 128)
 
 -- Why a field is no word: its quote is open, so that it contains the line feed, or it is no text. `None` for a word.
 abbrev pub field_cause : List ℕ → Option LineCause

@@ -1,13 +1,13 @@
 //! Scripts: a command on each line, with its words separated by blanks.
 
 ghost use Rattle.std.specs.Prelude.{◌≡◌, ◌==◌, IfErr, IfOk, None, Ok, Some, map, option_map};
-ghost use Rattle.std.specs.List.{enumerate_from, filter_map, slice_split};
+ghost use Rattle.std.specs.List.{enumerate_from, filter_map, list_all, slice_split};
 ghost use Rattle.std.specs.Str.Lines.{strip_carriage_return};
 ghost use Rattle.csv.specs.Machine.{line_feed};
 ghost use Rattle.csv.specs.Records.{fields_of};
 ghost use Rattle.wu_core.specs.Reads.{FailsForMemory, IsOrWantsMemory};
 ghost use Rattle.wu_feed.specs.Rows.{IsFileFault, TellsTooLong};
-ghost use Rattle.wu_feed.specs.Scripts.{field_cause, fields_in, first_read, line_with, script_line_of, script_of, text_of_line, words_among, words_at, TellsLate};
+ghost use Rattle.wu_feed.specs.Scripts.{field_cause, fields_in, first_read, is_blank, is_plain_byte, line_with, script_line_of, script_of, text_of_line, words_among, words_at, TellsLate};
 
 use crate::limits::{LONGEST_FILE, MOST_LINES};
 use crate::records::{fault_at, read_record};
@@ -118,6 +118,51 @@ fn words_among(alloc: Global, row: &ByteRecord) -> Result<Result<Words, LineCaus
     Ok(Ok(Words::from_vec(words)))
 }
 
+/// Returns whether the line has no byte but blanks and those from `$` on that are ASCII: no quote and no comment.
+fn is_plain(line: &[u8]) -> bool
+    ensures { result ≡ list_all is_plain_byte line.now }
+{
+    line.iter()
+        .all(|byte| *byte == b' ' || (*byte > b'#' && *byte < 128))
+}
+
+/// Returns the parts of a line between its blanks.
+fn split_blanks(alloc: Global, line: &[u8]) -> Result<Vec<&[u8]>, AllocError>
+    ensures { IfOk result (λ fields. map (λ field. field.now) fields.items
+        ≡ slice_split is_blank line.now) }
+{
+    line.split(|byte| *byte == b' ').collect(alloc)
+}
+
+/// Returns the words among these fields: those that are not empty. The first field that is no word decides.
+fn words_of(alloc: Global, fields: &[&[u8]]) -> Result<Result<Words, LineCause>, Fault>
+    ensures { IsOrWantsMemory result (Ok (words_among (map (λ field. field.now) fields.now))) }
+{
+    let mut words = Vec::new(alloc);
+    for field in fields {
+        let word = match read_word(field) {
+            Ok(word) => word,
+            Err(cause) => return Ok(Err(cause)),
+        };
+        if !word.is_empty() {
+            words.push(String::from_str(alloc, word)?)?;
+        }
+    }
+    Ok(Ok(Words::from_vec(words)))
+}
+
+/// Reads the words of a line. A line without quotes and comments has them between its blanks, and needs no reader.
+fn read_line_words(alloc: Global, line: &[u8]) -> Result<Result<Words, LineCause>, Fault>
+    ensures { IsOrWantsMemory result (Ok (words_among (fields_in line.now))) }
+{
+    if is_plain(line) {
+        let fields = split_blanks(alloc, line)?;
+        return words_of(alloc, fields.as_slice());
+    }
+    let row = read_fields(alloc, line)?;
+    words_among(alloc, &row)
+}
+
 /// Reads the words of the line of this number, or returns the cause for which it has none.
 fn read_words(alloc: Global, number: u64, line: &[u8]) -> Result<Result<Words, LineCause>, Fault>
     // The line reads as its words or its cause, or as out of memory.
@@ -128,8 +173,7 @@ fn read_words(alloc: Global, number: u64, line: &[u8]) -> Result<Result<Words, L
     if number > MOST_LINES as u64 {
         return Ok(Err(LineCause::TooManyLines));
     }
-    let row = read_fields(alloc, line)?;
-    words_among(alloc, &row)
+    read_line_words(alloc, line)
 }
 
 /// Returns the line with its words or its cause; `None` for a line without words.

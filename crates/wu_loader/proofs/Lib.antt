@@ -11,3 +11,4 @@ pub mod GrantLemmas
 pub mod RunLemmas
 pub mod ListedLemmas
 pub mod ClassLemmas
+mod FirstLemmas

@@ -158,9 +158,24 @@ module _ (xs ys : List Grant) (moved : IsPermutation xs ys) where
   granted_moved : (host : Host) → IsGranted ys host → IsGranted xs host
   granted_moved host is = record { total = is.total ∙ same_credit xs ys moved host.name; count = is.count ∙ same_count xs ys moved host.name; some = is.some }
 
+  granted_back : (host : Host) → IsGranted xs host → IsGranted ys host
+  granted_back host is = record { total = is.total ∙ sym (same_credit xs ys moved host.name); count = is.count ∙ sym (same_count xs ys moved host.name); some = is.some }
+
   -- so is the host that is none of theirs
   pub wrong_moved : (hosts : List Host) (place : ℕ) → IsWrongHost xs hosts place → IsWrongHost ys hosts place
   wrong_moved hosts place (inl low) = inl low
-  wrong_moved hosts place (inr (inl un)) = inr (inl (record { there = un.there; other = λ d granted. un.other d (granted_moved (get_or hosts place d) granted) }))
-  wrong_moved hosts place (inr (inr lacks)) =
-      inr (inr (record { behind = lacks.behind; unlisted = λ all. lacks.unlisted (All-permutation (λ (g : Grant). IsListed hosts g.host) ys xs (IsPermutation-sym xs ys moved) all) }))
+  wrong_moved hosts place (inr it) = inr (
+    it.0,
+    elim it.1 [
+      | inl un ↦ inl (record {
+        there = un.there;
+        before = λ k d low. granted_back (get_or hosts k d) (un.before k d low);
+        other = λ d granted. un.other d (granted_moved (get_or hosts place d) granted);
+      })
+      | inr lacks ↦ inr (record {
+        behind = lacks.behind;
+        each = λ k d low. granted_back (get_or hosts k d) (lacks.each k d low);
+        unlisted = λ all. lacks.unlisted (All-permutation (λ (g : Grant). IsListed hosts g.host) ys xs (IsPermutation-sym xs ys moved) all);
+      })
+    ],
+  )

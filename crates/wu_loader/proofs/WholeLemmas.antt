@@ -5,11 +5,12 @@ use Rattle.std.specs.Option.{option_map}
 use Rattle.std.specs.declared.cmp.Ordering.{Ordering}
 use Rattle.std.proofs.lemmas.List.{take-map, take_more}
 use Rattle.std.proofs.lemmas.List.Elements.{recursion_from_All}
+use Rattle.std.proofs.lemmas.List.Sorted.{All-permutation}
 use Rattle.wu_schema.specs.Restoring.{Restores}
-use Rattle.wu_loader.specs.Rows.{project_row, IsStoredProject}
-use Rattle.wu_loader.specs.Wrongs.{IsWrongProject}
+use Rattle.wu_loader.specs.Rows.{project_row}
+use Rattle.wu_loader.specs.Wrongs.{IsNoProject, LacksProject}
 use Rattle.wu_loader.specs.declared.rows.ProjectRow.{ProjectRow}
-use Rattle.wu_loader.specs.Whole.{rows_of, AreSorted, DiffersAt, IsIn, IsNoRow, UnlessMemory}
+use Rattle.wu_loader.specs.Whole.{rows_of, AreOfValues, AreSorted, DiffersAt, IsIn, IsNoRow, UnlessMemory}
 use Rattle.wu_loader.specs.declared.finding.NoWorld.{NoWorld}
 use Rattle.wu_loader.specs.declared.finding.NoWorld.TheVariants.{Memory, Wrong as told}
 use Rattle.wu_loader.specs.declared.finding.LoadedTable.{LoadedTable}
@@ -41,14 +42,17 @@ get_there [] i row low at = absurd (omega (arith, low))
 get_there (r ∷ rows) zero row low at = ap Some at
 get_there (r ∷ rows) (suc i) row low at = get_there rows i row (omega (arith, low)) at
 
--- what is no project's is the row of no value
-pub no_row : {T : Type 0} (cells : ℕ → T → Row) (IsValue : T → Type 0) (rows : List Row) (i : ℕ) (row : Row) → i < length rows → get_or rows i row ≡ row → Restores (cells (i + 1)) IsValue row (Err NotAProject) → IsNoRow cells IsValue rows (i + 1)
-no_row cells IsValue rows i row low stands read = record {
-  row = row;
-  counted = omega arith;
-  there = let e : i + 1 - 1 ≡ i = omega arith in subst (λ k. slice_get rows k ≡ Some row) (sym e) (get_there rows i row low stands);
-  none = λ x is same. elim (read.found x is same) [ inl ok ↦ absurd cc | inr memory ↦ absurd cc ];
-}
+-- what is no project's, behind rows of values, is the first row of no value
+pub no_row : {T : Type 0} (cells : ℕ → T → Row) (IsValue : T → Type 0) (rows : List Row) (i : ℕ) (row : Row) → i < length rows → get_or rows i row ≡ row → Restores (cells (i + 1)) IsValue row (Err NotAProject) → AreOfValues cells IsValue (take i rows) → IsNoRow cells IsValue rows (i + 1)
+no_row cells IsValue rows i row low stands read before =
+    let e : i + 1 - 1 ≡ i = omega arith in
+    record {
+      row = row;
+      counted = omega arith;
+      there = subst (λ k. slice_get rows k ≡ Some row) (sym e) (get_there rows i row low stands);
+      none = λ x is same. elim (read.found x is same) [ inl ok ↦ absurd cc | inr memory ↦ absurd cc ];
+      before = subst (λ k. AreOfValues cells IsValue (take k rows)) (sym e) before;
+    }
 
 -- ---- what keeps rows from being those of values
 
@@ -90,9 +94,10 @@ none_permuted f IsValue rows place none xs each are =
     got_has (r ∷ rows) (suc i) row there = inr (got_has rows i row there)
 
 -- sorted values have these rows
-pub sorted_rows : {T : Type 0} (cells : T → Row) (order : T → T → Ordering) (rows : List Row) (values sorted : List T) → rows ≡ rows_of (λ _. cells) values → IsPermutation values sorted → IsSorted order sorted → AreSorted cells order rows sorted
-sorted_rows cells order rows values sorted read moved up = record {
+pub sorted_rows : {T : Type 0} (cells : T → Row) (IsValue : T → Type 0) (order : T → T → Ordering) (rows : List Row) (values sorted : List T) → rows ≡ rows_of (λ _. cells) values → All IsValue values → IsPermutation values sorted → IsSorted order sorted → AreSorted cells IsValue order rows sorted
+sorted_rows cells IsValue order rows values sorted read each moved up = record {
   same = subst (IsPermutation (map cells sorted)) (sym (read ∙ rows_plain cells values)) (IsPermutation-map cells sorted values (IsPermutation-sym values sorted moved));
+  stored = All-permutation IsValue values sorted moved each;
   sorted = up;
 }
 
@@ -155,30 +160,17 @@ one_rows {T} cells inj xs ys same = go 1 xs ys same
 
 -- ---- the project
 
--- a row that is that of no project is not that of its one row
-pub no_project : (version : ℕ) (rows : List Row) (place : ℕ) → IsNoRow (λ _. project_row) IsStoredProject rows place → IsWrongProject version rows place
-no_project version rows place none = record { counted = none.counted; other = λ project stored is same. none.none project stored (alone (place - 1) (project_row project) none.row (sym same ∙ none.there)) }
-  where
-    alone : (k : ℕ) (a b : Row) → slice_get (a ∷ []) k ≡ Some b → b ≡ a
-    alone zero a b is = cc
-    alone (suc k) a b is = absurd cc
+any_project : ProjectRow
+any_project = record { version = 1; next_number = 1 }
 
--- where there is none, one lacks, and the second of more is too many
-pub no_one : (version : ℕ) (rows : List Row) (projects : List ProjectRow) → rows ≡ rows_of (λ _. project_row) projects → length projects ≡ 0 → IsWrongProject version rows 1
-no_one version rows [] read none = record { counted = omega arith; other = λ project stored is same. absurd (let no = sym (ap (λ rs. slice_get rs 0) read) ∙ same in cc) }
-no_one version rows (p ∷ more) read none = absurd (omega (arith, none))
+-- a first row that is not that of a project is in the way
+pub lacks_project : (rows : List Row) → LacksProject rows → IsNoProject rows 1
+unfolding any_project
+lacks_project [] lacks = record { counted = omega arith; wanted = any_project; stored = record { version = omega arith; next_number = (omega arith, omega arith) }; before = refl; other = lacks }
+lacks_project (row ∷ rows) lacks = record { counted = omega arith; wanted = any_project; stored = record { version = omega arith; next_number = (omega arith, omega arith) }; before = refl; other = lacks }
 
-pub one_more : (version : ℕ) (rows : List Row) (projects : List ProjectRow) → rows ≡ rows_of (λ _. project_row) projects → 2 ≤ length projects → IsWrongProject version rows 2
-one_more version rows [] read many = absurd (omega (arith, many))
-one_more version rows (p ∷ []) read many = absurd (omega (arith, many))
-one_more version rows (p ∷ q ∷ more) read many = record { counted = omega arith; other = λ project stored is same. absurd (let no = sym (ap (λ rs. slice_get rs 1) read) ∙ same in cc) }
-
--- so is the row of another version
-pub other_version : (version : ℕ) (rows : List Row) (found : ProjectRow) → rows ≡ project_row found ∷ [] → found.version ≢ version → IsWrongProject version rows 1
-other_version version rows found read other = record {
-  counted = omega arith;
-  other = λ project stored is same. other (let row : ◌≡◌ {A = Option Row} (Some (project_row found)) (Some (project_row project)) = sym (ap (λ rs. slice_get rs 0) read) ∙ same in version_of row ∙ is);
-}
-  where
-    version_of : {p q : ProjectRow} → ◌≡◌ {A = Option Row} (Some (project_row p)) (Some (project_row q)) → p.version ≡ q.version
-    version_of is = cc
+-- where there are no more, it is the one row
+pub one_project : (rows : List Row) (project : ProjectRow) → slice_get rows 0 ≡ Some (project_row project) → length rows ≤ 1 → rows ≡ project_row project ∷ []
+one_project [] project first few = absurd cc
+one_project (r ∷ []) project first few = let same : r ≡ project_row project = cc in ap (λ (row : Row). row ∷ []) same
+one_project (r ∷ q ∷ rows) project first few = absurd (omega (arith, few))

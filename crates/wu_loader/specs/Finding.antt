@@ -9,9 +9,9 @@ use Rattle.wu_core.specs.declared.fault.Fault.{Fault}
 use Rattle.wu_schema.specs.Refines.{Refines}
 use Rattle.wu_schema.specs.Tables.{ProjectTrees}
 use Rattle.wu_loader.specs.Asked.{HasArranged}
+use Rattle.wu_loader.specs.First.{IsFirstWrong}
 use Rattle.wu_loader.specs.Shown.{AreWhole, Shows}
 use Rattle.wu_loader.specs.Worlds.{IsReadable}
-use Rattle.wu_loader.specs.Wrongs.{IsWrongRow}
 use Rattle.wu_loader.specs.declared.finding.Found.{Found}
 use Rattle.wu_loader.specs.declared.finding.Found.TheVariants as found
 use Rattle.wu_loader.specs.declared.finding.WrongRow.{WrongRow}
@@ -39,13 +39,14 @@ abbrev pub FindsNone : {S : Type 0} → ℕ → Ghosts S → Held S → Held S �
 FindsNone version g old new result =
     HasCleanDisk (state g new) → IfOk result (λ found. IfWrong found (λ _. (world : World) → IsReadable world → world.version ≡ version → ¬ Refines (state g old).now world))
 
--- The reported row is wrong, among those that questions show of the tables of this version.
+-- The reported row is the first that is wrong, among those that questions show of the tables of this version.
 pub record IsShownWrong (version : ℕ) (db : Database) (trees : ProjectTrees) (wrong : WrongRow) : Type 0 where
   pub rows : TableRows
   pub shown : Shows version db.trees trees rows
-  pub is : IsWrongRow version rows wrong
+  pub is : IsFirstWrong version rows wrong
 
--- If a wrong row is reported, and the tables of this version are there with their rows in order, the row is wrong.
+-- If a wrong row is reported, and the tables of this version are there with their rows in order, the row is the first
+-- wrong one.
 abbrev pub FindsRow : {S : Type 0} → ℕ → Ghosts S → Held S → Held S → Result Found Fault → Type 0
 FindsRow version g old new result =
     HasCleanDisk (state g new) → (trees : ProjectTrees) → HasArranged version (state g old).now trees

@@ -42,16 +42,19 @@ pub record AreHosts (grants : List Grant) (hosts : List Host) : Type 0 where
   pub each : All (IsGranted grants) hosts
   pub listed : All (λ (grant : Grant). IsListed hosts grant.host) grants
 
--- The host at this place, from 0, does not have the sums of its grants.
+-- The host at this place, from 0, is the first that does not have the sums of its grants.
 pub record IsUngranted (grants : List Grant) (hosts : List Host) (place : ℕ) : Type 0 where
   pub there : place < length hosts
+  pub before : (k : ℕ) (d : Host) → k < place → IsGranted grants (slice_index_or hosts k d)
   pub other : (d : Host) → ¬ IsGranted grants (slice_index_or hosts place d)
 
--- After the last host, at this place, a host with a grant is missing.
+-- Each host has the sums of its grants, and after the last one, at this place, a host with a grant is missing.
 pub record LacksHost (grants : List Grant) (hosts : List Host) (place : ℕ) : Type 0 where
   pub behind : place ≡ length hosts
+  pub each : All (IsGranted grants) hosts
   pub unlisted : ¬ All (λ (grant : Grant). IsListed hosts grant.host) grants
 
--- Because of the host at this place, the hosts in order of name are not those of the grants.
+-- At this place the hosts in order of name first differ from those of the grants: in their order; if that is right, in
+-- the sums of a host; and if these are right, since one is missing.
 abbrev pub IsWrongHost : List Grant → List Host → ℕ → Type 0
-IsWrongHost grants hosts place = IsNotAbove by_name hosts place ⊎ (IsUngranted grants hosts place ⊎ LacksHost grants hosts place)
+IsWrongHost grants hosts place = IsNotAbove by_name hosts place ⊎ (Rise hosts × (IsUngranted grants hosts place ⊎ LacksHost grants hosts place))

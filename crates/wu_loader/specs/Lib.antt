@@ -9,4 +9,5 @@ pub mod Dealing
 pub mod Granting
 pub mod Classing
 pub mod Wrongs
+pub mod First
 pub mod Finding

@@ -1,5 +1,6 @@
--- Which row of a table is wrong: it is missing, or is not a row of a project.
-use Rattle.std.specs.Prelude.{◌≡◌, ◌≢◌, ◌⊎◌, ℕ, ◌-◌, ◌≤◌, List, [], ◌∷◌, length, map, MatchOption, Option, slice_get, take}
+-- Which row of a table is the first that is wrong: it is missing, or is not a row of a project. If a row is that of no
+-- value, the first such row is meant; else the first that does not fit the others.
+use Rattle.std.specs.Prelude.{◌≡◌, ◌≢◌, ◌⊎◌, ℕ, ◌-◌, ◌≤◌, List, [], ◌∷◌, length, map, MatchOption, Option, Some, slice_get, take}
 use Rattle.sqlite.specs.Order.{Row, column}
 use Rattle.sqlite.specs.declared.types.Value.{Value}
 use Rattle.wu_core.specs.Storable.{IsStoredArchived, IsStoredWorkunit}
@@ -11,7 +12,7 @@ use Rattle.wu_loader.specs.Classing.{by_host}
 use Rattle.wu_loader.specs.Dealing.{by_place, AreDealt}
 use Rattle.wu_loader.specs.Granting.{by_name, IsWrongHost}
 use Rattle.wu_loader.specs.Rows.{archived_row, classed_row, grant_row, host_row, placed_row, project_row, IsStoredClass, IsStoredGrant, IsStoredHost, IsStoredHostClass, IsStoredImport, IsStoredPlaced, IsStoredProject}
-use Rattle.wu_loader.specs.Whole.{rows_of, AreSorted, DiffersAt, IsIn, IsNoRow, IsNotAbove}
+use Rattle.wu_loader.specs.Whole.{rows_of, AreOfValues, AreSorted, DiffersAt, IsIn, IsNoRow, IsNotAbove}
 use Rattle.wu_loader.specs.Worlds.{IsOrdered}
 use Rattle.wu_loader.specs.declared.finding.LoadedTable.{LoadedTable}
 use Rattle.wu_loader.specs.declared.finding.LoadedTable.TheVariants as table
@@ -25,10 +26,28 @@ use Rattle.wu_loader.specs.declared.tables.TableRows.{TableRows}
 
 -- ---- the project
 
--- At this place the row is not what a project of this version has there; a project has one row.
-pub record IsWrongProject (version : ℕ) (rows : List Row) (place : ℕ) : Type 0 where
+-- The first row is not that of a project.
+abbrev pub LacksProject : List Row → Type 0
+LacksProject rows = (project : ProjectRow) → IsStoredProject project → slice_get rows 0 ≢ Some (project_row project)
+
+-- At this place the row is first not what a project has there: it is another, missing, or a second one.
+pub record IsNoProject (rows : List Row) (place : ℕ) : Type 0 where
   pub counted : 1 ≤ place
-  pub other : (project : ProjectRow) → IsStoredProject project → project.version ≡ version → slice_get rows (place - 1) ≢ slice_get (project_row project ∷ []) (place - 1)
+  pub wanted : ProjectRow
+  pub stored : IsStoredProject wanted
+  pub before : take (place - 1) rows ≡ take (place - 1) (project_row wanted ∷ [])
+  pub other : (project : ProjectRow) → IsStoredProject project → slice_get rows (place - 1) ≢ slice_get (project_row project ∷ []) (place - 1)
+
+-- The one row is that of a project of another version.
+pub record HasOtherVersion (version : ℕ) (rows : List Row) (place : ℕ) : Type 0 where
+  pub first : place ≡ 1
+  pub project : ProjectRow
+  pub rows_are : rows ≡ project_row project ∷ []
+  pub stored : IsStoredProject project
+  pub other : project.version ≢ version
+
+abbrev pub IsWrongProject : ℕ → List Row → ℕ → Type 0
+IsWrongProject version rows place = IsNoProject rows place ⊎ HasOtherVersion version rows place
 
 -- ---- results
 
@@ -46,23 +65,27 @@ pub record IsUndealtRow (works rows : List Row) (place : ℕ) : Type 0 where
   pub workunits : List Workunit
   pub rows_are : works ≡ map workunit_row workunits
   pub placed : List Placed
-  pub read : AreSorted placed_row by_place rows placed
+  pub read : AreSorted placed_row IsStoredPlaced by_place rows placed
   pub undealt : IsUndealtAt workunits placed place
 
 abbrev pub IsWrongResult : (works rows : List Row) → ℕ → Type 0
 IsWrongResult works rows place = IsNoRow (λ _. placed_row) IsStoredPlaced rows place ⊎ IsUndealtRow works rows place
 
--- The wrong row that is reported is one of workunits or one of results.
+-- Each row is that of a workunit.
+abbrev pub AreWorkunits : List Row → Type 0
+AreWorkunits rows = AreOfValues (λ _. workunit_row) IsStoredWorkunit rows
+
+-- The wrong row that is reported is one of workunits; or, where none of these is wrong, one of results.
 abbrev pub IsWrongWork : (works rows : List Row) → told.WrongRow → Type 0
-IsWrongWork works rows wrong = IsIn table.Workunit (IsNoRow (λ _. workunit_row) IsStoredWorkunit works) wrong ⊎ IsIn table.Result (IsWrongResult works rows) wrong
+IsWrongWork works rows wrong = IsIn table.Workunit (IsNoRow (λ _. workunit_row) IsStoredWorkunit works) wrong ⊎ (AreWorkunits works × IsIn table.Result (IsWrongResult works rows) wrong)
 
 -- ---- hosts
 
--- In order of name, these are not the hosts of the grants: for the row at this place, or because one is missing after
--- the last.
+-- In order of name, these are not the hosts of the grants: first for the row at this place, or because one is missing
+-- after the last.
 pub record IsOtherHost (grants : List Grant) (rows : List Row) (place : ℕ) : Type 0 where
   pub hosts : List Host
-  pub read : AreSorted host_row by_name rows hosts
+  pub read : AreSorted host_row IsStoredHost by_name rows hosts
   pub counted : 1 ≤ place
   pub wrong : IsWrongHost grants hosts (place - 1)
 
@@ -77,10 +100,10 @@ pub record IsWrongHostBeside (given rows : List Row) (place : ℕ) : Type 0 wher
 
 -- ---- classes
 
--- In order of host, the host of this row is not above that of the row before it.
+-- In order of host, this row is the first whose host is not above that of the row before it.
 pub record StandsTwice (rows : List Row) (place : ℕ) : Type 0 where
   pub classes : List HostClass
-  pub read : AreSorted class_cells by_host rows classes
+  pub read : AreSorted class_cells IsStoredHostClass by_host rows classes
   pub counted : 1 ≤ place
   pub twice : IsNotAbove by_host classes (place - 1)
 
@@ -91,13 +114,15 @@ IsWrongHostClass rows place = IsNoRow (λ _. class_cells) IsStoredHostClass rows
 abbrev pub keys : List Row → List Value
 keys rows = map (λ (row : Row). column row 0) rows
 
--- The row is that of no class, or is the first whose key differs from that of the workunit's row at its place.
+-- The row is that of no class; or each is that of one, and this one is the first whose key differs from that of the
+-- workunit's row at its place.
 abbrev pub IsWrongWorkunitClass : (works rows : List Row) → ℕ → Type 0
-IsWrongWorkunitClass works rows place = IsNoRow (λ _. classed_row) IsStoredClass rows place ⊎ DiffersAt (keys works) (keys rows) place
+IsWrongWorkunitClass works rows place =
+    IsNoRow (λ _. classed_row) IsStoredClass rows place ⊎ (AreOfValues (λ _. classed_row) IsStoredClass rows × DiffersAt (keys works) (keys rows) place)
 
 -- ---- all tables
 
--- The row at this place of a table that every version has is wrong.
+-- The row at this place is the first wrong one of a table that every version has.
 abbrev pub IsWrongPlainAt : ℕ → PlainRows → LoadedTable → ℕ → Type 0
 IsWrongPlainAt version rows table.Project place = IsWrongProject version rows.project.items place
 IsWrongPlainAt version rows table.Workunit place = IsNoRow (λ _. workunit_row) IsStoredWorkunit rows.workunits.items place
@@ -111,7 +136,7 @@ IsWrongPlainAt version rows _ place = ⊥
 abbrev pub IsWrongPlain : ℕ → PlainRows → told.WrongRow → Type 0
 IsWrongPlain version rows wrong = IsWrongPlainAt version rows wrong.table wrong.place
 
--- The row at this place of a table of classes is wrong, given the rows of the workunits.
+-- The row at this place is the first wrong one of a table of classes, given the rows of the workunits.
 abbrev pub IsWrongClassAt : List Row → ClassRows → LoadedTable → ℕ → Type 0
 IsWrongClassAt works rows table.HostClass place = IsWrongHostClass rows.hosts.items place
 IsWrongClassAt works rows table.WorkunitClass place = IsWrongWorkunitClass works rows.workunits.items place
@@ -120,6 +145,6 @@ IsWrongClassAt works rows _ place = ⊥
 abbrev pub IsWrongClass : List Row → Option ClassRows → told.WrongRow → Type 0
 IsWrongClass works rows wrong = MatchOption rows ⊥ (λ classes. IsWrongClassAt works classes wrong.table wrong.place)
 
--- The reported row is wrong, among those of a project of this version.
+-- The reported row is the first wrong one of its table, in a project of this version.
 abbrev pub IsWrongRow : ℕ → TableRows → told.WrongRow → Type 0
 IsWrongRow version rows wrong = IsWrongPlain version rows.plain wrong ⊎ IsWrongClass rows.plain.workunits.items rows.classes wrong

@@ -111,13 +111,15 @@ pub(crate) fn host_classes(alloc: Global, rows: &[Row]) -> Result<Vec<HostClass>
     ensures same { IfOk result (λ classes. IsPermutation (map class_cells classes.items) rows.now) }
     // After `Ok` the hosts are in order of their names' bytes, each once.
     ensures order { IfOk result (λ classes. AreInOrder classes.items) }
+    // After `Ok` each name and class is in its range.
+    ensures stored { IfOk result (λ classes. All IsStoredHostClass classes.items) }
     // A row that is reported means that the rows are those of no hosts in order with names and
     // classes in range.
     ensures none { IfErr result (λ reason. UnlessMemory reason (λ _. (classes : List HostClass)
         → All IsStoredHostClass classes → AreInOrder classes
         → ¬ IsPermutation (map class_cells classes) rows.now)) }
-    // The reported row of `host_class` is that of no host and class, or, in order of names, that of
-    // a host that occurred before.
+    // The reported row of `host_class` is the first that is that of no host and class; else, in
+    // order of names, the first of a host that occurred before.
     ensures told { IfErr result (λ reason. UnlessMemory reason (IsIn LoadedTable.HostClass
         (IsWrongHostClass rows.now))) }
 {

@@ -154,8 +154,8 @@ fn first_wrong_host(hosts: &[Host], grants: &[&Grant]) -> Option<usize>
         (λ _. ¬ AreHosts (referred grants.now) hosts.now) }
     // A place is at most that after the last host.
     ensures within { IfSome result (λ place. place ≤ length hosts.now) }
-    // A place is that of a host out of order or not as granted, or that after the last one where
-    // one is missing.
+    // A place is that of the first host out of order; else of the first not as granted; else that
+    // after the last one, where one is missing.
     ensures told { IfSome result (IsWrongHost (referred grants.now) hosts.now) }
 {
     if let Some(place) = first_out_of_order(hosts) {
@@ -182,8 +182,8 @@ pub(crate) fn know_hosts(alloc: Global, rows: &[Row], grants: &[Grant]) -> Resul
     // their hosts.
     ensures none { IfErr result (λ reason. UnlessMemory reason (λ _. All IsStoredGrant grants.now
         → ¬ IsPermutation (map (host_of grants.now) (hosts_of grants.now)) rows.now)) }
-    // The reported row of `host` is that of no host, out of order, not as granted, or missing after
-    // the last one.
+    // The reported row of `host` is the first that is that of no host; else the first out of order;
+    // else the first not as granted; else it is missing after the last one.
     ensures told { IfErr result (λ reason. UnlessMemory reason (IsIn LoadedTable.Host
         (IsWrongHostRow grants.now rows.now))) }
 {

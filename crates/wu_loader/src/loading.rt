@@ -37,9 +37,9 @@ pub fn load_world<S: Alter>(
     ensures world { FindsWorld version S.Store conn.old conn.new result }
     // A row that is reported means that the tables represent no readable world of this version.
     ensures none { FindsNone version S.Store conn.old conn.new result }
-    // Over tables of this version in rowid order, the reported row is missing or invalid at its
-    // place, counted from 1. Tables are counted by key, results by workunit and number, hosts and
-    // classes by name; imports, and unreadable rows without a key, in any order.
+    // Over tables of this version in rowid order, the reported row is the first missing or invalid
+    // one in the written order. Tables are counted by key, results by workunit and number, hosts
+    // and classes by name; imports, and unreadable rows without a key, in any order.
     ensures told { FindsRow version S.Store conn.old conn.new result }
 {
     // that there is a schema means that the tables obey it

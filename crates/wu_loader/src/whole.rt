@@ -19,7 +19,7 @@ pub(crate) fn all_from<T: FromRow + Drop>(
     ensures same { IfOk result (λ values. rows.now ≡ rows_of T.cells values.items) }
     // After `Ok` each value is in its ranges.
     ensures each { IfOk result (λ values. All T.is_value values.items) }
-    // The row that is reported, of this table, is that of no value in its ranges.
+    // The row that is reported, of this table, is the first that is that of no value in its ranges.
     ensures none { IfErr result (λ reason. UnlessMemory reason
         (IsIn table (IsNoRow T.cells T.is_value rows.now))) }
 {

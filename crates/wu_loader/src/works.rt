@@ -5,7 +5,8 @@ ghost use Rattle.wu_core.specs.Storable.{IsStorable};
 ghost use Rattle.wu_core.specs.declared.workunit.Workunit.{Workunit};
 ghost use Rattle.wu_loader.specs.Whole.{UnlessMemory};
 ghost use Rattle.wu_loader.specs.Worlds.{AreRowsOfWorks, IsOrdered};
-ghost use Rattle.wu_loader.specs.Wrongs.{IsWrongWork};
+ghost use Rattle.wu_loader.specs.Wrongs.{AreWorkunits, IsWrongWork};
+ghost use Rattle.wu_loader.specs.First.{AreResults};
 
 use crate::dealing::{deal, queue_of, sort};
 use crate::finding::{LoadedTable, NoWorld};
@@ -23,12 +24,16 @@ pub(crate) fn works_from(
 ) -> Result<Vec<Workunit>, NoWorld>
     // After `Ok` the rows are those of these workunits and, in some order, of their instances.
     ensures works { IfOk result (λ works. AreRowsOfWorks rows.now instances.now works.items) }
+    // After `Ok` no row of a workunit is wrong.
+    ensures workunits { IfOk result (λ _. AreWorkunits rows.now) }
+    // After `Ok` no row of a result is wrong.
+    ensures results { IfOk result (λ _. AreResults rows.now instances.now) }
     // A row that is reported means that the rows are those of no readable workunits in order of
     // number.
     ensures none { IfErr result (λ reason. UnlessMemory reason (λ _. (works : List Workunit)
         → IsOrdered works → All IsStorable works → ¬ AreRowsOfWorks rows.now instances.now works)) }
-    // The reported row is that of no workunit, of no instance, or the first result that is of none
-    // of the workunits.
+    // The reported row is the first of no workunit; else the first of no instance; else the first
+    // result that is of none of the workunits.
     ensures told { IfErr result (λ reason. UnlessMemory reason
         (IsWrongWork rows.now instances.now)) }
 {

@@ -1,47 +1,84 @@
 //! The world that the rows of a project's tables are those of.
 
-ghost use Rattle.std.specs.Prelude.{◌≡◌, ◌≢◌, ℕ, [], ◌∷◌, IfErr, IfOk, map};
+ghost use Rattle.std.specs.Prelude.{◌≡◌, ◌≢◌, [], ◌∷◌, IfErr, IfOk, Some, map, slice_get};
 ghost use Rattle.wu_core.specs.Classes.{AreInOrder};
 ghost use Rattle.wu_core.specs.World.{World};
 ghost use Rattle.wu_schema.specs.Stored.{workunit_row};
 ghost use Rattle.wu_loader.specs.Rows.{project_row, IsStoredProject};
 ghost use Rattle.wu_loader.specs.Whole.{IsIn, UnlessMemory};
 ghost use Rattle.wu_loader.specs.Worlds.{plain_world, AreAnyClassRowsOf, ArePlainRowsOf, AreRowsOf, HasClassesOf, IsOrdered, IsReadable};
-ghost use Rattle.wu_loader.specs.Wrongs.{IsWrongClass, IsWrongPlain, IsWrongProject, IsWrongRow};
+ghost use Rattle.wu_loader.specs.First.{AreRightBefore, IsFirstClass, IsFirstPlain, IsFirstWrong};
+ghost use Rattle.wu_loader.specs.Wrongs.{IsWrongProject, LacksProject};
+ghost use Rattle.wu_loader.specs.declared.finding.NoWorld.TheVariants.{Wrong};
 ghost use Rattle.wu_loader.specs.declared.rows.ProjectRow.{ProjectRow};
 
 use crate::classes::{host_classes, with_classes, without_classes};
 use crate::finding::{LoadedTable, NoWorld, WrongRow};
 use crate::hosts::know_hosts;
-use crate::rows::{Classed, ProjectRow};
+use crate::rows::{Classed, FromRow, ProjectRow};
 use crate::tables::{ClassRows, PlainRows, TableRows};
 use crate::whole::all_from;
 use crate::works::works_from;
 use sqlite::Row;
 use std::alloc::Global;
 use wu_audit::{Imported, Loaded};
-use wu_core::{Archived, Grant, HostClass, Workunit};
+use wu_core::{Archived, Fault, Grant, HostClass, Workunit};
 
-/// Returns the one row of the project. Reports the first place if there is no row, and the second if there are more.
-fn project_from(alloc: Global, rows: &[Row]) -> Result<ProjectRow, NoWorld>
-    // After `Ok` the one row is that of this project.
-    ensures project { IfOk result (λ project. rows.now ≡ project_row project ∷ []) }
-    // A row that is reported means that the rows are not the one row of a project.
-    ensures none { IfErr result (λ reason. UnlessMemory reason (λ _. (project : ProjectRow)
-        → IsStoredProject project → rows.now ≢ project_row project ∷ [])) }
-    // The place is one at which a project has another row, or none.
-    ensures told { IfErr result (λ reason. UnlessMemory reason (IsIn LoadedTable.Project (λ place.
-        (version : ℕ) → IsWrongProject version rows.now place))) }
+/// Returns the report of this place in the table of the project.
+fn wrong_project(place: u64) -> NoWorld
+    ensures { result ≡ Wrong (record { table = LoadedTable.Project; place = place }) }
 {
-    let projects = all_from::<ProjectRow>(alloc, LoadedTable::Project, rows)?;
-    if projects.len() == 1 {
-        return Ok(projects[0]);
-    }
-    let place = if projects.is_empty() { 1 } else { 2 };
-    Err(NoWorld::Wrong(WrongRow {
+    NoWorld::Wrong(WrongRow {
         table: LoadedTable::Project,
         place,
-    }))
+    })
+}
+
+/// Returns the project of the first row. Reports the first place if that is the row of no project, or is missing.
+fn first_project(alloc: Global, rows: &[Row]) -> Result<ProjectRow, NoWorld>
+    // After `Ok` the first row is that of this project.
+    ensures first { IfOk result (λ project. slice_get rows.now 0 ≡ Some (project_row project)) }
+    // After `Ok` the project is in its ranges.
+    ensures stored { IfOk result IsStoredProject }
+    // The first place is reported, and no row of a project is there.
+    ensures none { IfErr result (λ reason. UnlessMemory reason (λ wrong.
+        IsIn LoadedTable.Project (λ place. (place ≡ 1) × LacksProject rows.now) wrong)) }
+{
+    match rows {
+        [] => Err(wrong_project(1)),
+        [row, ..] => match ProjectRow::from_row(alloc, 1, row) {
+            Ok(project) => Ok(project),
+            Err(Fault::NotAProject) => Err(wrong_project(1)),
+            Err(_) => Err(NoWorld::Memory),
+        },
+    }
+}
+
+/// Returns the one row of a project of this version. Reports the first place if there is no such row, and the second if
+/// there are more.
+fn project_from(alloc: Global, version: u64, rows: &[Row]) -> Result<ProjectRow, NoWorld>
+    // After `Ok` the one row is that of this project.
+    ensures project { IfOk result (λ project. rows.now ≡ project_row project ∷ []) }
+    // After `Ok` the project is of this version.
+    ensures version { IfOk result (λ project. project.version ≡ version) }
+    // After `Ok` the project is in its ranges.
+    ensures stored { IfOk result IsStoredProject }
+    // A row that is reported means that the rows are not the one row of a project of this version.
+    ensures none { IfErr result (λ reason. UnlessMemory reason (λ _. (project : ProjectRow)
+        → IsStoredProject project → project.version ≡ version
+        → rows.now ≢ project_row project ∷ [])) }
+    // The place is the first at which a project of this version has another row, or none.
+    ensures told { IfErr result (λ reason. UnlessMemory reason (IsIn LoadedTable.Project
+        (IsWrongProject version rows.now))) }
+{
+    let project = first_project(alloc, rows)?;
+    if rows.len() > 1 {
+        return Err(wrong_project(2));
+    }
+    if project.version != version {
+        return Err(wrong_project(1));
+    }
+    Ok(project)
 }
 
 /// What the rows of the tables that every version has are those of.
@@ -54,18 +91,24 @@ struct Plain {
     imports: Vec<Imported>,
 }
 
-/// Returns what these rows are those of, or the first row found that keeps them from being those of anything.
-fn plain_from(alloc: Global, rows: &PlainRows) -> Result<Plain, NoWorld>
+/// Returns what these rows of a project of this version are those of, or the first row that keeps them from being those
+/// of anything, in the order of the tables.
+fn plain_from(alloc: Global, version: u64, rows: &PlainRows) -> Result<Plain, NoWorld>
     // After `Ok` the rows of the tables of every version are those of these values.
     ensures plain { IfOk result (λ plain. ArePlainRowsOf rows.now (plain_world plain)) }
-    // A row that is reported means that the rows are those of no readable world in order of number.
+    // After `Ok` the project is of this version.
+    ensures version { IfOk result (λ plain. plain.project.version ≡ version) }
+    // After `Ok` no row of these tables is wrong.
+    ensures right { IfOk result (λ _. AreRightBefore version rows.now 7) }
+    // A row that is reported means that the rows are those of no readable world of this version in
+    // order of number.
     ensures none { IfErr result (λ reason. UnlessMemory reason (λ _. (world : World)
-        → IsReadable world → IsOrdered world.workunits → ¬ ArePlainRowsOf rows.now world)) }
-    // The reported row is missing or invalid at its place, for a project of any version.
-    ensures told { IfErr result (λ reason. UnlessMemory reason (λ wrong. (version : ℕ)
-        → IsWrongPlain version rows.now wrong)) }
+        → IsReadable world → world.version ≡ version → IsOrdered world.workunits
+        → ¬ ArePlainRowsOf rows.now world)) }
+    // The reported row is the first that is missing or invalid at its place, in the written order.
+    ensures told { IfErr result (λ reason. UnlessMemory reason (IsFirstPlain version rows.now)) }
 {
-    let project = project_from(alloc, &rows.project)?;
+    let project = project_from(alloc, version, &rows.project)?;
     let workunits = works_from(alloc, &rows.workunits, &rows.instances)?;
     let grants = all_from::<Grant>(alloc, LoadedTable::CreditGrant, &rows.grants)?;
     know_hosts(alloc, &rows.hosts, &grants)?;
@@ -102,9 +145,9 @@ fn classes_from(
         → IsReadable world → AreInOrder world.classes
         → map workunit_row workunits.items ≡ map workunit_row world.workunits
         → ¬ AreAnyClassRowsOf rows.now world)) }
-    // The reported row of a table of classes is missing or invalid at its place.
+    // The reported row of a table of classes is the first that is missing or invalid at its place.
     ensures told { IfErr result (λ reason. UnlessMemory reason
-        (IsWrongClass (map workunit_row workunits.items) rows.now)) }
+        (IsFirstClass (map workunit_row workunits.items) rows.now)) }
 {
     let Some(rows) = rows else {
         return Ok(WithClasses {
@@ -112,23 +155,23 @@ fn classes_from(
             hosts: Vec::new(alloc),
         });
     };
+    let hosts = host_classes(alloc, &rows.hosts)?;
     let classes = all_from::<Classed>(alloc, LoadedTable::WorkunitClass, &rows.workunits)?;
     let workunits = with_classes(alloc, workunits, &classes)?;
-    let hosts = host_classes(alloc, &rows.hosts)?;
     Ok(WithClasses { workunits, hosts })
 }
 
-/// Returns the world of these rows of a project of this version, or the first row found that keeps them from being
-/// those of one.
+/// Returns the world of these rows of a project of this version, or the first row that keeps them from being those of
+/// one, in the order of the tables.
 pub fn world_from(alloc: Global, version: u64, rows: &TableRows) -> Result<Loaded, NoWorld>
     // After `Ok` the rows are those of this world, which is of this version.
     ensures world { IfOk result (AreRowsOf version rows.now) }
     // A row that is reported means that the rows are those of no readable world of this version.
     ensures none { IfErr result (λ reason. UnlessMemory reason (λ _. (world : World)
         → IsReadable world → IsOrdered world.workunits → ¬ AreRowsOf version rows.now world)) }
-    // The reported row is missing, or invalid for a project of this version, at its place in its
-    // table.
-    ensures told { IfErr result (λ reason. UnlessMemory reason (IsWrongRow version rows.now)) }
+    // The reported row is the first that is missing, or invalid for a project of this version, in
+    // the written order.
+    ensures told { IfErr result (λ reason. UnlessMemory reason (IsFirstWrong version rows.now)) }
 {
     let Plain {
         project,
@@ -136,13 +179,7 @@ pub fn world_from(alloc: Global, version: u64, rows: &TableRows) -> Result<Loade
         grants,
         archived,
         imports,
-    } = plain_from(alloc, &rows.plain)?;
-    if project.version != version {
-        return Err(NoWorld::Wrong(WrongRow {
-            table: LoadedTable::Project,
-            place: 1,
-        }));
-    }
+    } = plain_from(alloc, version, &rows.plain)?;
     let WithClasses { workunits, hosts } = classes_from(alloc, workunits, &rows.classes)?;
     Ok(Loaded::new(
         workunits,

@@ -183,7 +183,7 @@ module _ {S : Type 0} {g : Ghosts S} (old new : Project S g) (command : Command)
         is_project = still;
         version = present ∙ present_none next.version (answered_present world (request_of command) (reply_of_answer answer) still runs.0);
         shows = elim runs.1 [
-          | inl goes ↦ goes.stands
+          | inl goes ↦ goes.0.stands
           | inr same ↦ subst (λ w. ShowsWorld (state_of new) w) (sym same.0) (kept_shows (state_of old) (state_of new) world clean shut same.1 shows.shows)
         ];
       }

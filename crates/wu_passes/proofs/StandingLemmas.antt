@@ -12,6 +12,7 @@ use Rattle.sqlite.specs.Held.{Held, state}
 use Rattle.sqlite.specs.Store.{Ghosts}
 use Rattle.wu_schema.specs.Asking.{IsAsBefore}
 use Rattle.wu_schema.specs.Calls.{LeavesOnly, IsBack, IsDone, IsMade, IsRefused, IsUndone}
+use Rattle.wu_schema.specs.Others.{SparesOthers}
 use Rattle.wu_passes.specs.Adopting.{KeepsAll, LeavesNoMore}
 use Rattle.wu_store.specs.Changing.{AreRight, made_all, MakesWorlds}
 use Rattle.wu_passes.specs.Committing.{FoundAs}
@@ -54,7 +55,7 @@ goes_ended s world request goes = record { stands = λ _. goes; left = λ db may
 -- the changes are done
 pub goes_done : (old new : State) (world : World) (changes : List Change) → StandsFor old.now world → AreRight changes world → IsDone (MakesWorlds changes) old new → GoesOn new (made_all changes world)
 goes_done old new world changes stands right is_done =
-    let after = is_done.makes world stands right in
+    let after = is_done.makes.stands world stands right in
     record { stands = λ is_open. (after, is_done.committed); left = λ db may. record { database = new.now; same = sym (is_done.left.only db may); stands = after } }
 
 -- they were refused, and all is as before
@@ -84,7 +85,7 @@ pub ended_undone : (old new : State) (world : World) (request : Request) (change
     → step world request ≡ made_all changes world → IsUndone old new → Survives old new (IsMade (MakesWorlds changes) old.now) → HasEnded new world request
 ended_undone old new world request changes clean stands goes right is undone survives = record {
   stands = λ is_open. goes_undone old new world goes undone is_open;
-  left = λ db may. elim (survives.crash clean db may) [ inl before ↦ inl (goes.left db before) | inr after ↦ inr (subst (λ w. FoundAs db w) (sym is) (record { database = after.0; same = after.1; stands = after.2 world stands right })) ];
+  left = λ db may. elim (survives.crash clean db may) [ inl before ↦ inl (goes.left db before) | inr after ↦ inr (subst (λ w. FoundAs db w) (sym is) (record { database = after.0; same = after.1; stands = after.2.stands world stands right })) ];
 }
 
 -- what a plan says of the machine
@@ -200,7 +201,7 @@ pub from_done : (old new : State) (world : World) (request : Request) (answer : 
     → IsDone (MakesWorlds changes) old new → RunsFrom old world request ended new (Ok answer)
 from_done old new world request answer changes ended stands plans is_done = (
   reply_is world request answer changes plans,
-  inl (subst (λ w. GoesOn new w) (sym (step_is world request answer changes plans)) (goes_done old new world changes stands plans.right is_done)),
+  inl (subst (λ w. GoesOn new w) (sym (step_is world request answer changes plans)) (goes_done old new world changes stands plans.right is_done), is_done.makes.spares world stands plans.right),
 )
 
 -- they were refused
@@ -220,7 +221,7 @@ from_cut old new world request answer changes fault clean stands shows plans sto
       let (now, committed) = undone.now is_open in
       let same : new.now ≡ old.now = now ∙ was.1 in
       (subst (λ (d : Database). StandsFor d world) (sym same) was.0, committed ∙ sym now),
-  λ db may. elim (survives.crash clean db may) [ inl before ↦ inl before | inr after ↦ inr (subst (λ w. FoundAs db w) (sym (step_is world request answer changes plans)) (record { database = after.0; same = after.1; stands = after.2 world stands plans.right })) ],
+  λ db may. elim (survives.crash clean db may) [ inl before ↦ inl before | inr after ↦ inr (subst (λ w. FoundAs db w) (sym (step_is world request answer changes plans)) (record { database = after.0; same = after.1; stands = after.2.stands world stands plans.right })) ],
 )
 
 -- a plan was refused
@@ -237,7 +238,7 @@ most_then false old mid new world request kept most = λ db may. kept db (most d
 pub from_then : (old mid new : State) (world : World) (request : Request) (ended : Bool) (r : Result Answer Fault) → KeepsAll old mid → RunsFrom mid world request ended new r → RunsFrom old world request ended new r
 from_then old mid new world request ended (Ok answer) kept runs = (
   runs.0,
-  elim runs.1 [ inl goes ↦ inl goes | inr same ↦ inr (same.0, keeps_then old mid new kept same.1) ],
+  elim runs.1 [ inl goes ↦ inl (goes.0, subst (λ (d : Database). SparesOthers d new.now) kept.now goes.1) | inr same ↦ inr (same.0, keeps_then old mid new kept same.1) ],
 )
 from_then old mid new world request ended (Err fault) kept runs = (runs.0, runs.1, most_then ended old mid new world request kept.left runs.2)
 

@@ -1,12 +1,14 @@
 -- The upgrade on a connection: from the exits of a command.
-use Rattle.std.proofs.Common.{refl, arith, ◌≡◌, ◌∙◌, Bool, true, false, Result, Ok, Err, IfErr, IsTrue, OnErr, OnOk, sym, inl, inr}
+use Rattle.std.proofs.Common.{refl, arith, ◌≡◌, ◌∙◌, Bool, true, false, Result, Ok, Err, IfErr, IsTrue, OnErr, OnOk, subst, sym, inl, inr}
 use Rattle.sqlite.specs.State.{State, HasCleanDisk, Survives}
 use Rattle.sqlite.specs.Tree.{Trees}
 use Rattle.wu_schema.proofs.AskingLemmas.{back_then}
 use Rattle.wu_core.specs.declared.fault.Fault.{Fault}
 use Rattle.wu_core.specs.World.{World}
 use Rattle.wu_machine.specs.Requests.{AskUpgrade}
+use Rattle.sqlite.specs.Effect.{Database}
 use Rattle.wu_schema.specs.Calls.{IsBack, IsUndone}
+use Rattle.wu_schema.specs.Others.{SparesOthers}
 use Rattle.wu_passes.specs.Adopting.{KeepsAll}
 use Rattle.wu_passes.specs.Standing.{ShowsWorld}
 use Rattle.wu_passes.specs.Upgrading.{UpgradesFrom}
@@ -22,7 +24,7 @@ back_undone old new undone = record { was_open = undone.was_open; now = λ is_op
 
 -- what is made after a question
 pub upgrades_then : {T : Type 0} (old mid new : State) (world : World) (r : Result T (Fault × Bool)) → KeepsAll old mid → UpgradesFrom mid world new r → UpgradesFrom old world new r
-upgrades_then old mid new world (Ok x) kept (inl goes) = inl goes
+upgrades_then old mid new world (Ok x) kept (inl goes) = inl (goes.0, subst (λ (d : Database). SparesOthers d new.now) kept.now goes.1)
 upgrades_then old mid new world (Ok x) kept (inr same) = inr (same.0, keeps_then old mid new kept same.1)
 upgrades_then old mid new world (Err refusal) kept runs = (runs.0, runs.1, most_then refusal.1 old mid new world AskUpgrade kept.left runs.2)
 

@@ -11,12 +11,14 @@ use Rattle.wu_machine.specs.Requests.{Request}
 use Rattle.wu_passes.specs.Adopting.{KeepsAll, LeavesNoMore}
 use Rattle.wu_passes.specs.Committing.{FoundAs}
 use Rattle.wu_passes.specs.Standing.{GoesOn, ShowsWorld}
+use Rattle.wu_schema.specs.Others.{SparesOthers}
 use Rattle.wu_store.specs.Loading.{IsStoreFault}
 
--- The command is done: a crash leaves only the machine's step; or nothing was to be made, and all is as it was.
+-- The command is done: a crash leaves only the machine's step, and the tables of other programs stay; or nothing was to
+-- be made, and all is as it was.
 abbrev pub LeavesStepAlone : State → State → World → Request → Type 0
 LeavesStepAlone old new world request =
-    GoesOn new (step world request) ⊎ ((step world request ≡ world) × KeepsAll old new)
+    (GoesOn new (step world request) × SparesOthers old.now new.now) ⊎ ((step world request ≡ world) × KeepsAll old new)
 
 -- The command is not done: a crash leaves no more than it could before. If the session ended, it may also leave the
 -- machine's step.

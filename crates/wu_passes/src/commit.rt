@@ -32,7 +32,8 @@ pub fn change_all<S: Alter>(conn: &mut Connection<S>, changes: &[Change<'_>]) ->
     // Afterwards the connection is not inside a transaction.
     ensures mode { conn.new.in_transaction ≡ false }
     // With Ok, a represented world for which the changes are right is represented with all of them
-    // made, and committed. The connection is open, and a crash leaves only these tables.
+    // made, and committed. The tables of other programs stay. The connection is open, and a crash
+    // leaves only these tables.
     ensures done { Commits S.Store conn.old conn.new result (MakesWorlds changes.now) }
     // After `NotAProject` the connection is open, the tables are as before, and a crash leaves only
     // them.

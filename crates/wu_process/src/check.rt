@@ -63,8 +63,11 @@ pub fn check_path<O: Write>(rt: &HostRuntime, path: &str, out: &mut O) -> Result
         Ok(bytes) => bytes,
         Err(reason) => return Err(Trouble::Unchecked(reason)),
     };
-    match files_in_memory(rt.alloc(), &bytes) {
-        Ok(files) => check_files(rt.alloc(), files, options(rt), out),
-        Err(reason) => Err(Trouble::Unchecked(reason)),
-    }
+    let files = match files_in_memory(rt.alloc(), &bytes) {
+        Ok(files) => files,
+        Err(why) => return Err(Trouble::Unchecked(why)),
+    };
+    // the check needs the copy alone
+    drop(bytes);
+    check_files(rt.alloc(), files, options(rt), out)
 }

@@ -184,6 +184,7 @@ created_grows old new made is rows = subst (λ (s : Schema). Grows old (record n
   owns = keeps_created old.schema made;
   keeps = record {
     tables = λ t has. (has_left old.schema.tables _ t has, all_has (λ (u : Table). new.trees u.tree ≡ old.trees u.tree) old.schema.tables t rows has);
+    owns = keeps_created old.schema made;
     indexes = λ i has. has_left old.schema.indexes _ i has;
     views = refl;
   };

@@ -84,6 +84,7 @@ index_grows old new index is shared rows = subst (λ (s : Schema). Grows old (re
   owns = λ t there own. own;
   keeps = record {
     tables = λ t there. (there, all_has (λ (u : Table). new.trees u.tree ≡ old.trees u.tree) old.schema.tables t rows there);
+    owns = λ t there own. own;
     indexes = λ i there. has_left old.schema.indexes _ i there;
     views = refl;
   };

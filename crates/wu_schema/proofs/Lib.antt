@@ -40,3 +40,4 @@ pub mod QueueLemmas
 pub mod ClassLemmas
 pub mod OneLemmas
 pub mod AskingLemmas
+pub mod OthersLemmas

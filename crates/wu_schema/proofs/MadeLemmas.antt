@@ -1,5 +1,5 @@
 -- The tables, one after another, and the row of a fresh project.
-use Rattle.wu_schema.proofs.Words.{Database, Has, HasMade, HasNamed, HasTable, HasTables, HoldsAll, Index, IsDatabase, IsPermutation-refl, List, ListsAll, ProjectTrees, PutsOne, Row, Schema, Table, [], all_has, and_parts, ap, archived_at, arith, cases_Bool, codes, eqb-true, false, first_key, host_at, import_at, inl, inr, length, next_tree, project_at, put_row, refl, stored_project, subst, sym, ℕ, ◌++◌, ◌+◌, ◌==◌, ◌∙◌, ◌∷◌, ◌≡◌, ◌⊎◌}
+use Rattle.wu_schema.proofs.Words.{Database, Has, HasMade, HasNamed, HasTable, HasTables, HoldsAll, Index, IsDatabase, IsPermutation-refl, List, ListsAll, OwnsTree, ProjectTrees, PutsOne, Row, Schema, Table, [], all_has, and_parts, ap, archived_at, arith, cases_Bool, codes, eqb-true, false, first_key, host_at, import_at, inl, inr, length, next_tree, project_at, put_row, refl, stored_project, subst, sym, ℕ, ◌++◌, ◌+◌, ◌==◌, ◌∙◌, ◌∷◌, ◌≡◌, ◌⊎◌}
 use Rattle.wu_core.specs.World.{empty_world}
 use Rattle.wu_schema.specs.Made.{AreFree, MakesAll, Named, MakesEmpty, IsSequence, keys_of, work_tables, record_tables, class_tables, names_of, project_tables}
 use Rattle.wu_schema.proofs.StandsLemmas.{but_one, is_there}
@@ -16,6 +16,7 @@ made_grows old new named made = record {
   owns = made.keeps_own;
   keeps = record {
     tables = λ t has. (made.listed t has, all_has (λ (u : Table). new.trees u.tree ≡ old.trees u.tree) old.schema.tables t made.others has);
+    owns = made.keeps_own;
     indexes = made.indexes;
     views = made.views;
   };
@@ -178,6 +179,7 @@ module _ (old end new : Database) (h : MakesAll old end project_tables) (put : P
           tables = λ t has.
               let still = grows.keeps.tables t has in
               (subst (λ (s : Schema). Has s.tables t) (sym put.schema) still.0, but_one end new trees.project first_row put t still.0 (tree_apart old.schema t has) ∙ still.1);
+          owns = λ t has own. subst (λ (s : Schema). OwnsTree s t) (sym put.schema) (grows.owns t has own);
           indexes = λ i has. subst (λ (s : Schema). Has s.indexes i) (sym put.schema) (grows.keeps.indexes i has);
           views = ap (λ (s : Schema). s.views) put.schema ∙ grows.keeps.views;
         };

@@ -61,6 +61,7 @@ fresh_is_made old mid new first second = record {
   queue = second.queue;
   keeps = record {
     tables = λ t has. let one = first.keeps.tables t has in let two = second.keeps.tables t one.0 in (two.0, two.1 ∙ one.1);
+    owns = λ t has own. second.keeps.owns t (first.keeps.tables t has).0 (first.keeps.owns t has own);
     indexes = λ i has. second.keeps.indexes i (first.keeps.indexes i has);
     views = second.keeps.views ∙ first.keeps.views;
   };

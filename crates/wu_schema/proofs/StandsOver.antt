@@ -15,7 +15,7 @@ pub grows_same : (old new : Database) → new ≡ old → Grows old new
 grows_same old new same = subst (Grows old) (sym same) (record {
   named = λ name at t has. has;
   owns = λ t has own. own;
-  keeps = record { tables = λ t has. (has, refl); indexes = λ i has. has; views = refl };
+  keeps = record { tables = λ t has. (has, refl); owns = λ t has own. own; indexes = λ i has. has; views = refl };
   new_indexes = λ i has. inl has;
 })
 
@@ -25,6 +25,7 @@ grows_both old mid new one two = record {
   owns = λ t has own. two.owns t (one.keeps.tables t has).0 (one.owns t has own);
   keeps = record {
     tables = λ t has. let first = one.keeps.tables t has in let next = two.keeps.tables t first.0 in (next.0, next.1 ∙ first.1);
+    owns = λ t has own. two.keeps.owns t (one.keeps.tables t has).0 (one.keeps.owns t has own);
     indexes = λ i has. two.keeps.indexes i (one.keeps.indexes i has);
     views = two.keeps.views ∙ one.keeps.views;
   };

@@ -15,3 +15,4 @@ pub mod Reading
 pub mod Queue
 pub mod Classes
 pub mod Fresh
+pub mod Others

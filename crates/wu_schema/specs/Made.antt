@@ -88,21 +88,50 @@ HasBareProject db = (at tree : ℕ) × HasTable db.schema (codes "project") at (
 abbrev pub PutsProject : ℤ → Database → Database → Type 0
 PutsProject version old new = (at tree : ℕ) → HasTable old.schema (codes "project") at (project_at tree) → PutsOne old new tree (Int (pos 1) ∷ Null ∷ Int version ∷ Int (pos 1) ∷ [])
 
+-- Each table of a project by its name, except its queue.
+abbrev pub project_table : Named
+project_table = (codes "project", project_at)
+
+abbrev pub workunit_table : Named
+workunit_table = (codes "workunit", workunit_at)
+
+abbrev pub result_table : Named
+result_table = (codes "result", result_at)
+
+abbrev pub grant_table : Named
+grant_table = (codes "credit_grant", grant_at)
+
+abbrev pub host_table : Named
+host_table = (codes "host", host_at)
+
+abbrev pub archived_table : Named
+archived_table = (codes "archived", archived_at)
+
+abbrev pub import_table : Named
+import_table = (codes "import", import_at)
+
+abbrev pub host_class_table : Named
+host_class_table = (codes "host_class", host_class_at)
+
+abbrev pub workunit_class_table : Named
+workunit_class_table = (codes "workunit_class", workunit_class_at)
+
 -- The tables of a project and its workunits.
 abbrev pub work_tables : List Named
-work_tables = (codes "project", project_at) ∷ (codes "workunit", workunit_at) ∷ (codes "result", result_at) ∷ []
+work_tables = project_table ∷ workunit_table ∷ result_table ∷ []
 
 -- The tables of what is kept permanently.
 abbrev pub record_tables : List Named
-record_tables = (codes "credit_grant", grant_at) ∷ (codes "host", host_at) ∷ (codes "archived", archived_at) ∷ (codes "import", import_at) ∷ []
+record_tables = grant_table ∷ host_table ∷ archived_table ∷ import_table ∷ []
 
 -- The tables of classes.
 abbrev pub class_tables : List Named
-class_tables = (codes "host_class", host_class_at) ∷ (codes "workunit_class", workunit_class_at) ∷ []
+class_tables = host_class_table ∷ workunit_class_table ∷ []
 
 -- What was there stays as it was, whoever made it.
 pub record KeepsOthers (old new : Database) : Type 0 where
   pub tables : (t : Table) → Has old.schema.tables t → Has new.schema.tables t × (new.trees t.tree ≡ old.trees t.tree)
+  pub owns : (t : Table) → Has old.schema.tables t → OwnsTree old.schema t → OwnsTree new.schema t
   pub indexes : (i : Index) → Has old.schema.indexes i → Has new.schema.indexes i
   pub views : new.schema.views ≡ old.schema.views
 

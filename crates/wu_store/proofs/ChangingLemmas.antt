@@ -1,5 +1,5 @@
 -- From change to change inside a transaction, and over its commit.
-use Rattle.std.proofs.Common.{◌≡◌, ℕ, ◌+◌, ◌<◌, List, [], ◌∷◌, ◌++◌, length, get_or, take, refl, sym, ap, subst, arith, append-nil, append_assoc, length-append, ◌∙◌}
+use Rattle.std.proofs.Common.{◌≡◌, ℕ, ◌+◌, ◌<◌, List, [], ◌∷◌, ◌++◌, length, get_or, take, refl, sym, ap, subst, arith, append-nil, append_assoc, length-append, OnOk, Result, ◌∙◌}
 use Rattle.std.proofs.lemmas.List.{take_more}
 use Rattle.wu_core.specs.declared.workunit.Archived.{Archived}
 use Rattle.wu_core.specs.declared.workunit.Grant.{Grant}
@@ -9,6 +9,10 @@ use Rattle.wu_store.specs.Changes.{IsNextPlace, with_archived}
 use Rattle.wu_store.specs.Sums.{AreSums}
 use Rattle.wu_store.specs.Changing.{archived_from, AreRight, IsRight, KeepsGrants, made, made_all, MakesWorlds}
 use Rattle.wu_store.specs.declared.changes.Change.{Change}
+use Rattle.wu_store.specs.StandsFor.{StandsFor}
+use Rattle.wu_schema.specs.Others.{SparesOthers}
+use Rattle.wu_schema.proofs.CallLemmas.{ok_both}
+use Rattle.wu_schema.proofs.OthersLemmas.{others_none, others_then}
 
 made_more : (changes : List Change) (change : Change) (world : World) → made_all (changes ++ change ∷ []) world ≡ made change (made_all changes world)
 made_more [] change world = refl
@@ -19,12 +23,22 @@ right_more [] change world right = (tt, right.0)
 right_more (first ∷ more) change world right = let rest = right_more more change (made first world) right.1 in ((right.0, rest.0), rest.1)
 
 pub makes_none : (db : Database) → MakesWorlds [] db db
-makes_none db world stands right = stands
+makes_none db = record { stands = λ world stands right. stands; spares = λ world stands right. others_none db }
 
 pub makes_more : (changes : List Change) (i : ℕ) (change d : Change) (a b c : Database) → get_or changes i d ≡ change → i < length changes → MakesWorlds (take i changes) a b → MakesWorlds (change ∷ []) b c → MakesWorlds (take (i + 1) changes) a c
-makes_more changes i change d a b c there low one two = subst (λ xs. MakesWorlds xs a c) (sym (take_more changes i d low ∙ ap (λ one. take i changes ++ one ∷ []) there)) (λ world stands right.
-    let parts = right_more (take i changes) change world right in
-    rw (made_more (take i changes) change world) (two _ (one world stands parts.0) (parts.1, tt)))
+makes_more changes i change d a b c there low one two = subst (λ xs. MakesWorlds xs a c) (sym (take_more changes i d low ∙ ap (λ one. take i changes ++ one ∷ []) there)) (record {
+  stands = λ world stands right.
+      let parts = right_more (take i changes) change world right in
+      rw (made_more (take i changes) change world) (two.stands _ (one.stands world stands parts.0) (parts.1, tt));
+  spares = λ world stands right.
+      let parts = right_more (take i changes) change world right in
+      others_then a b c (one.spares world stands parts.0) (two.spares _ (one.stands world stands parts.0) (parts.1, tt));
+})
+
+-- one change, by what it makes and by what it spares
+pub makes_one : {T E : Type 0} (r : Result T E) (change : Change) (old new : Database) → OnOk r ((world : World) → StandsFor old world → AreRight (change ∷ []) world → StandsFor new (made change world))
+    → OnOk r ((world : World) → StandsFor old world → AreRight (change ∷ []) world → SparesOthers old new) → OnOk r (MakesWorlds (change ∷ []) old new)
+makes_one r change old new stands spares = ok_both r _ _ _ (λ stands spares. record { stands = stands; spares = spares }) stands spares
 
 -- ---- grants, and archived rows, at places in a row
 

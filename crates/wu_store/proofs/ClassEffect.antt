@@ -28,7 +28,7 @@ use Rattle.wu_store.proofs.UpdateEffect.{Sets}
 abbrev pub class_put : Put
 class_put = record { text = codes "INSERT INTO workunit_class (workunit, class) VALUES (?1, ?2)"; terms = col 0 0 ∷ lit Null ∷ col 0 1 ∷ [] }
 
-class_fits : PutFits (codes "workunit_class") workunit_class_at class_put
+pub class_fits : PutFits (codes "workunit_class") workunit_class_at class_put
 unfolding everything
 class_fits = record { read = refl; made = λ schema tree. refl; formats = λ tree. refl; bare = λ tree. refl; plain = λ tree params. append-nil params }
 
@@ -71,7 +71,7 @@ class_set = record {
   made = col 1 0 ∷ col 1 0 ∷ lit Null ∷ col 0 1 ∷ [];
 }
 
-class_set_fits : (tree : ℕ) → SetFits (workunit_class_at tree) 1 class_set
+pub class_set_fits : (tree : ℕ) → SetFits (workunit_class_at tree) 1 class_set
 unfolding everything
 class_set_fits tree = record { read = refl; placed = (refl, tt); row_is = refl; tests = refl; strict = refl; height = (698, refl); few = omega arith; typed = refl }
 

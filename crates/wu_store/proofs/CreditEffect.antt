@@ -1,5 +1,5 @@
 -- What the upsert of a sum makes of the rows of hosts: those of more grants, whose sum it is.
-use Rattle.wu_schema.proofs.Words.{HoldsAll, AllByRecursion, Binary, Enforced, Bool, Chosen, Database, Executes, Grant, Has, HasTables, Int, Integer, IsDatabase, IsPermutation, IsPermutation-map, IsPermutation-sym, IsShaped, IsShaped-filter, IsShaped-put_row, IsTrue, List, Ok, ProjectTrees, Row, Schema, Refines, State, Text, Value, World, [], all_has, and_from, and_parts, ap, ap₂, binary, bytes_eq, bytes_eq-Decides, cast, column, drop, equal, false, false_from_ne_true, first_key, has_mapped, has_rowid, host_at, hosts_of, if◌then◌else◌, inl, inr, is_eq, is_int, is_of, map, map-map, mapped_has, next_rowid, number, passes, pos, put_row, refl, row_at_is, rowid, some_from, some_has, subst, sym, true, value_cmp, without_rowid, ℕ, ℤ, ◌++◌, ◌+◌, ◌||◌, ◌∙◌, ◌∷◌, ◌≡◌}
+use Rattle.wu_schema.proofs.Words.{codes, HoldsAll, AllByRecursion, Binary, Enforced, Bool, Chosen, Database, Executes, Grant, Has, HasTables, Int, Integer, IsDatabase, IsPermutation, IsPermutation-map, IsPermutation-sym, IsShaped, IsShaped-filter, IsShaped-put_row, IsTrue, List, Ok, ProjectTrees, Row, Schema, Refines, State, Text, Value, World, [], all_has, and_from, and_parts, ap, ap₂, binary, bytes_eq, bytes_eq-Decides, cast, column, drop, equal, false, false_from_ne_true, first_key, has_mapped, has_rowid, host_at, hosts_of, if◌then◌else◌, inl, inr, is_eq, is_int, is_of, map, map-map, mapped_has, next_rowid, number, passes, pos, put_row, refl, row_at_is, rowid, some_from, some_has, subst, sym, true, value_cmp, without_rowid, ℕ, ℤ, ◌++◌, ◌+◌, ◌||◌, ◌∙◌, ◌∷◌, ◌≡◌}
 use Rattle.wu_schema.specs.Calm.{IsCalm}
 use Rattle.sqlite_trees.specs.declared.store.Shape.TheVariants as shape
 use Rattle.sqlite_schema.specs.declared.schema.Constraint.TheVariants.{Datatype}
@@ -10,8 +10,10 @@ use Rattle.sqlite_rules.proofs.PlaceLemmas.{next_is_free}
 use Rattle.wu_core.specs.Hosts.{credit_of, grants_of}
 use Rattle.wu_core.proofs.HostLemmas.{host_list, is_among}
 use Rattle.wu_core.specs.declared.marks.Marks.{Marks}
+use Rattle.wu_schema.specs.Others.{SparesBeside, SparesOthers}
 use Rattle.wu_schema.specs.Queue.{HasQueue}
-use Rattle.wu_schema.specs.Tables.{queue_at}
+use Rattle.wu_schema.specs.Tables.{grant_at, host_at, queue_at}
+use Rattle.wu_schema.proofs.OthersLemmas.{others_apart, others_calm, others_still, others_then, ours_grant, ours_host}
 use Rattle.wu_schema.proofs.QueueLemmas.{queue_apart, queue_calm, queue_listed, queue_still}
 use Rattle.wu_schema.specs.Stored.{host_cells}
 use Rattle.wu_store.specs.Changes.{AddsGrants, Credits, HasCredited, HasListed, HoldsHosts, IsNextPlace, ListsGrants, PutsGrants, with_grants}
@@ -308,8 +310,18 @@ module _ (old mid new : Database) (world : World) (s : Refines old world) (place
       (it.others (queue_at q.tree) (subst (λ (x : Schema). Has x.tables (queue_at q.tree)) (sym put.schema) listed) (λ same. queue_apart old world s marked q Hosts tt (sym same)) calm
       ∙ put.others (queue_at q.tree) listed (λ same. queue_apart old world s marked q Grants tt (sym same)))
 
+  spares_grants : SparesOthers old new
+  spares_grants =
+      let tables : HasTables world.version mid.schema s.trees = subst (λ (x : Schema). HasTables world.version x s.trees) (sym put.schema) s.tables in
+      let one = others_still old mid put.schema (λ t is. put.others t is.there (others_apart old.schema t (codes "credit_grant") (grant_at s.trees.grant) is s.tables.grant ours_grant)) in
+      let two = others_still mid new it.schema (λ t is. it.others t is.there (others_apart mid.schema t (codes "host") (host_at s.trees.host) is tables.host ours_host) (others_calm mid.schema t s.trees.host is)) in
+      others_then old mid new one.1 two.1
+
 pub adds_grants : (old mid new : Database) (place : ℕ) (more : List Grant) (sums : List HostSum) → PutsGrants place more old mid → Credits sums mid new → AddsGrants place more sums old new
 adds_grants old mid new place more sums puts credits world s = with_both old mid new world s place more sums puts credits
 
 pub grants_leave : (old mid new : Database) (place : ℕ) (more : List Grant) (sums : List HostSum) → PutsGrants place more old mid → Credits sums mid new → KeepsQueue old new
 grants_leave old mid new place more sums puts credits world marked s q = beside old mid new world s place more sums puts credits marked q
+
+pub grants_spare : (old mid new : Database) (place : ℕ) (more : List Grant) (sums : List HostSum) → PutsGrants place more old mid → Credits sums mid new → SparesBeside old new
+grants_spare old mid new place more sums puts credits world s = spares_grants old mid new world s place more sums puts credits

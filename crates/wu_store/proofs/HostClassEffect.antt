@@ -106,14 +106,14 @@ module _ (host : List ℕ) (rows ids : List Row) (good : IsShaped shape.Table ro
   found_go = without_is (ids_of ids) rows ∙ filter_same _ _ rows (λ r there. ap not (both_ways _ _ (to r there) (from r there)))
 
 -- the rows of the host are gone, and each table that no action leads to is as it was
-record Cuts (old new : Database) (tree : ℕ) (host : List ℕ) : Type 0 where
+pub record Cuts (old new : Database) (tree : ℕ) (host : List ℕ) : Type 0 where
   pub schema : new.schema ≡ old.schema
-  pub rows : new.trees tree ≡ filter (λ r. not (is_of_host host r)) (old.trees tree)
+  pub rows : IsShaped shape.Table (old.trees tree) → new.trees tree ≡ filter (λ r. not (is_of_host host r)) (old.trees tree)
   pub others : (t : Table) → Has old.schema.tables t → t.tree ≢ tree → IsCalm old.schema Enforced t tree → new.trees t.tree ≡ old.trees t.tree
   pub sound : IsDatabase new
 
-cuts : (old new : State) (tree : ℕ) (has : HasNamed old.now.schema (codes "host_class") (host_class_at tree)) (host : List ℕ) → IsShaped shape.Table (old.now.trees tree) → (count : ℕ) → Executes cut_text (Text host ∷ []) old new (Ok count) → Cuts old.now new.now tree host
-cuts old new tree has host good count h =
+pub cuts : (old new : State) (tree : ℕ) (has : HasNamed old.now.schema (codes "host_class") (host_class_at tree)) (host : List ℕ) (count : ℕ) → Executes cut_text (Text host ∷ []) old new (Ok count) → Cuts old.now new.now tree host
+cuts old new tree has host count h =
     let schema = old.now.schema in
     let db = old.now.trees in
     let table = host_class_at tree in
@@ -127,7 +127,7 @@ cuts old new tree has host good count h =
     let found = answers_are tree by_host shows_number params old.now cut.rows has.1.low cut.found in
     record {
       schema = cut.schema;
-      rows = step.calm table (is_there schema _ _ has) (calm_bare schema table tree has.2 refl) ∙ step.applied.rows ∙ found_go host (db tree) cut.rows good found;
+      rows = λ good. step.calm table (is_there schema _ _ has) (calm_bare schema table tree has.2 refl) ∙ step.applied.rows ∙ found_go host (db tree) cut.rows good found;
       others = λ t there other calm. step.calm t there calm ∙ all_has (λ (u : Table). u.tree ≢ tree → step.mid u.tree ≡ db u.tree) schema.tables t step.applied.tables there other;
       sound = ran.sound;
     }
@@ -161,11 +161,11 @@ others_left host rows classes h =
 
 module _ (old new : State) (world : World) (known : KnowsClasses world) (s : Refines old.now world) (host : List ℕ) (count : ℕ) (ran : Executes cut_text (Text host ∷ []) old new (Ok count)) where
   cut : Cuts old.now new.now s.trees.host_class host
-  cut = cuts old new s.trees.host_class (s.tables.host_class known) host (s.rows.classes known).hosts.shaped count ran
+  cut = cuts old new s.trees.host_class (s.tables.host_class known) host count ran
 
   host_goes : Refines new.now (without_host host world)
   host_goes = frame_one old.now new.now world (without_host host world) s HostClasses known cut.schema refl (keeps_calm world.version old.now s.trees (parts_there old.now world s) new.now HostClasses known refl cut.others) carry (
-    subst (λ rs. HoldsAll rs (map class_cells (filter (is_other host) world.classes))) (sym cut.rows) (others_left host (old.now.trees s.trees.host_class) world.classes (s.rows.classes known).hosts),
+    subst (λ rs. HoldsAll rs (map class_cells (filter (is_other host) world.classes))) (sym (cut.rows (s.rows.classes known).hosts.shaped)) (others_left host (old.now.trees s.trees.host_class) world.classes (s.rows.classes known).hosts),
     AllPairs-filter Before (is_other host) world.classes s.rows.classes_in_order,
   ) cut.sound
     where
@@ -182,7 +182,7 @@ module _ (old new : State) (world : World) (known : KnowsClasses world) (s : Ref
 abbrev pub host_put : Put
 host_put = record { text = codes "INSERT INTO host_class (host, class) VALUES (?1, ?2)"; terms = lit Null ∷ col 0 0 ∷ col 0 1 ∷ [] }
 
-host_fits : PutFits (codes "host_class") host_class_at host_put
+pub host_fits : PutFits (codes "host_class") host_class_at host_put
 unfolding everything
 host_fits = record { read = refl; made = λ schema tree. refl; formats = λ tree. refl; bare = λ tree. refl; plain = λ tree params. append-nil params }
 

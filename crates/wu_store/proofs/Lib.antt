@@ -28,6 +28,7 @@ pub mod SetEffect
 mod SetLemmas
 mod SetInstance
 mod ReplaceLemmas
+mod SpareLemmas
 pub mod DeleteTexts
 pub mod FallLemmas
 pub mod CascadeEffect

@@ -35,7 +35,7 @@ instance_set = record {
   made = col 1 0 ∷ col 1 0 ∷ col 1 1 ∷ col 1 2 ∷ col 0 2 ∷ col 0 3 ∷ col 0 4 ∷ col 0 5 ∷ col 0 6 ∷ col 0 7 ∷ col 0 8 ∷ col 0 9 ∷ col 0 10 ∷ [];
 }
 
-instance_set_fits : (tree : ℕ) → SetFits (result_at tree) 2 instance_set
+pub instance_set_fits : (tree : ℕ) → SetFits (result_at tree) 2 instance_set
 unfolding everything
 instance_set_fits tree = record {
   read = refl;

@@ -31,7 +31,7 @@ marks_set = record {
   made = col 1 0 ∷ col 1 0 ∷ lit Null ∷ col 0 1 ∷ col 0 2 ∷ col 0 3 ∷ col 0 4 ∷ col 0 5 ∷ [];
 }
 
-marks_set_fits : (tree : ℕ) → SetFits (queue_at tree) 1 marks_set
+pub marks_set_fits : (tree : ℕ) → SetFits (queue_at tree) 1 marks_set
 unfolding everything
 marks_set_fits tree = record { read = refl; placed = (refl, (refl, (refl, (refl, (refl, tt))))); row_is = refl; tests = refl; strict = refl; height = (698, refl); few = omega arith; typed = refl }
 
@@ -64,7 +64,7 @@ workunit_set = record {
   made = col 1 0 ∷ col 1 0 ∷ lit Null ∷ col 0 1 ∷ col 0 2 ∷ col 0 3 ∷ col 0 4 ∷ col 0 5 ∷ col 0 6 ∷ col 0 7 ∷ col 0 8 ∷ col 0 9 ∷ col 0 10 ∷ col 0 11 ∷ col 0 12 ∷ col 0 13 ∷ col 0 14 ∷ [];
 }
 
-workunit_set_fits : (tree : ℕ) → SetFits (workunit_at tree) 1 workunit_set
+pub workunit_set_fits : (tree : ℕ) → SetFits (workunit_at tree) 1 workunit_set
 unfolding everything
 workunit_set_fits tree = record {
   read = refl;

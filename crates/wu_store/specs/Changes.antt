@@ -18,6 +18,7 @@ use Rattle.wu_core.specs.World.{World, Import, MayBeKept}
 use Rattle.wu_schema.specs.Stored.{stored_grant}
 use Rattle.wu_schema.specs.Tables.{ProjectTrees, HasTables}
 use Rattle.wu_schema.specs.Refines.{Refines, HoldsAll, ListsAll, host_of}
+use Rattle.wu_schema.specs.Others.{SparesOthers}
 use Rattle.wu_schema.specs.Queue.{HasQueue}
 use Rattle.wu_store.specs.Answers.{numbered}
 use Rattle.wu_store.specs.StandsFor.{KnowsClasses, StandsFor, marked as marks_in}
@@ -220,6 +221,10 @@ UpgradesQueue from rows old new =
 abbrev pub Upgrades : ℕ → List (ℕ × Marks) → Database → Database → Type 0
 Upgrades from rows old new =
     (world : World) → from ≡ world.version → ¬ KnowsClasses world → StandsFor old world → rows ≡ marks_in world → StandsFor new (with_version 3 world)
+
+-- The tables of other programs stay, if the tables represented such a world.
+abbrev pub SparesUpgraded : ℕ → List (ℕ × Marks) → Database → Database → Type 0
+SparesUpgraded from rows old new = (world : World) → from ≡ world.version → StandsFor old world → rows ≡ marks_in world → SparesOthers old new
 
 -- The grants are added, if the place is the next one of the world's grants and the sums are those of the grants.
 abbrev pub AddsGrants : ℕ → List Grant → List HostSum → Database → Database → Type 0

@@ -6,6 +6,7 @@ use Rattle.sqlite.specs.Effect.{Database}
 use Rattle.wu_core.specs.declared.workunit.Archived.{Archived}
 use Rattle.wu_core.specs.declared.workunit.Grant.{Grant}
 use Rattle.wu_core.specs.World.{World, Import, MayBeKept}
+use Rattle.wu_schema.specs.Others.{SparesOthers}
 use Rattle.wu_store.specs.Changes.{with_workunit, with_replaced, without_workunit, with_grants, with_archived, with_import, with_next, with_version, IsNextPlace}
 use Rattle.wu_core.specs.Storable.{IsAbove}
 use Rattle.wu_store.specs.Answers.{numbered}
@@ -81,6 +82,9 @@ KeepsGrants before (g ∷ grants) changes = (place : ℕ) × IsNextPlace place b
 abbrev pub archived_from : ℕ → List Archived → List Change
 archived_from place rows = map (λ (p : ℕ × Archived). Archive p.0 p.1) (enumerate_from place rows)
 
--- Whatever world the tables represented, they represent what the changes make of it.
-abbrev pub MakesWorlds : List Change → Database → Database → Type 0
-MakesWorlds changes old new = (world : World) → StandsFor old world → AreRight changes world → StandsFor new (made_all changes world)
+-- Whatever world the tables represented, if the changes may be made of it.
+pub record MakesWorlds (changes : List Change) (old new : Database) : Type 0 where
+  -- The tables represent what the changes make of the world.
+  pub stands : (world : World) → StandsFor old world → AreRight changes world → StandsFor new (made_all changes world)
+  -- The tables of other programs are there as they were, with their rows.
+  pub spares : (world : World) → StandsFor old world → AreRight changes world → SparesOthers old new

@@ -4,7 +4,9 @@ ghost use Rattle.std.specs.Prelude.{◌≡◌, ◌≤◌, [], ◌∷◌, option_
 ghost use Rattle.wu_core.specs.Storable.{bare};
 ghost use Rattle.wu_rules.specs.Marks.{marks};
 ghost use Rattle.wu_schema.specs.Calls.{StatementFrame, TransactionFrame, Does};
-ghost use Rattle.wu_store.specs.Changes.{AddsGrants, AddsInstances, Credits, DoesNothing, FillsQueue, LeavesQueue, Places, PutsClassOf, PutsGrants, PutsInstance, PutsInstances, PutsMarks, PutsRow, Replaces, ReplacesAny, Upgrades, UpgradesQueue};
+ghost use Rattle.wu_schema.specs.Others.{Spares, SparesBeside, SparesOthers, SparesWith, tables_of_workunits};
+ghost use Rattle.wu_schema.specs.Queue.{queue_table};
+ghost use Rattle.wu_store.specs.Changes.{AddsGrants, AddsInstances, Credits, DoesNothing, FillsQueue, LeavesQueue, Places, PutsClassOf, PutsGrants, PutsInstance, PutsInstances, PutsMarks, PutsRow, Replaces, ReplacesAny, SparesUpgraded, Upgrades, UpgradesQueue};
 ghost use Rattle.wu_store.specs.Changing.{MakesWorlds};
 ghost use Rattle.wu_store.specs.Queues.{KeepsQueue};
 
@@ -99,6 +101,8 @@ fn insert_instances<S: Alter>(tx: &mut Transaction<'_, S>, workunit: &Workunit) 
     ensures adds { Does S.Store tx.old tx.new result (AddsInstances workunit.now) }
     // After `Ok`, a queue beside such a world stays.
     ensures queue { Does S.Store tx.old tx.new result (LeavesQueue workunit.now) }
+    // After `Ok`, if the tables of workunits are there, those of other programs stay.
+    ensures spares { Does S.Store tx.old tx.new result (SparesWith tables_of_workunits) }
 {
     let instances = workunit.instances.as_slice();
     let mut n = 0;
@@ -115,6 +119,8 @@ fn add<S: Alter>(tx: &mut Transaction<'_, S>, workunit: &Workunit) -> Result<(),
     // After `Ok`, a represented world with classes has the workunit at its place by number, with
     // its instances, class and marks.
     ensures adds { Does S.Store tx.old tx.new result (Places workunit.now) }
+    // After `Ok`, if the tables of workunits are there, those of other programs stay.
+    ensures spares { Does S.Store tx.old tx.new result (SparesWith tables_of_workunits) }
 {
     insert_workunit(tx, workunit)?;
     insert_instances(tx, workunit)?;
@@ -128,6 +134,8 @@ fn replace_whole<S: Alter>(tx: &mut Transaction<'_, S>, workunit: &Workunit) -> 
     // After `Ok`, a represented world with classes and a workunit of this number has this one in
     // its place.
     ensures replaces { Does S.Store tx.old tx.new result (ReplacesAny workunit.now) }
+    // After `Ok`, if the tables of workunits are there, those of other programs stay.
+    ensures spares { Does S.Store tx.old tx.new result (SparesWith tables_of_workunits) }
 {
     delete_workunit(tx, workunit.number)?;
     add(tx, workunit)
@@ -145,6 +153,8 @@ fn put_row<S: Alter>(
     ensures puts { Does S.Store tx.old tx.new result (PutsRow was.now workunit.now) }
     // If the row is unchanged, nothing is written and the call succeeds.
     ensures idle { bare was.now ≡ bare workunit.now → DoesNothing tx.old tx.new result }
+    // After `Ok`, if the tables of workunits are there, those of other programs stay.
+    ensures spares { Does S.Store tx.old tx.new result (SparesWith tables_of_workunits) }
 {
     if is_same_row(was, workunit) {
         return Ok(());
@@ -164,6 +174,8 @@ fn put_class<S: Alter>(
     ensures puts { Does S.Store tx.old tx.new result (PutsClassOf was.now workunit.now) }
     // If the class is unchanged, nothing is written and the call succeeds.
     ensures idle { was.now.class ≡ workunit.now.class → DoesNothing tx.old tx.new result }
+    // After `Ok`, if the tables of workunits are there, those of other programs stay.
+    ensures spares { Does S.Store tx.old tx.new result (SparesWith tables_of_workunits) }
 {
     if was.class == workunit.class {
         return Ok(());
@@ -187,6 +199,8 @@ fn put_instance<S: Alter>(
     // If the instance is unchanged, nothing is written and the call succeeds.
     ensures idle { option_map (λ i. i.now) was.entry ≡ Some instance.now
         → DoesNothing tx.old tx.new result }
+    // After `Ok`, if the tables of workunits are there, those of other programs stay.
+    ensures spares { Does S.Store tx.old tx.new result (SparesWith tables_of_workunits) }
 {
     match was {
         None => insert_instance(tx, workunit, n, instance),
@@ -212,6 +226,8 @@ fn put_instances<S: Alter>(
     ensures puts { Does S.Store tx.old tx.new result (PutsInstances workunit.now was.now) }
     // If the instances are unchanged, nothing is written and the call succeeds.
     ensures idle { was.now ≡ workunit.now.instances → DoesNothing tx.old tx.new result }
+    // After `Ok`, if the tables of workunits are there, those of other programs stay.
+    ensures spares { Does S.Store tx.old tx.new result (SparesWith tables_of_workunits) }
 {
     let instances = workunit.instances.as_slice();
     let mut n = 0;
@@ -234,6 +250,8 @@ fn put_marks<S: Alter>(
     ensures puts { Does S.Store tx.old tx.new result (PutsMarks was.now workunit.now) }
     // If the marks are unchanged, nothing is written and the call succeeds.
     ensures idle { marks was.now ≡ marks workunit.now → DoesNothing tx.old tx.new result }
+    // After `Ok`, if the tables of workunits are there, those of other programs stay.
+    ensures spares { Does S.Store tx.old tx.new result (SparesWith tables_of_workunits) }
 {
     let marks = marks_of(workunit);
     if is_same_marks(&marks_of(was), &marks) {
@@ -255,6 +273,8 @@ fn replace<S: Alter>(
     ensures replaces { Does S.Store tx.old tx.new result (Replaces was.now workunit.now) }
     // If the workunit is unchanged, nothing is written and the call succeeds.
     ensures idle { was.now ≡ workunit.now → DoesNothing tx.old tx.new result }
+    // After `Ok`, if the tables of workunits are there, those of other programs stay.
+    ensures spares { Does S.Store tx.old tx.new result (SparesWith tables_of_workunits) }
 {
     if workunit.instances.len() < was.instances.len() {
         return replace_whole(tx, workunit);
@@ -271,6 +291,8 @@ fn fill_queue<S: Alter>(tx: &mut Transaction<'_, S>, rows: &[(u64, Marks)]) -> R
     // After `Ok`, an empty queue beside a represented world whose marks these are has exactly these
     // rows; the world stays.
     ensures fills { Does S.Store tx.old tx.new result (FillsQueue rows.now) }
+    // After `Ok`, if its table is there, the tables of other programs stay.
+    ensures spares { Does S.Store tx.old tx.new result (Spares queue_table) }
 {
     for row in rows {
         insert_marks(tx, row.0, &row.1)?;
@@ -290,6 +312,8 @@ fn upgrade_queue<S: Alter>(
     ensures upgrades { Does S.Store tx.old tx.new result (UpgradesQueue from rows.now) }
     // From version 2 on nothing is written and the call succeeds.
     ensures idle { 2 ≤ from → DoesNothing tx.old tx.new result }
+    // After `Ok` the tables of other programs stay.
+    ensures spares { Does S.Store tx.old tx.new result SparesOthers }
 {
     if from >= QUEUE_VERSION {
         return Ok(());
@@ -308,6 +332,8 @@ fn upgrade<S: Alter>(
     // After `Ok`, a represented world of this version without classes, whose marks these are, is at
     // version 3 with its queue.
     ensures upgrades { Does S.Store tx.old tx.new result (Upgrades from rows.now) }
+    // After `Ok`, if the tables represented such a world, those of other programs stay.
+    ensures spares { Does S.Store tx.old tx.new result (SparesUpgraded from rows.now) }
 {
     upgrade_queue(tx, from, rows)?;
     upgrade_classes(tx, rows)
@@ -359,6 +385,8 @@ fn add_grants<S: Alter>(
     ensures adds { Does S.Store tx.old tx.new result (AddsGrants place grants.now sums.now) }
     // After `Ok` a queue beside a represented world has the same rows.
     ensures queue { Does S.Store tx.old tx.new result KeepsQueue }
+    // After `Ok`, if the tables represent a world, the tables of other programs stay.
+    ensures spares { Does S.Store tx.old tx.new result SparesBeside }
 {
     insert_grants(tx, place, grants)?;
     add_sums(tx, sums)
@@ -396,7 +424,7 @@ pub fn apply<S: Alter>(tx: &mut Transaction<'_, S>, changes: &[Change<'_>]) -> R
     ensures works { TransactionFrame S.Store tx.old tx.new result }
     // After `Ok`, if the changes are right for a represented world, the tables represent that world
     // with all of them made. From version 2 on the queue then has the marks of each workunit, and
-    // no other rows.
+    // no other rows. The tables of other programs stay, if they have no foreign key.
     ensures makes { Does S.Store tx.old tx.new result (MakesWorlds changes.now) }
 {
     for change in changes {

@@ -2,6 +2,8 @@
 
 ghost use Rattle.std.specs.Prelude.{◌≡◌, ◌<◌, ◌^◌, IfErr};
 ghost use Rattle.wu_schema.specs.Calls.{Does, StatementFrame, TransactionFrame};
+ghost use Rattle.wu_schema.specs.Made.{host_class_table, workunit_class_table};
+ghost use Rattle.wu_schema.specs.Others.{Spares, SparesBeside};
 ghost use Rattle.wu_store.specs.Classes.{AddsClass, AnswersClass, ChangesClasses, FillsClasses, LoadsClass, LoadsHostClass, NotRefusedClass, PutsClass, UpgradesClasses, class_named, class_numbered, with_host_class, with_set_class};
 ghost use Rattle.wu_store.specs.Loading.{Asks, IsStoreFault, ServesUnlessFailed};
 
@@ -30,6 +32,8 @@ pub fn insert_class<S: Alter>(
     // After `Ok`, tables of classes beside a world of an older version have this class at its
     // place; the world and a queue stay.
     ensures adds { Does S.Store tx.old tx.new result (AddsClass workunit class) }
+    // After `Ok`, if its table is there, the tables of other programs stay.
+    ensures spares { Does S.Store tx.old tx.new result (Spares workunit_class_table) }
 {
     let workunit = signed(workunit)?;
     execute(
@@ -45,6 +49,8 @@ fn fill_classes<S: Alter>(tx: &mut Transaction<'_, S>, rows: &[(u64, Marks)]) ->
     // After `Ok`, empty tables of classes beside an older world whose marks these are have class 0
     // for each workunit; all else stays.
     ensures fills { Does S.Store tx.old tx.new result (FillsClasses rows.now) }
+    // After `Ok`, if its table is there, the tables of other programs stay.
+    ensures spares { Does S.Store tx.old tx.new result (Spares workunit_class_table) }
 {
     for row in rows {
         insert_class(tx, row.0, 0)?;
@@ -64,6 +70,8 @@ pub fn upgrade_classes<S: Alter>(
     // After `Ok`, a represented older world whose marks these are is at version 3, with class 0 for
     // each workunit; a queue stays.
     ensures upgrades { Does S.Store tx.old tx.new result (UpgradesClasses rows.now) }
+    // After `Ok`, if the tables represent a world, the tables of other programs stay.
+    ensures spares { Does S.Store tx.old tx.new result SparesBeside }
 {
     make_classes(tx)?;
     fill_classes(tx, rows)?;
@@ -83,6 +91,8 @@ pub fn set_class<S: Alter>(
     // All else and a queue stay.
     ensures sets { Does S.Store tx.old tx.new result
         (ChangesClasses (with_set_class workunit class)) }
+    // After `Ok`, if its table is there, the tables of other programs stay.
+    ensures spares { Does S.Store tx.old tx.new result (Spares workunit_class_table) }
 {
     let workunit = signed(workunit)?;
     execute(
@@ -105,6 +115,8 @@ pub fn put_host_class<S: Alter>(
     // else and a queue stay.
     ensures sets { Does S.Store tx.old tx.new result
         (ChangesClasses (with_host_class host.now class)) }
+    // After `Ok`, if its table is there, the tables of other programs stay.
+    ensures spares { Does S.Store tx.old tx.new result (Spares host_class_table) }
 {
     execute(
         tx,

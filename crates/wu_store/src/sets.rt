@@ -1,6 +1,9 @@
 //! The statements that set a row in its place, each text in one function.
 
 ghost use Rattle.wu_schema.specs.Calls.{Does, StatementFrame};
+ghost use Rattle.wu_schema.specs.Made.{result_table, workunit_table};
+ghost use Rattle.wu_schema.specs.Others.{Spares};
+ghost use Rattle.wu_schema.specs.Queue.{queue_table};
 ghost use Rattle.wu_store.specs.Changes.{InstanceLeavesMarks, LeavesMarks, SetsInstance, SetsRow};
 ghost use Rattle.wu_store.specs.Queues.{ChangesQueue, KeepsWorld, with_set_marks};
 
@@ -18,6 +21,8 @@ pub fn set_workunit<S: Alter>(tx: &mut Transaction<'_, S>, workunit: &Workunit) 
     ensures sets { Does S.Store tx.old tx.new result (SetsRow workunit.now) }
     // After `Ok`, if a workunit of a represented world has this number, a queue beside it stays.
     ensures queue { Does S.Store tx.old tx.new result (LeavesMarks workunit.now.number) }
+    // After `Ok`, if its table is there, the tables of other programs stay.
+    ensures spares { Does S.Store tx.old tx.new result (Spares workunit_table) }
 {
     run_workunit(
         tx,
@@ -42,6 +47,8 @@ pub fn set_instance<S: Alter>(
     // After `Ok`, if a workunit of a represented world has an instance of this number, a queue
     // beside it stays.
     ensures queue { Does S.Store tx.old tx.new result (InstanceLeavesMarks workunit n) }
+    // After `Ok`, if its table is there, the tables of other programs stay.
+    ensures spares { Does S.Store tx.old tx.new result (Spares result_table) }
 {
     run_instance(
         tx,
@@ -67,6 +74,8 @@ pub fn set_marks<S: Alter>(
         (ChangesQueue (with_set_marks workunit marks.now)) }
     // After `Ok`, a represented world beside a queue stays.
     ensures stays { Does S.Store tx.old tx.new result KeepsWorld }
+    // After `Ok`, if its table is there, the tables of other programs stay.
+    ensures spares { Does S.Store tx.old tx.new result (Spares queue_table) }
 {
     run_marks(
         tx,

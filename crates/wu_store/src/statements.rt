@@ -8,6 +8,9 @@ ghost use Rattle.wu_store.specs.Changes.{with_placed, without_instances, without
 ghost use Rattle.wu_core.specs.declared.fault.Fault.TheVariants.{NotAProject};
 ghost use Rattle.wu_schema.specs.Asking.{Asks, FailsAll, IsSelect};
 ghost use Rattle.wu_schema.specs.Calls.{Answers, StatementFrame, Does, Changes, RunsText};
+ghost use Rattle.wu_schema.specs.Made.{archived_table, import_table, project_table, result_table, workunit_table};
+ghost use Rattle.wu_schema.specs.Others.{Spares, SparesWith, tables_of_workunits};
+ghost use Rattle.wu_schema.specs.Queue.{queue_table};
 ghost use Rattle.wu_schema.specs.Stored.{instance_cells, marks_cells, number, workunit_row};
 ghost use Rattle.wu_store.specs.Loading.{IsStoreFault, NotRefusedIn, ServesUnlessFailed};
 ghost use Rattle.wu_store.specs.Queues.{AnswersQueue, ChangesQueue, first_marked, is_marked, KeepsQueue, KeepsWorld, marked_text, NotRefusedQueue, with_marks, without_marks};
@@ -277,6 +280,8 @@ pub fn insert_workunit<S: Alter>(
     // its class and no instances; a queue stays.
     ensures puts { Does S.Store tx.old tx.new result
         (ChangesClasses (with_placed (without_instances workunit.now))) }
+    // After `Ok`, if the tables of workunits are there, those of other programs stay.
+    ensures spares { Does S.Store tx.old tx.new result (SparesWith tables_of_workunits) }
 {
     run_workunit(
         tx,
@@ -340,6 +345,8 @@ pub fn insert_instance<S: Alter>(
     ensures puts { Does S.Store tx.old tx.new result (AddsInstance workunit n instance.now) }
     // After `Ok` a queue beside a represented world has the same rows.
     ensures queue { Does S.Store tx.old tx.new result KeepsQueue }
+    // After `Ok`, if its table is there, the tables of other programs stay.
+    ensures spares { Does S.Store tx.old tx.new result (Spares result_table) }
 {
     run_instance(
         tx,
@@ -362,6 +369,8 @@ pub fn delete_workunit<S: Alter>(tx: &mut Transaction<'_, S>, number: u64) -> Re
     // else.
     ensures queue { Does S.Store tx.old tx.new result
         (ChangesQueue (without_marks number)) }
+    // After `Ok`, if its table is there, the tables of other programs stay.
+    ensures spares { Does S.Store tx.old tx.new result (Spares workunit_table) }
 {
     let number = signed(number)?;
     execute(
@@ -428,6 +437,8 @@ pub fn insert_archived<S: Alter>(
     ensures puts { Does S.Store tx.old tx.new result (AddsArchived seq archived.now) }
     // After `Ok` a queue beside a represented world has the same rows.
     ensures queue { Does S.Store tx.old tx.new result KeepsQueue }
+    // After `Ok`, if its table is there, the tables of other programs stay.
+    ensures spares { Does S.Store tx.old tx.new result (Spares archived_table) }
 {
     let seq = signed(seq)?;
     let number = signed(archived.number)?;
@@ -462,6 +473,8 @@ pub fn insert_import<S: Alter>(
         (AddsImport (import_of_change import.now)) }
     // After `Ok` a queue beside a represented world has the same rows.
     ensures queue { Does S.Store tx.old tx.new result KeepsQueue }
+    // After `Ok`, if its table is there, the tables of other programs stay.
+    ensures spares { Does S.Store tx.old tx.new result (Spares import_table) }
 {
     let first_number = signed(import.first_number)?;
     execute(
@@ -525,6 +538,8 @@ pub fn insert_marks<S: Alter>(
         (ChangesQueue (with_marks workunit marks.now)) }
     // After `Ok`, a represented world beside a queue stays.
     ensures stays { Does S.Store tx.old tx.new result KeepsWorld }
+    // After `Ok`, if its table is there, the tables of other programs stay.
+    ensures spares { Does S.Store tx.old tx.new result (Spares queue_table) }
 {
     run_marks(
         tx,
@@ -543,6 +558,8 @@ pub fn set_next_number<S: Alter>(tx: &mut Transaction<'_, S>, next_number: u64) 
     ensures sets { Changes S.Store tx.old tx.new result (with_next next_number) }
     // After `Ok` a queue beside a represented world has the same rows.
     ensures queue { Does S.Store tx.old tx.new result KeepsQueue }
+    // After `Ok`, if its table is there, the tables of other programs stay.
+    ensures spares { Does S.Store tx.old tx.new result (Spares project_table) }
 {
     let next_number = signed(next_number)?;
     execute(
@@ -562,6 +579,8 @@ pub fn set_version<S: Alter>(tx: &mut Transaction<'_, S>, version: u64) -> Resul
     ensures sets { Does S.Store tx.old tx.new result (SetsVersion version) }
     // After `Ok` a queue beside a represented world has the same rows.
     ensures queue { Does S.Store tx.old tx.new result KeepsQueue }
+    // After `Ok`, if its table is there, the tables of other programs stay.
+    ensures spares { Does S.Store tx.old tx.new result (Spares project_table) }
 {
     let version = signed(version)?;
     execute(tx, "UPDATE project SET version = ?1", params![version])

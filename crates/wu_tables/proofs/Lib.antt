@@ -2,3 +2,4 @@ mod MapLemmas
 mod TermLemmas
 mod FoundLemmas
 mod AgainstLemmas
+mod OrderLemmas

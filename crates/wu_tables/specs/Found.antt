@@ -1,5 +1,5 @@
 -- What is found in a schema, or is wrong with it.
-use Rattle.std.specs.Prelude.{◌≡◌, ◌^◌, ℕ, true, false, nat_le, List, [], ◌∷◌, codes, Option, Some, None, IsSome}
+use Rattle.std.specs.Prelude.{◌≡◌, ◌<◌, ◌^◌, ℕ, true, false, nat_le, List, [], ◌∷◌, codes, Option, Some, None, IsSome}
 use Rattle.std.specs.List.{AllByRecursion}
 use Rattle.sqlite.specs.Collation.TheVariants.{Binary}
 use Rattle.sqlite.specs.Schema.{Schema}
@@ -12,7 +12,7 @@ use Rattle.sqlite_value.specs.Keys.{first_key}
 use Rattle.wu_schema.specs.Indexes.{IsIndexed, queue_indexes}
 use Rattle.wu_schema.specs.Tables.{HasNamed, OwnsTree, host_at, queue_at}
 use Rattle.wu_tables.specs.Forms.{table_of}
-use Rattle.wu_tables.specs.Known.{IsTableOf, name_of, table_at}
+use Rattle.wu_tables.specs.Known.{IsTableOf, name_of, rank, table_at}
 use Rattle.wu_tables.specs.declared.known.ProjectTable.{ProjectTable}
 use Rattle.wu_tables.specs.declared.forms.TableForm.{TableForm}
 use Rattle.wu_tables.specs.declared.project.Misfit.{Misfit}
@@ -57,3 +57,19 @@ StandsAgainst version schema (Missing which) = IsTableOf version which × (table
 StandsAgainst version schema (Altered which) =
     IsTableOf version which × IsSome (table_named schema (name_of which)) × ((tree : ℕ) → IsIn schema (name_of which) (table_at which) tree → ⊥)
 StandsAgainst version schema HostNames = (tree : ℕ) × HasNamed schema (codes "host") (host_at tree) × (AreByBytes schema tree → ⊥)
+
+-- The place of what is wrong in the written order: that of its table, and for the names of hosts a place behind all
+-- tables.
+abbrev pub rank_of : Misfit → ℕ
+rank_of (Missing which) = rank which
+rank_of (Altered which) = rank which
+rank_of HostNames = 9
+
+-- Each table of the version with a place below this one is there as the program makes it.
+abbrev pub AreThereBefore : ℕ → Schema → ℕ → Type 0
+AreThereBefore version schema place = (which : ProjectTable) → rank which < place → (tree : ℕ) × IsThere version schema which tree
+
+-- This is the first that is wrong with the schema, in the written order.
+pub record IsFirstAgainst (version : ℕ) (schema : Schema) (misfit : Misfit) : Type 0 where
+  pub wrong : StandsAgainst version schema misfit
+  pub before : AreThereBefore version schema (rank_of misfit)

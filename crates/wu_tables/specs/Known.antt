@@ -34,3 +34,15 @@ abbrev pub IsTableOf : ℕ → ProjectTable → Type 0
 IsTableOf version HostClass = IsClassedVersion version
 IsTableOf version WorkunitClass = IsClassedVersion version
 IsTableOf version _ = ⊤
+
+-- The place of a table in the written order.
+abbrev pub rank : ProjectTable → ℕ
+rank Project = 0
+rank Workunit = 1
+rank Result = 2
+rank Grant = 3
+rank Host = 4
+rank Archived = 5
+rank Import = 6
+rank HostClass = 7
+rank WorkunitClass = 8

@@ -1,8 +1,9 @@
 //! The tables of a project, the queue aside.
 
-ghost use Rattle.std.specs.Prelude.{ℕ, IfErr, IfOk};
+ghost use Rattle.std.specs.Prelude.{◌≡◌, IfErr, IfOk};
 ghost use Rattle.wu_schema.specs.Tables.{HasTables, ProjectTrees};
-ghost use Rattle.wu_tables.specs.Found.{IsThere, StandsAgainst};
+ghost use Rattle.wu_tables.specs.Found.{rank_of, IsFirstAgainst, IsThere, StandsAgainst};
+ghost use Rattle.wu_tables.specs.Known.{rank};
 
 use crate::known::ProjectTable;
 use crate::lookup::{are_by_bytes, tree_of};
@@ -60,6 +61,8 @@ fn project_tree(schema: &Schema, version: u64, which: ProjectTable) -> Result<u3
     // The misfit is true: the version has the table, and its name finds no table, or one that
     // differs.
     ensures told { IfErr result (StandsAgainst version schema.now) }
+    // The misfit is that of this table.
+    ensures table { IfErr result (λ misfit. rank_of misfit ≡ rank which) }
 {
     if !which.is_of(version) {
         return Ok(0);
@@ -77,7 +80,7 @@ fn project_tree(schema: &Schema, version: u64, which: ProjectTable) -> Result<u3
 /// Returns where the tables of a project are, or what differs.
 fn find_trees(schema: &Schema, version: u64) -> Result<Trees, Misfit>
     ensures found { IfOk result (HasTables version schema.now) }
-    ensures told { IfErr result (StandsAgainst version schema.now) }
+    ensures told { IfErr result (IsFirstAgainst version schema.now) }
 {
     let trees = Trees {
         project: project_tree(schema, version, ProjectTable::Project)?,
@@ -107,9 +110,9 @@ pub fn project_trees(schema: &Schema, version: u64) -> Result<Trees, Misfit>
     // A misfit means that no trees have all tables of this version so.
     ensures missing { IfErr result (λ _. (trees : ProjectTrees)
         → HasTables version schema.now trees → ⊥) }
-    // The misfit is true: no table has the name, the one that has it differs, or a unique index
-    // compares hosts' names otherwise.
-    ensures told { IfErr result (StandsAgainst version schema.now) }
+    // The misfit is the first in the written order: no table has the name, the one that has it
+    // differs, or a unique index compares hosts' names otherwise; and each table before is there.
+    ensures told { IfErr result (IsFirstAgainst version schema.now) }
 {
     find_trees(schema, version)
 }

@@ -1,11 +1,11 @@
 -- What the SELECTs of the summary answer, of the world that the tables stand for.
-use Rattle.wu_schema.proofs.Words.{Grant, Instance, Int, IsPermutation, IsPermutation-map, IsPermutation-trans, List, None, Refines, Row, Shown, State, Value, Workunit, World, [], ap, arith, codes, col, column, drop, enumerate_from, everything, flat_map, grant_at, host_class_at, import_at, instance_cells, instances_of, length, length-map, length_permutation, lit, map, map-append, negsuc, number, refl, result_at, stored_grant, subst, sym, workunit_at, ℕ, ◌++◌, ◌+◌, ◌∙◌, ◌∷◌, ◌≡◌}
+use Rattle.wu_schema.proofs.Words.{Grant, Instance, Int, IsPermutation, IsPermutation-map, IsPermutation-trans, List, None, Refines, Row, Shown, State, Value, Workunit, World, [], ap, arith, codes, col, column, drop, enumerate_from, everything, flat_map, grant_at, host_class_at, import_at, instance_cells, instances_of, length, length-map, length_permutation, lit, map, map-append, negsuc, number, refl, result_at, stored_grant, subst, sym, workunit_class_at, ℕ, ◌++◌, ◌+◌, ◌∙◌, ◌∷◌, ◌≡◌}
 use Rattle.sqlite_sql.specs.Aggregate.{count}
 use Rattle.wu_core.specs.Codes.{server_state_code}
 use Rattle.wu_schema.proofs.AnswerLemmas.{meeting, showing}
 use Rattle.wu_schema.proofs.CountAnswers.{all_counted}
 use Rattle.wu_schema.proofs.CountTexts.{CountFits, Counted}
-use Rattle.wu_schema.proofs.Parts.{Part, Grants, HostClasses, Imports, Instances, Workunits, IsIn, name_of, parts_there, table_in, tree_in}
+use Rattle.wu_schema.proofs.Parts.{Part, Grants, HostClasses, Imports, Instances, WorkClasses, IsIn, name_of, parts_there, table_in, tree_in}
 use Rattle.wu_schema.proofs.RowLemmas.{no_test}
 use Rattle.wu_schema.proofs.SelectLemmas.{Asked, Fits}
 use Rattle.wu_schema.specs.Reading.{server_state_cell}
@@ -21,7 +21,7 @@ counting text = record { text = text; parameters = []; tests = [] }
 
 -- ---- all of a part
 
-pub workunits_fit : (tree : ℕ) → CountFits (codes "workunit") (workunit_at tree) (counting (codes "SELECT count(*) FROM workunit")) None
+pub workunits_fit : (tree : ℕ) → CountFits (codes "workunit_class") (workunit_class_at tree) (counting (codes "SELECT count(*) FROM workunit_class")) None
 unfolding everything
 workunits_fit tree = record { found = tt; tests = refl; strict = refl; height = (0, tt); few = omega arith; read = refl; typed = refl }
 
@@ -37,8 +37,9 @@ module _ (old new : State) (world : World) (s : Refines old.now world) (rows : L
   part_counted : (p : Part) → IsIn p world.version → (text : List ℕ) → ((tree : ℕ) → CountFits (name_of p) (table_in p tree) (counting text) None) → Shown text [] old new rows → IsCount rows (length (old.now.trees (table_in p (tree_in s.trees p)).tree))
   part_counted p is_in text fits h = let has = parts_there old.now world s p is_in in (all_counted (name_of p) has.0 (table_in p (tree_in s.trees p)) (counting text) old new has.1 [] rows (fits _) h).one ∙ ap (λ rs. (count (length rs) ∷ []) ∷ []) (no_test _)
 
-  pub workunits_counted : Shown (codes "SELECT count(*) FROM workunit") [] old new rows → IsCount rows (workunit_count world)
-  workunits_counted h = part_counted Workunits tt _ workunits_fit h ∙ ap (λ n. (count n ∷ []) ∷ []) (ap (λ rs. length rs) s.rows.workunits.same ∙ length-map world.workunits _)
+  pub workunits_counted : KnowsClasses world → Shown (codes "SELECT count(*) FROM workunit_class") [] old new rows → IsCount rows (workunit_count world)
+  workunits_counted known h =
+      part_counted WorkClasses known _ workunits_fit h ∙ ap (λ n. (count n ∷ []) ∷ []) (ap (λ rs. length rs) (s.rows.classes known).workunits.same ∙ length-map world.workunits _)
 
   pub imports_counted : Shown (codes "SELECT count(*) FROM import") [] old new rows → IsCount rows (import_count world)
   imports_counted h =

@@ -309,7 +309,8 @@ impl<S: Alter> Project<S> {
         ensures refused { IsSessionOpen self.old
             → RefusesEarly self.old self.new command.now result }
         // An answer is the machine's reply, and the tables then represent the machine's step. A
-        // crash then leaves only that; or nothing is made, and all is as it was. A fault is the
+        // crash then leaves only that, and the tables of other programs stay, if they have no
+        // foreign key; or nothing is made, and all is as it was. A fault is the
         // machine's refusal, or one of the store, and the tables represent the same world while the
         // connection is open. A crash then leaves what it could have left before or, if the session
         // ended, the step. If a crash could leave only that world before, then after a fault too,

@@ -5,19 +5,19 @@ use Rattle.wu_arguments.proofs.parse.parse.Goals as goal
 use Rattle.wu_arguments.specs.Refusals.{IsRefusalBy}
 
 pub parse_by-requires : goal.parse_by-requires
-parse_by-requires c = subst (λ (a : App). is_simple_and_free a ≡ true) (sym c.in_ok-command.ensures) program_is_free
+parse_by-requires c = subst (λ (a : App). is_simple_and_free a ≡ true) (sym c.in_ok-command-in-None.ensures) program_is_free
 
-pub returns-clause-found : goal.returns-clause-found
-returns-clause-found c =
+pub returns-in_ok-command-in-None-clause-found : goal.returns-in_ok-command-in-None-clause-found
+returns-in_ok-command-in-None-clause-found c =
     let words = map string_bytes c.args.words.now in
-    subst (λ (a : App). IfOk c.parse_by.result (λ found. subcommand_rows_of found ≡ subcommand_of a words)) c.in_ok-command.ensures c.parse_by.ensures.found
+    subst (λ (a : App). IfOk c.parse_by.result (λ found. subcommand_rows_of found ≡ subcommand_of a words)) c.in_ok-command-in-None.ensures c.parse_by.ensures.found
 
-pub returns-clause-taken : goal.returns-clause-taken
-returns-clause-taken c =
+pub returns-in_ok-command-in-None-clause-taken : goal.returns-in_ok-command-in-None-clause-taken
+returns-in_ok-command-in-None-clause-taken c =
     let words = map string_bytes c.args.words.now in
-    subst (λ (a : App). OnOk c.parse_by.result (fault_of a words ≡ [])) c.in_ok-command.ensures c.parse_by.ensures.taken
+    subst (λ (a : App). OnOk c.parse_by.result (fault_of a words ≡ [])) c.in_ok-command-in-None.ensures c.parse_by.ensures.taken
 
-pub returns-clause-refused : goal.returns-clause-refused
-returns-clause-refused c =
+pub returns-in_ok-command-in-None-clause-refused : goal.returns-in_ok-command-in-None-clause-refused
+returns-in_ok-command-in-None-clause-refused c =
     let words = map string_bytes c.args.words.now in
-    subst (λ (a : App). IfErr c.parse_by.result (IsRefusalBy a words)) c.in_ok-command.ensures c.parse_by.ensures.refused
+    subst (λ (a : App). IfErr c.parse_by.result (IsRefusalBy a words)) c.in_ok-command-in-None.ensures c.parse_by.ensures.refused

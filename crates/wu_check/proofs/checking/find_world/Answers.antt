@@ -1,4 +1,4 @@
-use Rattle.wu_schema.proofs.Words.{Schema, arith, state, subst}
+use Rattle.wu_schema.proofs.Words.{Schema, arith, inl, refl, state, subst}
 use Rattle.wu_schema.specs.Tables.{HasTables}
 use Rattle.wu_check.specs.Findings.{IsBasis, IsBasisLater}
 use Rattle.wu_check.specs.Versions.{IsReadVersion}
@@ -10,7 +10,7 @@ use Rattle.wu_check.proofs.checking.find_world.Goals as goal
 pub returns-in-Err-clause-examines : goal.returns-in-Err-clause-examines
 returns-in-Err-clause-examines g c =
     examines_made g.S.Store c.args.conn.now c.unless_later.new.conn _ c.in_ok-finding.finding (basis.Unsound c.in_ok-finding.finding) IsBasis
-    (λ then. then (lacks 1 (state g.S.Store c.args.conn.now).now c.schema.result.now c.schema.ensures.value c.in-Err.misfit c.in-Err.ensures.told c.in-Err.ensures.missing (λ world stands known. absurd (omega (arith, known)))))
+    (λ then. then (lacks 1 (state g.S.Store c.args.conn.now).now c.schema.result.now c.schema.ensures.value c.in-Err.misfit (inl refl) c.in-Err.ensures.told c.in-Err.ensures.missing (λ world stands known. absurd (omega (arith, known)))))
     c.in_ok-finding.ensures.examines
 
 pub returns-in_err-version-clause-examines : goal.returns-in_err-version-clause-examines
@@ -25,7 +25,7 @@ returns-clause-examines g c =
     let tables = subst (λ (s : Schema). HasTables 1 s c.in_default.field-0) c.schema.ensures.value c.in_default.ensures.found in
     examines_then g.S.Store c.args.conn.now c.version_told.new.conn c.find_world_of.new.conn c.in_ok-version.version IsReadVersion
     (examines_version g.S.Store c.args.conn.now c.version_told.new.conn c.in_default.field-0 tables _ c.in_ok-version.ensures)
-    _ _ c.find_world_of.ensures.examines IsBasis (λ y told then. then told)
+    _ _ c.find_world_of.ensures.examines IsBasis (λ y told then. then (record { read = told; trees = c.in_default.field-0; there = tables }))
 
 pub returns-in-Err-clause-later : goal.returns-in-Err-clause-later
 returns-in-Err-clause-later g c = c.in_ok-finding.ensures.later

@@ -1,4 +1,4 @@
-use Rattle.wu_schema.proofs.Words.{Ok, Schema, state, subst, sym}
+use Rattle.wu_schema.proofs.Words.{Ok, Schema, inr, state, subst, sym}
 use Rattle.wu_schema.specs.Tables.{HasTables, IsClassedVersion}
 use Rattle.wu_check.specs.Findings.{IsBasisOf, TellsLater}
 use Rattle.wu_check.specs.declared.checking.Basis.TheVariants as basis
@@ -9,7 +9,7 @@ use Rattle.wu_check.proofs.checking.find_world_of.Goals as goal
 pub returns-in-Err-clause-examines : goal.returns-in-Err-clause-examines
 returns-in-Err-clause-examines g c =
     examines_made g.S.Store c.args.conn.now c.unless_later.new.conn _ c.in_ok-finding.finding (basis.Unsound c.in_ok-finding.finding) (IsBasisOf c.args.version)
-    (λ then told. then (lacks c.args.version (state g.S.Store c.args.conn.now).now c.schema.result.now c.schema.ensures.value c.in-Err.misfit c.in-Err.ensures.told c.in-Err.ensures.missing (λ world stands known. subst IsClassedVersion (sym (told.stands world stands)) known)))
+    (λ then told. then (lacks c.args.version (state g.S.Store c.args.conn.now).now c.schema.result.now c.schema.ensures.value c.in-Err.misfit (inr told) c.in-Err.ensures.told c.in-Err.ensures.missing (λ world stands known. subst IsClassedVersion (sym (told.read.stands world stands)) known)))
     c.in_ok-finding.ensures.examines
 
 pub returns-in_err-loaded-clause-examines : goal.returns-in_err-loaded-clause-examines
@@ -23,14 +23,14 @@ pub returns-in-World-clause-examines : goal.returns-in-World-clause-examines
 returns-in-World-clause-examines g c =
     let tables = subst (λ (s : Schema). HasTables c.args.version s c.in_default.field-0) c.schema.ensures.value c.in_default.ensures.found in
     examines_made g.S.Store c.args.conn.now c.load_world.new.conn (FindsOf c.args.version) c.in_ok-loaded.field-0 (basis.World c.in-World.loaded) (IsBasisOf c.args.version)
-    (λ found. subst (FindsOf c.args.version (state g.S.Store c.args.conn.now).now) c.in-World.is found)
+    (λ found first. subst (FindsOf c.args.version (state g.S.Store c.args.conn.now).now) c.in-World.is found first.read)
     (examines_world c.args.version g.S.Store c.args.conn.now c.load_world.new.conn c.in_default.field-0 tables _ c.in_ok-loaded.ensures.asks c.in_ok-loaded.ensures.fault c.in_ok-loaded.ensures.answered c.in_ok-loaded.ensures.world c.in_ok-loaded.ensures.none c.in_ok-loaded.ensures.told)
 
 pub returns-in_ok-finding-in-Wrong-clause-examines :
     goal.returns-in_ok-finding-in-Wrong-clause-examines
 returns-in_ok-finding-in-Wrong-clause-examines g c =
     let tables = subst (λ (s : Schema). HasTables c.args.version s c.in_default.field-0) c.schema.ensures.value c.in_default.ensures.found in
-    examines_made g.S.Store c.args.conn.now c.unless_later-in-Wrong.new.conn (TellsOfVersion c.args.version) c.in_ok-finding-in-Wrong.finding (basis.Unsound c.in_ok-finding-in-Wrong.finding) (IsBasisOf c.args.version) (λ told. told)
+    examines_made g.S.Store c.args.conn.now c.unless_later-in-Wrong.new.conn (TellsOfVersion c.args.version) c.in_ok-finding-in-Wrong.finding (basis.Unsound c.in_ok-finding-in-Wrong.finding) (IsBasisOf c.args.version) (λ told first. told first.read)
     (examines_then g.S.Store c.args.conn.now c.load_world.new.conn c.unless_later-in-Wrong.new.conn c.in_ok-loaded.field-0 (FindsOf c.args.version)
     (examines_world c.args.version g.S.Store c.args.conn.now c.load_world.new.conn c.in_default.field-0 tables _ c.in_ok-loaded.ensures.asks c.in_ok-loaded.ensures.fault c.in_ok-loaded.ensures.answered c.in_ok-loaded.ensures.world c.in_ok-loaded.ensures.none c.in_ok-loaded.ensures.told)
     _ _ c.in_ok-finding-in-Wrong.ensures.examines (TellsOfVersion c.args.version)

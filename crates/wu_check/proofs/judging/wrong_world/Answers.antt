@@ -1,9 +1,10 @@
 use Rattle.wu_schema.proofs.Words.{Option, None, Some, Schema, ℕ, false, subst, sym, ◌≡◌}
+use Rattle.std.proofs.Common.{rules}
 use Rattle.std.proofs.lemmas.Bool.{iff_false}
 use Rattle.wu_check.specs.Checking.{IsKnown}
 use Rattle.wu_check.specs.Findings.{HasOtherVersion}
 use Rattle.wu_check.proofs.LaterLemmas.{tells_version}
-use Rattle.std.specs.Prelude.{is_some}
+use Rattle.std.specs.Prelude.{is_some, IsNone}
 use Rattle.wu_tables.specs.Found.{Finds, HasQueueIn}
 use Rattle.wu_check.proofs.judging.wrong_world.Goals as goal
 
@@ -18,9 +19,12 @@ returns-then-not-is_known-clause-told c = λ db same stands.
     subst (HasOtherVersion db) (sym c.version-then-not-is_known.ensures) (tells_version db world stands other)
 
 pub returns-then-is_none-clause-told : goal.returns-then-is_none-clause-told
-returns-then-is_none-clause-told c = λ db same stands. record {
-  world = c.args.loaded.now;
-  refines = stands;
-  queued = c.is_queued.ensures.0 c.if-is_queued.true;
-  none = λ tree has. none_found (HasQueueIn c.args.schema.now) c.queue_tree.result c.if-is_none.ensures c.queue_tree.ensures tree (subst (λ (s : Schema). HasQueueIn s tree) same has);
-}
+returns-then-is_none-clause-told c = λ db same stands.
+    let none : IsNone c.in_ok-wrong.field-0 = search rules in record {
+      world = c.args.loaded.now;
+      refines = stands;
+      sound = c.in_ok-wrong.ensures.exact.0 none;
+      known = subst IsKnown c.version.ensures (c.is_known.ensures.0 c.if-not-is_known.false);
+      queued = c.is_queued.ensures.0 c.if-is_queued.true;
+      none = λ tree has. none_found (HasQueueIn c.args.schema.now) c.queue_tree.result c.if-is_none.ensures c.queue_tree.ensures tree (subst (λ (s : Schema). HasQueueIn s tree) same has);
+    }

@@ -1,4 +1,5 @@
 use Rattle.wu_schema.proofs.Words.{IsPermutation, IsPermutation-map, IsPermutation-sym, IsPermutation-trans, arith, class_cells, inl, inr, map, refl, subst, sym, ◌+◌, ◌-◌, ◌∙◌, ◌≡◌}
+use Rattle.std.proofs.lemmas.List.Sorted.{All-permutation}
 use Rattle.wu_loader.specs.Classing.{by_host, AreRising}
 use Rattle.wu_loader.specs.Rows.{IsStoredHostClass}
 use Rattle.wu_loader.specs.Whole.{IsNotAbove}
@@ -29,6 +30,9 @@ returns-in-None-clause-order c =
     let up : AreRising c.sort.new.classes.items = rw c.deref.ensures.value at c.in-None.ensures.order in
     rising_in_order c.sort.new.classes.items up
 
+pub returns-in-None-clause-stored : goal.returns-in-None-clause-stored
+returns-in-None-clause-stored c = All-permutation IsStoredHostClass c.in_ok-classes.classes.items c.sort.new.classes.items c.in_ok-sort.ensures.same c.in_ok-classes.ensures.each
+
 pub returns-in_err-classes-clause-told : goal.returns-in_err-classes-clause-told
 returns-in_err-classes-clause-told c = handed c.from_residual.result c.in_err-classes.field-0.0 _ _ (λ wrong none. (none.0, inl none.1)) c.from_residual.ensures.1 c.in_err-classes.ensures.none
 
@@ -40,7 +44,7 @@ returns-in-Some-clause-told c =
       refl,
       inr (record {
         classes = classes;
-        read = sorted_rows class_cells by_host c.args.rows.now c.in_ok-classes.classes.items classes c.in_ok-classes.ensures.same c.in_ok-sort.ensures.same c.in_ok-sort.ensures.sorted;
+        read = sorted_rows class_cells IsStoredHostClass by_host c.args.rows.now c.in_ok-classes.classes.items classes c.in_ok-classes.ensures.same c.in_ok-classes.ensures.each c.in_ok-sort.ensures.same c.in_ok-sort.ensures.sorted;
         counted = omega arith;
         twice = subst (IsNotAbove by_host classes) e twice;
       }),

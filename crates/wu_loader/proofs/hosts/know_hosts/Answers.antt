@@ -2,7 +2,7 @@ use Rattle.wu_schema.proofs.Words.{IsPermutation, IsPermutation-map, IsPermutati
 use Rattle.wu_core.specs.Hosts.{hosts_of}
 use Rattle.wu_schema.specs.Refines.{host_of}
 use Rattle.wu_loader.specs.Granting.{by_name, referred, AreHosts, IsWrongHost}
-use Rattle.wu_loader.specs.Rows.{host_row}
+use Rattle.wu_loader.specs.Rows.{host_row, IsStoredHost}
 use Rattle.wu_loader.proofs.GrantLemmas.{hosts_are, hosts_must, never_hosts}
 use Rattle.wu_loader.proofs.RunLemmas.{hosts_moved, wrong_moved}
 use Rattle.wu_loader.proofs.WholeLemmas.{handed, rows_plain, sorted_rows}
@@ -44,7 +44,7 @@ returns-in-Some-clause-told c =
       refl,
       inr (record {
         hosts = hosts;
-        read = sorted_rows host_row by_name c.args.rows.now c.in_ok-hosts.hosts.items hosts c.in_ok-hosts.ensures.same c.in_ok-sort.ensures.same c.in_ok-sort.ensures.sorted;
+        read = sorted_rows host_row IsStoredHost by_name c.args.rows.now c.in_ok-hosts.hosts.items hosts c.in_ok-hosts.ensures.same c.in_ok-hosts.ensures.each c.in_ok-sort.ensures.same c.in_ok-sort.ensures.sorted;
         counted = omega arith;
         wrong = subst (IsWrongHost c.args.grants.now hosts) e moved;
       }),

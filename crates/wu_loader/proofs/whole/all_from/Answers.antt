@@ -27,10 +27,11 @@ returns-in_err-push-in-Ok-clause-none g c =
     handed c.from_residual.result Memory none none (λ wrong is. is) c.from_residual.ensures.1 tt
 
 pub returns-in-Err-NotAProject-clause-none : goal.returns-in-Err-NotAProject-clause-none
-returns-in-Err-NotAProject-clause-none g c = (
+returns-in-Err-NotAProject-clause-none g c = let so_far = c.loop-before.invariant in (
   refl,
   no_row g.T.FromRow.cells g.T.FromRow.is_value c.args.rows.now c.loop-before.before c.index-rows-before.result c.loop-before-test.true (sym c.index-rows-before.is)
-      (subst (λ (fault : Fault). Restores (g.T.FromRow.cells (c.loop-before.before + 1)) g.T.FromRow.is_value c.index-rows-before.result (Err fault)) c.in-Err-NotAProject.field-0-is c.in-Err-NotAProject.ensures),
+      (subst (λ (fault : Fault). Restores (g.T.FromRow.cells (c.loop-before.before + 1)) g.T.FromRow.is_value c.index-rows-before.result (Err fault)) c.in-Err-NotAProject.field-0-is c.in-Err-NotAProject.ensures)
+      (record { values = c.loop-before.values.items; stored = so_far.each; same = sym so_far.same }),
 )
 
 pub returns-in-Err : goal.returns-in-Err

@@ -1,11 +1,19 @@
-use Rattle.wu_schema.proofs.Words.{inl, inr, map, workunit_row, ◌∙◌}
+use Rattle.wu_schema.proofs.Words.{List, Row, Workunit, inl, inr, map, workunit_row, ◌∙◌, ◌≡◌}
+use Rattle.std.specs.Prelude.{All}
+use Rattle.wu_core.specs.Storable.{IsStoredWorkunit}
+use Rattle.wu_loader.specs.Whole.{rows_of}
+use Rattle.wu_loader.specs.Wrongs.{AreWorkunits}
 use Rattle.wu_schema.proofs.ReadLemmas.{if_ok}
 use Rattle.wu_loader.specs.Classing.{unclassed}
-use Rattle.wu_loader.specs.Dealing.{by_place}
-use Rattle.wu_loader.specs.Rows.{placed_row}
+use Rattle.wu_loader.specs.Dealing.{by_place, AreDealt}
+use Rattle.wu_loader.specs.Rows.{placed_row, IsStoredPlaced}
 use Rattle.wu_loader.proofs.WholeLemmas.{handed, refused, rows_plain, sorted_rows}
 use Rattle.wu_loader.proofs.WorkLemmas.{never_placed, never_works, ordered_unclassed, works_are, works_dealt}
 use Rattle.wu_loader.proofs.works.works_from.Goals as goal
+
+-- the rows of workunits are those of these values
+workunits_read : (rows : List Row) (workunits : List Workunit) → rows ≡ rows_of (λ _. workunit_row) workunits → All IsStoredWorkunit workunits → AreWorkunits rows
+workunits_read rows workunits same each = record { values = workunits; stored = each; same = same }
 
 pub returns-in_err-workunits-clause-none : goal.returns-in_err-workunits-clause-none
 returns-in_err-workunits-clause-none c =
@@ -20,6 +28,19 @@ returns-clause-works c =
     if_ok c.deal.result _ _ (λ dealt are.
     works_are c.args.rows.now c.args.instances.now c.in_ok-workunits.workunits.items c.in_ok-workunits.ensures.same c.in_ok-placed.placed.items c.in_ok-placed-2.placed.items c.in_ok-placed.ensures.same (rw c.in_ok-placed-2.ensures c.in_ok-sort.ensures.same) dealt.items are) c.deal.ensures.dealt
 
+pub returns-clause-workunits : goal.returns-clause-workunits
+returns-clause-workunits c =
+    if_ok c.deal.result (λ dealt. AreDealt c.in_ok-workunits.workunits.items c.in_ok-placed-2.placed.items dealt.items) _ (λ dealt are. workunits_read c.args.rows.now c.in_ok-workunits.workunits.items c.in_ok-workunits.ensures.same c.in_ok-workunits.ensures.each) c.deal.ensures.dealt
+
+pub returns-clause-results : goal.returns-clause-results
+returns-clause-results c =
+    if_ok c.deal.result (λ dealt. AreDealt c.in_ok-workunits.workunits.items c.in_ok-placed-2.placed.items dealt.items) _ (λ dealt are. record {
+      values = record { values = c.in_ok-placed.placed.items; stored = c.in_ok-placed.ensures.each; same = c.in_ok-placed.ensures.same };
+      workunits = dealt.items;
+      rows_are = works_are c.args.rows.now c.args.instances.now c.in_ok-workunits.workunits.items c.in_ok-workunits.ensures.same c.in_ok-placed.placed.items c.in_ok-placed-2.placed.items c.in_ok-placed.ensures.same (rw c.in_ok-placed-2.ensures c.in_ok-sort.ensures.same) dealt.items are;
+      few = are.few;
+    }) c.deal.ensures.dealt
+
 pub returns-clause-none : goal.returns-clause-none
 returns-clause-none c =
     refused c.deal.result _ _ (λ wrong none works ordered storable are.
@@ -30,18 +51,23 @@ returns-in_err-workunits-clause-told c = handed c.from_residual.result c.in_err-
 
 pub returns-in_err-placed-clause-told : goal.returns-in_err-placed-clause-told
 returns-in_err-placed-clause-told c =
-    handed c.from_residual-in_err-placed.result c.in_err-placed.field-0.0 _ _ (λ wrong none. inr (none.0, inl none.1)) c.from_residual-in_err-placed.ensures.1 c.in_err-placed.ensures.none
+    let read = workunits_read c.args.rows.now c.in_ok-workunits.workunits.items c.in_ok-workunits.ensures.same c.in_ok-workunits.ensures.each in
+    handed c.from_residual-in_err-placed.result c.in_err-placed.field-0.0 _ _ (λ wrong none. inr (read, (none.0, inl none.1))) c.from_residual-in_err-placed.ensures.1 c.in_err-placed.ensures.none
 
 pub returns-clause-told : goal.returns-clause-told
 returns-clause-told c =
     let sorted = c.in_ok-placed-2.placed.items in
+    let read = workunits_read c.args.rows.now c.in_ok-workunits.workunits.items c.in_ok-workunits.ensures.same c.in_ok-workunits.ensures.each in
     refused c.deal.result _ _ (λ wrong it. inr (
-      it.0,
-      inr (record {
-        workunits = c.in_ok-workunits.workunits.items;
-        rows_are = c.in_ok-workunits.ensures.same ∙ rows_plain workunit_row c.in_ok-workunits.workunits.items;
-        placed = sorted;
-        read = sorted_rows placed_row by_place c.args.instances.now c.in_ok-placed.placed.items sorted c.in_ok-placed.ensures.same (rw c.in_ok-placed-2.ensures c.in_ok-sort.ensures.same) (rw c.in_ok-placed-2.ensures c.in_ok-sort.ensures.sorted);
-        undealt = it.1;
-      }),
+      read,
+      (
+        it.0,
+        inr (record {
+          workunits = c.in_ok-workunits.workunits.items;
+          rows_are = c.in_ok-workunits.ensures.same ∙ rows_plain workunit_row c.in_ok-workunits.workunits.items;
+          placed = sorted;
+          read = sorted_rows placed_row IsStoredPlaced by_place c.args.instances.now c.in_ok-placed.placed.items sorted c.in_ok-placed.ensures.same c.in_ok-placed.ensures.each (rw c.in_ok-placed-2.ensures c.in_ok-sort.ensures.same) (rw c.in_ok-placed-2.ensures c.in_ok-sort.ensures.sorted);
+          undealt = it.1;
+        }),
+      ),
     )) c.deal.ensures.told

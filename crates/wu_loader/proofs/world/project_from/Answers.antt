@@ -1,32 +1,37 @@
-use Rattle.std.proofs.lemmas.List.Elements.{All-nil, All-push}
-use Rattle.wu_loader.specs.Rows.{project_row, IsStoredProject}
-use Rattle.wu_loader.proofs.WholeLemmas.{handed, no_one, no_project, no_rows, one_more}
-use Rattle.wu_schema.proofs.Words.{[], arith, length, refl, rules, subst, sym, ◌∷◌, ◌≡◌}
-use Rattle.std.specs.Prelude.{◌≢◌}
+use Rattle.wu_schema.proofs.Words.{ap, inl, inr, length, refl, rules, slice_get, subst, sym, ◌≢◌, ◌≤◌}
+use Rattle.wu_loader.specs.Whole.{IsIn, UnlessMemory}
 use Rattle.wu_loader.specs.Wrongs.{IsWrongProject}
-use Rattle.wu_loader.proofs.world.project_from.Goals.{then-is_empty, else-is_empty}
+use Rattle.wu_loader.specs.declared.finding.LoadedTable.TheVariants as table
+use Rattle.wu_loader.specs.declared.finding.NoWorld.{NoWorld}
+use Rattle.wu_loader.proofs.WholeLemmas.{handed, lacks_project, one_project}
 use Rattle.wu_loader.proofs.world.project_from.Goals as goal
 
-pub returns-in_err-projects-clause-none : goal.returns-in_err-projects-clause-none
-returns-in_err-projects-clause-none c =
-    handed c.from_residual.result c.in_err-projects.field-0.0 _ _ (λ wrong none project stored is.
-    no_rows (λ _. project_row) IsStoredProject c.args.rows.now wrong.place none.1 (project ∷ []) (All-push IsStoredProject [] project (All-nil IsStoredProject) stored) is) c.from_residual.ensures.1 c.in_err-projects.ensures.none
+pub returns-in_err-project-clause-none : goal.returns-in_err-project-clause-none
+returns-in_err-project-clause-none c =
+    handed c.from_residual.result c.in_err-project.field-0.0 _ _ (λ wrong none project stored version is. none.1.1 project stored (ap (λ rs. slice_get rs 0) is)) c.from_residual.ensures.1 c.in_err-project.ensures.none
 
-pub returns-in_err-projects-clause-told : goal.returns-in_err-projects-clause-told
-returns-in_err-projects-clause-told c = handed c.from_residual.result c.in_err-projects.field-0.0 _ _ (λ wrong none. (none.0, λ version. no_project version c.args.rows.now wrong.place none.1)) c.from_residual.ensures.1 c.in_err-projects.ensures.none
+pub returns-in_err-project-clause-told : goal.returns-in_err-project-clause-told
+returns-in_err-project-clause-told c =
+    handed c.from_residual.result c.in_err-project.field-0.0 _ _ (λ wrong none. (none.0, subst (IsWrongProject c.args.version c.args.rows.now) (sym none.1.0) (inl (lacks_project c.args.rows.now none.1.1)))) c.from_residual.ensures.1 c.in_err-project.ensures.none
 
-pub returns-clause-told : goal.returns-clause-told
-returns-clause-told c =
-    let projects = c.in_ok-projects.projects.items in
-    let read = c.in_ok-projects.ensures.same in (
+pub returns-then-project-version-clause-told : goal.returns-then-project-version-clause-told
+returns-then-project-version-clause-told c =
+    let rows = c.args.rows.now in
+    let first = c.in_ok-project.ensures.first in
+    let few : length rows ≤ 1 = c.if-rows-gt1.false in
+    let other : c.in_ok-project.project.version ≢ c.args.version = search rules in
+    subst (λ (reason : NoWorld). UnlessMemory reason (IsIn table.Project (IsWrongProject c.args.version rows))) (sym c.wrong_project-then-project-version.ensures) (
       refl,
-      λ version. elim c.if-is_empty.branch [
-        | then-is_empty w ↦
-            let none : length projects ≡ 0 = search rules in
-            subst (IsWrongProject version c.args.rows.now) (sym w.place-is) (no_one version c.args.rows.now projects read none)
-        | else-is_empty w ↦
-            let some : length projects ≢ 0 = search rules in
-            let other : length projects ≢ 1 = search rules in
-            subst (IsWrongProject version c.args.rows.now) (sym w.place-is) (one_more version c.args.rows.now projects read (omega (arith, some, other)))
-      ],
+      inr (record {
+        first = refl;
+        project = c.in_ok-project.project;
+        rows_are = one_project rows c.in_ok-project.project first few;
+        stored = c.in_ok-project.ensures.stored;
+        other = other;
+      }),
     )
+
+pub returns-clause-project : goal.returns-clause-project
+returns-clause-project c =
+    let few : length c.args.rows.now ≤ 1 = c.if-rows-gt1.false in
+    one_project c.args.rows.now c.in_ok-project.project c.in_ok-project.ensures.first few

@@ -1,8 +1,8 @@
-use Rattle.wu_schema.proofs.Words.{List, Row, ap, inl, inr, rules, subst, sym, ◌∙◌, ◌≡◌}
+use Rattle.wu_schema.proofs.Words.{subst, sym, ◌∙◌, ◌≡◌}
 use Rattle.wu_loader.specs.Worlds.{plain_world, AreRowsOf}
-use Rattle.wu_loader.specs.Wrongs.{IsWrongClass}
 use Rattle.wu_loader.proofs.WholeLemmas.{handed}
 use Rattle.wu_loader.proofs.ClassLemmas.{found_rows}
+use Rattle.wu_loader.proofs.FirstLemmas.{first_of_classes, first_of_plain}
 use Rattle.wu_loader.proofs.world.world_from.Goals as goal
 
 pub returns-clause-world : goal.returns-clause-world
@@ -10,8 +10,7 @@ returns-clause-world c =
     let read = c.in_ok-project in
     let with = c.in_ok-workunits in
     let plain = plain_world read.field-0 in
-    let checked : read.project.version ≡ c.args.version = search rules in
-    let is : plain.version ≡ c.args.version = ap (λ p. p.version) read.project-is ∙ checked in
+    let is : plain.version ≡ c.args.version = read.ensures.version in
     let made = c.new.ensures in
     let same : c.new.result ≡ record plain { workunits = with.field-0.workunits.items; classes = with.field-0.hosts.items } = λ i. record {
       workunits = made.workunits i;
@@ -24,10 +23,15 @@ returns-clause-world c =
     } in
     subst (AreRowsOf c.args.version c.args.rows.now) (sym same) (found_rows c.args.version c.args.rows.now plain with.field-0 read.ensures.plain with.ensures.found is)
 
+pub returns-in_err-project-clause-none : goal.returns-in_err-project-clause-none
+returns-in_err-project-clause-none c =
+    handed c.from_residual.result c.in_err-project.field-0.0 _ _ (λ wrong none world readable ordered are. none world readable are.version ordered are.plain) c.from_residual.ensures.1 c.in_err-project.ensures.none
+
 pub returns-in_err-project-clause-told : goal.returns-in_err-project-clause-told
-returns-in_err-project-clause-told c = handed c.from_residual.result c.in_err-project.field-0.0 _ _ (λ wrong it. inl (it c.args.version)) c.from_residual.ensures.1 c.in_err-project.ensures.told
+returns-in_err-project-clause-told c =
+    handed c.from_residual.result c.in_err-project.field-0.0 _ _ (λ wrong it. first_of_plain c.args.version c.args.rows.now wrong it) c.from_residual.ensures.1 c.in_err-project.ensures.told
 
 pub returns-in_err-workunits-clause-told : goal.returns-in_err-workunits-clause-told
 returns-in_err-workunits-clause-told c =
     handed c.from_residual-in_err-workunits.result c.in_err-workunits.field-0.0 _ _
-    (λ wrong it. inr (subst (λ (works : List Row). IsWrongClass works c.args.rows.now.classes wrong) (sym c.in_ok-project.ensures.plain.workunits) it)) c.from_residual-in_err-workunits.ensures.1 c.in_err-workunits.ensures.told
+    (λ wrong it. first_of_classes c.args.version c.args.rows.now wrong _ (sym c.in_ok-project.ensures.plain.workunits) c.in_ok-project.ensures.right it) c.from_residual-in_err-workunits.ensures.1 c.in_err-workunits.ensures.told

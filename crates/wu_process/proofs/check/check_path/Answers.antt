@@ -1,8 +1,8 @@
 use Rattle.std.proofs.Common.{inl}
 use Rattle.wu_process.proofs.check.check_path.Goals as goal
 
-pub returns-in-Ok-files_in_memory : goal.returns-in-Ok-files_in_memory
-returns-in-Ok-files_in_memory g c = inl (record {
+pub returns : goal.returns
+returns g c = inl (record {
   bytes = c.in-Ok.bytes;
   read_at = c.in-Ok.ensures;
   files = c.in-Ok-files_in_memory.files;

@@ -1,15 +1,16 @@
-use Rattle.wu_schema.proofs.Words.{arith, get_or, length, refl, rules, state, subst, sym, take, ap, ◌<◌, ◌∙◌, ◌≡◌, ◌+◌}
+use Rattle.wu_schema.proofs.Words.{arith, get_or, length, refl, rules, state, subst, sym, take, ap, ◌<◌, ◌∙◌, ◌≡◌, ◌+◌, [], ◌∷◌}
 use Rattle.std.proofs.Math.Seq.{take-length}
 use Rattle.wu_schema.proofs.CallLemmas.{never_ok, part_none, part_then}
-use Rattle.wu_schema.specs.Queue.{HasQueue}
+use Rattle.wu_schema.specs.Queue.{HasQueue, queue_table}
 use Rattle.wu_rules.specs.Marks.{marks}
 use Rattle.wu_store.specs.Queues.{with_marks}
 use Rattle.wu_store.proofs.MarkedLemmas.{filled_more}
 use Rattle.wu_store.proofs.PlacedLemmas.{world_rises}
+use Rattle.wu_schema.proofs.OthersLemmas.{spares_none, spares_then}
 use Rattle.wu_store.proofs.changes.fill_queue.Goals as goal
 
 pub loop-row-init : goal.loop-row-init
-loop-row-init g c = (refl, part_none _, λ _. (λ within. within, λ world s same q. (s, q)))
+loop-row-init g c = (refl, part_none _, λ _. (λ within. within, spares_none (queue_table ∷ []) _, λ world s same q. (s, q)))
 
 pub loop-row-preserved : goal.loop-row-preserved
 loop-row-preserved g c =
@@ -26,8 +27,9 @@ loop-row-preserved g c =
       λ clean.
           let so_far = before.2 (omega (arith, wrote.part.survives.clean)) in (
             λ within. c.in_ok-insert_marks.ensures.writes.inside clean,
+            spares_then (queue_table ∷ []) _ _ _ so_far.1 (c.in_ok-insert_marks.ensures.spares clean),
             λ world s same q.
-                let (stands, filled) = so_far.1 world s same q in
+                let (stands, filled) = so_far.2 world s same q in
                 let more : with_marks one.0 one.1 (take i rows) ≡ take (i + 1) rows = subst (λ rs. with_marks one.0 one.1 (take i rs) ≡ take (i + 1) rs) (sym same) (filled_more marks world.workunits (world_rises _ world s) i one one (subst (λ rs. i < length rs) same low) (ap (λ rs. get_or rs i one) (sym same) ∙ at)) in (
                   c.in_ok-insert_marks.ensures.stays clean world (take i rows) stands filled,
                   subst (HasQueue new) more (c.in_ok-insert_marks.ensures.puts clean world (take i rows) stands filled),
@@ -49,5 +51,6 @@ returns g c =
     let new = (state g.S.Store c.loop-row.tx.conn.now).now in
     record {
       works = record { same_reference = before.0; part = before.1; stays = λ clean. (before.2 clean).0 };
-      fills = λ clean world s same q. let (stands, filled) = (before.2 clean).1 world s same q in (stands, subst (HasQueue new) whole filled);
+      spares = λ clean. (before.2 clean).1;
+      fills = λ clean world s same q. let (stands, filled) = (before.2 clean).2 world s same q in (stands, subst (HasQueue new) whole filled);
     }

@@ -2,10 +2,13 @@ use Rattle.wu_schema.proofs.Words.{HasCleanDisk, Refines, ap, arith, get_or, len
 use Rattle.wu_schema.proofs.CallLemmas.{part_none, part_then}
 use Rattle.wu_store.specs.Changes.{AddsInstance, with_placed}
 use Rattle.wu_store.proofs.PlacedLemmas.{first_instances, next_instance}
+use Rattle.wu_store.proofs.SpareLemmas.{of_result}
+use Rattle.wu_schema.proofs.OthersLemmas.{spares_none, spares_then}
+use Rattle.wu_schema.specs.Others.{tables_of_workunits}
 use Rattle.wu_store.proofs.changes.insert_instances.Goals as goal
 
 pub loop-instance-init : goal.loop-instance-init
-loop-instance-init g c = (refl, refl, part_none _, λ _. (λ within. within, (λ world none s. s, λ world marked none s q. q)))
+loop-instance-init g c = (refl, refl, part_none _, λ _. (λ within. within, spares_none tables_of_workunits _, (λ world none s. s, λ world marked none s q. q)))
 
 pub loop-instance-preserved : goal.loop-instance-preserved
 loop-instance-preserved g c =
@@ -26,9 +29,10 @@ loop-instance-preserved g c =
           let still : HasCleanDisk (state g.S.Store c.loop-instance.tx.conn.now) = omega (arith, wrote.part.survives.clean) in
           let adds : AddsInstance w.number i one old new = subst (λ n. AddsInstance w.number n one old new) place (c.in_ok-insert_instance.ensures.puts clean) in (
             λ within. c.in_ok-insert_instance.ensures.writes.inside clean,
+            spares_then tables_of_workunits _ old new (before still).1 (of_result old new (c.in_ok-insert_instance.ensures.spares clean)),
             (
-              λ world none s. next_instance old new w i one one world none low at adds ((before still).1.0 world none s),
-              λ world marked none s q. c.in_ok-insert_instance.ensures.queue clean (with_placed (first_instances i w) world) marked ((before still).1.0 world none s) ((before still).1.1 world marked none s q),
+              λ world none s. next_instance old new w i one one world none low at adds ((before still).2.0 world none s),
+              λ world marked none s q. c.in_ok-insert_instance.ensures.queue clean (with_placed (first_instances i w) world) marked ((before still).2.0 world none s) ((before still).2.1 world marked none s q),
             ),
           ),
     )
@@ -39,9 +43,14 @@ returns-clause-adds g c clean world none s =
     let w = c.args.workunit.now in
     let items = c.as_slice-instances.ensures.items in
     let whole : take c.loop-instance.instance-index w.instances ≡ w.instances = ap (take c.loop-instance.instance-index) (sym items) ∙ take_all _ _ c.loop-instance-test.false ∙ items in
-    subst (λ is. Refines (state g.S.Store c.loop-instance.tx.conn.now).now (with_placed (record w { instances = is }) world)) whole ((before clean).1.0 world none s)
+    subst (λ is. Refines (state g.S.Store c.loop-instance.tx.conn.now).now (with_placed (record w { instances = is }) world)) whole ((before clean).2.0 world none s)
 
 pub returns-clause-queue : goal.returns-clause-queue
 returns-clause-queue g c clean =
     let (place, same, part, before) = c.loop-instance.invariant in
-    (before clean).1.1
+    (before clean).2.1
+
+pub returns-clause-spares : goal.returns-clause-spares
+returns-clause-spares g c clean =
+    let (place, same, part, before) = c.loop-instance.invariant in
+    (before clean).1

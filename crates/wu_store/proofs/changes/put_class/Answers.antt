@@ -2,6 +2,9 @@ use Rattle.wu_schema.proofs.Words.{Refines, state, subst}
 use Rattle.wu_schema.proofs.CallLemmas.{ok_on}
 use Rattle.wu_store.specs.Changes.{keeping, with_replaced}
 use Rattle.wu_store.proofs.ReplaceLemmas.{class_kept, class_replaced}
+use Rattle.wu_store.proofs.SpareLemmas.{of_class}
+use Rattle.wu_schema.proofs.OthersLemmas.{spares_none}
+use Rattle.wu_schema.specs.Others.{tables_of_workunits}
 use Rattle.wu_store.proofs.changes.put_class.Goals as goal
 
 pub returns-clause-puts : goal.returns-clause-puts
@@ -18,3 +21,9 @@ pub returns-then-was-workunit-clause-puts : goal.returns-then-was-workunit-claus
 returns-then-was-workunit-clause-puts g c clean world known s =
     let db = (state g.S.Store c.args.tx.now.conn.now).now in
     (subst (Refines db) (class_kept c.args.workunit.now world c.args.was.now c.if-was-workunit.true) s, λ marked q. q)
+
+pub returns-then-was-workunit-clause-spares : goal.returns-then-was-workunit-clause-spares
+returns-then-was-workunit-clause-spares g c clean = spares_none tables_of_workunits _
+
+pub returns-clause-spares : goal.returns-clause-spares
+returns-clause-spares g c clean = ok_on c.set_class.result _ _ (of_class _ _) (c.set_class.ensures.spares clean)

@@ -1,7 +1,10 @@
 use Rattle.wu_schema.proofs.Words.{Instance, Refines, Some, ap, state, subst, ◌∙◌}
 use Rattle.std.proofs.Common.{option_map}
-use Rattle.wu_schema.proofs.CallLemmas.{ok_both}
+use Rattle.wu_schema.proofs.CallLemmas.{ok_both, ok_on}
 use Rattle.wu_store.proofs.ReplaceLemmas.{added_is_put, added_there, got_below, same_world_put, set_world_put}
+use Rattle.wu_store.proofs.SpareLemmas.{of_result}
+use Rattle.wu_schema.proofs.OthersLemmas.{spares_none}
+use Rattle.wu_schema.specs.Others.{tables_of_workunits}
 use Rattle.wu_store.proofs.changes.put_instance.Goals as goal
 
 pub returns-in-None-clause-puts : goal.returns-in-None-clause-puts
@@ -34,3 +37,12 @@ returns-else-is_same_instance-clause-puts g c clean =
       subst (Refines new) (set_world_put old world s c.args.workunit w found n i less) (sets world w s found less),
       λ marked q. queue world w marked s found less q,
     )) (c.set_instance.ensures.sets clean) (c.set_instance.ensures.queue clean)
+
+pub returns-in-None-clause-spares : goal.returns-in-None-clause-spares
+returns-in-None-clause-spares g c clean = ok_on c.insert_instance.result _ _ (of_result _ _) (c.insert_instance.ensures.spares clean)
+
+pub returns-then-is_same_instance-clause-spares : goal.returns-then-is_same_instance-clause-spares
+returns-then-is_same_instance-clause-spares g c clean = spares_none tables_of_workunits _
+
+pub returns-else-is_same_instance-clause-spares : goal.returns-else-is_same_instance-clause-spares
+returns-else-is_same_instance-clause-spares g c clean = ok_on c.set_instance.result _ _ (of_result _ _) (c.set_instance.ensures.spares clean)

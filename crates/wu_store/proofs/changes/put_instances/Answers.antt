@@ -3,10 +3,12 @@ use Rattle.wu_schema.proofs.Words.{HasCleanDisk, Instance, Refines, Some, ap, ar
 use Rattle.wu_schema.proofs.CallLemmas.{never_ok, part_none, part_then}
 use Rattle.wu_store.specs.Changes.{StandsBeside, with_put, with_replaced}
 use Rattle.wu_store.proofs.ReplaceLemmas.{got_mixed, lent_at, listing, long_mixed, mixed, put_mixed, put_replaced, replaced_found, whole_mixed}
+use Rattle.wu_schema.proofs.OthersLemmas.{spares_none, spares_then}
+use Rattle.wu_schema.specs.Others.{tables_of_workunits}
 use Rattle.wu_store.proofs.changes.put_instances.Goals as goal
 
 pub loop-instance-init : goal.loop-instance-init
-loop-instance-init g c = (refl, refl, part_none _, λ all. refl, λ _. (λ within. within, λ world v found s. (s, λ marked q. q)))
+loop-instance-init g c = (refl, refl, part_none _, λ all. refl, λ _. (λ within. within, spares_none tables_of_workunits _, λ world v found s. (s, λ marked q. q)))
 
 pub loop-instance-preserved : goal.loop-instance-preserved
 loop-instance-preserved g c =
@@ -30,8 +32,9 @@ loop-instance-preserved g c =
           let still : HasCleanDisk (state g.S.Store c.loop-instance.tx.conn.now) = omega (arith, wrote.part.survives.clean) in
           let puts = c.in_ok-put_instance.ensures.puts clean in (
             λ within. c.in_ok-put_instance.ensures.works.stays clean ((before still).0 within),
+            spares_then tables_of_workunits _ _ _ (before still).1 (c.in_ok-put_instance.ensures.spares clean),
             λ world v found s.
-                let so_far = (before still).1 world v found s in
+                let so_far = (before still).2 world v found s in
                 let is = mixed k w.instances was in
                 let long = long_mixed k w.instances was (omega (arith, low)) in
                 let got = ap (slice_get is) place ∙ got_mixed k w.instances was (omega (arith, low)) ∙ ap (slice_get was) (sym place) ∙ lent_at was c.loop-instance.n c.get.result c.get.ensures.lookup in
@@ -56,7 +59,7 @@ returns-clause-puts g c clean world v found few s =
     let items = c.as_slice-instances.ensures.items in
     let at_end : c.loop-instance.instance-index ≡ length w.instances = omega (arith, c.loop-instance-test.false, c.loop-instance.auto.instance-index-end, ap (λ is. length is) items) in
     let whole = ap (λ n. mixed n w.instances c.args.was.now) at_end ∙ whole_mixed w.instances c.args.was.now few in
-    subst (λ is. StandsBeside (with_replaced (listing w is) world) (state g.S.Store c.args.tx.now.conn.now).now (state g.S.Store c.loop-instance.tx.conn.now).now) whole ((before clean).1 world v found s)
+    subst (λ is. StandsBeside (with_replaced (listing w is) world) (state g.S.Store c.args.tx.now.conn.now).now (state g.S.Store c.loop-instance.tx.conn.now).now) whole ((before clean).2 world v found s)
 
 pub returns-clause-idle : goal.returns-clause-idle
 returns-clause-idle g c all =
@@ -74,3 +77,8 @@ returns-in_err-put_instance-clause-idle g c all =
     let at : get_or w.instances k one ≡ one = ap (λ is. get_or is k one) (sym items) ∙ sym c.instance-item.is in
     let got = sym (lent_at c.args.was.now c.loop-instance.n c.get.result c.get.ensures.lookup) ∙ (λ i. slice_get (all i) (place i)) ∙ slice_get-get_or w.instances k one low ∙ ap (λ (j : Instance). Some j) at in
     absurd (let no = (c.in_err-put_instance.ensures.idle got).1 in cc)
+
+pub returns-clause-spares : goal.returns-clause-spares
+returns-clause-spares g c clean =
+    let (place, same, part, idle, before) = c.loop-instance.invariant in
+    (before clean).1

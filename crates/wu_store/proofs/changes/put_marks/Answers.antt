@@ -1,11 +1,14 @@
 use Rattle.wu_schema.proofs.Words.{ap, state, subst, sym, ◌∙◌}
 use Rattle.wu_core.specs.declared.marks.Marks.{Marks}
 use Rattle.wu_schema.specs.Queue.{HasQueue}
-use Rattle.wu_schema.proofs.CallLemmas.{ok_both}
+use Rattle.wu_schema.proofs.CallLemmas.{ok_both, ok_on}
 use Rattle.wu_store.specs.Changes.{with_replaced}
 use Rattle.wu_store.specs.Queues.{with_set_marks}
 use Rattle.wu_store.specs.StandsFor.{marked}
 use Rattle.wu_store.proofs.ReplaceLemmas.{marks_replaced, marks_same}
+use Rattle.wu_store.proofs.SpareLemmas.{of_queue}
+use Rattle.wu_schema.proofs.OthersLemmas.{spares_none}
+use Rattle.wu_schema.specs.Others.{tables_of_workunits}
 use Rattle.wu_store.proofs.changes.put_marks.Goals as goal
 
 pub returns-then-is_same_marks-clause-puts : goal.returns-then-is_same_marks-clause-puts
@@ -22,3 +25,9 @@ returns-clause-puts g c clean =
       stays (with_replaced w world) (marked world) s q,
       subst (HasQueue new) (ap (λ (m : Marks). with_set_marks w.number m (marked world)) c.marks_of-marks.ensures ∙ marks_replaced w first world before c.args.was.now found) (sets (with_replaced w world) (marked world) s q),
     )) (c.set_marks.ensures.sets clean) (c.set_marks.ensures.stays clean)
+
+pub returns-then-is_same_marks-clause-spares : goal.returns-then-is_same_marks-clause-spares
+returns-then-is_same_marks-clause-spares g c clean = spares_none tables_of_workunits _
+
+pub returns-clause-spares : goal.returns-clause-spares
+returns-clause-spares g c clean = ok_on c.set_marks.result _ _ (of_queue _ _) (c.set_marks.ensures.spares clean)

@@ -1,7 +1,10 @@
 use Rattle.wu_schema.proofs.Words.{Refines, state, subst}
-use Rattle.wu_schema.proofs.CallLemmas.{ok_both}
+use Rattle.wu_schema.proofs.CallLemmas.{ok_both, ok_on}
 use Rattle.wu_store.proofs.PlacedLemmas.{is_there}
 use Rattle.wu_store.proofs.ReplaceLemmas.{row_replaced, row_same}
+use Rattle.wu_store.proofs.SpareLemmas.{of_workunit}
+use Rattle.wu_schema.proofs.OthersLemmas.{spares_none}
+use Rattle.wu_schema.specs.Others.{tables_of_workunits}
 use Rattle.wu_store.proofs.changes.put_row.Goals as goal
 
 pub returns-then-is_same_row-clause-puts : goal.returns-then-is_same_row-clause-puts
@@ -18,3 +21,9 @@ returns-clause-puts g c clean =
     ok_both c.set_workunit.result _ _ _ (λ sets leaves world s found.
     let there = is_there w.number c.args.was.now world.workunits found in
     (subst (Refines new) (row_replaced w old world s c.args.was.now found) (sets world s there), λ marked q. leaves world marked s there q)) (c.set_workunit.ensures.sets clean) (c.set_workunit.ensures.queue clean)
+
+pub returns-then-is_same_row-clause-spares : goal.returns-then-is_same_row-clause-spares
+returns-then-is_same_row-clause-spares g c clean = spares_none tables_of_workunits _
+
+pub returns-clause-spares : goal.returns-clause-spares
+returns-clause-spares g c clean = ok_on c.set_workunit.result _ _ (of_workunit _ _) (c.set_workunit.ensures.spares clean)

@@ -3,6 +3,8 @@ use Rattle.wu_schema.proofs.CallLemmas.{ok_on}
 use Rattle.wu_store.specs.Changes.{PutsInstances}
 use Rattle.wu_store.specs.StandsFor.{marked}
 use Rattle.wu_store.proofs.PlacedLemmas.{is_there}
+use Rattle.wu_schema.proofs.OthersLemmas.{spares_then}
+use Rattle.wu_schema.specs.Others.{tables_of_workunits}
 use Rattle.wu_store.proofs.changes.replace.Goals as goal
 
 pub returns-then-len-clause-replaces : goal.returns-then-len-clause-replaces
@@ -28,3 +30,17 @@ returns-clause-replaces g c clean =
     let q = stands.queue (omega (arith, known)) in
     let done = marks old world stands.refines found all.0 (all.1 (marked world) (classed.1 (marked world) (row.1 (marked world) q))) in
     record { refines = done.0; queue = λ _. done.1 }) (c.put_marks.ensures.puts clean)
+
+pub returns-clause-spares : goal.returns-clause-spares
+returns-clause-spares g c clean =
+    let old = (state g.S.Store c.args.tx.now.conn.now).now in
+    let row = (state g.S.Store c.put_row.new.tx.conn.now).now in
+    let classed = (state g.S.Store c.put_class.new.tx.conn.now).now in
+    let late = (state g.S.Store c.put_instances.new.tx.conn.now).now in
+    let new = (state g.S.Store c.put_marks.new.tx.conn.now).now in
+    let last : HasCleanDisk (state g.S.Store c.put_instances.new.tx.conn.now) = omega (arith, clean, c.put_marks.ensures.works.part.survives.clean) in
+    let middle : HasCleanDisk (state g.S.Store c.put_class.new.tx.conn.now) = omega (arith, last, c.in_ok-put_instances.ensures.works.part.survives.clean) in
+    let first : HasCleanDisk (state g.S.Store c.put_row.new.tx.conn.now) = omega (arith, middle, c.in_ok-put_class.ensures.works.part.survives.clean) in
+    let both = spares_then tables_of_workunits old row classed (c.in_ok-put_row.ensures.spares first) (c.in_ok-put_class.ensures.spares middle) in
+    let front = spares_then tables_of_workunits old classed late both (c.in_ok-put_instances.ensures.spares last) in
+    ok_on c.put_marks.result _ _ (spares_then tables_of_workunits old late new front) (c.put_marks.ensures.spares clean)

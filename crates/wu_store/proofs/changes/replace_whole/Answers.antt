@@ -3,6 +3,9 @@ use Rattle.wu_schema.proofs.CallLemmas.{ok_on}
 use Rattle.wu_schema.proofs.StepLemmas.{frame_then}
 use Rattle.wu_store.specs.Changes.{without_workunit}
 use Rattle.wu_store.proofs.MarkedLemmas.{stands_replaced, stands_without}
+use Rattle.wu_store.proofs.SpareLemmas.{of_workunit}
+use Rattle.wu_schema.proofs.OthersLemmas.{spares_then}
+use Rattle.wu_schema.specs.Others.{tables_of_workunits}
 use Rattle.wu_store.proofs.changes.replace_whole.Goals as goal
 
 pub returns-clause-replaces : goal.returns-clause-replaces
@@ -18,3 +21,11 @@ returns-clause-replaces g c clean =
 
 pub returns-clause-writes : goal.returns-clause-writes
 returns-clause-writes g c = frame_then g.S.Store _ _ _ tt c.in_ok-delete_workunit.ensures.writes c.add.result c.add.ensures.writes
+
+pub returns-clause-spares : goal.returns-clause-spares
+returns-clause-spares g c clean =
+    let old = (state g.S.Store c.args.tx.now.conn.now).now in
+    let mid = (state g.S.Store c.delete_workunit.new.tx.conn.now).now in
+    let new = (state g.S.Store c.add.new.tx.conn.now).now in
+    let still : HasCleanDisk (state g.S.Store c.delete_workunit.new.tx.conn.now) = omega (arith, clean, c.add.ensures.writes.part.survives.clean) in
+    ok_on c.add.result _ _ (spares_then tables_of_workunits old mid new (of_workunit old mid (c.in_ok-delete_workunit.ensures.spares still))) (c.add.ensures.spares clean)

@@ -4,6 +4,7 @@ use Rattle.wu_schema.proofs.CallLemmas.{ok_on, ran_as}
 use Rattle.wu_store.specs.Classes.{PutsClass}
 use Rattle.wu_store.proofs.ChangeLemmas.{sent_number}
 use Rattle.wu_store.proofs.ClassEffect.{adds_class, class_put, puts_class}
+use Rattle.wu_store.proofs.SpareLemmas.{spares_class}
 use Rattle.wu_store.proofs.classes.insert_class.Goals as goal
 
 pub returns : goal.returns
@@ -16,4 +17,5 @@ returns g c =
       writes = c.execute.ensures.writes;
       puts = ran;
       adds = λ clean. ok_on c.execute.result _ _ (adds_class old.now new.now c.args.workunit c.args.class) (ran clean);
+      spares = λ clean. ran_as old new class_put.text _ _ given c.execute.result (c.execute.ensures.ran clean) (spares_class _ old new);
     }

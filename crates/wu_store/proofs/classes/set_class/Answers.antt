@@ -3,6 +3,7 @@ use Rattle.wu_schema.proofs.InsertEffect.{also, no_more}
 use Rattle.wu_schema.proofs.CallLemmas.{ran_as}
 use Rattle.wu_store.proofs.ChangeLemmas.{sent_number}
 use Rattle.wu_store.proofs.ClassEffect.{changes_class, class_set}
+use Rattle.wu_store.proofs.SpareLemmas.{spares_set_class}
 use Rattle.wu_store.proofs.classes.set_class.Goals as goal
 
 pub returns : goal.returns
@@ -13,4 +14,5 @@ returns g c =
     record {
       writes = c.execute.ensures.writes;
       sets = λ clean. ran_as old new class_set.text _ _ given c.execute.result (c.execute.ensures.ran clean) (changes_class c.args.workunit c.args.class old new);
+      spares = λ clean. ran_as old new class_set.text _ _ given c.execute.result (c.execute.ensures.ran clean) (spares_set_class _ old new);
     }

@@ -1,7 +1,11 @@
-use Rattle.wu_schema.proofs.Words.{HasCleanDisk, arith, refl, state}
-use Rattle.wu_schema.proofs.CallLemmas.{ok_both}
+use Rattle.wu_schema.proofs.Words.{HasCleanDisk, arith, refl, state, Schema, [], subst, sym, ◌∷◌}
+use Rattle.wu_schema.proofs.CallLemmas.{ok_both, ok_on}
 use Rattle.wu_schema.proofs.StepLemmas.{frame_then}
 use Rattle.wu_store.proofs.ChangeLemmas.{frame_after}
+use Rattle.wu_store.proofs.SpareLemmas.{project_there}
+use Rattle.wu_schema.proofs.OthersLemmas.{others_kept, others_then}
+use Rattle.wu_schema.specs.Others.{AreThere}
+use Rattle.wu_schema.specs.Made.{project_table}
 use Rattle.wu_store.proofs.classes.upgrade_classes.Goals as goal
 
 pub returns-clause-upgrades : goal.returns-clause-upgrades
@@ -17,3 +21,17 @@ pub returns-clause-writes : goal.returns-clause-writes
 returns-clause-writes g c =
     let r = c.set_version.result in
     frame_then g.S.Store _ _ _ tt c.in_ok-make_classes.ensures.writes r (frame_after g.S.Store _ _ _ tt c.in_ok-fill_classes.ensures.works r c.set_version.ensures.writes)
+
+pub returns-clause-spares : goal.returns-clause-spares
+returns-clause-spares g c clean =
+    let old = (state g.S.Store c.args.tx.now.conn.now).now in
+    let mid = (state g.S.Store c.make_classes.new.tx.conn.now).now in
+    let late = (state g.S.Store c.fill_classes.new.tx.conn.now).now in
+    let new = (state g.S.Store c.set_version.new.tx.conn.now).now in
+    let last : HasCleanDisk (state g.S.Store c.fill_classes.new.tx.conn.now) = omega (arith, clean, c.set_version.ensures.writes.part.survives.clean) in
+    let first : HasCleanDisk (state g.S.Store c.make_classes.new.tx.conn.now) = omega (arith, last, c.in_ok-fill_classes.ensures.works.part.survives.clean) in
+    let made = c.in_ok-make_classes.ensures.makes first in
+    ok_on c.set_version.result _ _ (λ sets world s.
+    let filled = c.in_ok-fill_classes.ensures.spares last ((made.classes.workunit_class, made.classes.workunits), tt) in
+    let project = subst (λ (x : Schema). AreThere x (project_table ∷ [])) (sym filled.0) (project_there mid world (made.stands world s)) in
+    others_then old mid new (others_kept old mid made.keeps) (others_then mid late new filled.1 (sets project).1)) (c.set_version.ensures.spares clean)

@@ -1,6 +1,7 @@
 use Rattle.wu_schema.proofs.Words.{state}
 use Rattle.wu_schema.proofs.CallLemmas.{ok_on}
 use Rattle.wu_store.proofs.SetLemmas.{sets_beside, sets_marks}
+use Rattle.wu_store.proofs.SpareLemmas.{spares_set_marks}
 use Rattle.wu_store.proofs.sets.set_marks.Goals as goal
 
 pub returns : goal.returns
@@ -12,4 +13,5 @@ returns g c =
       writes = c.run_marks.ensures.writes;
       sets = λ clean. ok_on c.run_marks.result _ _ (λ it world marked s q. sets_marks old new world s marked q c.args.workunit m it.0 it.1) (c.run_marks.ensures.ran clean);
       stays = λ clean. ok_on c.run_marks.result _ _ (λ it world marked s q. sets_beside old new world s marked q c.args.workunit m it.0 it.1) (c.run_marks.ensures.ran clean);
+      spares = λ clean. ok_on c.run_marks.result _ _ (λ it. spares_set_marks _ old new it.0 it.1) (c.run_marks.ensures.ran clean);
     }

@@ -5,6 +5,7 @@ use Rattle.wu_schema.proofs.CallLemmas.{ok_on, ran_as}
 use Rattle.wu_store.proofs.ChangeLemmas.{sent_number}
 use Rattle.wu_store.proofs.CutLemmas.{deletes_workunit}
 use Rattle.wu_store.proofs.QueueLemmas.{deletes_marks}
+use Rattle.wu_store.proofs.SpareLemmas.{spares_delete_workunit}
 use Rattle.wu_store.proofs.statements.delete_workunit.Goals as goal
 
 pub returns : goal.returns
@@ -18,4 +19,5 @@ returns g c =
       writes = c.execute.ensures.writes;
       deletes = λ clean. ok_on c.execute.result _ _ (λ it world s. deletes_workunit old new world s c.args.number it.0 it.1) (ran clean);
       queue = λ clean. ok_on c.execute.result _ _ (λ it world marked s q. deletes_marks old new world s marked q c.args.number it.0 it.1) (ran clean);
+      spares = λ clean. ok_on c.execute.result _ _ (λ it. spares_delete_workunit c.args.number old new it.0 it.1) (ran clean);
     }

@@ -4,6 +4,7 @@ use Rattle.wu_schema.proofs.InsertEffect.{also, no_more}
 use Rattle.wu_schema.proofs.CallLemmas.{ok_on, ran_as}
 use Rattle.wu_store.proofs.ChangeLemmas.{sent_number, bound_number_or_null, puts_archived}
 use Rattle.wu_store.proofs.QueueLemmas.{archived_leaves}
+use Rattle.wu_store.proofs.SpareLemmas.{spares_archived}
 use Rattle.wu_store.proofs.statements.insert_archived.Goals as goal
 
 pub returns : goal.returns
@@ -24,4 +25,5 @@ returns g c =
       writes = c.execute.ensures.writes;
       puts = λ clean. ok_on c.execute.result _ _ (λ it world s. puts_archived old new world s c.args.seq a it.0 it.1) (ran clean);
       queue = λ clean. ok_on c.execute.result _ _ (λ it world marked s q. archived_leaves old new world s marked q c.args.seq a it.0 it.1) (ran clean);
+      spares = λ clean. ok_on c.execute.result _ _ (λ it. spares_archived (number c.args.seq ∷ archived_cells a) old new it.0 it.1) (ran clean);
     }

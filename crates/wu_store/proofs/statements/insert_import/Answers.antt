@@ -5,6 +5,7 @@ use Rattle.wu_schema.proofs.InsertEffect.{also, no_more}
 use Rattle.wu_schema.proofs.CallLemmas.{ok_on, ran_as}
 use Rattle.wu_store.proofs.ChangeLemmas.{sent_number, puts_import}
 use Rattle.wu_store.proofs.QueueLemmas.{import_leaves}
+use Rattle.wu_store.proofs.SpareLemmas.{spares_import}
 use Rattle.wu_store.proofs.statements.insert_import.Goals as goal
 
 pub returns : goal.returns
@@ -24,4 +25,5 @@ returns g c =
       writes = c.execute.ensures.writes;
       puts = λ clean. ok_on c.execute.result _ _ (λ it world s kept. puts_import old new world s i it.0 it.1 kept) (ran clean);
       queue = λ clean. ok_on c.execute.result _ _ (λ it world marked s q. import_leaves old new world s marked q i it.0 it.1) (ran clean);
+      spares = λ clean. ok_on c.execute.result _ _ (λ it. spares_import (import_cells i) old new it.0 it.1) (ran clean);
     }

@@ -4,6 +4,7 @@ use Rattle.wu_schema.proofs.InsertEffect.{also, no_more}
 use Rattle.wu_schema.proofs.CallLemmas.{ok_on, ran_as}
 use Rattle.wu_store.proofs.ChangeLemmas.{sent_number, sets_number}
 use Rattle.wu_store.proofs.QueueLemmas.{project_leaves}
+use Rattle.wu_store.proofs.SpareLemmas.{spares_set_project}
 use Rattle.wu_store.proofs.statements.set_next_number.Goals as goal
 
 pub returns : goal.returns
@@ -17,4 +18,5 @@ returns g c =
       writes = c.execute.ensures.writes;
       sets = λ clean. ok_on c.execute.result _ _ (λ it world s. sets_number old new world s c.args.next_number it.0 it.1) (ran clean);
       queue = λ clean. ok_on c.execute.result _ _ (λ it world marked s q. project_leaves old new world s marked q next_text (codes "next_number") next_made next_set c.args.next_number it.0 it.1) (ran clean);
+      spares = λ clean. ok_on c.execute.result _ _ (λ it. spares_set_project next_text (codes "next_number") next_made next_set c.args.next_number old new it.0 it.1) (ran clean);
     }

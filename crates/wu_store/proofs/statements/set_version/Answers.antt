@@ -5,6 +5,7 @@ use Rattle.wu_schema.proofs.InsertEffect.{also, no_more}
 use Rattle.wu_schema.proofs.CallLemmas.{ok_on, ran_as}
 use Rattle.wu_store.proofs.ChangeLemmas.{sent_number, sets_classes}
 use Rattle.wu_store.proofs.QueueLemmas.{project_leaves}
+use Rattle.wu_store.proofs.SpareLemmas.{spares_set_project}
 use Rattle.wu_store.proofs.statements.set_version.Goals as goal
 
 pub returns : goal.returns
@@ -18,4 +19,5 @@ returns g c =
       writes = c.execute.ensures.writes;
       sets = λ clean. ok_on c.execute.result _ _ (λ it world three older s c'. subst (λ n. Executes version_set_text (number n ∷ []) old new (Ok it.0) → Refines new.now (with_version n world)) (sym three) (sets_classes old new world s older c' it.0) it.1) (ran clean);
       queue = λ clean. ok_on c.execute.result _ _ (λ it world marked s q. project_leaves old new world s marked q version_set_text (codes "version") version_made version_set c.args.version it.0 it.1) (ran clean);
+      spares = λ clean. ok_on c.execute.result _ _ (λ it. spares_set_project version_set_text (codes "version") version_made version_set c.args.version old new it.0 it.1) (ran clean);
     }

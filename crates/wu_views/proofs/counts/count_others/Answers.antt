@@ -3,7 +3,7 @@ use Rattle.wu_store.proofs.AskLemmas.{asks_handed, asks_made, asks_stands, asks_
 use Rattle.wu_views.proofs.counts.count_others.Goals as goal
 
 pub returns-in_err-workunits-clause-unrefused : goal.returns-in_err-workunits-clause-unrefused
-returns-in_err-workunits-clause-unrefused g c clean world known stands can limit = handed_on c.from_residual.result c.in_err-workunits.field-0.0 c.from_residual.ensures.1 (c.in_err-workunits.ensures.unrefused clean world stands tt limit)
+returns-in_err-workunits-clause-unrefused g c clean world known stands can limit = handed_on c.from_residual.result c.in_err-workunits.field-0.0 c.from_residual.ensures.1 (c.in_err-workunits.ensures.unrefused clean world known stands tt limit)
 
 pub returns-in_err-place-clause-asks : goal.returns-in_err-place-clause-asks
 returns-in_err-place-clause-asks g c =
@@ -47,7 +47,7 @@ returns-clause-found g c clean world known stands =
     let still_first : Refines (state g.S.Store c.count_workunits.new.conn).now world = asks_stands g.S.Store _ _ c.in_ok-workunits.workunits c.in_ok-workunits.ensures.asks first world stands in
     let still_second : Refines (state g.S.Store c.next_archived_place.new.conn).now world = asks_stands g.S.Store _ _ c.in_ok-place.place c.in_ok-place.ensures.asks second world still_first in
     let still_third : Refines (state g.S.Store c.count_imports.new.conn).now world = asks_stands g.S.Store _ _ c.in_ok-imports.imports c.in_ok-imports.ensures.asks third world still_second in
-    let workunits = c.in_ok-workunits.ensures.found first world stands in
+    let workunits = c.in_ok-workunits.ensures.found first world known stands in
     let place = c.in_ok-place.ensures.place second world still_first in
     let archived : c.in_ok-place.place - 1 ≡ length world.archived = omega (arith, place) in
     let imports = c.in_ok-imports.ensures.found third world still_second in

@@ -1,8 +1,0 @@
-use Rattle.wu_arguments.proofs.TableLemmas.{subcommands_added}
-use Rattle.wu_arguments.specs.CommandLine.{all_subcommands}
-use Rattle.wu_arguments.proofs.command.command.Goals as goal
-
-pub returns : goal.returns
-returns c =
-    subcommands_added all_subcommands c.in_ok-subcommands.subcommands.items c.bare_command.result c.subcommands-2.result
-    c.in_ok-subcommands.ensures c.bare_command.ensures c.subcommands-2.ensures
