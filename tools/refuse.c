@@ -10,7 +10,7 @@
 //   REFUSE_LEFT     the path of the database, if REFUSE_AT is 0
 //   REFUSE_TELL, REFUSE_HEAR    numbers of open files, if REFUSE_AT is 0
 //
-// Reads, writes, syncs and cuts are those of files whose names end in ".db" or ".db-wal". A process that runs for more
+// Reads, writes, syncs and cuts are those of files whose names end in ".db", ".db-wal" or ".db-part". A process that runs for more
 // than a minute is killed.
 //
 // If REFUSE_AT is 0, no call of the process itself fails. At each call of the kind it waits while a child goes on in
@@ -160,7 +160,7 @@ static int is_of_database(int file) {
     if (length < 0) return 0;
     path[length] = 0;
     const char *dot = strrchr(path, '.');
-    return dot && (!strcmp(dot, ".db") || !strcmp(dot, ".db-wal"));
+    return dot && (!strcmp(dot, ".db") || !strcmp(dot, ".db-wal") || !strcmp(dot, ".db-part"));
 }
 
 #define REAL(name) ((__typeof__(&name))dlsym(RTLD_NEXT, #name))

@@ -11,16 +11,17 @@ use Rattle.wu_core.specs.declared.import.ImportKind.TheVariants as kind
 use Rattle.wu_rules.specs.declared.due.Pass.{Pass as PassKind}
 use Rattle.wu_rules.specs.declared.due.Pass.TheVariants as pass
 use Rattle.wu_arguments.specs.declared.option.LineOption.{LineOption}
-use Rattle.wu_arguments.specs.declared.option.LineOption.TheVariants.{Database, Checked, Name, Jobs, Template, File, Now, Limit, MinAge, Workunit, View, Topic, Detail}
+use Rattle.wu_arguments.specs.declared.option.LineOption.TheVariants.{Database, Checked, To, Name, Jobs, Template, File, Now, Limit, MinAge, Workunit, View, Topic, Detail}
 use Rattle.wu_arguments.specs.declared.option.OptionValue.{OptionValue}
 use Rattle.wu_arguments.specs.declared.option.OptionValue.TheVariants.{Text, TextIfAny, Number, Word}
 use Rattle.wu_arguments.specs.declared.subcommand.Subcommand.{Subcommand}
-use Rattle.wu_arguments.specs.declared.subcommand.Subcommand.TheVariants.{Import, Pass, Cancel, Cycle, Show, Upgrade, Script, Session, Check, Explain}
+use Rattle.wu_arguments.specs.declared.subcommand.Subcommand.TheVariants.{Import, Pass, Cancel, Cycle, Show, Upgrade, Script, Session, Check, Backup, Explain}
 
 -- The name of an option, without its two hyphens.
 abbrev pub option_name : LineOption → List ℕ
 option_name Database = codes "db"
 option_name Checked = codes "db"
+option_name To = codes "to"
 option_name Name = codes "name"
 option_name Jobs = codes "jobs"
 option_name Template = codes "template"
@@ -86,6 +87,7 @@ subcommand_name Upgrade = codes "upgrade"
 subcommand_name Script = codes "script"
 subcommand_name Session = codes "session"
 subcommand_name Check = codes "check"
+subcommand_name Backup = codes "backup"
 subcommand_name Explain = codes "explain"
 
 -- The options of a template: only a batch may have one.
@@ -108,13 +110,14 @@ options_of Upgrade = Database ∷ []
 options_of Script = Database ∷ File ∷ []
 options_of Session = Database ∷ []
 options_of Check = Checked ∷ []
+options_of Backup = Checked ∷ To ∷ []
 options_of Explain = Topic ∷ Detail ∷ []
 
 abbrev pub all_subcommands : List Subcommand
 all_subcommands =
     Import kind.Batch ∷ Import kind.Sent ∷ Import kind.Reported ∷ Import kind.Classes
     ∷ Pass pass.Transition ∷ Pass pass.Validate ∷ Pass pass.Assimilate ∷ Pass pass.Delete ∷ Pass pass.Purge
-    ∷ Cancel ∷ Cycle ∷ Show ∷ Upgrade ∷ Script ∷ Session ∷ Check ∷ Explain ∷ []
+    ∷ Cancel ∷ Cycle ∷ Show ∷ Upgrade ∷ Script ∷ Session ∷ Check ∷ Backup ∷ Explain ∷ []
 
 -- The subcommand of this name.
 abbrev pub subcommand_named : List ℕ → Option Subcommand

@@ -83,5 +83,7 @@ IsOrder found asked (order.Script script) =
     (asked ≡ subcommand.Script) × IsTextIn found option.Database script.db × IsTextIn found option.File script.file
 IsOrder found asked (order.Session path) = (asked ≡ subcommand.Session) × IsTextIn found option.Database path
 IsOrder found asked (order.Check path) = (asked ≡ subcommand.Check) × IsTextIn found option.Checked path
+IsOrder found asked (order.Backup files) =
+    (asked ≡ subcommand.Backup) × IsTextIn found option.Checked files.db × IsTextIn found option.To files.to
 IsOrder found asked (order.Explain topic) =
     (asked ≡ subcommand.Explain) × (value_in found option.Topic ≡ topic.name) × (value_in found option.Detail ≡ topic.detail)

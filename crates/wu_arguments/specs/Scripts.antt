@@ -10,7 +10,7 @@ use Rattle.wu_arguments.specs.declared.line.Line.{Line}
 use Rattle.wu_arguments.specs.declared.order.Order.{Order}
 use Rattle.wu_arguments.specs.declared.order.Order.TheVariants as order
 use Rattle.wu_arguments.specs.declared.refusal.Outsider.{Outsider}
-use Rattle.wu_arguments.specs.declared.refusal.Outsider.TheVariants.{Script, Session, Check, Explanation}
+use Rattle.wu_arguments.specs.declared.refusal.Outsider.TheVariants.{Script, Session, Check, Backup, Explanation}
 use Rattle.wu_arguments.specs.declared.refusal.Refusal.{Refusal}
 use Rattle.wu_arguments.specs.declared.refusal.Refusal.TheVariants as refusal
 
@@ -19,12 +19,13 @@ use Rattle.wu_arguments.specs.declared.refusal.Refusal.TheVariants as refusal
 abbrev pub command_words : List ℕ → List (List ℕ) → List (List ℕ)
 command_words db words = codes "lintelthyme" ∷ words ++ (codes "--db=" ++ db) ∷ []
 
--- What a script may not contain: another script, a check or an explanation.
+-- What a script may not contain: another script, a session, a check, a backup or an explanation.
 abbrev pub outsider_of : Order → Option Outsider
 outsider_of (order.Line line) = None
 outsider_of (order.Script script) = Some Script
 outsider_of (order.Session path) = Some Session
 outsider_of (order.Check path) = Some Check
+outsider_of (order.Backup files) = Some Backup
 outsider_of (order.Explain topic) = Some Explanation
 
 -- The words read as this line, or as this refusal; any words may be out of memory.

@@ -48,6 +48,8 @@ pub enum LineOption {
     Database,
     /// The file that is checked.
     Checked,
+    /// The file that a backup makes.
+    To,
     /// The name of an import.
     Name,
     /// A file of jobs.
@@ -92,6 +94,12 @@ impl LineOption {
                 value: OptionValue::Text,
                 value_name: "PATH",
                 help: "The database file that is checked; it is neither made nor changed",
+            },
+            LineOption::To => OptionForm {
+                name: "to",
+                value: OptionValue::Text,
+                value_name: "FILE",
+                help: "The file that is made; a path that is there is refused",
             },
             LineOption::Name => OptionForm {
                 name: "name",

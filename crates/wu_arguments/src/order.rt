@@ -12,6 +12,15 @@ pub struct ScriptFile {
     pub file: Word,
 }
 
+/// A backup: the database that is copied, and the file that is made.
+#[derive(Drop)]
+pub struct BackupFiles {
+    /// The file that holds the project.
+    pub db: Word,
+    /// The file that is made.
+    pub to: Word,
+}
+
 /// What is explained: a topic, of views and files with the name of one, or without a topic what topics there are.
 #[derive(Drop)]
 pub struct Topic {
@@ -30,6 +39,8 @@ pub enum Order {
     Session(Word),
     /// A check of the database at this path.
     Check(Word),
+    /// A copy of a sound project in a file of its own.
+    Backup(BackupFiles),
     /// An explanation.
     Explain(Topic),
 }

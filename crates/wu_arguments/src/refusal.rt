@@ -17,6 +17,7 @@ pub enum Outsider {
     Script,
     Session,
     Check,
+    Backup,
     Explanation,
 }
 

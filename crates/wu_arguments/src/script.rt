@@ -49,6 +49,7 @@ fn line_of_words(alloc: Global, db: &str, words: Words) -> Result<Line, Refusal>
         Order::Script(_) => Err(Refusal::Outsider(Outsider::Script)),
         Order::Session(_) => Err(Refusal::Outsider(Outsider::Session)),
         Order::Check(_) => Err(Refusal::Outsider(Outsider::Check)),
+        Order::Backup(_) => Err(Refusal::Outsider(Outsider::Backup)),
         Order::Explain(_) => Err(Refusal::Outsider(Outsider::Explanation)),
     }
 }
@@ -90,7 +91,7 @@ pub fn line_of_all(alloc: Global, db: &str, words: Words, repeats: bool) -> Resu
     // The line is to be repeated exactly where its first word is `repeat`.
     requires { repeats ≡ asks_to_repeat words }
     // A line is the command line of its words, with the program's name before and the database
-    // after. It is refused by `clap`, for a script, a check or an explanation, or by out of memory;
+    // after. It is refused by `clap`, for what stands in no script, or by out of memory;
     // and only a pass can be repeated.
     ensures { ReadsWordsOf db.now words repeats result }
 {

@@ -32,11 +32,12 @@ pub enum Subcommand {
     Script,
     Session,
     Check,
+    Backup,
     Explain,
 }
 
 /// All subcommands, in the order of help.
-pub const SUBCOMMANDS: [Subcommand; 17] = [
+pub const SUBCOMMANDS: [Subcommand; 18] = [
     Subcommand::Import(ImportKind::Batch),
     Subcommand::Import(ImportKind::Sent),
     Subcommand::Import(ImportKind::Reported),
@@ -53,6 +54,7 @@ pub const SUBCOMMANDS: [Subcommand; 17] = [
     Subcommand::Script,
     Subcommand::Session,
     Subcommand::Check,
+    Subcommand::Backup,
     Subcommand::Explain,
 ];
 
@@ -176,6 +178,12 @@ impl Subcommand {
                 about: "Tell whether a database holds a sound project; nothing is made or changed",
                 example: "Example: lintelthyme check --db project.db",
             },
+            Subcommand::Backup => SubcommandForm {
+                name: "backup",
+                options: &[LineOption::Checked, LineOption::To],
+                about: "Check a copy of a project and write it into a new file, without a log; the project is not changed",
+                example: "Example: lintelthyme backup --db project.db --to backup.db",
+            },
             Subcommand::Explain => SubcommandForm {
                 name: "explain",
                 options: &[LineOption::Topic, LineOption::Detail],
@@ -187,7 +195,7 @@ impl Subcommand {
 
     /// Returns the subcommand of this name.
     pub fn named(name: &str) -> Option<Subcommand>
-        // Each of the seventeen names gives its subcommand, and any other text `None`.
+        // Each of the eighteen names gives its subcommand, and any other text `None`.
         ensures { result ≡ subcommand_named name.now }
     {
         for one in SUBCOMMANDS {

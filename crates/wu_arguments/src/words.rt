@@ -8,7 +8,7 @@ ghost use Rattle.wu_arguments.specs.Refusals.{Explains, HasText, IsLacking, IsOr
 
 use crate::line::{Asking, Line};
 use crate::option::LineOption;
-use crate::order::{Order, ScriptFile, Topic};
+use crate::order::{BackupFiles, Order, ScriptFile, Topic};
 use crate::parse::parse;
 use crate::subcommand::Subcommand;
 use crate::usage::Usage;
@@ -152,6 +152,17 @@ fn script(alloc: Global, found: &ArgMatches<'_>) -> Result<Order, Usage>
     }))
 }
 
+/// Reads the database that is backed up, and the file that is made.
+fn read_backup(alloc: Global, found: &ArgMatches<'_>) -> Result<Order, Usage>
+    ensures order { IfOk result (IsOrder (rows_of (found_of found.now)) Subcommand.Backup) }
+    ensures refused { IfErr result (IsLacking (rows_of (found_of found.now)) Subcommand.Backup) }
+{
+    Ok(Order::Backup(BackupFiles {
+        db: text(alloc, found, LineOption::Checked)?,
+        to: text(alloc, found, LineOption::To)?,
+    }))
+}
+
 /// Reads the topic of an explanation.
 fn read_topic(alloc: Global, found: &ArgMatches<'_>) -> Result<Order, Usage>
     ensures order { IfOk result (IsOrder (rows_of (found_of found.now)) Subcommand.Explain) }
@@ -182,6 +193,7 @@ fn order_of(alloc: Global, subcommand: Subcommand, found: &ArgMatches<'_>) -> Re
         Subcommand::Script => script(alloc, found),
         Subcommand::Session => Ok(Order::Session(text(alloc, found, LineOption::Database)?)),
         Subcommand::Check => Ok(Order::Check(text(alloc, found, LineOption::Checked)?)),
+        Subcommand::Backup => read_backup(alloc, found),
         Subcommand::Explain => read_topic(alloc, found),
     }
 }

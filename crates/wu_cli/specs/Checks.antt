@@ -17,6 +17,8 @@ use Rattle.wu_loader.specs.declared.finding.LoadedTable.{LoadedTable}
 use Rattle.wu_loader.specs.declared.finding.LoadedTable.TheVariants as table
 use Rattle.wu_report.specs.Texts.{line_end}
 use Rattle.wu_tables.specs.Known.{name_of}
+use Rattle.wu_tables.specs.declared.known.ProjectTable.{ProjectTable}
+use Rattle.wu_tables.specs.declared.known.ProjectTable.TheVariants.{Project}
 use Rattle.wu_tables.specs.declared.project.Misfit.{Misfit}
 use Rattle.wu_tables.specs.declared.project.Misfit.TheVariants as misfit
 use Rattle.wu_cli.specs.declared.reason.Reason.{Reason}
@@ -57,8 +59,13 @@ key_text (key.Archived place) = codes "archived " ++ decimal place
 key_text (key.Import kind name) = codes "import " ++ kind_word kind ++ codes " " ++ name
 key_text (key.HostClass host) = codes "host_class " ++ host
 
+-- What is printed behind the name of a table that is missing. Without its first table there is no project.
+abbrev pub missing_text : ProjectTable → List ℕ
+missing_text Project = codes " is missing: there is no project yet"
+missing_text _ = codes " is missing"
+
 abbrev pub misfit_line : Misfit → List ℕ
-misfit_line (misfit.Missing table) = codes "table " ++ name_of table ++ codes " is missing" ++ line_end
+misfit_line (misfit.Missing table) = codes "table " ++ name_of table ++ missing_text table ++ line_end
 misfit_line (misfit.Altered table) = codes "table " ++ name_of table ++ codes " is not that of a project" ++ line_end
 misfit_line misfit.HostNames = codes "table host has an index that does not compare names by their bytes" ++ line_end
 
@@ -99,6 +106,16 @@ reason_of (SqliteFailure code.DatabaseCorrupt) = reason.Damaged
 reason_of (SqliteFailure code.SystemIoFailure) = reason.FailingDisk
 reason_of (SqliteFailure code.DiskFull) = reason.FullDisk
 reason_of _ = reason.Refused
+
+-- The reason over a copy in memory, which has no disk: its files fail only if memory runs out.
+abbrev pub over_copy : Reason → Reason
+over_copy reason.FailingDisk = reason.Memory
+over_copy reason.FullDisk = reason.Memory
+over_copy other = other
+
+-- The reason of an error of the store over a copy in memory.
+abbrev pub reason_of_copy : Error → Reason
+reason_of_copy error = over_copy (reason_of error)
 
 -- The reason of an error of the system, on opening a file.
 abbrev pub reason_of_file : ErrorKind → Reason

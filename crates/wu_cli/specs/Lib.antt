@@ -1,3 +1,4 @@
+pub mod Backups
 pub mod Checking
 pub mod Checks
 pub mod Endings

@@ -6,6 +6,7 @@ use Rattle.wu_core.specs.declared.fault.Fault.{Fault}
 use Rattle.wu_core.specs.declared.fault.Fault.TheVariants as fault
 use Rattle.wu_arguments.specs.declared.usage.Usage.TheVariants.{NotText}
 use Rattle.wu_arguments.specs.Statuses.{fault_status, refusal_status, usage_status}
+use Rattle.wu_cli.specs.Backups.{unmade_line, unmade_status}
 use Rattle.wu_cli.specs.Checks.{finding_line, reason_line, reason_status}
 use Rattle.wu_cli.specs.Endings.{bad_line_text, fault_line, line_fault_text, unopened_line, usage_text}
 use Rattle.wu_cli.specs.declared.trouble.Trouble.{Trouble}
@@ -21,6 +22,7 @@ trouble_status (trouble.Fault fault) = fault_status fault
 trouble_status (trouble.LineFault end) = fault_status end.fault
 trouble_status (trouble.Unchecked reason) = reason_status reason
 trouble_status (trouble.Unsound finding) = 1
+trouble_status (trouble.Unmade why) = unmade_status why
 
 abbrev pub trouble_text : Trouble → List ℕ
 trouble_text (trouble.Usage usage) = usage_text usage
@@ -30,6 +32,7 @@ trouble_text (trouble.Fault fault) = fault_line fault
 trouble_text (trouble.LineFault end) = line_fault_text end
 trouble_text (trouble.Unchecked reason) = reason_line reason
 trouble_text (trouble.Unsound finding) = finding_line finding
+trouble_text (trouble.Unmade why) = unmade_line why
 
 -- The trouble of a failed opening: out of memory, or else that the database cannot be opened.
 abbrev pub trouble_of_opening : Fault → Trouble

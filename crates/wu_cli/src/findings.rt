@@ -5,7 +5,7 @@ ghost use Rattle.std.specs.Fmt.{decimal};
 ghost use Rattle.wu_core.specs.declared.fault.Fault.TheVariants.{Output};
 ghost use Rattle.wu_report.specs.Texts.{line_end};
 ghost use Rattle.wu_report.specs.Writing.{WritesTo};
-ghost use Rattle.wu_cli.specs.Checks.{finding_line, key_text, kind_word, misfit_line, row_front, sound_line};
+ghost use Rattle.wu_cli.specs.Checks.{finding_line, key_text, kind_word, misfit_line, missing_text, row_front, sound_line};
 
 use crate::texts::{placed, write_flushed, write_line};
 use std::io::Write;
@@ -13,7 +13,7 @@ use wu_check::{Finding, Key};
 use wu_core::{Fault, ImportKind};
 use wu_loader::finding::LoadedTable;
 use wu_report::{Piece, write_pieces};
-use wu_tables::Misfit;
+use wu_tables::{Misfit, ProjectTable};
 
 /// Returns the word of the subcommand that imports such files.
 fn kind_word(kind: ImportKind) -> &'static str
@@ -92,12 +92,22 @@ fn of_table<'a, W: Write>(out: &mut W, name: &'a str, what: &'a str) -> Result<(
     )
 }
 
+/// Returns what is written behind the name of a table that is missing. Without its first table there is no project.
+fn missing_text(table: ProjectTable) -> &'static str
+    ensures { result.now ≡ missing_text table }
+{
+    match table {
+        ProjectTable::Project => " is missing: there is no project yet",
+        _ => " is missing",
+    }
+}
+
 /// Writes why the tables are not those of a project.
 fn line_of_misfit<W: Write>(out: &mut W, misfit: Misfit) -> Result<(), Fault>
     ensures { WritesTo W.contents out.old out.new (misfit_line misfit) result }
 {
     match misfit {
-        Misfit::Missing(table) => of_table(out, table.form().name, " is missing"),
+        Misfit::Missing(table) => of_table(out, table.form().name, missing_text(table)),
         Misfit::Altered(table) => of_table(out, table.form().name, " is not that of a project"),
         Misfit::HostNames => write_line(
             out,

@@ -1,6 +1,7 @@
 //! The command line: what its words do over a project, the status that it ends with, and the lines of faults.
 #![tactic(auto)]
 
+mod backup;
 mod checking;
 mod explaining;
 mod findings;
@@ -14,6 +15,7 @@ mod texts;
 mod trouble;
 mod work;
 
+pub use backup::{Counts, Unmade, count_sound, write_backed_up};
 pub use checking::check_over;
 pub use explaining::explain;
 pub use performing::{perform, perform_script};

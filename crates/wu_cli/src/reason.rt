@@ -2,7 +2,7 @@
 
 ghost use Rattle.std.specs.Prelude.{◌≡◌};
 ghost use Rattle.std.specs.IoError.{error_kind};
-ghost use Rattle.wu_cli.specs.Checks.{reason_line, reason_of, reason_of_file, reason_of_reading, reason_status};
+ghost use Rattle.wu_cli.specs.Checks.{reason_line, reason_of, reason_of_copy, reason_of_file, reason_of_reading, reason_status};
 
 use sqlite::{Error, ErrorCode};
 use std::io::{self, ErrorKind};
@@ -43,6 +43,17 @@ impl Reason {
             Error::SqliteFailure(ErrorCode::SystemIoFailure) => Reason::FailingDisk,
             Error::SqliteFailure(ErrorCode::DiskFull) => Reason::FullDisk,
             _ => Reason::Refused,
+        }
+    }
+
+    /// Returns the reason for an error of the store over a copy in memory. Its files fail only if memory runs out.
+    pub fn of_copy(error: &Error) -> Reason
+        // Each error has the reason that `of` gives, but a failing or full disk is out of memory.
+        ensures { result ≡ reason_of_copy error.now }
+    {
+        match Reason::of(error) {
+            Reason::FailingDisk | Reason::FullDisk => Reason::Memory,
+            other => other,
         }
     }
 

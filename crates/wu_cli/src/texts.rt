@@ -175,6 +175,7 @@ fn outsider_line(outsider: Outsider) -> &'static str
         Outsider::Script => "a script cannot stand in a script\n",
         Outsider::Session => "a session cannot stand in a script\n",
         Outsider::Check => "a check cannot stand in a script\n",
+        Outsider::Backup => "a backup cannot stand in a script\n",
         Outsider::Explanation => "an explanation cannot stand in a script\n",
     }
 }

@@ -9,6 +9,7 @@ ghost use Rattle.wu_report.specs.Writing.{WritesTo};
 ghost use Rattle.std.specs.IoError.{error_kind};
 ghost use Rattle.wu_schema.specs.Faults.{fault_of};
 
+use crate::backup::Unmade;
 use crate::findings::line_of_finding;
 use crate::reason::Reason;
 use crate::texts::{
@@ -42,6 +43,8 @@ pub enum Trouble {
     Unchecked(Reason),
     /// The database that was checked holds no sound project.
     Unsound(Finding),
+    /// The file of a backup is not made.
+    Unmade(Unmade),
 }
 
 impl From<Usage> for Trouble {
@@ -107,6 +110,7 @@ impl Trouble {
             Trouble::LineFault(end) => fault_status(end.fault),
             Trouble::Unchecked(reason) => reason.status(),
             Trouble::Unsound(_) => UNSOUND,
+            Trouble::Unmade(why) => why.status(),
         }
     }
 
@@ -135,6 +139,7 @@ fn write_trouble<E: Write>(trouble: &Trouble, err: &mut E) -> Result<(), Fault>
         Trouble::LineFault(end) => line_of_line_fault(err, *end),
         Trouble::Unchecked(reason) => write_text(err, reason.line()),
         Trouble::Unsound(finding) => line_of_finding(err, finding),
+        Trouble::Unmade(why) => write_text(err, why.line()),
     }
 }
 

@@ -26,6 +26,7 @@ pub fn subject_text<'a>(name: &str) -> Option<&'a str>
   mask          why a workunit is given up
   scripts       many commands in one opening
   checks        whether a database holds a sound project
+  backups       a copy of a project in a file of its own
 Faults, causes and words of skipped rows are taken as they are printed.
 ",
         ),
@@ -148,6 +149,17 @@ row or its place in order of the key, and what is the matter; or with status 3
 why the database can't be opened. It changes no table and makes no database, and
 its memory grows with the tables. Where it tells something, stop all passes, keep
 a copy of both files, and go back to a copy that a check calls sound.
+",
+        ),
+        "backups" => Some(
+            "A copy of a project in a file of its own
+lintelthyme backup --db PATH --to FILE reads a project as a check does, makes FILE
+with all of its tables and without a log, and answers once FILE is on the disk
+  backup FILE: version=3 workunits=4 results=8
+What a check finds wrong is told instead, with its status, and no file is made. So
+is a path where something lies, with status 1, and with 3 a disk that does not take
+the file. While another process has the project, there is no backup of it. After a
+crash FILE is there whole or not at all; a FILE-part that is left may be removed.
 ",
         ),
         _ => None,

@@ -61,6 +61,7 @@ pub fn subcommand_text<'a>(word: &str) -> Option<&'a str>
         "delete" | "purge" | "cycle" => subject_text("passes"),
         "script" => subject_text("scripts"),
         "check" => subject_text("checks"),
+        "backup" => subject_text("backups"),
         _ => None,
     }
 }

@@ -13,12 +13,11 @@ use Rattle.sqlite.specs.Store.{Ghosts as StoreGhosts}
 use Rattle.sqlite.specs.declared.error.Error.{Error}
 use Rattle.sqlite.specs.declared.file.Leftover.{Leftover}
 use Rattle.wu_cli.specs.Checking.{ChecksOver}
-use Rattle.wu_cli.specs.Checks.{reason_of}
+use Rattle.wu_cli.specs.Checks.{reason_of_copy}
 use Rattle.wu_cli.specs.declared.reason.Reason.{Reason}
 use Rattle.wu_cli.specs.declared.trouble.Trouble.{Trouble}
 use Rattle.wu_cli.specs.declared.trouble.Trouble.TheVariants as trouble
-use Rattle.wu_process.specs.Copies.{AreCopiesOf, memory_disk}
-use Rattle.wu_process.specs.declared.copy.FileBytes.{FileBytes}
+use Rattle.wu_process.specs.Copies.{AreCopiedFrom, memory_disk}
 
 -- An open database is checked, and then dropped.
 abbrev pub DropsChecked : {S W : Type 0} → StoreGhosts S → (W → Option (List ℕ)) → Held S → W → W → Result (Unit {0}) Trouble → Type 0
@@ -44,7 +43,7 @@ module _ {D W : Type 0} (g : Ghosts D) (contents : W → Option (List ℕ)) wher
     pub rest : Leftover D g
     pub named : IsTrue (is_open_error error)
     pub cause : IsCleanLeft rest → FailsToOpenFiles files rest error
-    pub told : done ≡ Err (trouble.Unchecked (reason_of error))
+    pub told : done ≡ Err (trouble.Unchecked (reason_of_copy error))
     pub unwritten : new ≡ old
 
   abbrev pub ChecksFiles : Files D → W → W → Result (Unit {0}) Trouble → Type 0
@@ -53,10 +52,8 @@ module _ {D W : Type 0} (g : Ghosts D) (contents : W → Option (List ℕ)) wher
 module _ {W : Type 0} (contents : W → Option (List ℕ)) where
   -- These bytes were read of the files at the path, and a copy with exactly these bytes is checked.
   pub record ChecksCopy (path : List ℕ) (old new : W) (done : Result (Unit {0}) Trouble) : Type 0 where
-    pub bytes : FileBytes
-    pub read_at : bytes.path.now ≡ path
     pub files : Files Memory
-    pub copied : AreCopiesOf bytes files
+    pub copy : AreCopiedFrom path files
     pub checks : ChecksFiles memory_disk contents files old new done
 
   -- The files cannot be read or copied: the reason is reported, and nothing goes out.

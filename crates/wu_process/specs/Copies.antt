@@ -17,6 +17,12 @@ pub record AreCopiesOf (bytes : FileBytes) (files : Files Memory) : Type 0 where
   pub log : IsCopyOf bytes.log.items files.log
   pub db : IsCopyOf bytes.db.items files.db
 
+-- These bytes were read of the two files at this path, and the files in memory have just these bytes.
+pub record AreCopiedFrom (path : List ℕ) (files : Files Memory) : Type 0 where
+  pub bytes : FileBytes
+  pub read_at : bytes.path.now ≡ path
+  pub copied : AreCopiesOf bytes files
+
 -- A file in memory as the disk of a database: it always returns what was written.
 abbrev pub memory_disk : Ghosts Memory
 memory_disk = record {

@@ -1,4 +1,5 @@
 pub mod Asking
+pub mod Backups
 pub mod Checks
 pub mod Closing
 pub mod Copies

@@ -13,6 +13,7 @@ use Rattle.sqlite.specs.declared.error.Error.{Error}
 use Rattle.sqlite.specs.declared.file.Leftover.{Leftover}
 use Rattle.wu_schema.specs.Faults.{fault_of}
 use Rattle.wu_arguments.specs.Refusals.{IsOrderOf}
+use Rattle.wu_arguments.specs.declared.order.BackupFiles.{BackupFiles}
 use Rattle.wu_arguments.specs.declared.order.Order.{Order}
 use Rattle.wu_arguments.specs.declared.order.Order.TheVariants as order
 use Rattle.wu_arguments.specs.declared.order.Topic.{Topic}
@@ -24,6 +25,7 @@ use Rattle.wu_cli.specs.Working.{DoesOver, DrivesOver}
 use Rattle.wu_cli.specs.declared.trouble.Trouble.{Trouble}
 use Rattle.wu_cli.specs.declared.work.Work.{Work}
 use Rattle.wu_process.specs.Asking.{AsksFor, database_in, RefusesWords}
+use Rattle.wu_process.specs.Backups.{BacksUp, may_become}
 use Rattle.wu_process.specs.Checks.{ChecksPath}
 use Rattle.wu_process.specs.Closing.{IsLeftByClose}
 use Rattle.wu_process.specs.Opening.{IsBar, IsOpenedAt, IsUnopened}
@@ -71,11 +73,12 @@ pub record RunsNothing {W : Type 0} (words : List (List ℕ)) (old new : W) (don
   pub unwritten : new ≡ old
 
 module _ {W : Type 0} (contents : W → Option (List ℕ)) where
-  -- The words ask for a check, or for an explanation.
+  -- The words ask for a check, for a backup, or for an explanation.
   abbrev pub RunsAside : List (List ℕ) → W → W → Result (Unit {0}) Trouble → Type 0
   RunsAside words old new done =
       ((path : List ℕ) × IsOrderOf words (order.Check path) × ChecksPath contents path old new done)
-      ⊎ ((topic : Topic) × IsOrderOf words (order.Explain topic) × ExplainsTopic contents old new done)
+      ⊎ (((files : BackupFiles) × IsOrderOf words (order.Backup files) × BacksUp may_become contents files.db files.to old new done)
+      ⊎ ((topic : Topic) × IsOrderOf words (order.Explain topic) × ExplainsTopic contents old new done))
 
 module _ {S W : Type 0} {c : calls.Ghosts Host} {s : start.Ghosts S} {g : Ghosts (Modelled Host S c s)} (contents : W → Option (List ℕ)) where
   -- The database of this path is opened, over two files that held what the start says, and the work is done over it.
@@ -109,7 +112,8 @@ module _ {S W : Type 0} {c : calls.Ghosts Host} {s : start.Ghosts S} {g : Ghosts
     pub asked : AsksFor words order work
     pub runs : OpensAndDoes (database_in order) work old new done left
 
-  -- A run leaves a database only if its words ask for work. Otherwise it is refused, a check, or an explanation.
+  -- A run leaves a database only if its words ask for work. Otherwise it is refused, a check, a backup, or an
+  -- explanation.
   abbrev pub RunsWords : List (List ℕ) → W → W → Result (Unit {0}) Trouble → Option (LeftDatabase (Modelled Host S c s) g) → Type 0
   RunsWords words old new done (Some left) = RunsAsked words old new done left
   RunsWords words old new done None = RunsNothing words old new done ⊎ RunsAside contents words old new done

@@ -16,7 +16,7 @@ use wu_core::Fault;
 const HEADER: &[u8] = b"SQLite format 3\0";
 
 /// Returns whether the path names a log or a journal of a database, and no database.
-fn is_of_another(path: &str) -> bool {
+pub fn is_of_another(path: &str) -> bool {
     path.ends_with("-wal") || path.ends_with("-journal")
 }
 

@@ -4,7 +4,7 @@ ghost use Rattle.std.specs.Prelude.{IsTrue};
 ghost use Rattle.wu_cli.specs.Checking.{ChecksOver};
 ghost use Rattle.wu_process.specs.Checks.{ChecksFiles, ChecksPath, DropsChecked};
 
-use crate::copy::{files_in_memory, read_database};
+use crate::copy::copy_in_memory;
 use sqlite::{Alter, Connection, Files, Options};
 use sqlite_disk::Disk;
 use std::alloc::Global;
@@ -39,12 +39,12 @@ fn check_files<D: Disk + Drop, O: Write>(
 {
     match Connection::open_files(alloc, files, options) {
         Ok(conn) => check_and_drop(alloc, conn, out),
-        Err((error, _left)) => Err(Trouble::Unchecked(Reason::of(&error))),
+        Err((error, _left)) => Err(Trouble::Unchecked(Reason::of_copy(&error))),
     }
 }
 
 /// Returns options with a seed of this run.
-fn options(rt: &HostRuntime) -> Options {
+pub fn options(rt: &HostRuntime) -> Options {
     let seed = match RandomState::new(rt) {
         Ok(state) => state.hash_one(&0u8),
         Err(_) => 0,
@@ -59,15 +59,8 @@ pub fn check_path<O: Write>(rt: &HostRuntime, path: &str, out: &mut O) -> Result
     // reason why it cannot be is reported, and nothing goes out.
     ensures { ChecksPath O.contents path.now out.old out.new result }
 {
-    let bytes = match read_database(rt, path) {
-        Ok(bytes) => bytes,
-        Err(reason) => return Err(Trouble::Unchecked(reason)),
-    };
-    let files = match files_in_memory(rt.alloc(), &bytes) {
-        Ok(files) => files,
-        Err(why) => return Err(Trouble::Unchecked(why)),
-    };
-    // the check needs the copy alone
-    drop(bytes);
-    check_files(rt.alloc(), files, options(rt), out)
+    match copy_in_memory(rt, path) {
+        Ok(files) => check_files(rt.alloc(), files, options(rt), out),
+        Err(reason) => Err(Trouble::Unchecked(reason)),
+    }
 }

@@ -2,7 +2,7 @@
 
 ghost use Rattle.std.specs.Prelude.{◌≡◌, IfErr, IfOk};
 ghost use Rattle.wu_cli.specs.declared.reason.Reason.TheVariants.{Memory as WantsMemory};
-ghost use Rattle.wu_process.specs.Copies.{AreCopiesOf, IsCopyOf};
+ghost use Rattle.wu_process.specs.Copies.{AreCopiedFrom, AreCopiesOf, IsCopyOf};
 
 use crate::beside::{has_log, is_foreign};
 use sqlite::{FileFrom, Files};
@@ -163,7 +163,7 @@ fn refuse_foreign(rt: &HostRuntime, path: &str) -> Result<(), Reason> {
 
 /// Reads the bytes of the database at the path and of its log, as they are at one moment. A file that another program
 /// writes to meanwhile is in use. The log lies beside the file to which a link leads.
-pub fn read_database<'a>(rt: &HostRuntime, path: &'a str) -> Result<FileBytes<'a>, Reason>
+fn read_database<'a>(rt: &HostRuntime, path: &'a str) -> Result<FileBytes<'a>, Reason>
     // The bytes carry the path that was asked for. What the bytes are is not stated.
     ensures { IfOk result (λ bytes. bytes.path.now ≡ path.now) }
 {
@@ -191,7 +191,7 @@ fn file_in_memory(alloc: Global, bytes: &[u8]) -> Result<Memory, Reason>
 }
 
 /// Makes the two files in memory, with these bytes.
-pub fn files_in_memory(alloc: Global, bytes: &FileBytes<'_>) -> Result<Files<Memory>, Reason>
+fn files_in_memory(alloc: Global, bytes: &FileBytes<'_>) -> Result<Files<Memory>, Reason>
     // Both files in memory have just the bytes that were read, and can be used.
     ensures copies { IfOk result (AreCopiesOf bytes.now) }
     // The only refusal is out of memory.
@@ -200,4 +200,13 @@ pub fn files_in_memory(alloc: Global, bytes: &FileBytes<'_>) -> Result<Files<Mem
     let log = file_in_memory(alloc, &bytes.log)?;
     let db = file_in_memory(alloc, &bytes.db)?;
     Ok(Files { log, db })
+}
+
+/// Copies the two files of the database at the path into memory, as they are at one moment. The copies alone are kept.
+pub fn copy_in_memory(rt: &HostRuntime, path: &str) -> Result<Files<Memory>, Reason>
+    // Both files in memory have just the bytes that were read of the files at this path.
+    ensures { IfOk result (AreCopiedFrom path.now) }
+{
+    let bytes = read_database(rt, path)?;
+    files_in_memory(rt.alloc(), &bytes)
 }

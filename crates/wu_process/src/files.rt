@@ -17,6 +17,11 @@ impl<'a> HostFiles<'a> {
     pub fn new(rt: &'a HostRuntime) -> Self {
         HostFiles { rt }
     }
+
+    /// Returns the runtime.
+    pub fn runtime(&self) -> &'a HostRuntime {
+        self.rt
+    }
 }
 
 impl ReadFile for HostFiles<'_> {

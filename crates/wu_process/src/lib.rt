@@ -11,14 +11,17 @@ ghost use Rattle.wu_process.specs.Running.{EndsSo, TellsTrouble};
 ghost use Rattle.wu_process.specs.Serving.{EndsRan, EndsServed, RanFor};
 ghost use Rattle.wu_process.specs.Processes.{Demonstrates, EndsAsRun, RunsProcess};
 
+mod backup;
 mod beside;
 mod check;
 mod copy;
 mod database;
 mod files;
 mod made;
+mod new_file;
 mod signs;
 
+use backup::back_up;
 use check::check_path;
 pub use database::LeftDatabase;
 use database::{hold_session, open_and_perform};
@@ -66,8 +69,8 @@ fn run_words<S: sqlite::Start, R: BufRead, O: Write, E: Write>(
     err: &mut E,
 ) -> Ran<FileFrom<S>>
     // Refused words, and a line or a script that cannot be run, are reported, and nothing goes out.
-    // Otherwise the work is done over the database that the words name, or the check, or the
-    // explanation, or a session is held.
+    // Otherwise the work is done over the database that the words name, or the check, the backup or
+    // the explanation, or a session is held.
     ensures { RanFor O.contents (map string_bytes words.now) out.old out.new err.old err.new
         (R.remaining input.old) (R.remaining input.new) result }
 {
@@ -89,6 +92,10 @@ fn run_words<S: sqlite::Start, R: BufRead, O: Write, E: Write>(
             Ran::Served(done, left)
         }
         Ok(Order::Check(path)) => Ran::Done(check_path(rt, path.as_str(), out), None),
+        Ok(Order::Backup(asked)) => {
+            let (path, to) = (asked.db.as_str(), asked.to.as_str());
+            Ran::Done(back_up(rt, path, to, &files, out), None)
+        }
         Ok(Order::Explain(topic)) => Ran::Done(explain(&topic, out), None),
         Err(usage) => Ran::Done(Err(Trouble::Usage(usage)), None),
     }

@@ -44,7 +44,7 @@ use Rattle.wu_schema.specs.Faults.{IsFailure}
 use Rattle.wu_stops.proofs.StoppingLemmas.{stands_still}
 use Rattle.wu_store.specs.StandsFor.{StandsFor}
 use Rattle.wu_cli.specs.Checking.{TellsFault, TellsVerdict}
-use Rattle.wu_cli.specs.Checks.{reason_of, sound_line}
+use Rattle.wu_cli.specs.Checks.{reason_of_copy, sound_line}
 use Rattle.wu_cli.specs.declared.trouble.Trouble.{Trouble}
 use Rattle.wu_cli.specs.declared.trouble.Trouble.TheVariants as trouble
 use Rattle.wu_process.specs.Checks.{ChecksOpened, ChecksUnopened}
@@ -55,7 +55,7 @@ use Rattle.wu_process_laws.proofs.Leaving.{none_beside}
 -- ---- order
 
 -- the rows of each table that an opening finds stand in order of their rowids
-found_in_order : (image : Image) (db : Database) → AreFoundIn image db.trees → IsDatabase db → IsInOrder db
+pub found_in_order : (image : Image) (db : Database) → AreFoundIn image db.trees → IsDatabase db → IsInOrder db
 found_in_order image db (inl (size, pages, wanted, adopts, ours, reads)) sound table has =
     ∥∥₁_elim ours (IsShaped-prop shape.Table (db.trees table.tree)) (λ it.
     let ordered : IsOrdered (all_shapes wanted) (file_trees size wanted pages) = all_ordered it.file.db (version_in pages) in
@@ -71,7 +71,7 @@ found_in_order image db (inr (nothing, empty)) sound table has =
 
 -- ---- a disk in memory tells no lie
 
-memory_clean : (conn : Held (FileStore Memory memory_disk)) → HasCleanDisk (file_state conn)
+pub memory_clean : (conn : Held (FileStore Memory memory_disk)) → HasCleanDisk (file_state conn)
 memory_clean conn = no_doubt _ (clean_is conn.store.pool)
 
 left_clean : (rest : Leftover Memory memory_disk) → IsCleanLeft rest
@@ -145,13 +145,13 @@ module _ {W : Type 0} (contents : W → Option (List ℕ)) (old new : W) (done :
 
     -- ---- one that could not be opened
 
-    reason_wanted : (one other : Tally) → IsWant (trouble.Unchecked (reason_of (store_error (named one other))))
+    reason_wanted : (one other : Tally) → IsWant (trouble.Unchecked (reason_of_copy (store_error (named one other))))
     reason_wanted one other = go (other.caught == one.caught) (other.refused == one.refused)
       where
-        go : (b c : Bool) → IsWant (trouble.Unchecked (reason_of (store_error (if b then (if c then Io else Full) else Corrupt))))
-        go true true = inr (inl refl)
-        go true false = inr (inr (inr refl))
-        go false c = inr (inr (inl refl))
+        go : (b c : Bool) → IsWant (trouble.Unchecked (reason_of_copy (store_error (if b then (if c then Io else Full) else Corrupt))))
+        go true true = inl refl
+        go true false = inl refl
+        go false c = inr refl
 
     unopened_tells : ChecksUnopened memory_disk contents files old new done → TellsOfFiles image (contents old) (contents new) done
     unopened_tells it =
@@ -162,14 +162,14 @@ module _ {W : Type 0} (contents : W → Option (List ℕ)) (old new : W) (done :
             | inl memory ↦ rw memory (inl refl)
             | inr (inl (other, none)) ↦ absurd (none (inl (held.trees, held.holds)))
             | inr (inr (inl (kind, more))) ↦ rw kind (reason_wanted (tally_of_files memory_disk (files.log, files.db)) (tally_left it.rest))
-            | inr (inr (inr (full, limit))) ↦ rw full (inr (inr (inr refl)))
+            | inr (inr (inr (full, limit))) ↦ rw full (inl refl)
           ]);
           why = λ finding told. absurd cc;
         }
 
 pub each_check : {W : Type 0} (contents : W → Option (List ℕ)) → EachCheckIsTrue contents
 each_check contents path old new done check =
-    let same : image_of memory_disk check.files ≡ image_of_bytes check.bytes = λ i. record { log = check.copied.log.same i; db = check.copied.db.same i } in
+    let same : image_of memory_disk check.files ≡ image_of_bytes check.copy.bytes = λ i. record { log = check.copy.copied.log.same i; db = check.copy.copied.db.same i } in
     subst (λ (image : Image). TellsOfFiles image (contents old) (contents new) done) same (elim check.checks [
       | inl opened ↦ opened_tells contents old new done check.files opened
       | inr unopened ↦ unopened_tells contents old new done check.files unopened

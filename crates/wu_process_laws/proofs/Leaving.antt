@@ -67,7 +67,10 @@ use Rattle.wu_report.specs.Writing.{AppendsFront, WritesTo}
 use Rattle.wu_arguments.specs.declared.step.Step.{Step}
 use Rattle.std.proofs.Math.Seq.{take-length}
 use Rattle.std.specs.Io.KnownBytes.{Appends}
+use Rattle.wu_cli.specs.Backups.{unmade_status}
 use Rattle.wu_cli.specs.Checks.{reason_status}
+use Rattle.wu_cli.specs.declared.backup.Unmade.{Unmade}
+use Rattle.wu_cli.specs.declared.backup.Unmade.TheVariants as unmade
 use Rattle.wu_cli.specs.declared.reason.Reason.{Reason}
 use Rattle.wu_cli.specs.declared.reason.Reason.TheVariants as reason
 use Rattle.wu_cli.specs.declared.trouble.Trouble.{Trouble}
@@ -136,6 +139,16 @@ reason_told reason.FullDisk none = absurd (omega (arith, none))
 reason_told reason.Refused none = absurd (omega (arith, none))
 reason_told reason.Memory none = absurd (omega (arith, none))
 
+unmade_told : (u : Unmade) → unmade_status u ≡ 0 → ⊥
+unmade_told unmade.Taken none = absurd (omega (arith, none))
+unmade_told unmade.LogName none = absurd (omega (arith, none))
+unmade_told unmade.LogBeside none = absurd (omega (arith, none))
+unmade_told unmade.PartBeside none = absurd (omega (arith, none))
+unmade_told unmade.NoFolder none = absurd (omega (arith, none))
+unmade_told unmade.FullDisk none = absurd (omega (arith, none))
+unmade_told unmade.Refused none = absurd (omega (arith, none))
+unmade_told unmade.Memory none = absurd (omega (arith, none))
+
 trouble_told : (t : Trouble) → trouble_status t ≡ 0 → ⊥
 trouble_told (trouble.Usage u) none = usage_told u none
 trouble_told (trouble.BadLine bad) none = refusal_told bad.why none
@@ -144,6 +157,7 @@ trouble_told (trouble.Fault f) none = fault_told f none
 trouble_told (trouble.LineFault end) none = fault_told end.fault none
 trouble_told (trouble.Unchecked r) none = reason_told r none
 trouble_told (trouble.Unsound found) none = absurd (omega (arith, none))
+trouble_told (trouble.Unmade why) none = unmade_told why none
 
 -- with status 0 there was no trouble
 whole_at : {W : Type 0} (contents : W → Option (List ℕ)) (old new : W) (done : Result (Unit {0}) Trouble) (status : ℕ) (is_told : Bool) (A : Type 0)

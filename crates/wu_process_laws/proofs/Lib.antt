@@ -1,2 +1,3 @@
+mod BackedUp
 mod Checked
 mod Leaving

@@ -12,7 +12,7 @@ use Rattle.wu_core.specs.declared.fault.Fault.TheVariants.{Output}
 use Rattle.wu_machine.specs.Sound.{IsSound}
 use Rattle.wu_schema.specs.Faults.{IsFailure}
 use Rattle.wu_cli.specs.Checks.{sound_line}
-use Rattle.wu_cli.specs.declared.reason.Reason.TheVariants.{Damaged, FailingDisk, FullDisk, Memory}
+use Rattle.wu_cli.specs.declared.reason.Reason.TheVariants.{Damaged, Memory}
 use Rattle.wu_cli.specs.declared.trouble.Trouble.{Trouble}
 use Rattle.wu_cli.specs.declared.trouble.Trouble.TheVariants as trouble
 use Rattle.wu_lives.specs.Runs.{HoldsWorld}
@@ -43,16 +43,17 @@ pub record IsToldTruly (db : Database) (finding : Finding) : Type 0 where
   pub tells : Tells db finding
   pub later : PutsLaterFirst db finding
 
--- The trouble is out of memory, a failed disk or a failed output.
+-- The trouble is out of memory or a failed output. The store may report memory that runs out as a failed or a damaged
+-- file of the copy.
 abbrev pub IsWant : Trouble → Type 0
 IsWant (trouble.Fault fault) = IsFailure fault ⊎ (fault ≡ Output)
-IsWant (trouble.Unchecked reason) = (reason ≡ Memory) ⊎ ((reason ≡ FailingDisk) ⊎ ((reason ≡ Damaged) ⊎ (reason ≡ FullDisk)))
+IsWant (trouble.Unchecked reason) = (reason ≡ Memory) ⊎ (reason ≡ Damaged)
 IsWant _ = ⊥
 
 pub record TellsOfFiles (image : Image) (before after : Option (List ℕ)) (done : Result (Unit {0}) Trouble) : Type 0 where
   -- If `ok` is reported, the files hold a sound project of a known version with the printed numbers.
   pub sound : done ≡ Ok tt → FindsSound image before after
-  -- If the files hold a sound project of a known version, no trouble is reported except out of memory, a failed disk or
+  -- If the files hold a sound project of a known version, no trouble is reported except out of memory, a failed copy or
   -- a failed output.
   pub unsound : (world : World) → HoldsWorld image world → IsSound world → IsKnown world.version → IfErr done IsWant
   -- If something is reported to be wrong, it is wrong.
@@ -62,4 +63,4 @@ pub record TellsOfFiles (image : Image) (before after : Option (List ℕ)) (done
 abbrev pub EachCheckIsTrue : {W : Type 0} → (W → Option (List ℕ)) → Type 0
 EachCheckIsTrue {W} contents =
     (path : List ℕ) (old new : W) (done : Result (Unit {0}) Trouble) (check : ChecksCopy contents path old new done)
-    → TellsOfFiles (image_of_bytes check.bytes) (contents old) (contents new) done
+    → TellsOfFiles (image_of_bytes check.copy.bytes) (contents old) (contents new) done

@@ -2,6 +2,7 @@
 #![tactic(auto)]
 
 ghost use Rattle.wu_process.specs.Processes.{RunsProcess};
+ghost use Rattle.wu_process_laws.specs.BackedUp.{EachBackupHolds};
 ghost use Rattle.wu_process_laws.specs.Checked.{EachCheckIsTrue};
 ghost use Rattle.wu_process_laws.specs.Runs.{BeginsWhereOneEnded, BeginsWhereOneStopped, LeavesItsWork, LeavesItsWorkUnclosed};
 
@@ -73,8 +74,16 @@ pub fn run_and_leave<S: Start, R: BufRead, O: Write, E: Write>(
 /// reported to be wrong. Of a sound project nothing is reported to be wrong.
 pub fn a_check_is_true<O: Write>()
     // `ok` means that the files hold a sound project of a known version, with the printed numbers.
-    // Of files that hold a sound project a check reports only `ok`, or a fault of memory, of the
-    // disk or of the output. What it reports to be wrong is wrong, where no row is shorter than its
+    // Of files that hold a sound project a check reports only `ok`, a fault of memory, of its copy
+    // or of the output. What it reports to be wrong is wrong, where no row is shorter than its
     // table.
     ensures { EachCheckIsTrue O.contents }
+{}
+
+/// Shows that the new file of a backup holds, without a log, what the files held that it was made of: a sound project
+/// with the reported numbers.
+pub fn a_backup_holds_the_project<O: Write>()
+    // All tables are those of the files that were read, and so is the world. It is a sound project
+    // of a known version, with the reported numbers, where no row is shorter than its table.
+    ensures { EachBackupHolds O.contents }
 {}

@@ -19,10 +19,16 @@ returns-in-Ok-Check g c =
     let ordered : IsOrderOf (map string_bytes c.args.words.now) (order.Check c.in-Ok-Check.path) = search rules in
     (inr (inl (c.in-Ok-Check.path, ordered, rw c.as_str-in-Ok-Check.ensures at c.check_path.ensures)), refl, refl)
 
+pub returns-in-Ok-Backup : goal.returns-in-Ok-Backup
+returns-in-Ok-Backup g c =
+    let ordered : IsOrderOf (map string_bytes c.args.words.now) (order.Backup c.in-Ok-Backup.asked) = search rules in
+    let both = rw c.as_str-path.ensures at c.back_up.ensures in
+    (inr (inr (inl (c.in-Ok-Backup.asked, ordered, rw c.as_str-to.ensures at both))), refl, refl)
+
 pub returns-in-Ok-Explain : goal.returns-in-Ok-Explain
 returns-in-Ok-Explain g c =
     let ordered : IsOrderOf (map string_bytes c.args.words.now) (order.Explain c.in-Ok-Explain.topic) = search rules in
-    (inr (inr (c.in-Ok-Explain.topic, ordered, c.explain.ensures)), refl, refl)
+    (inr (inr (inr (c.in-Ok-Explain.topic, ordered, c.explain.ensures))), refl, refl)
 
 pub returns-in-Ok-Session : goal.returns-in-Ok-Session
 returns-in-Ok-Session g c =

@@ -19,6 +19,6 @@ returns-in-Err g c = inr (record {
   rest = c.in-Err._left;
   named = c.in-Err.ensures.named;
   cause = c.in-Err.ensures.cause;
-  told = ap (λ reason. Err (trouble.Unchecked reason)) c.of.ensures;
+  told = ap (λ reason. Err (trouble.Unchecked reason)) c.of_copy.ensures;
   unwritten = refl;
 })

@@ -1,0 +1,90 @@
+-- A backup of a database, from its path to the new file. The files are copied, and the copy is checked and closed, so
+-- that its one file holds the project without a log.
+use Rattle.std.specs.Prelude.{◌≡◌, ◌⊎◌, ℕ, List, MatchResult, Option, Result, Ok, Err, ⊤}
+use Rattle.sqlite_disk.specs.Memory.{memory_bytes}
+use Rattle.sqlite_disk.specs.declared.Disk.{Ghosts}
+use Rattle.sqlite_disk.specs.declared.Files.{Files}
+use Rattle.sqlite_disk.specs.declared.memory.Memory.{Memory}
+use Rattle.sqlite_store.specs.declared.store.FileStore.{FileStore}
+use Rattle.sqlite.specs.Files.{FailsToOpenFiles, IsCleanLeft, over_files}
+use Rattle.sqlite.specs.Held.{Held}
+use Rattle.sqlite.specs.declared.error.Error.{Error}
+use Rattle.sqlite.specs.declared.file.Leftover.{Leftover}
+use Rattle.wu_cli.specs.Backups.{CountsSound, ReportsBackup}
+use Rattle.wu_cli.specs.Checks.{reason_of_copy}
+use Rattle.wu_cli.specs.declared.backup.Counts.{Counts}
+use Rattle.wu_cli.specs.declared.backup.Unmade.{Unmade}
+use Rattle.wu_cli.specs.declared.reason.Reason.{Reason}
+use Rattle.wu_cli.specs.declared.trouble.Trouble.{Trouble}
+use Rattle.wu_cli.specs.declared.trouble.Trouble.TheVariants as trouble
+use Rattle.wu_process.specs.Checks.{IsOpenedIn}
+use Rattle.wu_process.specs.Closing.{IsClosedInto, IsLeftUnclosed}
+use Rattle.wu_process.specs.Copies.{AreCopiedFrom, memory_disk}
+use Rattle.wu_process.specs.declared.backup.Folded.{Folded}
+
+-- A new file may have any bytes: no clause can say what is at a path.
+abbrev pub may_become : List ℕ → List ℕ → Type 0
+may_become path bytes = ⊤
+
+module _ {D : Type 0} {g : Ghosts D} where
+  -- A sound project was closed into these files; or its close failed, which is reported as out of memory or a failed
+  -- copy.
+  abbrev pub ClosesFolded : Held (FileStore D g) → Counts → Result (Folded D) Trouble → Type 0
+  ClosesFolded conn counts (Ok it) = (it.counts ≡ counts) × IsClosedInto conn it.files
+  ClosesFolded conn counts (Err told) =
+      (error : Error) × (last : FileStore D g) × (told ≡ trouble.Unchecked (reason_of_copy error)) × IsLeftUnclosed conn error last
+
+  -- An open database is checked. If it is a sound project, it is closed, with its numbers; else the trouble is why not.
+  pub record Folds (conn : Held (FileStore D g)) (done : Result (Folded D) Trouble) : Type 0 where
+    pub again : Held (FileStore D g)
+    pub counts : Result Counts Trouble
+    pub checks : CountsSound over_files conn again counts
+    pub ends : MatchResult counts (λ its. ClosesFolded again its done) (λ told. done ≡ Err told)
+
+module _ {D : Type 0} (g : Ghosts D) where
+  -- The database in the files cannot be opened, for this reason.
+  pub record IsUnfolded (files : Files D) (done : Result (Folded D) Trouble) : Type 0 where
+    pub error : Error
+    pub rest : Leftover D g
+    pub cause : IsCleanLeft rest → FailsToOpenFiles files rest error
+    pub told : done ≡ Err (trouble.Unchecked (reason_of_copy error))
+
+  -- The database in the files is opened, checked and closed; or it cannot be opened.
+  abbrev pub FoldsFiles : Files D → Result (Folded D) Trouble → Type 0
+  FoldsFiles files done =
+      ((conn : Held (FileStore D g)) × IsOpenedIn files conn × Folds conn done) ⊎ IsUnfolded files done
+
+module _ {W : Type 0} (makes : List ℕ → List ℕ → Type 0) (contents : W → Option (List ℕ)) where
+  -- The new file has the bytes of the one that was closed, and its line goes out, or a prefix of it with `Output`.
+  pub record IsMadeAndTold (to : List ℕ) (folded : Folded Memory) (old new : W) (done : Result (Unit {0}) Trouble) : Type 0 where
+    pub made : makes to (memory_bytes folded.files.db)
+    pub reported : ReportsBackup contents to folded.counts old new done
+
+  -- The file is not made, for this reason, and nothing goes out.
+  abbrev pub IsUnmade : W → W → Result (Unit {0}) Trouble → Type 0
+  IsUnmade old new done = (why : Unmade) × (done ≡ Err (trouble.Unmade why)) × (new ≡ old)
+
+  -- The file is made and reported, or it is not made.
+  abbrev pub MakesTold : List ℕ → Folded Memory → W → W → Result (Unit {0}) Trouble → Type 0
+  MakesTold to folded old new done = IsMadeAndTold to folded old new done ⊎ IsUnmade old new done
+
+  -- What became of the copy: its new file, or the trouble that kept it from one, with nothing written.
+  abbrev pub EndsBackup : List ℕ → Result (Folded Memory) Trouble → W → W → Result (Unit {0}) Trouble → Type 0
+  EndsBackup to (Ok folded) old new done = MakesTold to folded old new done
+  EndsBackup to (Err told) old new done = (done ≡ Err told) × (new ≡ old)
+
+  -- These bytes were read of the files at the path. A copy with exactly these bytes is checked and closed, and becomes
+  -- the new file.
+  pub record BacksUpCopy (path to : List ℕ) (old new : W) (done : Result (Unit {0}) Trouble) : Type 0 where
+    pub files : Files Memory
+    pub copy : AreCopiedFrom path files
+    pub folded : Result (Folded Memory) Trouble
+    pub folds : FoldsFiles memory_disk files folded
+    pub ends : EndsBackup to folded old new done
+
+  -- The files cannot be read or copied: the reason is reported, and nothing goes out.
+  abbrev pub IsUnread : W → W → Result (Unit {0}) Trouble → Type 0
+  IsUnread old new done = (reason : Reason) × (done ≡ Err (trouble.Unchecked reason)) × (new ≡ old)
+
+  abbrev pub BacksUp : List ℕ → List ℕ → W → W → Result (Unit {0}) Trouble → Type 0
+  BacksUp path to old new done = BacksUpCopy path to old new done ⊎ (IsUnread old new done ⊎ IsUnmade old new done)
