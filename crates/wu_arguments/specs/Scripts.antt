@@ -1,5 +1,5 @@
 -- Lines of a script, as lines of the command line.
-use Rattle.std.specs.Prelude.{◌≡◌, ℕ, Bool, true, false, List, ◌∷◌, [], ◌++◌, bytes_eq, codes, drop, slice_get, Option, Some, None, Result, Ok, Err}
+use Rattle.std.specs.Prelude.{◌≡◌, ◌⊎◌, ℕ, Bool, true, false, List, ◌∷◌, [], ◌++◌, bytes_eq, codes, drop, slice_get, Option, Some, None, Result, Ok, Err}
 use Rattle.std.specs.Option.{option_map_or}
 use Rattle.wu_core.specs.declared.fault.Fault.TheVariants.{Memory}
 use Rattle.wu_feed.specs.declared.script.LineCause.{LineCause}
@@ -10,7 +10,7 @@ use Rattle.wu_arguments.specs.declared.line.Line.{Line}
 use Rattle.wu_arguments.specs.declared.order.Order.{Order}
 use Rattle.wu_arguments.specs.declared.order.Order.TheVariants as order
 use Rattle.wu_arguments.specs.declared.refusal.Outsider.{Outsider}
-use Rattle.wu_arguments.specs.declared.refusal.Outsider.TheVariants.{Script, Session, Check, Backup, Explanation}
+use Rattle.wu_arguments.specs.declared.refusal.Outsider.TheVariants as outsider
 use Rattle.wu_arguments.specs.declared.refusal.Refusal.{Refusal}
 use Rattle.wu_arguments.specs.declared.refusal.Refusal.TheVariants as refusal
 
@@ -22,11 +22,21 @@ command_words db words = codes "lintelthyme" ∷ words ++ (codes "--db=" ++ db) 
 -- What a script may not contain: another script, a session, a check, a backup or an explanation.
 abbrev pub outsider_of : Order → Option Outsider
 outsider_of (order.Line line) = None
-outsider_of (order.Script script) = Some Script
-outsider_of (order.Session path) = Some Session
-outsider_of (order.Check path) = Some Check
-outsider_of (order.Backup files) = Some Backup
-outsider_of (order.Explain topic) = Some Explanation
+outsider_of (order.Script script) = Some outsider.Script
+outsider_of (order.Session path) = Some outsider.Session
+outsider_of (order.Check path) = Some outsider.Check
+outsider_of (order.Backup files) = Some (outsider.Backup files.to)
+outsider_of (order.Explain topic) = Some outsider.Explanation
+
+-- Where the file of a backup is to be made, of a line that is refused since it asks for one; else the refusal.
+abbrev pub backup_asked : Refusal → Result (List ℕ) Refusal
+backup_asked (refusal.Outsider (outsider.Backup to)) = Ok to
+backup_asked why = Err why
+
+-- The refusal of what was to be repeated: a backup is no pass.
+abbrev pub repeated_refusal : Refusal → Refusal
+repeated_refusal (refusal.Outsider (outsider.Backup to)) = refusal.Repeat
+repeated_refusal why = why
 
 -- The words read as this line, or as this refusal; any words may be out of memory.
 abbrev pub ReadsWords : List (List ℕ) → Result Line Refusal → Type 0
@@ -42,11 +52,13 @@ abbrev pub is_pass : Asking → Bool
 is_pass (asking.Pass pass now limit min_age) = true
 is_pass _ = false
 
--- The words after `repeat` read as a line that is a pass, or are refused. Any other line is refused as `Repeat`.
+-- The words after `repeat` read as a line that is a pass, or are refused. Any other line is refused as `Repeat`, and so
+-- is a backup.
 abbrev pub ReadsRepeated : List (List ℕ) → Result Line Refusal → Type 0
 ReadsRepeated words (Ok line) = IsLineOf words line × (is_pass line.asking ≡ true)
-ReadsRepeated words (Err refusal.Repeat) = (line : Line) × IsLineOf words line × (is_pass line.asking ≡ false)
-ReadsRepeated words (Err why) = ReadsWords words (Err why)
+ReadsRepeated words (Err why) =
+    ((line : Line) × IsLineOf words line × (is_pass line.asking ≡ false) × (why ≡ refusal.Repeat))
+    ⊎ ((other : Refusal) × ReadsWords words (Err other) × (why ≡ repeated_refusal other))
 
 -- Whether the first word is `repeat`.
 abbrev pub asks_to_repeat : List (List ℕ) → Bool

@@ -3,21 +3,24 @@
 ghost use Rattle.std.specs.Prelude.{◌≡◌};
 ghost use Rattle.wu_core.specs.declared.fault.Fault.TheVariants as fault;
 ghost use Rattle.wu_arguments.specs.declared.refusal.Refusal.TheVariants as why;
+ghost use Rattle.wu_arguments.specs.Scripts.{backup_asked, repeated_refusal};
 ghost use Rattle.wu_arguments.specs.Statuses.{refusal_status};
 
 use crate::status::fault_status;
 use crate::usage::Usage;
+use crate::word::Word;
 use std::alloc::AllocError;
 use wu_core::Fault;
 use wu_feed::LineCause;
 
 /// What stands in no script.
-#[derive(Clone, Copy, PartialEq, Eq)]
+#[derive(Drop)]
 pub enum Outsider {
     Script,
     Session,
     Check,
-    Backup,
+    /// A backup, with the path of the file that is made. A session makes it.
+    Backup(Word),
     Explanation,
 }
 
@@ -81,6 +84,28 @@ impl From<AllocError> for Refusal {
 }
 
 impl Refusal {
+    /// Returns where the file of a backup is to be made, if the refusal is that a line asks for one; else the refusal.
+    pub fn into_backup(self) -> Result<Word, Refusal>
+        // Only a line that asks for a backup has a path to make it at.
+        ensures { result ≡ backup_asked self }
+    {
+        match self {
+            Refusal::Outsider(Outsider::Backup(to)) => Ok(to),
+            why => Err(why),
+        }
+    }
+
+    /// Returns the refusal of what was to be repeated: a backup is no pass.
+    pub fn of_repeated(self) -> Refusal
+        // A backup is refused as what is no pass, and all else as it was.
+        ensures { result ≡ repeated_refusal self }
+    {
+        match self {
+            Refusal::Outsider(Outsider::Backup(_)) => Refusal::Repeat,
+            why => why,
+        }
+    }
+
     /// Returns the status that the program ends with for this refusal.
     pub fn status(&self) -> u8
         // The status is 2, except for out of memory and for a fault, which have their own.

@@ -49,7 +49,7 @@ fn line_of_words(alloc: Global, db: &str, words: Words) -> Result<Line, Refusal>
         Order::Script(_) => Err(Refusal::Outsider(Outsider::Script)),
         Order::Session(_) => Err(Refusal::Outsider(Outsider::Session)),
         Order::Check(_) => Err(Refusal::Outsider(Outsider::Check)),
-        Order::Backup(_) => Err(Refusal::Outsider(Outsider::Backup)),
+        Order::Backup(asked) => Err(Refusal::Outsider(Outsider::Backup(asked.to))),
         Order::Explain(_) => Err(Refusal::Outsider(Outsider::Explanation)),
     }
 }
@@ -58,10 +58,12 @@ fn line_of_words(alloc: Global, db: &str, words: Words) -> Result<Line, Refusal>
 fn pass_of_words(alloc: Global, db: &str, words: Words) -> Result<Line, Refusal>
     ensures { ReadsRepeated (command_words db.now words) result }
 {
-    let line = line_of_words(alloc, db, words)?;
-    match line.asking {
-        Asking::Pass { .. } => Ok(line),
-        _ => Err(Refusal::Repeat),
+    match line_of_words(alloc, db, words) {
+        Ok(line) => match line.asking {
+            Asking::Pass { .. } => Ok(line),
+            _ => Err(Refusal::Repeat),
+        },
+        Err(why) => Err(why.of_repeated()),
     }
 }
 

@@ -38,6 +38,10 @@ pub record CountsSound {S : Type 0} (g : Ghosts S) (old new : Held S) (done : Re
   pub answered : AnswersUnlessFailed g old new verdict
   pub gives : AreOfVerdict verdict done
 
+-- What is said of a backup: of the database at a path, with the file at another, this came.
+abbrev pub SaysOfBackup : Type 1
+SaysOfBackup = List ℕ → List ℕ → Result Counts Trouble → Type 0
+
 -- The line that reports a backup.
 abbrev pub backup_line : List ℕ → Counts → List ℕ
 backup_line to counts =

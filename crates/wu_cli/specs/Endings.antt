@@ -55,7 +55,7 @@ abbrev pub outsider_line : Outsider → List ℕ
 outsider_line outsider.Script = codes "a script cannot stand in a script" ++ line_end
 outsider_line outsider.Session = codes "a session cannot stand in a script" ++ line_end
 outsider_line outsider.Check = codes "a check cannot stand in a script" ++ line_end
-outsider_line outsider.Backup = codes "a backup cannot stand in a script" ++ line_end
+outsider_line (outsider.Backup to) = codes "a backup cannot stand in a script" ++ line_end
 outsider_line outsider.Explanation = codes "an explanation cannot stand in a script" ++ line_end
 
 abbrev pub refusal_text : Refusal → List ℕ

@@ -1,3 +1,4 @@
+pub mod Answering
 pub mod Backups
 pub mod Checking
 pub mod Checks

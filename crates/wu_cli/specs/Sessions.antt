@@ -1,8 +1,7 @@
 -- A session: lines that come one after another, what is done for each, and what goes out.
-use Rattle.std.specs.Prelude.{◌≡◌, ◌⊎◌, ℕ, Bool, true, false, List, [], ◌∷◌, ◌++◌, codes, if◌then◌else◌, is_some, map, slice_get, unwrap_or, ◌==◌, Option, Some, None, Result, Ok, Err}
+use Rattle.std.specs.Prelude.{◌≡◌, ◌⊎◌, ℕ, Bool, true, false, List, [], ◌∷◌, ◌++◌, codes, if◌then◌else◌, is_some, map, slice_get, unwrap_or, IsOkUnless, Option, Some, None, Result, Ok, Err}
 use Rattle.std.specs.Fmt.{decimal}
 use Rattle.std.specs.Io.KnownBytes.{IsAtEnd}
-use Rattle.std.specs.List.{before_first}
 use Rattle.sqlite.specs.Held.{Held, state}
 use Rattle.sqlite.specs.State.{HasCleanDisk}
 use Rattle.sqlite.specs.Store.{Ghosts as StoreGhosts}
@@ -22,6 +21,7 @@ use Rattle.wu_passes.specs.Adopting.{Adopts, RefusesAdoption, TellsNew}
 use Rattle.wu_passes.specs.Projects.{connection_of, has_ended, is_new, IsOver, IsSessionOpen, KnowsTables, older_version, state_of}
 use Rattle.wu_report.specs.Texts.{line_end}
 use Rattle.wu_report.specs.Writing.{WritesTo}
+use Rattle.wu_arguments.specs.Scripts.{backup_asked}
 use Rattle.wu_arguments.specs.Statuses.{fault_status, refusal_status}
 use Rattle.wu_arguments.specs.Steps.{GivesSteps}
 use Rattle.wu_arguments.specs.declared.refusal.Refusal.{Refusal}
@@ -29,48 +29,17 @@ use Rattle.wu_arguments.specs.declared.refusal.Refusal.TheVariants as refusal
 use Rattle.wu_arguments.specs.declared.step.BadLine.{BadLine}
 use Rattle.wu_arguments.specs.declared.step.LineFault.{LineFault}
 use Rattle.wu_arguments.specs.declared.step.Step.{Step}
-use Rattle.wu_arguments.specs.declared.usage.Usage.TheVariants as usage
-use Rattle.wu_cli.specs.Endings.{refusal_text}
+use Rattle.wu_cli.specs.Backups.{backup_line, SaysOfBackup}
 use Rattle.wu_cli.specs.Hearing.{Hears, IsUnread}
+use Rattle.wu_cli.specs.Answering.{end_text, is_cut, status_of_done}
 use Rattle.wu_cli.specs.Printing.{PrintsSteps}
 use Rattle.wu_cli.specs.Scripting.{PerformsScript}
 use Rattle.wu_cli.specs.Telling.{DrivesSteps, LengthensBySteps}
+use Rattle.wu_cli.specs.declared.backup.Counts.{Counts}
+use Rattle.wu_cli.specs.declared.line_trouble.LineTrouble.{LineTrouble}
+use Rattle.wu_cli.specs.declared.line_trouble.LineTrouble.TheVariants as line
 use Rattle.wu_cli.specs.declared.trouble.Trouble.{Trouble}
 use Rattle.wu_cli.specs.declared.trouble.Trouble.TheVariants as trouble
-
--- ---- the texts
-
--- the first line of a text, without its end
-abbrev pub first_line : List ℕ → List ℕ
-first_line text = before_first (λ byte. byte == 10) text
-
--- why a line was not done: of what clap prints the first line alone
-abbrev pub cause_line : Refusal → List ℕ
-cause_line (refusal.Words (usage.Refused text)) = first_line text ++ line_end
-cause_line why = refusal_text why
-
--- The front of a line that reports why a line was not done, with its status.
-abbrev pub status_front : ℕ → List ℕ
-status_front status = codes "= " ++ decimal status ++ codes " "
-
--- The line that reports why a line was not done.
-abbrev pub refused_line : Refusal → List ℕ
-refused_line why = status_front (refusal_status why) ++ cause_line why
-
--- Whether the text of a line was cut.
-abbrev pub is_cut : Result Bool Refusal → Bool
-is_cut (Err (refusal.Fault Output)) = true
-is_cut _ = false
-
--- The line that ends the answer to a line; nothing if it has no command.
-abbrev pub end_line : Result Bool Refusal → List ℕ
-end_line (Ok false) = []
-end_line (Ok true) = codes "= 0" ++ line_end
-end_line (Err why) = refused_line why
-
--- What goes out after the text of a line: nothing if that was cut, and else the line that ends the answer.
-abbrev pub end_text : Result Bool Refusal → List ℕ
-end_text done = if is_cut done then [] else end_line done
 
 -- ---- one line
 
@@ -82,6 +51,16 @@ module _ (gives : List ℕ → ℕ → Option (List ℕ) → Type 0) (db : List 
       ((fault : Fault) × ((fault ≡ Memory) ⊎ (script_of text ≡ Err fault)) × (why ≡ refusal.Fault fault))
       ⊎ ((lines : List ScriptLine) × (bad : BadLine) × (script_of text ≡ Ok lines) × GivesSteps gives db lines (Err bad) × (why ≡ bad.why))
 
+-- How a line ended whose steps ended so: whether it has a command, or its fault.
+abbrev pub done_of_steps : List Step → Option LineFault → Result Bool LineTrouble
+done_of_steps steps None = Ok (is_some (slice_get steps 0))
+done_of_steps steps (Some end) = Err (line.Refused (refusal.Fault end.fault))
+
+-- How a line ended whose backup was reported so.
+abbrev pub done_of_report : Result (Unit {0}) Fault → Result Bool LineTrouble
+done_of_report (Ok told) = Ok true
+done_of_report (Err fault) = Err (line.Refused (refusal.Fault fault))
+
 module _ {S W : Type 0} {store : Ghosts S} (contents : W → Option (List ℕ)) where
   -- all that is known of the steps of a script
   pub record DoesSteps (old new : Project S store) (out_old out_new : W) (steps : List Step) (end : Option LineFault) : Type 0 where
@@ -90,31 +69,47 @@ module _ {S W : Type 0} {store : Ghosts S} (contents : W → Option (List ℕ)) 
     pub lives : LengthensBySteps contents old new out_old out_new steps end
     pub prints : PrintsSteps contents old new out_old out_new steps end
 
-  module _ (gives : List ℕ → ℕ → Option (List ℕ) → Type 0) (db : List ℕ) where
-    -- the steps of a text are done, if it has any; or it cannot be run, and nothing is done or goes out; or a step of it
-    -- came to a fault
-    abbrev pub DoesText : Project S store → Project S store → W → W → List ℕ → Result Bool Refusal → Type 0
-    DoesText old new out_old out_new text (Ok has) =
-        (steps : List Step) × StepsOfText gives db text (Ok steps) × DoesSteps old new out_old out_new steps None × (has ≡ is_some (slice_get steps 0))
-    DoesText old new out_old out_new text (Err why) =
-        (StepsOfText gives db text (Err why) × (new ≡ old) × (out_new ≡ out_old))
-        ⊎ ((steps : List Step) × (end : LineFault) × StepsOfText gives db text (Ok steps) × DoesSteps old new out_old out_new steps (Some end) × (why ≡ refusal.Fault end.fault))
+  -- the steps of a line are done, up to the first fault
+  abbrev pub DoesStepsOfText : Project S store → Project S store → W → W → List Step → Result Bool LineTrouble → Type 0
+  DoesStepsOfText old new out_old out_new steps done =
+      (end : Option LineFault) × DoesSteps old new out_old out_new steps end × (done ≡ done_of_steps steps end)
 
-    -- so for a line that was heard; one that was not is not done
-    abbrev pub DoesHeard : Project S store → Project S store → W → W → Result (List ℕ) Refusal → Result Bool Refusal → Type 0
-    DoesHeard old new out_old out_new (Ok text) done = DoesText old new out_old out_new text done
-    DoesHeard old new out_old out_new (Err why) done = (done ≡ Err why) × (new ≡ old) × (out_new ≡ out_old)
+module _ {W : Type 0} (contents : W → Option (List ℕ)) (backs_up : SaysOfBackup) (db : List ℕ) where
+  -- the backup is reported with its numbers, or why it is not made is returned, and nothing goes out
+  abbrev pub ReportsMade : List ℕ → W → W → Result Counts Trouble → Result Bool LineTrouble → Type 0
+  ReportsMade to out_old out_new (Ok counts) done =
+      (told : Result (Unit {0}) Fault) × WritesTo contents out_old out_new (backup_line to counts) told × IsOkUnless told Output × (done ≡ done_of_report told)
+  ReportsMade to out_old out_new (Err trouble) done = (done ≡ Err (line.Backup trouble)) × (out_new ≡ out_old)
+
+  -- a backup is made of the database of the session, or it is not made
+  abbrev pub BacksUpTo : List ℕ → W → W → Result Bool LineTrouble → Type 0
+  BacksUpTo to out_old out_new done = (made : Result Counts Trouble) × backs_up db to made × ReportsMade to out_old out_new made done
+
+  -- the backup that a line asks for is made; or the line is refused, and nothing goes out
+  abbrev pub DoesRefused : W → W → Result (List ℕ) Refusal → Result Bool LineTrouble → Type 0
+  DoesRefused out_old out_new (Ok to) done = BacksUpTo to out_old out_new done
+  DoesRefused out_old out_new (Err why) done = (done ≡ Err (line.Refused why)) × (out_new ≡ out_old)
+
+module _ {S W : Type 0} {store : Ghosts S} (contents : W → Option (List ℕ)) (gives : List ℕ → ℕ → Option (List ℕ) → Type 0) (backs_up : SaysOfBackup) (db : List ℕ) where
+  -- the steps that a text asks for are done; or its backup is made, or it cannot be run, and nothing is done
+  abbrev pub DoesAsked : Project S store → Project S store → W → W → Result (List Step) Refusal → Result Bool LineTrouble → Type 0
+  DoesAsked old new out_old out_new (Ok steps) done = DoesStepsOfText contents old new out_old out_new steps done
+  DoesAsked old new out_old out_new (Err why) done = (new ≡ old) × DoesRefused contents backs_up db out_old out_new (backup_asked why) done
+
+  abbrev pub DoesText : Project S store → Project S store → W → W → List ℕ → Result Bool LineTrouble → Type 0
+  DoesText old new out_old out_new text done =
+      (asked : Result (List Step) Refusal) × StepsOfText gives db text asked × DoesAsked old new out_old out_new asked done
+
+  -- so for a line that was heard; one that was not is not done
+  abbrev pub DoesHeard : Project S store → Project S store → W → W → Result (List ℕ) Refusal → Result Bool LineTrouble → Type 0
+  DoesHeard old new out_old out_new (Ok text) done = DoesText old new out_old out_new text done
+  DoesHeard old new out_old out_new (Err why) done = (done ≡ Err (line.Refused why)) × (new ≡ old) × (out_new ≡ out_old)
 
 -- ---- line by line
 
--- The status of a line that was done, or of the refusal of one that was not.
-abbrev pub status_of_done : Result Bool Refusal → ℕ
-status_of_done (Ok has) = 0
-status_of_done (Err why) = refusal_status why
-
 -- The status with which a session ends after a line, or `None` if it goes on: where an output fails, or the project's
 -- session has ended.
-abbrev pub ends_with : Result (Unit {0}) Fault → Bool → Result Bool Refusal → Option ℕ
+abbrev pub ends_with : Result (Unit {0}) Fault → Bool → Result Bool LineTrouble → Option ℕ
 ends_with (Err fault) ended done = Some (fault_status Output)
 ends_with (Ok told) ended done = if is_cut done then Some (fault_status Output) else if ended then Some (status_of_done done) else None
 
@@ -130,13 +125,13 @@ pub record Accepts {S : Type 0} {store : Ghosts S} (world : World) (new : Projec
 abbrev pub AcceptsOver : {S : Type 0} {store : Ghosts S} → Project S store → Project S store → Type 0
 AcceptsOver old new = IsSessionOpen old → HasCleanDisk (state_of new) → (world : World) → IsOver old world → Accepts world new
 
-module _ {S W : Type 0} {store : Ghosts S} (contents : W → Option (List ℕ)) (gives : List ℕ → ℕ → Option (List ℕ) → Type 0) (db : List ℕ) where
+module _ {S W : Type 0} {store : Ghosts S} (contents : W → Option (List ℕ)) (gives : List ℕ → ℕ → Option (List ℕ) → Type 0) (backs_up : SaysOfBackup) (db : List ℕ) where
   -- What was heard is done or refused, and then the line that ends its answer goes out, or a prefix of it if the output
   -- fails. The session goes on, or ends with a status.
   pub record AnswersHeard (old new : Project S store) (out_old out_new : W) (heard : Result (List ℕ) Refusal) (ends : Option ℕ) : Type 0 where
-    pub done : Result Bool Refusal
+    pub done : Result Bool LineTrouble
     pub out_done : W
-    pub does : DoesHeard contents gives db old new out_old out_done heard done
+    pub does : DoesHeard contents gives backs_up db old new out_old out_done heard done
     pub told : Result (Unit {0}) Fault
     pub wrote : WritesTo contents out_done out_new (end_text done) told
     pub next : ends ≡ ends_with told (has_ended new) done
@@ -187,7 +182,7 @@ new_word is_new = if is_new then codes " new" else []
 abbrev pub ready_line : Option ℕ → Bool → List ℕ
 ready_line older is_new = codes "= ready version=" ++ decimal (unwrap_or older present_version) ++ new_word is_new ++ line_end
 
-module _ {S W : Type 0} {store : Ghosts S} (contents : W → Option (List ℕ)) (gives : List ℕ → ℕ → Option (List ℕ) → Type 0) (db : List ℕ) where
+module _ {S W : Type 0} {store : Ghosts S} (contents : W → Option (List ℕ)) (gives : List ℕ → ℕ → Option (List ℕ) → Type 0) (backs_up : SaysOfBackup) (db : List ℕ) where
   -- The session ends at once, and no line is read.
   pub record EndsUnread (old new : Project S store) (out_old out_new : W) (in_old in_new : Option (List ℕ)) (status : ℕ) : Type 0 where
     pub status_is : status ≡ fault_status Output
@@ -197,7 +192,7 @@ module _ {S W : Type 0} {store : Ghosts S} (contents : W → Option (List ℕ)) 
 
   -- If the first line went out, the lines of the input are answered; else the session ends at once.
   abbrev pub ServesIf : Result (Unit {0}) Fault → Project S store → Project S store → W → W → Option (List ℕ) → Option (List ℕ) → ℕ → Type 0
-  ServesIf (Ok told) old new out_old out_new in_old in_new status = RunsSession contents gives db old new out_old out_new in_old in_new status
+  ServesIf (Ok told) old new out_old out_new in_old in_new status = RunsSession contents gives backs_up db old new out_old out_new in_old in_new status
   ServesIf (Err fault) old new out_old out_new in_old in_new status = EndsUnread old new out_old out_new in_old in_new status
 
   -- The first line goes out, or a prefix of it, and then the lines of the input are answered.
@@ -207,7 +202,7 @@ module _ {S W : Type 0} {store : Ghosts S} (contents : W → Option (List ℕ)) 
     pub wrote : WritesTo contents out_old out_ready (ready_line (older_version old) (is_new old)) told
     pub serves : ServesIf told old new out_ready out_new in_old in_new status
 
-module _ {S W : Type 0} (g : StoreGhosts S) (contents : W → Option (List ℕ)) (gives : List ℕ → ℕ → Option (List ℕ) → Type 0) (db : List ℕ) (conn again : Held S) (out_old out_new : W) (in_old in_new : Option (List ℕ)) where
+module _ {S W : Type 0} (g : StoreGhosts S) (contents : W → Option (List ℕ)) (gives : List ℕ → ℕ → Option (List ℕ) → Type 0) (backs_up : SaysOfBackup) (db : List ℕ) (conn again : Held S) (out_old out_new : W) (in_old in_new : Option (List ℕ)) where
   -- The project is adopted, the lines of the input are answered over it, and the session is released.
   pub record ServesAdopted (status : ℕ) : Type 0 where
     pub old : Project S g
@@ -217,7 +212,7 @@ module _ {S W : Type 0} (g : StoreGhosts S) (contents : W → Option (List ℕ))
     pub adopts : Adopts (state g conn) (state_of old)
     pub knows : KnowsTables old
     pub new_is : TellsNew (state g conn) (state_of old) (is_new old)
-    pub serves : ServesProject contents gives db old new out_old out_new in_old in_new status
+    pub serves : ServesProject contents gives backs_up db old new out_old out_new in_old in_new status
     pub released : again ≡ connection_of new
 
   -- No project is adopted: that fault is reported, and nothing is done, read or written.

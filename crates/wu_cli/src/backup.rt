@@ -112,6 +112,22 @@ impl Unmade {
     }
 }
 
+/// What makes a backup of a database that this process has open, between two of its commands.
+pub trait BackUp {
+    ghost use Rattle.std.specs.Prelude.{ℕ, List, Result};
+    ghost use Rattle.wu_cli.specs.declared.backup.Counts.{Counts};
+    ghost use Rattle.wu_cli.specs.declared.trouble.Trouble.{Trouble};
+
+    /// A backup of the database at this path, made at that one, may end so.
+    ghost backs_up: { Self → List ℕ → List ℕ → Result Counts Trouble → Type 0 };
+
+    /// Makes a file at a path where nothing lies, with a copy of the sound project in the database at `path`, and
+    /// returns its numbers. Else the trouble is why it is not made.
+    fn back_up(&self, path: &str, to: &str) -> Result<Counts, Trouble>
+        // What is made of the database at this path, and where, is as the trait's user says.
+        ensures { backs_up self.now path.now to.now result };
+}
+
 /// Writes that a backup was made, with what its project has, and flushes.
 pub fn write_backed_up<W: Write>(out: &mut W, to: &str, counts: Counts) -> Result<(), Fault>
     // With Ok exactly the line with the path and the three numbers is written, and else a prefix of

@@ -20,6 +20,8 @@ pub enum Reason {
     NoDatabase,
     /// It is a database of SQLite with auto-vacuum, or with texts in UTF-16.
     OtherKind,
+    /// Its file has more names than one, and its log may lie beside another one.
+    TwoNames,
     Damaged,
     FailingDisk,
     FullDisk,
@@ -108,6 +110,9 @@ impl Reason {
             }
             Reason::OtherKind => {
                 "cannot open the database: it has auto-vacuum or texts in UTF-16\n"
+            }
+            Reason::TwoNames => {
+                "cannot open the database: its file has a second name, and its log may lie beside that\n"
             }
             Reason::Damaged => "cannot open the database: it is damaged\n",
             Reason::FailingDisk => "cannot open the database: the disk failed\n",

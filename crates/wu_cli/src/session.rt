@@ -3,39 +3,22 @@
 ghost use Rattle.std.specs.Prelude.{◌≡◌, ℕ, List, Option};
 ghost use Rattle.wu_report.specs.Writing.{WritesTo};
 ghost use Rattle.wu_cli.specs.Hearing.{heard_text, IsUnread};
-ghost use Rattle.wu_cli.specs.Sessions.{AnswersHeard, cause_line, DoesHeard, DoesText, end_text, ends_with, EndsSession, first_line, is_cut, refused_line, RunsSession, status_front, status_of_done, StepsOfText};
+ghost use Rattle.wu_cli.specs.Answering.{end_text, is_cut, status_front, status_of_done, undone_line};
+ghost use Rattle.wu_cli.specs.Sessions.{AnswersHeard, BacksUpTo, DoesHeard, DoesRefused, DoesStepsOfText, DoesText, ends_with, EndsSession, RunsSession, StepsOfText};
 
+use crate::backup::{BackUp, write_backed_up};
 use crate::hearing::{Heard, hear, unreadable};
+use crate::line_trouble::LineTrouble;
 use crate::performing::perform_script;
-use crate::texts::{text_of_refusal, write_line};
+use crate::texts::write_line;
 use sqlite::Alter;
 use std::alloc::Global;
 use std::io::{BufRead, Write};
-use wu_arguments::{ReadFile, Refusal, Step, Usage, fault_status, steps_of};
+use wu_arguments::{ReadFile, Refusal, Step, Usage, Word, fault_status, steps_of};
 use wu_core::Fault;
 use wu_drive::Project;
 use wu_feed::{Rows, read_script};
 use wu_report::{Piece, write_pieces};
-
-/// Returns the first line of a text, without its end.
-fn first_line(text: &str) -> &str
-    ensures { result.now ≡ first_line text.now }
-{
-    match text.split_once('\n') {
-        Some((line, _)) => line,
-        None => text,
-    }
-}
-
-/// Writes why a line was not done, on one line.
-fn write_cause<W: Write>(out: &mut W, why: &Refusal) -> Result<(), Fault>
-    ensures { WritesTo W.contents out.old out.new (cause_line why.now) result }
-{
-    match why {
-        Refusal::Words(Usage::Refused(text)) => write_line(out, first_line(text.as_str())),
-        _ => text_of_refusal(out, why),
-    }
-}
 
 /// Writes the front of a line that reports why a line was not done, with its status.
 fn write_status<W: Write>(out: &mut W, status: u8) -> Result<(), Fault>
@@ -52,26 +35,26 @@ fn write_status<W: Write>(out: &mut W, status: u8) -> Result<(), Fault>
 }
 
 /// Writes with which status a line was not done, and why, on one line.
-fn write_refused<W: Write>(out: &mut W, why: &Refusal) -> Result<(), Fault>
-    ensures { WritesTo W.contents out.old out.new (refused_line why.now) result }
+fn write_undone<W: Write>(out: &mut W, why: &LineTrouble) -> Result<(), Fault>
+    ensures { WritesTo W.contents out.old out.new (undone_line why.now) result }
 {
     write_status(out, why.status())?;
-    write_cause(out, why)
+    why.write(out)
 }
 
 /// Returns whether the text of a line was cut.
-fn is_cut(done: &Result<bool, Refusal>) -> bool
+fn is_cut(done: &Result<bool, LineTrouble>) -> bool
     ensures { result ≡ is_cut done.now }
 {
     match done {
-        Err(Refusal::Fault(Fault::Output)) => true,
-        _ => false,
+        Ok(_) => false,
+        Err(why) => why.cuts(),
     }
 }
 
 /// Writes the line that ends the answer to a line, and flushes; nothing after a line without a command, or after a text
 /// that was cut.
-fn write_end<W: Write>(out: &mut W, done: &Result<bool, Refusal>) -> Result<(), Fault>
+fn write_end<W: Write>(out: &mut W, done: &Result<bool, LineTrouble>) -> Result<(), Fault>
     ensures { WritesTo W.contents out.old out.new (end_text done.now) result }
 {
     if is_cut(done) {
@@ -80,7 +63,7 @@ fn write_end<W: Write>(out: &mut W, done: &Result<bool, Refusal>) -> Result<(), 
     match done {
         Ok(false) => Ok(()),
         Ok(true) => write_line(out, "= 0"),
-        Err(why) => write_refused(out, why),
+        Err(why) => write_undone(out, why),
     }
 }
 
@@ -100,47 +83,100 @@ fn steps_of_text<F: ReadFile>(
     }
 }
 
-/// Does what the text of a line asks for, up to the first fault. Returns whether it has a command.
-pub fn do_text<S: Alter, F: ReadFile, W: Write>(
+/// Does the steps of a line, up to the first fault. Returns whether it has a command.
+fn do_steps<S: Alter, W: Write>(
+    alloc: Global,
+    project: &mut Project<S>,
+    steps: &[Step],
+    out: &mut W,
+) -> Result<bool, LineTrouble>
+    ensures { DoesStepsOfText W.contents project.old project.new out.old out.new steps.now result }
+{
+    match perform_script(alloc, project, steps, out).1 {
+        None => Ok(steps.first().is_some()),
+        Some(end) => Err(LineTrouble::Refused(Refusal::Fault(end.fault))),
+    }
+}
+
+/// Makes the backup that a line asks for, and reports it. Returns that the line has a command.
+fn back_up_to<F: BackUp, W: Write>(
+    db: &str,
+    to: &str,
+    files: &F,
+    out: &mut W,
+) -> Result<bool, LineTrouble>
+    ensures { BacksUpTo W.contents (F.BackUp.backs_up files.now) db.now to.now
+        out.old out.new result }
+{
+    match files.back_up(db, to) {
+        Ok(counts) => match write_backed_up(out, to, counts) {
+            Ok(()) => Ok(true),
+            Err(fault) => Err(LineTrouble::Refused(Refusal::Fault(fault))),
+        },
+        Err(trouble) => Err(LineTrouble::Backup(trouble)),
+    }
+}
+
+/// Makes the backup that a line asks for, or returns why the line is refused.
+fn do_refused<F: BackUp, W: Write>(
+    db: &str,
+    asked: Result<Word, Refusal>,
+    files: &F,
+    out: &mut W,
+) -> Result<bool, LineTrouble>
+    ensures { DoesRefused W.contents (F.BackUp.backs_up files.now) db.now
+        out.old out.new asked result }
+{
+    match asked {
+        Ok(to) => back_up_to(db, to.as_str(), files, out),
+        Err(why) => Err(LineTrouble::Refused(why)),
+    }
+}
+
+/// Does what the text of a line asks for, up to the first fault, or makes the backup that it asks for. Returns whether
+/// it has a command.
+pub fn do_text<S: Alter, F: ReadFile + BackUp, W: Write>(
     alloc: Global,
     project: &mut Project<S>,
     db: &str,
     text: &[u8],
     files: &F,
     out: &mut W,
-) -> Result<bool, Refusal>
-    // The steps of the text are done, with what they print; or it cannot be run, and nothing is done;
-    // or a step of it came to this fault.
-    ensures { DoesText W.contents (F.ReadFile.gives files.now) db.now
+) -> Result<bool, LineTrouble>
+    // The steps of the text are done, with what they print, up to the first fault; or its backup is
+    // made and reported; or it cannot be run, and nothing is done or goes out.
+    ensures { DoesText W.contents (F.ReadFile.gives files.now)
+        (F.BackUp.backs_up files.now) db.now
         project.old project.new out.old out.new text.now result }
 {
-    let steps = steps_of_text(alloc, db, text, files)?;
-    match perform_script(alloc, project, steps.as_slice(), out).1 {
-        None => Ok(steps.as_slice().first().is_some()),
-        Some(end) => Err(Refusal::Fault(end.fault)),
+    match steps_of_text(alloc, db, text, files) {
+        Ok(steps) => do_steps(alloc, project, steps.as_slice(), out),
+        // A backup is no step of a script.
+        Err(why) => do_refused(db, why.into_backup(), files, out),
     }
 }
 
 /// Does what was heard: the text of a line, or nothing where none could be had. Returns whether it has a command.
-fn do_heard<S: Alter, F: ReadFile, W: Write>(
+fn do_heard<S: Alter, F: ReadFile + BackUp, W: Write>(
     alloc: Global,
     project: &mut Project<S>,
     db: &str,
     heard: Heard,
     files: &F,
     out: &mut W,
-) -> Result<bool, Refusal>
-    ensures { DoesHeard W.contents (F.ReadFile.gives files.now) db.now
+) -> Result<bool, LineTrouble>
+    ensures { DoesHeard W.contents (F.ReadFile.gives files.now)
+        (F.BackUp.backs_up files.now) db.now
         project.old project.new out.old out.new (heard_text heard) result }
 {
     match heard {
         Ok(text) => do_text(alloc, project, db, text.as_slice(), files, out),
-        Err(why) => Err(why),
+        Err(why) => Err(LineTrouble::Refused(why)),
     }
 }
 
 /// Returns the status of a line.
-fn status_of_done(done: &Result<bool, Refusal>) -> u8
+fn status_of_done(done: &Result<bool, LineTrouble>) -> u8
     ensures { result ≡ status_of_done done.now }
 {
     match done {
@@ -150,7 +186,11 @@ fn status_of_done(done: &Result<bool, Refusal>) -> u8
 }
 
 /// Returns the status with which a session ends after a line, or `None` if it goes on.
-fn ends_with(told: Result<(), Fault>, has_ended: bool, done: &Result<bool, Refusal>) -> Option<u8>
+fn ends_with(
+    told: Result<(), Fault>,
+    has_ended: bool,
+    done: &Result<bool, LineTrouble>,
+) -> Option<u8>
     ensures { result ≡ ends_with told has_ended done.now }
 {
     match told {
@@ -162,15 +202,15 @@ fn ends_with(told: Result<(), Fault>, has_ended: bool, done: &Result<bool, Refus
 }
 
 /// Writes what clap prints of the words of a line on standard error, where it refuses them.
-fn write_usage<E: Write>(err: &mut E, done: &Result<bool, Refusal>) {
-    if let Err(Refusal::Words(Usage::Refused(text))) = done {
+fn write_usage<E: Write>(err: &mut E, done: &Result<bool, LineTrouble>) {
+    if let Err(LineTrouble::Refused(Refusal::Words(Usage::Refused(text)))) = done {
         let _ = err.write_all(text.as_str().as_bytes());
         let _ = err.flush();
     }
 }
 
 /// Does what was heard, and answers it. Returns the status with which the session ends, or `None` if it goes on.
-pub fn answer<S: Alter, F: ReadFile, W: Write, E: Write>(
+pub fn answer<S: Alter, F: ReadFile + BackUp, W: Write, E: Write>(
     alloc: Global,
     project: &mut Project<S>,
     db: &str,
@@ -180,7 +220,8 @@ pub fn answer<S: Alter, F: ReadFile, W: Write, E: Write>(
     err: &mut E,
 ) -> Option<u8>
     // What was heard is done or refused, and then the line that ends its answer goes out.
-    ensures { AnswersHeard W.contents (F.ReadFile.gives files.now) db.now
+    ensures { AnswersHeard W.contents (F.ReadFile.gives files.now)
+        (F.BackUp.backs_up files.now) db.now
         project.old project.new out.old out.new (heard_text heard) result }
 {
     let done = do_heard(alloc, project, db, heard, files, out);
@@ -190,7 +231,7 @@ pub fn answer<S: Alter, F: ReadFile, W: Write, E: Write>(
 }
 
 /// Answers that the input cannot be read further. Returns the status to end with.
-fn end_unread<S: Alter, F: ReadFile, W: Write, E: Write>(
+fn end_unread<S: Alter, F: ReadFile + BackUp, W: Write, E: Write>(
     alloc: Global,
     project: &mut Project<S>,
     db: &str,
@@ -201,7 +242,8 @@ fn end_unread<S: Alter, F: ReadFile, W: Write, E: Write>(
 ) -> u8
     requires { IsUnread why }
     ensures { (in_old in_new : Option (List ℕ))
-        → EndsSession W.contents (F.ReadFile.gives files.now) db.now
+        → EndsSession W.contents (F.ReadFile.gives files.now)
+        (F.BackUp.backs_up files.now) db.now
         project.old project.new out.old out.new in_old in_new result }
 {
     let status = why.status();
@@ -211,7 +253,7 @@ fn end_unread<S: Alter, F: ReadFile, W: Write, E: Write>(
 /// Reads lines one after another, does each and answers it before the next one is read. It ends at the end of the input,
 /// with status 0; where the input cannot be read; where an output fails, with status 5; and where the project's session
 /// ended, with the status of that line. Returns the status to end with.
-pub fn serve<S: Alter, R: BufRead, F: ReadFile, W: Write, E: Write>(
+pub fn serve<S: Alter, R: BufRead, F: ReadFile + BackUp, W: Write, E: Write>(
     alloc: Global,
     project: &mut Project<S>,
     db: &str,
@@ -222,7 +264,8 @@ pub fn serve<S: Alter, R: BufRead, F: ReadFile, W: Write, E: Write>(
 ) -> u8
     // The lines of the input are done and answered, in order, each over what the one before it
     // left; none is left out, and none is done twice.
-    ensures { RunsSession W.contents (F.ReadFile.gives files.now) db.now
+    ensures { RunsSession W.contents (F.ReadFile.gives files.now)
+        (F.BackUp.backs_up files.now) db.now
         project.old project.new out.old out.new
         (R.remaining input.old) (R.remaining input.new) result }
 {

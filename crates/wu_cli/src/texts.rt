@@ -168,14 +168,14 @@ fn text_of_cause<W: Write>(out: &mut W, cause: LineCause) -> Result<(), Fault>
 }
 
 /// Returns the line of what cannot stand in a script.
-fn outsider_line(outsider: Outsider) -> &'static str
-    ensures { result.now ≡ outsider_line outsider }
+fn outsider_line(outsider: &Outsider) -> &'static str
+    ensures { result.now ≡ outsider_line outsider.now }
 {
     match outsider {
         Outsider::Script => "a script cannot stand in a script\n",
         Outsider::Session => "a session cannot stand in a script\n",
         Outsider::Check => "a check cannot stand in a script\n",
-        Outsider::Backup => "a backup cannot stand in a script\n",
+        Outsider::Backup(_) => "a backup cannot stand in a script\n",
         Outsider::Explanation => "an explanation cannot stand in a script\n",
     }
 }
@@ -187,7 +187,7 @@ pub(crate) fn text_of_refusal<W: Write>(out: &mut W, why: &Refusal) -> Result<()
     match why {
         Refusal::Text(cause) => text_of_cause(out, *cause),
         Refusal::Words(usage) => text_of_usage(out, usage),
-        Refusal::Outsider(outsider) => write_text(out, outsider_line(*outsider)),
+        Refusal::Outsider(outsider) => write_text(out, outsider_line(outsider)),
         Refusal::Repeat => write_line(out, "only a pass can be repeated"),
         Refusal::Fault(fault) => line_of_fault(out, *fault),
     }

@@ -128,7 +128,8 @@ impl Trouble {
 }
 
 /// Writes the text of a trouble, and flushes.
-fn write_trouble<E: Write>(trouble: &Trouble, err: &mut E) -> Result<(), Fault>
+pub(crate) fn write_trouble<E: Write>(trouble: &Trouble, err: &mut E) -> Result<(), Fault>
+    // With Ok exactly the text of the trouble is written, and else a prefix of it.
     ensures { WritesTo E.contents err.old err.new (trouble_text trouble.now) result }
 {
     match trouble {

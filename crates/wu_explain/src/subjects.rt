@@ -158,8 +158,10 @@ with all of its tables and without a log, and answers once FILE is on the disk
   backup FILE: version=3 workunits=4 results=8
 What a check finds wrong is told instead, with its status, and no file is made. So
 is a path where something lies, with status 1, and with 3 a disk that does not take
-the file. While another process has the project, there is no backup of it. After a
-crash FILE is there whole or not at all; a FILE-part that is left may be removed.
+the file. While another process has the project, there is no backup of it; a line
+  backup --to FILE
+of a session makes one between two commands. After a crash FILE is there whole or
+not at all; a FILE-part that is left may be removed.
 ",
         ),
         _ => None,

@@ -10,7 +10,7 @@ use Rattle.sqlite.specs.Files.{FailsToOpenFiles, IsCleanLeft, over_files}
 use Rattle.sqlite.specs.Held.{Held}
 use Rattle.sqlite.specs.declared.error.Error.{Error}
 use Rattle.sqlite.specs.declared.file.Leftover.{Leftover}
-use Rattle.wu_cli.specs.Backups.{CountsSound, ReportsBackup}
+use Rattle.wu_cli.specs.Backups.{CountsSound, ReportsBackup, SaysOfBackup}
 use Rattle.wu_cli.specs.Checks.{reason_of_copy}
 use Rattle.wu_cli.specs.declared.backup.Counts.{Counts}
 use Rattle.wu_cli.specs.declared.backup.Unmade.{Unmade}
@@ -54,37 +54,43 @@ module _ {D : Type 0} (g : Ghosts D) where
   FoldsFiles files done =
       ((conn : Held (FileStore D g)) × IsOpenedIn files conn × Folds conn done) ⊎ IsUnfolded files done
 
-module _ {W : Type 0} (makes : List ℕ → List ℕ → Type 0) (contents : W → Option (List ℕ)) where
-  -- The new file has the bytes of the one that was closed, and its line goes out, or a prefix of it with `Output`.
-  pub record IsMadeAndTold (to : List ℕ) (folded : Folded Memory) (old new : W) (done : Result (Unit {0}) Trouble) : Type 0 where
-    pub made : makes to (memory_bytes folded.files.db)
-    pub reported : ReportsBackup contents to folded.counts old new done
+module _ (makes : List ℕ → List ℕ → Type 0) where
+  -- The new file has the bytes of the one that was closed, and its numbers are returned; or it is not made, for this
+  -- reason.
+  abbrev pub MakesFile : List ℕ → Folded Memory → Result Counts Trouble → Type 0
+  MakesFile to folded (Ok counts) = makes to (memory_bytes folded.files.db) × (counts ≡ folded.counts)
+  MakesFile to folded (Err told) = (why : Unmade) × (told ≡ trouble.Unmade why)
 
-  -- The file is not made, for this reason, and nothing goes out.
-  abbrev pub IsUnmade : W → W → Result (Unit {0}) Trouble → Type 0
-  IsUnmade old new done = (why : Unmade) × (done ≡ Err (trouble.Unmade why)) × (new ≡ old)
-
-  -- The file is made and reported, or it is not made.
-  abbrev pub MakesTold : List ℕ → Folded Memory → W → W → Result (Unit {0}) Trouble → Type 0
-  MakesTold to folded old new done = IsMadeAndTold to folded old new done ⊎ IsUnmade old new done
-
-  -- What became of the copy: its new file, or the trouble that kept it from one, with nothing written.
-  abbrev pub EndsBackup : List ℕ → Result (Folded Memory) Trouble → W → W → Result (Unit {0}) Trouble → Type 0
-  EndsBackup to (Ok folded) old new done = MakesTold to folded old new done
-  EndsBackup to (Err told) old new done = (done ≡ Err told) × (new ≡ old)
+  -- What became of the copy: its new file, or the trouble that kept it from one.
+  abbrev pub EndsBackup : List ℕ → Result (Folded Memory) Trouble → Result Counts Trouble → Type 0
+  EndsBackup to (Ok folded) made = MakesFile to folded made
+  EndsBackup to (Err told) made = made ≡ Err told
 
   -- These bytes were read of the files at the path. A copy with exactly these bytes is checked and closed, and becomes
   -- the new file.
-  pub record BacksUpCopy (path to : List ℕ) (old new : W) (done : Result (Unit {0}) Trouble) : Type 0 where
+  pub record MakesOfCopy (path to : List ℕ) (made : Result Counts Trouble) : Type 0 where
     pub files : Files Memory
     pub copy : AreCopiedFrom path files
     pub folded : Result (Folded Memory) Trouble
     pub folds : FoldsFiles memory_disk files folded
-    pub ends : EndsBackup to folded old new done
+    pub ends : EndsBackup to folded made
 
-  -- The files cannot be read or copied: the reason is reported, and nothing goes out.
-  abbrev pub IsUnread : W → W → Result (Unit {0}) Trouble → Type 0
-  IsUnread old new done = (reason : Reason) × (done ≡ Err (trouble.Unchecked reason)) × (new ≡ old)
+  -- The files cannot be read or copied, for this reason; or no file can be made at the path.
+  abbrev pub IsUnbegun : Result Counts Trouble → Type 0
+  IsUnbegun made = ((reason : Reason) × (made ≡ Err (trouble.Unchecked reason))) ⊎ ((why : Unmade) × (made ≡ Err (trouble.Unmade why)))
 
+  -- A new file is made of the database at the path, or it is not made.
+  abbrev pub MakesBackup : SaysOfBackup
+  MakesBackup path to made = MakesOfCopy path to made ⊎ IsUnbegun made
+
+module _ {W : Type 0} (contents : W → Option (List ℕ)) where
+  -- The line of a backup that was made goes out, or a prefix of it with `Output`. Of one that was not the trouble is
+  -- returned, and nothing goes out.
+  abbrev pub TellsMade : List ℕ → Result Counts Trouble → W → W → Result (Unit {0}) Trouble → Type 0
+  TellsMade to (Ok counts) old new done = ReportsBackup contents to counts old new done
+  TellsMade to (Err told) old new done = (done ≡ Err told) × (new ≡ old)
+
+module _ {W : Type 0} (makes : List ℕ → List ℕ → Type 0) (contents : W → Option (List ℕ)) where
+  -- A backup is made of the database at the path, and reported; or it is not made.
   abbrev pub BacksUp : List ℕ → List ℕ → W → W → Result (Unit {0}) Trouble → Type 0
-  BacksUp path to old new done = BacksUpCopy path to old new done ⊎ (IsUnread old new done ⊎ IsUnmade old new done)
+  BacksUp path to old new done = (made : Result Counts Trouble) × MakesBackup makes path to made × TellsMade contents to made old new done

@@ -1,5 +1,6 @@
 -- What opening a database by its path gives. No clause can say that the files are at the path.
-use Rattle.std.specs.Prelude.{◌≡◌, ◌≢◌, ◌⊎◌, ℕ, false, true, List, codes, IfSome, IsTrue, None, Option}
+use Rattle.std.specs.Prelude.{◌≡◌, ◌≢◌, ◌⊎◌, ◌||◌, ℕ, Bool, false, true, List, codes, eqb, IfSome, IsTrue, None, Option}
+use Rattle.std.specs.List.{ends_with}
 use Rattle.sqlite_disk.specs.declared.Disk.{Ghosts}
 use Rattle.sqlite_disk.specs.declared.Files.{Files}
 use Rattle.sqlite_disk.specs.declared.calls.Calls as calls
@@ -27,6 +28,10 @@ use Rattle.wu_core.specs.declared.fault.Fault.TheVariants.{Memory}
 abbrev pub in_memory : List ℕ
 in_memory = codes ":memory:"
 
+-- Whether a path names a log or a journal of a database, and no database.
+abbrev pub names_log : List ℕ → Bool
+names_log path = ends_with eqb path (codes "-wal") || ends_with eqb path (codes "-journal")
+
 -- The trouble of a database that is not opened, because of what lies at its path or beside it, or out of memory.
 abbrev pub IsBar : Trouble → Type 0
 IsBar told = (told ≡ trouble.Unopened) ⊎ (told ≡ trouble.Fault Memory)
@@ -38,6 +43,7 @@ IsEarly error = (error ≡ SqliteFailure CannotOpen) ⊎ ((error ≡ SqliteFailu
 -- This is a connection to the database of this path, over two files that held this image when they were opened.
 pub record IsOpenedAt {D : Type 0} {g : Ghosts D} (path : List ℕ) (image : Image) (conn : Held (FileStore D g)) : Type 0 where
   pub of_file : path ≢ in_memory
+  pub own_name : names_log path ≡ false
   pub opens : HasCleanDisk (file_state conn) → IsOpened conn
   pub finds : HasCleanDisk (file_state conn) → FindsIn image (file_state conn)
   pub plain : HasCleanDisk (file_state conn) → IsBlankAs false image → (view conn.store).has_sums ≡ false

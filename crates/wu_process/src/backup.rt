@@ -1,16 +1,18 @@
 //! A backup of a database: its files are copied into memory, the copy is checked and closed, and becomes a new file.
 
-ghost use Rattle.std.specs.Prelude.{IsTrue};
-ghost use Rattle.wu_process.specs.Backups.{BacksUp, ClosesFolded, Folds, FoldsFiles, MakesTold};
+ghost use Rattle.std.specs.Prelude.{IfOk, IsTrue};
+ghost use Rattle.wu_process.specs.Backups.{BacksUp, ClosesFolded, Folds, FoldsFiles, MakesBackup, MakesFile, may_become, TellsMade};
+ghost use Rattle.wu_process.specs.Copies.{AreCopiedFrom};
 
 use crate::check::options;
-use crate::copy::copy_in_memory;
+use crate::copy::{copy_in_memory, copy_while_open};
+use crate::files::HostFiles;
 use crate::new_file::{MakeFile, refuse_path};
 use sqlite::{Connection, FileStore, Files, Options};
 use sqlite_disk::{Disk, Memory};
 use std::alloc::Global;
 use std::io::Write;
-use wu_cli::{Counts, Reason, Trouble, count_sound, write_backed_up};
+use wu_cli::{BackUp, Counts, Reason, Trouble, count_sound, write_backed_up};
 
 /// The two files of a sound project that was closed, so that the one of the database holds it alone, and its numbers.
 #[derive(Drop)]
@@ -60,21 +62,68 @@ fn fold<D: Disk + Drop>(
     }
 }
 
-/// Makes the file of a backup from what was closed, and reports it on the writer.
-fn make_and_tell<F: MakeFile, O: Write>(
+/// Makes the file of a backup from what was closed. Returns its numbers.
+fn make_file<F: MakeFile>(
     new_files: &F,
     to: &str,
     folded: &Folded<Memory>,
-    out: &mut O,
-) -> Result<(), Trouble>
-    ensures { MakesTold (F.MakeFile.makes new_files.now) O.contents to.now folded.now
-        out.old out.new result }
+) -> Result<Counts, Trouble>
+    ensures { MakesFile (F.MakeFile.makes new_files.now) to.now folded.now result }
 {
-    if let Err(why) = new_files.make(to, folded.files.db.bytes()) {
+    match new_files.make(to, folded.files.db.bytes()) {
+        Ok(()) => Ok(folded.counts),
+        Err(why) => Err(Trouble::Unmade(why)),
+    }
+}
+
+/// Copies the files of the database at the path: of one that this process has open, or of one that no other writes to.
+fn copy_files(rt: &HostRuntime, path: &str, is_open: bool) -> Result<Files<Memory>, Reason>
+    ensures { IfOk result (AreCopiedFrom path.now) }
+{
+    if is_open {
+        copy_while_open(rt, path)
+    } else {
+        copy_in_memory(rt, path)
+    }
+}
+
+/// Makes a new file with a copy of the sound project in the database at a path, which this process may have open. The
+/// new file has no log. A path at which something lies is refused. Returns the project's numbers.
+fn make_backup<F: MakeFile>(
+    rt: &HostRuntime,
+    path: &str,
+    to: &str,
+    new_files: &F,
+    is_open: bool,
+) -> Result<Counts, Trouble>
+    ensures { MakesBackup (F.MakeFile.makes new_files.now) path.now to.now result }
+{
+    if let Err(why) = refuse_path(rt, to) {
         return Err(Trouble::Unmade(why));
     }
-    write_backed_up(out, to, folded.counts)?;
-    Ok(())
+    let files = match copy_files(rt, path, is_open) {
+        Ok(files) => files,
+        Err(reason) => return Err(Trouble::Unchecked(reason)),
+    };
+    let folded = fold(rt.alloc(), files, options(rt))?;
+    make_file(new_files, to, &folded)
+}
+
+/// Reports a backup that was made. Of one that was not, returns why.
+fn report_made<O: Write>(
+    out: &mut O,
+    to: &str,
+    made: Result<Counts, Trouble>,
+) -> Result<(), Trouble>
+    ensures { TellsMade O.contents to.now made out.old out.new result }
+{
+    match made {
+        Ok(counts) => {
+            write_backed_up(out, to, counts)?;
+            Ok(())
+        }
+        Err(trouble) => Err(trouble),
+    }
 }
 
 /// Makes a new file with a copy of the sound project in the database at a path, and reports it on the writer. The
@@ -92,13 +141,14 @@ pub fn back_up<F: MakeFile, O: Write>(
     ensures { BacksUp (F.MakeFile.makes new_files.now) O.contents path.now to.now
         out.old out.new result }
 {
-    if let Err(why) = refuse_path(rt, to) {
-        return Err(Trouble::Unmade(why));
+    let made = make_backup(rt, path, to, new_files, false);
+    report_made(out, to, made)
+}
+
+impl BackUp for HostFiles<'_> {
+    ghost backs_up = { λ _ path to made. MakesBackup may_become path to made };
+
+    fn back_up(&self, path: &str, to: &str) -> Result<Counts, Trouble> {
+        make_backup(self.runtime(), path, to, self, true)
     }
-    let files = match copy_in_memory(rt, path) {
-        Ok(files) => files,
-        Err(reason) => return Err(Trouble::Unchecked(reason)),
-    };
-    let folded = fold(rt.alloc(), files, options(rt))?;
-    make_and_tell(new_files, to, &folded, out)
 }

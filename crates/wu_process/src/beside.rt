@@ -2,7 +2,7 @@
 
 ghost use Rattle.std.specs.Prelude.{◌≡◌, IfErr};
 ghost use Rattle.wu_core.specs.declared.fault.Fault.TheVariants.{Memory};
-ghost use Rattle.wu_process.specs.Opening.{IsBar};
+ghost use Rattle.wu_process.specs.Opening.{IsBar, names_log};
 
 use crate::files::HostFiles;
 use std::alloc::AllocError;
@@ -16,8 +16,12 @@ use wu_core::Fault;
 const HEADER: &[u8] = b"SQLite format 3\0";
 
 /// Returns whether the path names a log or a journal of a database, and no database.
-pub fn is_of_another(path: &str) -> bool {
-    path.ends_with("-wal") || path.ends_with("-journal")
+pub fn names_log(path: &str) -> bool
+    // It does exactly if it ends as SQLite names these.
+    ensures { result ≡ names_log path.now }
+{
+    let bytes = path.as_bytes();
+    bytes.ends_with(b"-wal") || bytes.ends_with(b"-journal")
 }
 
 /// How many bytes a log has at least that holds a page: a header of 32, and a frame of 24 with a page of 512. What a close
@@ -65,7 +69,7 @@ pub fn bar(rt: &HostRuntime, path: &str) -> Result<(), Trouble>
         )),
         Err(_) => has_log(rt, path)?,
     };
-    if is_barred || is_of_another(path) {
+    if is_barred || names_log(path) {
         return Err(Trouble::Unopened);
     }
     Ok(())

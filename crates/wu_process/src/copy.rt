@@ -12,6 +12,7 @@ use std::alloc::Global;
 use std::fs;
 use std::io::{self, ErrorKind};
 use std::ops::Range;
+use std::os::unix::fs::MetadataExt;
 use std::time::SystemTime;
 use wu_cli::Reason;
 
@@ -42,11 +43,15 @@ fn hold(rt: &HostRuntime, path: &str, log: &str) -> Result<Option<Files<FileFrom
     }
 }
 
-/// Returns when a file was last written to.
+/// Returns when a file was last written to. One with a second name is refused: a log lies beside the name by which the
+/// file was opened.
 fn written_at(rt: &HostRuntime, path: &str) -> Result<SystemTime, Reason> {
     let found = fs::metadata(rt, path).map_err(|error| Reason::of_file(&error))?;
     if !found.is_file() {
         return Err(Reason::Refused);
+    }
+    if found.nlink() > 1 {
+        return Err(Reason::TwoNames);
     }
     found.modified().map_err(|error| Reason::of_file(&error))
 }
@@ -175,6 +180,17 @@ fn read_database<'a>(rt: &HostRuntime, path: &'a str) -> Result<FileBytes<'a>, R
     Ok(bytes)
 }
 
+/// Reads the bytes of the database at the path and of its log, both of which this process has open and locked. So they
+/// are as its last commit left them.
+fn read_while_open<'a>(rt: &HostRuntime, path: &'a str) -> Result<FileBytes<'a>, Reason>
+    // The bytes carry the path that was asked for. What the bytes are is not stated.
+    ensures { IfOk result (λ bytes. bytes.path.now ≡ path.now) }
+{
+    let real = fs::canonicalize(rt, path).map_err(|error| Reason::of_file(&error))?;
+    let log = format!(in rt.alloc(); "{}-wal", real.as_str()).map_err(|_| Reason::Memory)?;
+    read_both(rt, path, real.as_str(), log.as_str())
+}
+
 /// Makes a file in memory with these bytes.
 fn file_in_memory(alloc: Global, bytes: &[u8]) -> Result<Memory, Reason>
     ensures copy { IfOk result (IsCopyOf bytes.now) }
@@ -208,5 +224,14 @@ pub fn copy_in_memory(rt: &HostRuntime, path: &str) -> Result<Files<Memory>, Rea
     ensures { IfOk result (AreCopiedFrom path.now) }
 {
     let bytes = read_database(rt, path)?;
+    files_in_memory(rt.alloc(), &bytes)
+}
+
+/// Copies the two files of the database at the path, which this process has open, into memory. The copies alone are kept.
+pub fn copy_while_open(rt: &HostRuntime, path: &str) -> Result<Files<Memory>, Reason>
+    // Both files in memory have just the bytes that were read of the files at this path.
+    ensures { IfOk result (AreCopiedFrom path.now) }
+{
+    let bytes = read_while_open(rt, path)?;
     files_in_memory(rt.alloc(), &bytes)
 }

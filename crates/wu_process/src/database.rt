@@ -6,6 +6,7 @@ ghost use Rattle.wu_process.specs.Serving.{OpensAndServes, ServesAt};
 
 use crate::beside::bar;
 use crate::files::HostFiles;
+use crate::opening::{MOST_PAGES, open_at, pages_for};
 use sqlite::{Connection, Error, FileFrom, FileStore, Files, Leftover, Start};
 use sqlite_disk::Disk;
 use std::io::{BufRead, Write};
@@ -56,7 +57,8 @@ fn open_and_do<S: Start, O: Write>(
     // The work is done over the opened database, which is then closed; or nothing is opened, and that is reported.
     ensures { OpensAndDoes O.contents database.now work out.old out.new result.0 result.1 }
 {
-    match Connection::open_from(rt, database, false, start) {
+    let pages = pages_for(rt, database, &work);
+    match open_at(rt, database, start, pages) {
         Ok(conn) => {
             let (conn, done) = work.perform_over(rt.alloc(), conn, out);
             (done, close_database(conn))
@@ -111,7 +113,7 @@ fn open_and_serve<S: Start, R: BufRead, O: Write, E: Write>(
         (R.remaining input.old) (R.remaining input.new) result.0 result.1 }
 {
     let files = HostFiles::new(rt);
-    match Connection::open_from(rt, path, false, start) {
+    match open_at(rt, path, start, MOST_PAGES) {
         Ok(conn) => {
             let (conn, served) = serve_over(rt.alloc(), conn, path, input, &files, out, err);
             (served, close_database(conn))

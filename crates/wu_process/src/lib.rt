@@ -19,6 +19,7 @@ mod database;
 mod files;
 mod made;
 mod new_file;
+mod opening;
 mod signs;
 
 use backup::back_up;

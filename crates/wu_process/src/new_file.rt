@@ -1,8 +1,10 @@
 //! The file that a backup makes. It is written under another name, and gets its own once all of it is on the disk.
 
+ghost use Rattle.std.specs.Prelude.{◌≡◌, false, IfOk};
 ghost use Rattle.wu_process.specs.Backups.{may_become};
+ghost use Rattle.wu_process.specs.Opening.{names_log};
 
-use crate::beside::{has_log, is_of_another};
+use crate::beside::{has_log, names_log};
 use crate::files::HostFiles;
 use std::fs::{self, File};
 use std::io::{self, ErrorKind, Write};
@@ -22,8 +24,11 @@ pub trait MakeFile {
 }
 
 /// Refuses the path of a new database where something lies, which names a log, or beside which a log lies.
-pub fn refuse_path(rt: &HostRuntime, path: &str) -> Result<(), Unmade> {
-    if is_of_another(path) {
+pub fn refuse_path(rt: &HostRuntime, path: &str) -> Result<(), Unmade>
+    // A path that is not refused names no log.
+    ensures { IfOk result (λ _. names_log path.now ≡ false) }
+{
+    if names_log(path) {
         return Err(Unmade::LogName);
     }
     match fs::symlink_metadata(rt, path) {

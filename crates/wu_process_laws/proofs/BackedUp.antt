@@ -22,7 +22,7 @@ use Rattle.wu_schema.specs.Asking.{IsAsBefore}
 use Rattle.wu_cli.specs.Backups.{AreOfVerdict, CountsSound}
 use Rattle.wu_cli.specs.declared.backup.Counts.{Counts}
 use Rattle.wu_cli.specs.declared.trouble.Trouble.{Trouble}
-use Rattle.wu_process.specs.Backups.{BacksUpCopy, ClosesFolded, Folds, FoldsFiles, may_become}
+use Rattle.wu_process.specs.Backups.{ClosesFolded, Folds}
 use Rattle.wu_process.specs.Checks.{IsOpenedIn}
 use Rattle.wu_process.specs.Copies.{memory_disk}
 use Rattle.wu_process.specs.declared.backup.Folded.{Folded}
@@ -102,8 +102,8 @@ module _ (files : Files Memory) (conn : Held (FileStore Memory memory_disk)) (op
           }
       go (Err told) checks ends = absurd cc
 
-pub each_backup : {W : Type 0} (contents : W → Option (List ℕ)) → EachBackupHolds contents
-each_backup contents path to old new done it folded is =
+pub each_backup : EachBackupHolds
+each_backup path to made it folded is =
     let same : image_of memory_disk it.files ≡ image_of_bytes it.copy.bytes = λ i. record { log = it.copy.copied.log.same i; db = it.copy.copied.db.same i } in
     subst (λ (image : Image). IsBackupOf image (memory_bytes folded.files.db) folded.counts) same (elim it.folds [
       | inl (conn, opened, folds) ↦ backup_of it.files conn opened it.folded folds folded is

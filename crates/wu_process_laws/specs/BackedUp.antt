@@ -1,5 +1,5 @@
 -- What the new file of a backup holds.
-use Rattle.std.specs.Prelude.{◌≡◌, ℕ, List, [], Option, Result, Ok}
+use Rattle.std.specs.Prelude.{◌≡◌, ℕ, List, [], Result, Ok}
 use Rattle.sqlite_disk.specs.Memory.{memory_bytes}
 use Rattle.sqlite_disk.specs.declared.memory.Memory.{Memory}
 use Rattle.sqlite_trees.specs.Tree.{Trees}
@@ -10,7 +10,7 @@ use Rattle.wu_cli.specs.declared.backup.Counts.{Counts}
 use Rattle.wu_cli.specs.declared.trouble.Trouble.{Trouble}
 use Rattle.wu_core.specs.World.{World}
 use Rattle.wu_lives.specs.Runs.{HoldsWorld}
-use Rattle.wu_process.specs.Backups.{BacksUpCopy, may_become}
+use Rattle.wu_process.specs.Backups.{MakesOfCopy, may_become}
 use Rattle.wu_process.specs.declared.backup.Folded.{Folded}
 use Rattle.wu_process_laws.specs.Checked.{FindsWith, image_of_bytes}
 
@@ -31,8 +31,8 @@ pub record IsBackupOf (image : Image) (bytes : List ℕ) (counts : Counts) : Typ
   pub sound : FindsWith image (λ db. IsSoundAs db counts.version counts.workunits counts.results)
 
 -- Each copy that becomes a new file is a backup of the files that were read.
-abbrev pub EachBackupHolds : {W : Type 0} → (W → Option (List ℕ)) → Type 0
-EachBackupHolds {W} contents =
-    (path to : List ℕ) (old new : W) (done : Result (Unit {0}) Trouble) (it : BacksUpCopy may_become contents path to old new done)
+abbrev pub EachBackupHolds : Type 0
+EachBackupHolds =
+    (path to : List ℕ) (made : Result Counts Trouble) (it : MakesOfCopy may_become path to made)
     (folded : Folded Memory) → it.folded ≡ Ok folded
     → IsBackupOf (image_of_bytes it.copy.bytes) (memory_bytes folded.files.db) folded.counts

@@ -81,9 +81,9 @@ pub fn a_check_is_true<O: Write>()
 {}
 
 /// Shows that the new file of a backup holds, without a log, what the files held that it was made of: a sound project
-/// with the reported numbers.
-pub fn a_backup_holds_the_project<O: Write>()
+/// with the reported numbers. So it is also of a backup that a session makes.
+pub fn a_backup_holds_the_project()
     // All tables are those of the files that were read, and so is the world. It is a sound project
     // of a known version, with the reported numbers, where no row is shorter than its table.
-    ensures { EachBackupHolds O.contents }
+    ensures { EachBackupHolds }
 {}

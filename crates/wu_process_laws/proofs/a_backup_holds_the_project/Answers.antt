@@ -2,4 +2,4 @@ use Rattle.wu_process_laws.proofs.BackedUp.{each_backup}
 use Rattle.wu_process_laws.proofs.a_backup_holds_the_project.Goals as goal
 
 pub returns : goal.returns
-returns g c = each_backup g.O.Write.contents
+returns c = each_backup

@@ -7,14 +7,7 @@ returns-in-Ok g c =
     does_opened g.O.Write.contents c.args.database.now c.args.work c.args.out.now c.perform_over-conn.new.out c.perform_over-conn.result.1 c.close_database.result
     (record {
       conn = c.in-Ok.conn;
-      opened = record {
-        of_file = c.in-Ok.ensures.memory;
-        opens = c.in-Ok.ensures.opened;
-        finds = c.in-Ok.ensures.found;
-        plain = c.in-Ok.ensures.sums;
-        fresh = c.in-Ok.ensures.fresh;
-        guarded = c.in-Ok.ensures.guarded;
-      };
+      opened = c.in-Ok.ensures.opened;
       does = record {
         again = c.perform_over-conn.result.0;
         does = c.perform_over-conn.ensures.does;
@@ -26,12 +19,7 @@ returns-in-Ok g c =
 
 pub returns : goal.returns
 returns g c = record {
-  unopened = record {
-    named = c.in-Err.ensures.named;
-    in_memory = c.in-Err.ensures.memory;
-    early = c.in-Err.ensures.unopened;
-    late = c.in-Err.ensures.cause;
-  };
+  unopened = c.in-Err.ensures.unopened;
   told = ap Err c.unopened-trouble.ensures;
   unwritten = refl;
 }

@@ -6,14 +6,7 @@ returns-in-Ok g c =
     serves_opened g.O.Write.contents c.args.path.now c.args.out.now c.serve_over-conn.new.out (g.R.Read.remaining c.args.input.now) (g.R.Read.remaining c.serve_over-conn.new.input) c.serve_over-conn.result.1 c.close_database.result
     (record {
       conn = c.in-Ok.conn;
-      opened = record {
-        of_file = c.in-Ok.ensures.memory;
-        opens = c.in-Ok.ensures.opened;
-        finds = c.in-Ok.ensures.found;
-        plain = c.in-Ok.ensures.sums;
-        fresh = c.in-Ok.ensures.fresh;
-        guarded = c.in-Ok.ensures.guarded;
-      };
+      opened = c.in-Ok.ensures.opened;
       again = c.serve_over-conn.result.0;
       serves = c.serve_over-conn.ensures;
       closed = c.close_database.ensures;

@@ -1,0 +1,31 @@
+use Rattle.std.proofs.Common.{◌≡◌, Ok, Err, Result, inl, rules, subst, sym}
+use Rattle.sqlite_disk.specs.declared.memory.Memory.{Memory}
+use Rattle.wu_cli.specs.declared.trouble.Trouble.{Trouble}
+use Rattle.wu_process.specs.Backups.{EndsBackup}
+use Rattle.wu_process.specs.declared.backup.Folded.{Folded}
+use Rattle.wu_process.proofs.RunLemmas.{handed_on}
+use Rattle.wu_process.proofs.backup.make_backup.Goals as goal
+
+pub returns-in_err-folded : goal.returns-in_err-folded
+returns-in_err-folded g c =
+    let made = c.from_residual.result in
+    let is : c.fold.result ≡ Err c.in_err-folded.field-0.0 = search rules in
+    let told : made ≡ Err c.in_err-folded.field-0.0 = handed_on made _ c.from_residual.ensures.1 in
+    inl (record {
+      files = c.in-Ok.files;
+      copy = c.in-Ok.ensures;
+      folded = c.fold.result;
+      folds = c.fold.ensures;
+      ends = subst (λ (r : Result (Folded Memory) Trouble). EndsBackup (g.F.MakeFile.makes c.args.new_files.now) c.args.to.now r made) (sym is) told;
+    })
+
+pub returns : goal.returns
+returns g c =
+    let is : c.fold.result ≡ Ok c.in_ok-folded.folded = search rules in
+    inl (record {
+      files = c.in-Ok.files;
+      copy = c.in-Ok.ensures;
+      folded = c.fold.result;
+      folds = c.fold.ensures;
+      ends = subst (λ (r : Result (Folded Memory) Trouble). EndsBackup (g.F.MakeFile.makes c.args.new_files.now) c.args.to.now r c.make_file.result) (sym is) c.make_file.ensures;
+    })
